@@ -1,0 +1,14 @@
+-- what the lexer calls a front
+use Rattle.std.specs.Prelude.{ℕ}
+use Rattle.array_tokens.specs.Lexemes.{Front, gap, piece, no_token, too_large, lexeme_of}
+use Rattle.array_tokens.specs.declared.lexer.Front.{Front as Found}
+use Rattle.array_tokens.specs.declared.lexer.Front.TheVariants.{Gap, Piece, NoToken, TooLarge}
+
+abbrev pub seen : Found → Front
+seen Gap = gap
+seen (Piece kind) = piece (lexeme_of kind)
+seen NoToken = no_token
+seen TooLarge = too_large
+
+abbrev pub fronts : Found × ℕ → Front × ℕ
+fronts f = (seen f.0, f.1)

@@ -1,0 +1,83 @@
+//! Names of arrays and loop variables.
+ghost use Rattle.std.specs.Prelude.{◌≡◌, ◌↔◌, IsTrue, IfOk, nat_eq};
+ghost use Rattle.std.specs.Cmp.Lexicographic.{pointwise};
+ghost use Rattle.array_tree.specs.Digest.{digest_of};
+
+use std::alloc::{AllocError, Global};
+use std::marker::Model;
+
+/// A name of the language: a letter or `_`, then letters, digits and `_`.
+///
+/// Beside its bytes it keeps a digest of them, so that two different names mostly differ at once, however long
+/// they are and however much of their beginnings is equal.
+#[derive(Debug, Drop)]
+pub struct Name {
+    bytes: Vec<u8>,
+    digest: u64,
+}
+
+impl Model for Name {
+    ghost use Rattle.std.specs.Prelude.{◌≡◌, ℕ, List};
+    ghost use Rattle.array_tree.specs.Digest.{digest_of};
+
+    ghost Value = { List ℕ };
+
+    ghost view = { λ name. name.bytes.items };
+
+    ghost invariant = { λ name. name.digest ≡ digest_of name.bytes.items };
+}
+
+impl Name {
+    /// A name of these bytes.
+    pub fn new(alloc: Global, bytes: &[u8]) -> Result<Name, AllocError>
+        ensures { IfOk result (λ name. name ≡ bytes.now) }
+    {
+        Ok(Name {
+            bytes: bytes.to_vec(alloc)?,
+            digest: digest(bytes),
+        })
+    }
+
+    /// The bytes of the name.
+    pub fn as_bytes(&self) -> &[u8]
+        ensures { result.now ≡ self.now }
+    {
+        self.bytes.as_slice()
+    }
+
+    /// An equal name.
+    pub fn copy(&self) -> Result<Name, AllocError>
+        ensures { IfOk result (λ name. name ≡ self.now) }
+    {
+        Ok(Name {
+            bytes: self.bytes.clone()?,
+            digest: self.digest,
+        })
+    }
+}
+
+impl PartialEq for Name {
+    ghost use Rattle.std.specs.Prelude.{nat_eq};
+    ghost use Rattle.std.specs.Cmp.Lexicographic.{pointwise};
+    ghost use Rattle.std.specs.Cmp.{partial_equiv_from_equiv};
+    ghost use Rattle.std.proofs.lemmas.Cmp.{nat_list_eq_equiv};
+
+    ghost eq = { pointwise nat_eq };
+
+    ghost laws = { partial_equiv_from_equiv nat_list_eq_equiv };
+
+    fn eq(&self, other: &Name) -> bool {
+        self.digest == other.digest && self.bytes == other.bytes
+    }
+}
+
+// The digest of bytes: the 64-bit FNV-1a hash.
+fn digest(bytes: &[u8]) -> u64
+    ensures { result ≡ digest_of bytes.now }
+{
+    let mut digest = 0xcbf2_9ce4_8422_2325u64;
+    for byte in bytes {
+        digest = (digest ^ u64::from(*byte)).wrapping_mul(0x0000_0100_0000_01b3);
+    }
+    digest
+}
