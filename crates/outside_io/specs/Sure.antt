@@ -1,0 +1,21 @@
+-- The source and the sink in memory that never fail.
+use Rattle.std.specs.Prelude.{ℕ, ◌+◌, nat_le, min, List, [], ◌∷◌, ◌++◌, length, Option, Some, None, if◌then◌else◌}
+use Rattle.outside_io.specs.Shelf.{Shelf}
+use Rattle.outside_io.specs.declared.source.Fill.{Fill}
+use Rattle.outside_io.specs.declared.source.Fill.TheVariants as fill
+
+-- as many bytes as fit, and the end where none is left
+abbrev pub sure_fill : List ℕ → ℕ → Fill
+sure_fill [] size = fill.End
+sure_fill (byte ∷ bytes) size = fill.Got (min (length (byte ∷ bytes)) size)
+
+abbrev pub empty_shelf : ℕ → Shelf
+empty_shelf room = record { room = room; taken = Some [] }
+
+-- a piece is kept where it fits the room; else nothing is told from then on
+abbrev pub kept_within : ℕ → Option (List ℕ) → List ℕ → Option (List ℕ)
+kept_within room None piece = None
+kept_within room (Some taken) piece = if nat_le (length taken + length piece) room then Some (taken ++ piece) else None
+
+abbrev pub laid_up : Shelf → List ℕ → Shelf
+laid_up shelf piece = record { room = shelf.room; taken = kept_within shelf.room shelf.taken piece }

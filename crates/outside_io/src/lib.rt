@@ -1,0 +1,17 @@
+//! Where bytes come from, where they go, and where a hart reports a piece of work.
+#![tactic(auto)]
+
+mod gate;
+mod sink;
+mod source;
+mod standard;
+mod sure;
+
+pub use gate::{Gate, OpenGate};
+pub use sink::{Put, Sink};
+pub use source::{Fill, Source};
+pub use standard::{StdSink, StdSource};
+pub use sure::{SureSink, SureSource};
+
+#[cfg(test)]
+mod tests;

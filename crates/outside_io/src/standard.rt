@@ -1,0 +1,66 @@
+//! The system's streams. Nothing is known of their bytes.
+ghost use Rattle.std.specs.Prelude.{◌≡◌, None};
+
+use crate::{Fill, Put, Sink, Source};
+use std::io::{Read, Write};
+
+/// A stream of the system to read from. An interrupted read is a fault like any other.
+#[derive(Drop)]
+pub struct StdSource<I> {
+    input: I,
+    faults: u64,
+}
+
+impl<I: Read + Drop> StdSource<I> {
+    /// A source over the stream.
+    pub fn new(input: I) -> StdSource<I> {
+        StdSource { input, faults: 0 }
+    }
+}
+
+impl<I: Read + Drop> Source for StdSource<I> {
+    ghost left = { λ _. None };
+
+    ghost faults = { λ s. s.faults };
+
+    fn read(&mut self, buf: &mut [u8]) -> Fill {
+        match self.input.read(buf) {
+            Ok(0) => Fill::End,
+            Ok(count) => Fill::Got(count),
+            Err(_) => {
+                self.faults = self.faults.saturating_add(1);
+                Fill::Failed
+            }
+        }
+    }
+}
+
+/// A stream of the system to write to. A write that takes nothing is a fault.
+#[derive(Drop)]
+pub struct StdSink<O> {
+    output: O,
+    faults: u64,
+}
+
+impl<O: Write + Drop> StdSink<O> {
+    /// A sink over the stream.
+    pub fn new(output: O) -> StdSink<O> {
+        StdSink { output, faults: 0 }
+    }
+}
+
+impl<O: Write + Drop> Sink for StdSink<O> {
+    ghost taken = { λ _. None };
+
+    ghost faults = { λ s. s.faults };
+
+    fn write(&mut self, piece: &[u8]) -> Put {
+        match self.output.write(piece) {
+            Ok(count) if count > 0 => Put::Took(count),
+            _ => {
+                self.faults = self.faults.saturating_add(1);
+                Put::Failed
+            }
+        }
+    }
+}
