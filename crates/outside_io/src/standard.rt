@@ -3,17 +3,29 @@ ghost use Rattle.std.specs.Prelude.{◌≡◌, None};
 
 use crate::{Fill, Put, Sink, Source};
 use std::io::{Read, Write};
+use std::marker::Model;
 
-/// A stream of the system to read from. An interrupted read is a fault like any other.
+/// A stream of the system to read from. An interrupted read is a fault like any other. Contracts see the count of
+/// faults alone.
 #[derive(Drop)]
 pub struct StdSource<I> {
     input: I,
     faults: u64,
 }
 
+impl<I> Model for StdSource<I> {
+    ghost use Rattle.std.specs.Prelude.{ℕ};
+
+    ghost Value = { ℕ };
+
+    ghost view = { λ source. source.faults };
+}
+
 impl<I: Read + Drop> StdSource<I> {
-    /// A source over the stream.
-    pub fn new(input: I) -> StdSource<I> {
+    /// A source over the stream, which hasn't failed yet.
+    pub fn new(input: I) -> StdSource<I>
+        ensures { result ≡ 0 }
+    {
         StdSource { input, faults: 0 }
     }
 }
@@ -21,7 +33,7 @@ impl<I: Read + Drop> StdSource<I> {
 impl<I: Read + Drop> Source for StdSource<I> {
     ghost left = { λ _. None };
 
-    ghost faults = { λ s. s.faults };
+    ghost faults = { λ faults. faults };
 
     fn read(&mut self, buf: &mut [u8]) -> Fill {
         match self.input.read(buf) {
@@ -35,16 +47,27 @@ impl<I: Read + Drop> Source for StdSource<I> {
     }
 }
 
-/// A stream of the system to write to. A write that takes nothing is a fault.
+/// A stream of the system to write to. A write that takes nothing is a fault. Contracts see the count of faults
+/// alone.
 #[derive(Drop)]
 pub struct StdSink<O> {
     output: O,
     faults: u64,
 }
 
+impl<O> Model for StdSink<O> {
+    ghost use Rattle.std.specs.Prelude.{ℕ};
+
+    ghost Value = { ℕ };
+
+    ghost view = { λ sink. sink.faults };
+}
+
 impl<O: Write + Drop> StdSink<O> {
-    /// A sink over the stream.
-    pub fn new(output: O) -> StdSink<O> {
+    /// A sink over the stream, which hasn't failed yet.
+    pub fn new(output: O) -> StdSink<O>
+        ensures { result ≡ 0 }
+    {
         StdSink { output, faults: 0 }
     }
 }
@@ -52,7 +75,7 @@ impl<O: Write + Drop> StdSink<O> {
 impl<O: Write + Drop> Sink for StdSink<O> {
     ghost taken = { λ _. None };
 
-    ghost faults = { λ s. s.faults };
+    ghost faults = { λ faults. faults };
 
     fn write(&mut self, piece: &[u8]) -> Put {
         match self.output.write(piece) {

@@ -1,0 +1,7 @@
+//! Runs programs of the array language over Lithe.
+#![tactic(auto)]
+
+mod reading;
+mod writing;
+
+fn main() {}
