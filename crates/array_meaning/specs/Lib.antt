@@ -1,0 +1,13 @@
+pub mod Values
+pub mod Stores
+pub mod Steps
+pub mod Work
+pub mod Touch
+pub mod Members
+pub mod Sites
+pub mod Overlap
+pub mod Plans
+pub mod Pieces
+pub mod Names
+pub mod Limits
+pub mod Accepted

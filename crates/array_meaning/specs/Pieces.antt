@@ -1,0 +1,38 @@
+-- The last value of each cell among writes, in rising order; and pieces merged.
+use Rattle.std.specs.Prelude.{◌≡◌, ℕ, cond, List, [], ◌∷◌, nat_lt, nat_eq, ℤ, ◌⊎◌}
+use Rattle.array_meaning.specs.Stores.{Arrays, Store, Write}
+use Rattle.array_meaning.specs.Steps.{Steps, writes_of}
+
+-- A rising list with one more write, in the place of an earlier one to its cell.
+abbrev pub lay : ℕ → ℤ → List Write → List Write
+lay cell value [] = (cell, value) ∷ []
+lay cell value (w ∷ more) =
+    cond (nat_lt cell w.0) ((cell, value) ∷ w ∷ more) (cond (nat_eq cell w.0) ((cell, value) ∷ more) (w ∷ lay cell value more))
+
+-- With several more, one after another.
+abbrev pub lays : List Write → List Write → List Write
+lays [] laid = laid
+lays (w ∷ more) laid = lays more (lay w.0 w.1 laid)
+
+-- Each cell that was written, with its last value, in rising order.
+abbrev pub last_writes : List Write → List Write
+last_writes writes = lays writes []
+
+-- What steps write from a store: each cell with its last value, in rising order.
+abbrev pub piece_of : Arrays → Steps → Store → List Write
+piece_of arrays steps store = last_writes (writes_of arrays steps store)
+
+-- Pieces merged one after another.
+abbrev pub merged : List (List Write) → List Write → List Write
+merged [] laid = laid
+merged (piece ∷ more) laid = merged more (lays piece laid)
+
+-- It is one of the list.
+abbrev pub IsMember : {A : Type 0} → A → List A → Type 0
+IsMember x [] = ⊥
+IsMember x (y ∷ more) = (y ≡ x) ⊎ IsMember x more
+
+-- Two lists have the same members, in whatever order and however often.
+pub record HaveSameMembers (xs ys : List Steps) : Type 0 where
+  pub to : (x : Steps) → IsMember x xs → IsMember x ys
+  pub from : (x : Steps) → IsMember x ys → IsMember x xs

@@ -1,0 +1,3 @@
+//! The meaning of the array language: what a program computes, what its parts touch, and what is accepted. It holds
+//! definitions and laws; no code here runs.
+#![tactic(auto)]
