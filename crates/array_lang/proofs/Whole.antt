@@ -5,7 +5,8 @@ use Rattle.array_tokens.specs.declared.fault.TokenFault.{TokenFault}
 use Rattle.array_tree.specs.Trees.{Statement, Sequence, Sequences, ProgramTree, program_of}
 use Rattle.array_tree.specs.declared.tree.Program.{Program}
 use Rattle.array_lang.specs.Grammar.{numbered, AssignOf, assigned, AssignsOf, no_assign, next_assign, block, BlocksOf, no_block, next_block, ParOf, parallel, declaration, ProgramOf, no_array, no_par, one_par, SpellsProgram}
-use Rattle.array_lang.specs.Spelled.{Spells, IsRead, HasFault, IsSmall, IsSmallAssign, AreSmallAssigns, AreSmallBlocks, IsSmallPar}
+use Rattle.array_lang.specs.Spelled.{Spells, IsRead, HasFault}
+use Rattle.array_tree.specs.Small.{IsSmall, IsLiteralAssign, AreLiteralAssigns, AreSmallBranches, IsSmallPar}
 use Rattle.array_lang.specs.Machine.{parse_of}
 use Rattle.array_lang.specs.Reading.{IsProgram}
 use Rattle.array_lang.specs.declared.fault.SyntaxFault.{SyntaxFault}
@@ -48,14 +49,14 @@ fault_read text tokens (Err Memory) e h = tt
 pub one_program : (text : List ℕ) (p q : ProgramTree) → Spells text p → Spells text q → p ≡ q
 one_program text p q a b = only_read text a.tokens p q a.cut (complete a.tree) b
 
-small_assign : {s t : List Spot} {c : Statement} → AssignOf s t c → IsSmallAssign c
+small_assign : {s t : List Spot} {c : Statement} → AssignOf s t c → IsLiteralAssign c
 small_assign (assigned numbered numbered) = (tt, tt)
 
-small_assigns : {s t : List Spot} {p : Sequence} → AssignsOf s t p → AreSmallAssigns p
+small_assigns : {s t : List Spot} {p : Sequence} → AssignsOf s t p → AreLiteralAssigns p
 small_assigns no_assign = tt
 small_assigns (next_assign d e) = (small_assign d, small_assigns e)
 
-small_blocks : {s t : List Spot} {bs : Sequences} → BlocksOf s t bs → AreSmallBlocks bs
+small_blocks : {s t : List Spot} {bs : Sequences} → BlocksOf s t bs → AreSmallBranches bs
 small_blocks no_block = tt
 small_blocks (next_block (block d) e) = (small_assigns d, small_blocks e)
 

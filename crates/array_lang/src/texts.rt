@@ -2,7 +2,8 @@
 
 ghost use Rattle.std.specs.Prelude.{◌≡◌, ◌<◌, ◌^◌, length, IfOk, IfErr, List, ℕ};
 ghost use Rattle.array_tree.specs.Trees.{ProgramTree, program_of};
-ghost use Rattle.array_lang.specs.Spelled.{Spells, IsRead, HasFault, IsSmall};
+ghost use Rattle.array_tree.specs.Small.{IsSmall};
+ghost use Rattle.array_lang.specs.Spelled.{Spells, IsRead, HasFault};
 
 use crate::fault::SyntaxFault;
 use crate::parser::program;

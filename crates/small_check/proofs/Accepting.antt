@@ -12,7 +12,7 @@ use Rattle.array_meaning.specs.Names.{has_new_variables, have_new_variables, has
 use Rattle.array_meaning.specs.Limits.{is_up_to, count_of, has_right_ranges, have_right_ranges, has_no_site_under_if, have_no_site_under_if, depth_of, branches_depth_of, units_of, pieces_in, branches_pieces_in}
 use Rattle.array_meaning.specs.Plans.{sites_in, branches_sites_in, sequence_parents, branches_parents, plan_of}
 use Rattle.array_meaning.specs.Accepted.{are_inside, IsAccepted}
-use Rattle.small_check.specs.Small.{IsSmallBody, IsSmall}
+use Rattle.array_tree.specs.Small.{IsSmallBody, IsSmall}
 use Rattle.small_check.specs.Test.{Marks, are_cells, writes_marked, with_marks, are_apart, is_accepted_small}
 use Rattle.small_check.proofs.Branches.{Literals, none, more, Branches, last, next, small_branches, literals, AllCells, no_cells, cells, alone, work, works, cells_inside, cells_named, inside_rest, cells_from, lit_assoc}
 use Rattle.small_check.proofs.Marking.{Marked, marks_kept, length-with_marks, reads_none, unmarked, found, marks_new, marks_old, AreUnmarked, no_branch, one_more}

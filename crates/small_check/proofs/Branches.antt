@@ -8,7 +8,7 @@ use Rattle.array_meaning.specs.Work.{sequence_work, branches_work}
 use Rattle.array_meaning.specs.Touch.{walk}
 use Rattle.array_meaning.specs.Names.{has_known_names, have_known_names}
 use Rattle.array_meaning.specs.Accepted.{are_inside}
-use Rattle.small_check.specs.Small.{AreLiteralAssigns, AreSmallBranches}
+use Rattle.array_tree.specs.Small.{AreLiteralAssigns, AreSmallBranches}
 use Rattle.small_check.specs.Test.{are_cells}
 
 -- a sequence of literal assignments, and branches of such

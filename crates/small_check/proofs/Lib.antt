@@ -1,3 +1,4 @@
 pub mod Branches
 pub mod Marking
 pub mod Accepting
+pub mod Units

@@ -1,15 +1,15 @@
 //! Whether a small program is accepted: one with at most one array and one `par` of literal assignments.
 #![tactic(auto)]
 
-ghost use Rattle.std.specs.Prelude.{◌≡◌, ◌↔◌, ◌≤◌, IsTrue, IfOk, true, slice_set, slice_index_or, false, unsigned_abs};
+ghost use Rattle.std.specs.Prelude.{◌≡◌, ◌↔◌, ◌≤◌, IsTrue, IfOk, true, slice_set, slice_index_or, false, unsigned_abs, nat_le, ◌&&◌, replicate, pos};
 ghost use Rattle.std.specs.Option.{option_map};
 ghost use Rattle.array_tree.specs.Trees.{program_of, sequence_of, sequences_of, statement_of};
 ghost use Rattle.array_meaning.specs.Accepted.{IsAccepted};
-ghost use Rattle.array_meaning.specs.Limits.{units_of};
-ghost use Rattle.small_check.specs.Small.{IsSmall};
+ghost use Rattle.array_meaning.specs.Limits.{units_of, count_of, is_up_to};
+ghost use Rattle.array_tree.specs.Small.{IsSmall};
 ghost use Rattle.small_check.specs.Test.{target_of, is_cell, are_cells, writes_marked, with_marks, are_apart, is_accepted_par, is_accepted_body, is_accepted_small};
 
-use array_tree::{Block, Blocks, Expr, Name, Program, Stmt};
+use array_tree::{ArrayDecl, Block, Blocks, Expr, Name, Program, Stmt};
 use std::alloc::{AllocError, Global};
 
 // The array and the index that a statement writes, where it assigns to a literal index.
@@ -105,4 +105,77 @@ fn are_apart(name: &Name, length: i64, branches: &Blocks, marks: &mut [bool]) ->
         mark_branch(branch, marks);
     }
     true
+}
+
+// Whether the statement after the array's declaration is accepted.
+fn is_accepted_par(
+    alloc: Global,
+    name: &Name,
+    length: i64,
+    statement: &Stmt,
+) -> Result<bool, AllocError>
+    ensures { IfOk result (λ accepted. accepted ≡ is_accepted_par name.now length (statement_of statement.now)) }
+{
+    match statement {
+        Stmt::Par { branches, .. } => is_accepted_among(alloc, name, length, branches),
+        Stmt::Assign { .. } => Ok(true),
+        Stmt::For { .. } => Ok(true),
+        Stmt::If { .. } => Ok(true),
+        Stmt::Team { .. } => Ok(true),
+    }
+}
+
+fn branch_count(branches: &Blocks) -> usize
+    ensures { result ≡ count_of (sequences_of branches.now) }
+{
+    branches.blocks.len()
+}
+
+// Whether there are at most 64 branches, and they are apart.
+fn is_accepted_among(
+    alloc: Global,
+    name: &Name,
+    length: i64,
+    branches: &Blocks,
+) -> Result<bool, AllocError>
+    ensures { IfOk result (λ accepted. accepted ≡ (nat_le (count_of (sequences_of branches.now)) 64
+        && are_apart name.now length (sequences_of branches.now) (replicate (unsigned_abs length) false))) }
+{
+    if branch_count(branches) > 64 {
+        return Ok(false);
+    }
+    let mut marks = vec![in alloc; false; length.unsigned_abs() as usize]?;
+    Ok(are_apart(name, length, branches, &mut marks))
+}
+
+fn is_accepted_over(alloc: Global, array: &ArrayDecl, body: &Block) -> Result<bool, AllocError>
+    ensures { IfOk result (λ accepted. accepted ≡ (is_up_to (pos 4096) array.now.length
+        && is_accepted_body array.now.name array.now.length (sequence_of body.now))) }
+{
+    if array.length < 1 || array.length > 4096 {
+        return Ok(false);
+    }
+    match body.statements.first() {
+        None => Ok(true),
+        Some(statement) => is_accepted_par(alloc, &array.name, array.length, statement),
+    }
+}
+
+/// Whether a small program is accepted. It takes time in proportion to the program and the array's cells.
+pub fn is_accepted(alloc: Global, program: &Program) -> Result<bool, AllocError>
+    requires small { IsSmall (program_of program.now) }
+    requires work { units_of (program_of program.now).body ≤ 1048576 }
+    ensures { IfOk result (λ accepted. IsTrue accepted ↔ IsAccepted (program_of program.now)) }
+{
+    is_accepted_tree(alloc, program)
+}
+
+// The same by what is looked at.
+fn is_accepted_tree(alloc: Global, program: &Program) -> Result<bool, AllocError>
+    ensures { IfOk result (λ accepted. accepted ≡ is_accepted_small (program_of program.now).arrays (program_of program.now).body) }
+{
+    match program.arrays.declarations.first() {
+        None => Ok(true),
+        Some(array) => is_accepted_over(alloc, array, &program.body),
+    }
 }
