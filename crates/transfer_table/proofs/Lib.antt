@@ -1,0 +1,4 @@
+pub mod Causes
+pub mod Plans
+pub mod Scans
+pub mod Counts

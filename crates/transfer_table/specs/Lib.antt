@@ -1,0 +1,5 @@
+pub mod Causes
+pub mod Plan
+pub mod Table
+pub mod Board
+pub mod Journal

@@ -1,0 +1,46 @@
+-- A plan: how many harts there are, and the tree of the sites.
+use Rattle.std.specs.Prelude.{ℕ, ◌+◌, ◌-◌, ◌<◌, ◌≤◌, ◌==◌, nat_le, nat_lt, ◌||◌, if◌then◌else◌, List, [], ◌∷◌, length, slice_index, Option, Some, None}
+use Rattle.std.specs.Option.{option_map}
+use Rattle.transfer_table.specs.Causes.{cause_if, first_cause}
+use Rattle.transfer_table.specs.declared.plan.PlanFault.{PlanFault}
+use Rattle.transfer_table.specs.declared.plan.PlanFault.TheVariants as fault
+
+-- the number of harts, and the parent of each site, that of site s at place s - 1; site 0 is the base
+pub record Plan : Type 0 where
+  pub harts : ℕ
+  pub parents : List ℕ
+
+abbrev pub site_count : Plan → ℕ
+site_count p = length p.parents
+
+-- the parent of a site, and 0 for what is no site of the plan
+abbrev pub parent : Plan → ℕ → ℕ
+parent p s = slice_index p.parents (s - 1)
+
+-- the harts of a plan are numbered from 0
+abbrev pub IsHart : Plan → ℕ → Type 0
+IsHart p h = h < p.harts
+
+-- the sites of a plan are numbered from 1
+abbrev pub IsSite : Plan → ℕ → Type 0
+IsSite p s = (1 ≤ s) × (s ≤ site_count p)
+
+-- one to four harts, at most 4,095 sites, and each site's parent is smaller than the site
+pub record IsPlan (p : Plan) : Type 0 where
+  pub some_hart : 1 ≤ p.harts
+  pub few_harts : p.harts ≤ 4
+  pub few_sites : site_count p ≤ 4095
+  pub below : (s : ℕ) → 1 ≤ s → s ≤ site_count p → parent p s < s
+
+-- the least site, from k on, whose parent isn't smaller; the list has the parents from site k on
+abbrev pub bad_parent : List ℕ → ℕ → Option ℕ
+bad_parent [] k = None
+bad_parent (q ∷ qs) k = if nat_le k q then Some k else bad_parent qs (k + 1)
+
+-- why there is no plan with these harts and parents, where there is none; of several causes the first
+abbrev pub plan_fault_of : ℕ → List ℕ → Option PlanFault
+plan_fault_of n qs = first_cause
+    (cause_if ((n == 0) || nat_lt 4 n) (fault.BadHarts n)
+    ∷ cause_if (nat_lt 4095 (length qs)) (fault.TooManySites (length qs))
+    ∷ option_map fault.BadParent (bad_parent qs 1)
+    ∷ [])

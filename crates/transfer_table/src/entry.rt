@@ -1,0 +1,80 @@
+//! The entries of a journal, what a site's row keeps, and what an entry is refused for.
+ghost use Rattle.std.specs.Prelude.{◌≡◌};
+
+/// One event of the table: what a hart does at a site.
+#[derive(Clone, Copy, Debug, PartialEq, Eq)]
+pub enum Entry {
+    /// The hart, whose owner is the site's parent, makes the site live and is its home.
+    Register { hart: u8, site: u16 },
+    /// The site's home asks for `count` more harts.
+    Request { hart: u8, site: u16, count: u8 },
+    /// The hart comes from the parent into the live site and meets one of its wishes.
+    Enter { hart: u8, site: u16 },
+    /// A hart that isn't the site's home goes back to the parent.
+    Yield { hart: u8, site: u16 },
+    /// The home, alone in the site, goes back to the parent, and the site is gone.
+    Unregister { hart: u8, site: u16 },
+}
+
+/// How far a site has come.
+#[derive(Clone, Copy, Debug, PartialEq, Eq)]
+pub enum Stage {
+    /// It hasn't been registered.
+    New,
+    /// It is registered, and not yet unregistered.
+    Live,
+    /// It is unregistered.
+    Gone,
+}
+
+impl Stage {
+    ghost use Rattle.transfer_table.specs.Table.{is_gone};
+
+    pub(crate) fn is_gone(self) -> bool
+        ensures { result ≡ is_gone self }
+    {
+        matches!(self, Stage::Gone)
+    }
+}
+
+/// What the state of the table keeps of one site.
+#[derive(Clone, Copy, Debug, PartialEq, Eq)]
+pub struct Row {
+    pub stage: Stage,
+    /// The hart that registered the site.
+    pub home: Option<u8>,
+    /// How many of the harts that were asked for haven't entered.
+    pub wishes: u8,
+    /// How many harts were asked for in all.
+    pub asked: u8,
+}
+
+/// Why an entry is refused. Of several causes the first in this order is told.
+#[derive(Clone, Copy, Debug, PartialEq, Eq)]
+pub enum NotAdmitted {
+    /// The plan has no such hart.
+    NoSuchHart,
+    /// The plan has no such site.
+    NoSuchSite,
+    /// The hart's owner, which is told, isn't the one that the entry needs.
+    NotOwner { owner: u16 },
+    /// The site isn't new.
+    NotNew,
+    /// The site isn't live.
+    NotLive,
+    /// The site's home, which is told, is another hart.
+    NotHome { home: u8 },
+    /// The site has no unmet wish.
+    NoWish,
+    /// With this count the site would have asked for more than all harts but its home. The sum
+    /// that it has asked for so far is told.
+    TooManyWished { asked: u8 },
+    /// The hart is the site's home, which doesn't yield.
+    IsHome,
+    /// Another hart's owner is the site. The least is told.
+    HartInside { hart: u8 },
+    /// A child of the site isn't gone. The least is told.
+    ChildLeft { site: u16 },
+    /// The count is 0.
+    NoCount,
+}

@@ -1,0 +1,139 @@
+//! How many harts there are, and the tree of the sites.
+ghost use Rattle.std.specs.Prelude.{◌≡◌, ◌≢◌, ◌≤◌, ◌<◌, length, IfOk, Some, None};
+ghost use Rattle.transfer_table.specs.Plan.{IsPlan, IsSite, bad_parent, parent, plan_fault_of};
+
+use std::alloc::{AllocError, Global};
+use std::marker::Model;
+
+/// The greatest number of harts.
+const MOST_HARTS: u8 = 4;
+
+/// The greatest number of sites.
+const MOST_SITES: usize = 4095;
+
+/// A number of harts from 1 to 4, and a parent for each of at most 4,095 sites. Sites are numbered
+/// from 1, a site's parent is smaller than the site, and site 0 is the base.
+#[derive(Drop)]
+pub struct Plan {
+    harts: u8,
+    parents: Vec<u16>,
+}
+
+impl Model for Plan {
+    ghost use Rattle.transfer_table.specs.Plan.{Plan, IsPlan};
+
+    ghost Value = { Plan };
+
+    ghost view = { λ p. record { harts = p.harts; parents = p.parents.items } };
+
+    ghost invariant = { λ p. IsPlan record { harts = p.harts; parents = p.parents.items } };
+}
+
+/// Why there is no such plan. Of several causes the first in this order is told.
+#[derive(Clone, Copy, Debug, PartialEq, Eq)]
+pub enum PlanFault {
+    /// The number of harts isn't from 1 to 4.
+    BadHarts { found: u8 },
+    /// There are more than 4,095 parents.
+    TooManySites { found: u64 },
+    /// The least site whose parent isn't smaller than it.
+    BadParent { site: u16 },
+    /// No memory was left.
+    Memory,
+}
+
+impl From<AllocError> for PlanFault {
+    ghost use Rattle.transfer_table.specs.declared.plan.PlanFault.TheVariants.{Memory};
+
+    ghost from_gives = { λ _ f. f ≡ Memory };
+
+    fn from(_: AllocError) -> PlanFault {
+        PlanFault::Memory
+    }
+}
+
+impl Plan {
+    /// The plan with these harts and parents; the parent of site `s` stands at place `s - 1`.
+    pub fn new(alloc: Global, harts: u8, parents: &[u16]) -> Result<Plan, PlanFault>
+        ensures plan { IfOk result (λ p. p ≡ record { harts = harts; parents = parents.now }) }
+        ensures kept { IfOk result IsPlan }
+        ensures fault { (why : PlanFault) → plan_fault_of harts parents.now ≡ Some why → result ≡ Err why }
+        ensures only { (why : PlanFault) → result ≡ Err why → why ≢ PlanFault.Memory → plan_fault_of harts parents.now ≡ Some why }
+    {
+        if let Some(fault) = fault_of(harts, parents) {
+            return Err(fault);
+        }
+        let parents = Vec::from_slice(alloc, parents)?;
+        Ok(Plan { harts, parents })
+    }
+
+    /// The number of harts, from 1 to 4.
+    pub fn harts(&self) -> u8
+        ensures same { result ≡ self.now.harts }
+        ensures kept { IsPlan self.now }
+    {
+        self.harts
+    }
+
+    /// The number of sites, at most 4,095.
+    pub fn sites(&self) -> u16
+        ensures same { result ≡ length self.now.parents }
+        ensures kept { IsPlan self.now }
+    {
+        self.parents.len() as u16
+    }
+
+    /// The parent of the site; 0 for a site that isn't in the plan.
+    pub fn parent(&self, site: u16) -> u16
+        ensures same { result ≡ parent self.now site }
+        ensures below { IsSite self.now site → result < site }
+        ensures outside { ¬ IsSite self.now site → result ≡ 0 }
+        ensures kept { IsPlan self.now }
+    {
+        let parents = self.parents.as_slice();
+        if site == 0 {
+            return 0;
+        }
+        parents.get(site as usize - 1).copied().unwrap_or(0)
+    }
+
+    /// An equal plan.
+    pub fn copy(&self, alloc: Global) -> Result<Plan, AllocError>
+        ensures same { IfOk result (λ p. p ≡ self.now) }
+        ensures kept { IsPlan self.now }
+    {
+        let parents = Vec::from_slice(alloc, self.parents.as_slice())?;
+        Ok(Plan {
+            harts: self.harts,
+            parents,
+        })
+    }
+}
+
+// The first fault but want of memory.
+fn fault_of(harts: u8, parents: &[u16]) -> Option<PlanFault>
+    ensures { result ≡ plan_fault_of harts parents.now }
+{
+    if harts == 0 || harts > MOST_HARTS {
+        return Some(PlanFault::BadHarts { found: harts });
+    }
+    if parents.len() > MOST_SITES {
+        return Some(PlanFault::TooManySites {
+            found: parents.len() as u64,
+        });
+    }
+    bad_parent(parents).map(|site| PlanFault::BadParent { site })
+}
+
+// The least site whose parent isn't smaller.
+fn bad_parent(parents: &[u16]) -> Option<u16>
+    requires { length parents.now ≤ 4095 }
+    ensures { result ≡ bad_parent parents.now 1 }
+{
+    for i in 0..parents.len() {
+        if parents[i] as usize > i {
+            return Some(i as u16 + 1);
+        }
+    }
+    None
+}
