@@ -3,6 +3,8 @@
 
 mod fault;
 mod parser;
+#[cfg(test)]
+mod tests;
 mod texts;
 
 pub use array_tree::{ArrayDecl, Arrays, Block, Blocks, Expr, Name, Op, Program, Stmt};
