@@ -4,7 +4,7 @@ use Rattle.array_tokens.specs.Lexemes.{Lexeme, name, number, word, sign, Spot}
 use Rattle.array_tokens.specs.declared.token.Word.TheVariants as words
 use Rattle.array_tokens.specs.declared.token.Sign.{Sign}
 use Rattle.array_tokens.specs.declared.token.Sign.TheVariants as signs
-use Rattle.array_tree.specs.Trees.{Number, Statement, Assign, Par, Sequence, ended, followed, Sequences, no_more, beside, sequence, sequences, Declaration, ProgramTree}
+use Rattle.array_tree.specs.Trees.{Number, Statement, Assign, Par, Sequence, ended, followed, Sequences, beside, sequence, sequences, Declaration, ProgramTree}
 use Rattle.array_lang.specs.Grammar.{spot, numbered, assigned, AssignsOf, no_assign, next_assign, block, BlocksOf, no_block, next_block, ParOf, parallel, declaration, ProgramOf, no_array, no_par, one_par}
 use Rattle.array_lang.specs.Machine.{Around, Place, length_of, index_of, value_of, Mode, begun, await, array_name, number_at, declared, in_block, after_block, whole, is_sign, with_block, step, at_end, continued, run, parse_of}
 use Rattle.array_lang.proofs.Complete.{with_sides, with_sides-more, sequences-last}

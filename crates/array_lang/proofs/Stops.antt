@@ -1,11 +1,10 @@
 -- Where a run doesn't go on.
-use Rattle.std.proofs.Common.{◌≡◌, ℕ, ◌<◌, false, List, [], ◌∷◌, length, Option, Some, None, refl, arith}
+use Rattle.std.proofs.Common.{◌≡◌, ℕ, ◌<◌, false, List, [], ◌∷◌, length, Some, None, refl, arith}
 use Rattle.array_tokens.specs.Lexemes.{Lexeme, name, sign, Spot, spots}
 use Rattle.array_tokens.specs.declared.token.Token.{Token}
-use Rattle.array_tokens.specs.declared.token.Sign.{Sign}
 use Rattle.array_tokens.specs.declared.token.Sign.TheVariants as signs
 use Rattle.array_tree.specs.Trees.{Statement, Sequence, Declaration}
-use Rattle.array_lang.specs.Machine.{Around, Mode, await, in_block, after_block, whole, is_sign, step, run}
+use Rattle.array_lang.specs.Machine.{Around, in_block, after_block, whole, step, run}
 use Rattle.array_lang.specs.Reading.{head_of, is_name}
 
 no_block_step : (done : List Statement) (around : Around) (l : Lexeme) (k : ℕ) → is_name (Some l) ≡ false → (Some l ≡ Some (sign signs.CloseBlock) → ⊥) → step (in_block done around) k l ≡ None

@@ -1,10 +1,10 @@
 -- From tokens to texts.
-use Rattle.std.proofs.Common.{◌≡◌, ℕ, List, [], ◌∷◌, Some, None, Result, Ok, Err, IfOk, IfErr, refl, sym, ◌∙◌, subst}
+use Rattle.std.proofs.Common.{◌≡◌, ℕ, List, Some, None, Result, Ok, Err, IfOk, IfErr, refl, sym, ◌∙◌, subst}
 use Rattle.array_tokens.specs.Lexemes.{Spot, tokens_of}
 use Rattle.array_tokens.specs.declared.fault.TokenFault.{TokenFault}
 use Rattle.array_tree.specs.Trees.{Statement, Sequence, Sequences, ProgramTree, program_of}
 use Rattle.array_tree.specs.declared.tree.Program.{Program}
-use Rattle.array_lang.specs.Grammar.{numbered, AssignOf, assigned, AssignsOf, no_assign, next_assign, block, BlocksOf, no_block, next_block, ParOf, parallel, declaration, ProgramOf, no_array, no_par, one_par, SpellsProgram}
+use Rattle.array_lang.specs.Grammar.{numbered, AssignOf, assigned, AssignsOf, no_assign, next_assign, block, BlocksOf, no_block, next_block, ParOf, parallel, ProgramOf, no_array, no_par, one_par, SpellsProgram}
 use Rattle.array_lang.specs.Spelled.{Spells, IsRead, HasFault}
 use Rattle.array_tree.specs.Small.{IsSmall, IsLiteralAssign, AreLiteralAssigns, AreSmallBranches, IsSmallPar}
 use Rattle.array_lang.specs.Machine.{parse_of}

@@ -2,7 +2,7 @@
 use Rattle.std.specs.Prelude.{◌≡◌, ◌≢◌, ◌++◌, Bool, true, false, Vec, map, ℕ, ℤ, ◌≤◌, ◌<◌, List, [], ◌∷◌, length, Option, Some, None, Result, Ok, Err}
 use Rattle.std.specs.Borrow.{Bor}
 use Rattle.std.specs.Global.{Global}
-use Rattle.array_tokens.specs.Lexemes.{Lexeme, name, word, sign, Spot, spots}
+use Rattle.array_tokens.specs.Lexemes.{Lexeme, name, sign, Spot, spots}
 use Rattle.array_tokens.specs.declared.token.Sign.{Sign}
 use Rattle.array_tokens.specs.declared.token.Sign.TheVariants as signs
 use Rattle.array_tokens.specs.declared.token.Token.{Token}
