@@ -2,3 +2,5 @@ pub mod Causes
 pub mod Plans
 pub mod Scans
 pub mod Counts
+pub mod Admits
+pub mod Replays

@@ -1,5 +1,5 @@
 -- One step of each scan, and what a scan that finds nothing tells.
-use Rattle.std.proofs.Common.{◌≡◌, ◌≢◌, ℕ, zero, suc, ◌+◌, ◌<◌, true, false, not, eqb, nat_le, ◌&&◌, eq-eqb, ne_eqb, List, [], ◌∷◌, length, drop, get_or, refl, ◌∙◌, add-one, arith, slice_index, slice_index_or, None}
+use Rattle.std.proofs.Common.{sym, Some, Bool, true, if◌then◌else◌, ◌≡◌, ◌≢◌, ℕ, zero, suc, ◌+◌, ◌<◌, false, not, eqb, nat_le, ◌&&◌, eq-eqb, ne_eqb, List, [], ◌∷◌, length, drop, get_or, refl, ◌∙◌, add-one, arith, slice_index, slice_index_or, None}
 use mathlib.Core.Logic.{dite}
 use native.Mathlib.Decide.{ℕ_discrete}
 use Rattle.transfer_table.specs.declared.entry.Row.{Row}
@@ -57,3 +57,32 @@ pub no_child : (ps : List ℕ) (rs : List Row) (s k : ℕ) (d : Row) → length 
 no_child [] rs s k d l f = refl
 no_child (p ∷ ps) [] s k d l f = absurd (omega arith)
 no_child (p ∷ ps) (r ∷ rs) s k d l f = child_head p ps r rs s k (f 0 (omega arith)) ∙ no_child ps rs s (k + 1) d (omega arith) (λ i b. f (suc i) (omega arith))
+
+-- where the scan finds no other hart, no other hart's owner is the site
+pub none_other : (os : List ℕ) (h s k g : ℕ) → other_inside os h s k ≡ None → g < length os → k + g ≢ h → slice_index os g ≢ s
+none_other [] h s k g is lt n = absurd (omega arith)
+none_other (o ∷ os) h s k g is lt n = first (not (eqb k h) && eqb o s) refl is (λ is' i lt' n'. none_other os h s (k + 1) i is' lt' n') g lt n
+  where
+    first : (b : Bool) → (not (eqb k h) && eqb o s) ≡ b → (if b then Some k else other_inside os h s (k + 1)) ≡ None
+        → (other_inside os h s (k + 1) ≡ None → (i : ℕ) → i < length os → k + 1 + i ≢ h → slice_index os i ≢ s)
+        → (i : ℕ) → i < suc (length os) → k + i ≢ h → slice_index (o ∷ os) i ≢ s
+    first true e f again i l m = absurd (cc)
+    first false e f again zero l m = λ z. absurd (let w : true ≡ false = sym (rw (ne_eqb k h (λ y. m (omega arith)), eq-eqb o s z) refl) ∙ e in cc)
+    first false e f again (suc i) l m = again f i (omega arith) (λ y. m (omega arith))
+
+-- where the scan finds no child, each child is gone
+pub none_child : (ps : List ℕ) (rs : List Row) (s k i : ℕ) (d : Row) → least_left ps rs s k ≡ None → length rs ≡ length ps → i < length ps → slice_index ps i ≡ s → is_gone (slice_index_or rs i d).stage ≡ true
+none_child [] rs s k i d is l lt e = absurd (omega arith)
+none_child (p ∷ ps) [] s k i d is l lt e = absurd (omega arith)
+none_child (p ∷ ps) (r ∷ rs) s k i d is l lt e = first (eqb p s && not (is_gone r.stage)) refl is (λ is' j lt' e'. none_child ps rs s (k + 1) j d is' (omega arith) lt' e') i lt e
+  where
+    gone : (g : Bool) → not g ≡ false → g ≡ true
+    gone true e' = refl
+    gone false e' = absurd (cc)
+
+    first : (b : Bool) → (eqb p s && not (is_gone r.stage)) ≡ b → (if b then Some k else least_left ps rs s (k + 1)) ≡ None
+        → (least_left ps rs s (k + 1) ≡ None → (j : ℕ) → j < length ps → slice_index ps j ≡ s → is_gone (slice_index_or rs j d).stage ≡ true)
+        → (j : ℕ) → j < suc (length ps) → slice_index (p ∷ ps) j ≡ s → is_gone (slice_index_or (r ∷ rs) j d).stage ≡ true
+    first true q f again j l' z = absurd (cc)
+    first false q f again zero l' z = gone (is_gone r.stage) (rw (eq-eqb p s z) at q)
+    first false q f again (suc j) l' z = again f j (omega arith) z

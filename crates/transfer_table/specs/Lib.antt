@@ -3,3 +3,4 @@ pub mod Plan
 pub mod Table
 pub mod Board
 pub mod Journal
+pub mod Allowed

@@ -8,9 +8,14 @@
 mod board;
 mod entries;
 mod entry;
+mod fault;
 mod plan;
 
 pub use board::Board;
 pub use entries::Entries;
 pub use entry::{Entry, NotAdmitted, Row, Stage};
+pub use fault::{Fault, Why};
 pub use plan::{Plan, PlanFault};
+
+#[cfg(test)]
+mod tests;
