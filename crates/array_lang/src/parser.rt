@@ -99,13 +99,13 @@ fn par<'t>(alloc: Global, line: u32, tokens: &'t [Token<'t>]) -> Parsed<'t, Stmt
         blocks.push(next)?;
         rest = end;
     }
-    let rest = expect(rest, Sign::CloseBlock)?;
+    let end = expect(rest, Sign::CloseBlock)?;
     Ok((
         Stmt::Par {
             line,
             branches: Blocks { blocks },
         },
-        rest,
+        end,
     ))
 }
 
@@ -169,8 +169,7 @@ fn cell<'t>(tokens: &'t [Token<'t>]) -> Parsed<'t, i64>
 {
     let rest = expect(tokens, Sign::OpenIndex)?;
     let (value, rest) = number(rest)?;
-    let rest = expect(rest, Sign::CloseIndex)?;
-    Ok((value, rest))
+    Ok((value, expect(rest, Sign::CloseIndex)?))
 }
 
 // The value of an assignment, from its sign to its end.
@@ -179,8 +178,7 @@ fn value<'t>(tokens: &'t [Token<'t>]) -> Parsed<'t, i64>
 {
     let rest = expect(tokens, Sign::Assign)?;
     let (value, rest) = number(rest)?;
-    let rest = expect(rest, Sign::Semicolon)?;
-    Ok((value, rest))
+    Ok((value, expect(rest, Sign::Semicolon)?))
 }
 
 fn number<'t>(tokens: &'t [Token<'t>]) -> Parsed<'t, i64>

@@ -3,6 +3,8 @@
 
 mod fault;
 mod lexer;
+#[cfg(test)]
+mod tests;
 mod token;
 
 pub use fault::TokenFault;
