@@ -1,0 +1,42 @@
+//! Loop variables.
+ghost use Rattle.std.specs.Prelude.{◌≡◌};
+ghost use Rattle.array_meaning.specs.Stores.{var_of};
+ghost use Rattle.array_eval.specs.Views.{vars_of};
+
+use array_tree::Name;
+
+/// The loop variables around a place in a program, the innermost first. A loop's turn makes one on the stack, and
+/// copies neither a name nor the variables around it.
+#[derive(Drop)]
+pub(crate) enum Scope<'s> {
+    /// No loop is around.
+    Outermost,
+    /// A loop, and the value of its variable in this turn.
+    Turn {
+        name: &'s Name,
+        value: i64,
+        outer: &'s Scope<'s>,
+    },
+}
+
+impl Scope<'_> {
+    /// The value of a variable, 0 where there is none of the name.
+    pub(crate) fn get(&self, name: &Name) -> i64
+        ensures { result ≡ var_of (vars_of self.now) name.now }
+    {
+        match self {
+            Scope::Outermost => 0,
+            Scope::Turn {
+                name: own,
+                value,
+                outer,
+            } => {
+                if *own == name {
+                    *value
+                } else {
+                    outer.get(name)
+                }
+            }
+        }
+    }
+}

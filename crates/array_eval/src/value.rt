@@ -1,0 +1,82 @@
+//! What expressions give.
+ghost use Rattle.std.specs.Prelude.{◌≡◌};
+ghost use Rattle.array_tree.specs.Trees.{expression_of, declarations_of};
+ghost use Rattle.array_meaning.specs.Stores.{arrays_of, AreSized, is_dynamic, value_of};
+ghost use Rattle.array_meaning.specs.Values.{applied, wrapping_minus};
+ghost use Rattle.array_eval.specs.Views.{vars_of};
+
+use array_tree::{Arrays, Expr, Op};
+
+use crate::cells::{cell, read};
+use crate::scope::Scope;
+
+/// The value of an expression.
+pub(crate) fn value(arrays: &Arrays, expr: &Expr, scope: &Scope, cells: &[i64]) -> i64
+    requires { AreSized (arrays_of (declarations_of arrays.now)) }
+    ensures { result ≡ value_of (arrays_of (declarations_of arrays.now)) (vars_of scope.now) (expression_of expr.now) cells.now }
+{
+    match expr {
+        Expr::Number(number) => *number,
+        Expr::Var(name) => scope.get(name),
+        Expr::Read(array, index) => {
+            let place = value(arrays, index, scope, cells);
+            read(cells, cell(arrays, array, dynamic(index), place))
+        }
+        Expr::Neg(operand) => negate(value(arrays, operand, scope, cells)),
+        Expr::Binary(op, left, right) => {
+            let a = value(arrays, left, scope, cells);
+            let b = value(arrays, right, scope, cells);
+            apply(*op, a, b)
+        }
+    }
+}
+
+/// Whether an index holds an array read.
+pub(crate) fn dynamic(index: &Expr) -> bool
+    ensures { result ≡ is_dynamic (expression_of index.now) }
+{
+    match index {
+        Expr::Number(_) | Expr::Var(_) => false,
+        Expr::Read(_, _) => true,
+        Expr::Neg(operand) => dynamic(operand),
+        Expr::Binary(_, left, right) => dynamic(left) || dynamic(right),
+    }
+}
+
+// What an operator gives.
+fn apply(op: Op, a: i64, b: i64) -> i64
+    ensures { result ≡ applied op a b }
+{
+    match op {
+        Op::Add => a.wrapping_add(b),
+        Op::Sub => a.wrapping_sub(b),
+        Op::Mul => a.wrapping_mul(b),
+        Op::Div => {
+            if b == 0 {
+                0
+            } else {
+                a.wrapping_div(b)
+            }
+        }
+        Op::Rem => {
+            if b == 0 {
+                0
+            } else {
+                a.wrapping_rem(b)
+            }
+        }
+        Op::Less => i64::from(a < b),
+        Op::Greater => i64::from(a > b),
+        Op::LessEq => i64::from(a <= b),
+        Op::GreaterEq => i64::from(a >= b),
+        Op::Equal => i64::from(a == b),
+        Op::NotEqual => i64::from(a != b),
+    }
+}
+
+// The minus sign.
+fn negate(a: i64) -> i64
+    ensures { result ≡ wrapping_minus a }
+{
+    a.wrapping_neg()
+}
