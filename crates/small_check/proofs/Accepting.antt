@@ -13,6 +13,7 @@ use Rattle.array_meaning.specs.Limits.{is_up_to, count_of, has_right_ranges, hav
 use Rattle.array_meaning.specs.Plans.{sites_in, branches_sites_in, sequence_parents, branches_parents, plan_of}
 use Rattle.array_meaning.specs.Accepted.{are_inside, IsAccepted}
 use Rattle.array_tree.specs.Small.{IsSmallBody, IsSmall}
+use Rattle.small_check.specs.SmallPlan.{small_plan}
 use Rattle.small_check.specs.Test.{Marks, are_cells, writes_marked, with_marks, are_apart, is_accepted_small}
 use Rattle.small_check.proofs.Branches.{Literals, none, more, Branches, last, next, small_branches, literals, AllCells, no_cells, cells, alone, work, works, cells_inside, cells_named, inside_rest, cells_from, lit_assoc}
 use Rattle.small_check.proofs.Marking.{Marked, marks_kept, length-with_marks, reads_none, unmarked, found, marks_new, marks_old, AreUnmarked, no_branch, one_more}
@@ -227,11 +228,7 @@ accepted (array ∷ []) (followed first (followed second rest)) small h = absurd
 accepted (array ∷ []) (followed first ended) small h = absurd small
 accepted (array ∷ other ∷ others) body small h = absurd small
 
--- the plan of a small program: one site for its `par`
-abbrev pub small_plan : Sequence → List ℕ
-small_plan ended = []
-small_plan (followed first rest) = 0 ∷ []
-
+-- the plan of a small program
 pub plan_is : (arrays : List Declaration) (body : Sequence) → IsSmallBody arrays body → plan_of (record { arrays = arrays; body = body }) ≡ small_plan body
 plan_is [] ended small = refl
 plan_is [] (followed first rest) small = absurd small

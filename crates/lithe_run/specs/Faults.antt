@@ -1,0 +1,36 @@
+-- Why there is no output.
+use Rattle.std.specs.Prelude.{◌≡◌, ◌≢◌, ℕ, ◌≤◌, List, length, Option, Some, None}
+use Rattle.outside_io.specs.Outside.{Rose}
+use Rattle.array_tree.specs.Trees.{ProgramTree}
+use Rattle.array_lang.specs.Spelled.{Spells}
+use Rattle.array_meaning.specs.Accepted.{IsAccepted}
+use Rattle.lithe_run.specs.Telling.{IsLonger}
+use Rattle.lithe_run.specs.Command.{form_of}
+use Rattle.lithe_run.specs.Output.{input_limit}
+use Rattle.lithe_run.specs.declared.fault.Fault.{Fault}
+use Rattle.lithe_run.specs.declared.fault.Fault.TheVariants as fault
+
+-- bytes within the limit spell no program
+abbrev pub SpellNothing : List ℕ → Type 0
+SpellNothing bytes = (length bytes ≤ input_limit) × ((program : ProgramTree) → Spells bytes program → ⊥)
+
+-- bytes within the limit spell a program that isn't accepted
+pub record SpellRefused (bytes : List ℕ) : Type 0 where
+  pub short : length bytes ≤ input_limit
+  pub program : ProgramTree
+  pub spelled : Spells bytes program
+  pub refused : IsAccepted program → ⊥
+
+-- the cause of a fault, by what the source had left and its count of faults before and after. Want of memory has none.
+abbrev pub IsCause : Fault → Option (List ℕ) → ℕ → ℕ → Type 0
+IsCause fault.Usage left faults faults' = ⊥
+IsCause fault.TooLong left faults faults' = IsLonger left input_limit
+IsCause fault.ReadFault left faults faults' = Rose faults faults'
+IsCause fault.Syntax left faults faults' = (bytes : List ℕ) → left ≡ Some bytes → SpellNothing bytes
+IsCause fault.Refused left faults faults' = (bytes : List ℕ) → left ≡ Some bytes → SpellRefused bytes
+IsCause fault.Memory left faults faults' = Unit {0}
+
+-- the words are no form exactly where the fault is that of usage
+abbrev pub IsFault : List (List ℕ) → Fault → Option (List ℕ) → ℕ → ℕ → Type 0
+IsFault words fault.Usage left faults faults' = form_of words ≡ None
+IsFault words why left faults faults' = (form_of words ≢ None) × IsCause why left faults faults'

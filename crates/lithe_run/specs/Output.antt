@@ -1,0 +1,40 @@
+-- What a run writes: the arrays as the one-thread meaning leaves them, and a journal that is complete for the
+-- program's plan.
+use Rattle.std.specs.Prelude.{◌≡◌, ℕ, ◌≤◌, List, ◌++◌, length}
+use Rattle.transfer_table.specs.Plan.{Plan}
+use Rattle.transfer_table.specs.Journal.{IsComplete}
+use Rattle.transfer_table.specs.declared.entry.Entry.{Entry}
+use Rattle.journal_text.specs.JournalText.{journal_text}
+use Rattle.array_tree.specs.Trees.{ProgramTree}
+use Rattle.array_lang.specs.Spelled.{Spells}
+use Rattle.array_meaning.specs.Stores.{Store}
+use Rattle.array_meaning.specs.Work.{final_store}
+use Rattle.array_meaning.specs.Plans.{plan_of}
+use Rattle.array_meaning.specs.Accepted.{IsAccepted}
+use Rattle.array_eval.specs.ArrayText.{array_text}
+
+-- the program's plan for so many harts
+abbrev pub table_plan : ProgramTree → ℕ → Plan
+table_plan program harts = record { harts = harts; parents = plan_of program }
+
+-- the array lines, and then the journal
+abbrev pub output_text : ProgramTree → Plan → Store → List Entry → List ℕ
+output_text program plan store journal = array_text program store ++ journal_text plan journal
+
+-- the text is the output of an accepted program's run on so many harts
+pub record IsOutput (program : ProgramTree) (harts : ℕ) (text : List ℕ) : Type 0 where
+  pub accepted : IsAccepted program
+  pub journal : List Entry
+  pub complete : IsComplete (table_plan program harts) journal
+  pub whole : text ≡ output_text program (table_plan program harts) (final_store program) journal
+
+-- the greatest length of an input, in bytes
+abbrev pub input_limit : ℕ
+input_limit = 65536
+
+-- the text is the output of the run of the program that these bytes spell
+pub record IsRunOf (bytes : List ℕ) (harts : ℕ) (text : List ℕ) : Type 0 where
+  pub short : length bytes ≤ input_limit
+  pub program : ProgramTree
+  pub spelled : Spells bytes program
+  pub output : IsOutput program harts text
