@@ -22,7 +22,7 @@ known_hart n h lt = grind (arith, nat_tests)
 few_enough : (n k : ℕ) → k ≤ n → nat_lt n k ≡ false
 few_enough n k le = grind (arith, nat_tests)
 
-not_home : (o : Option ℕ) (h : ℕ) → o ≢ Some h → is_home o h ≡ false
+pub not_home : (o : Option ℕ) (h : ℕ) → o ≢ Some h → is_home o h ≡ false
 not_home None h n = refl
 not_home (Some g) h n = ne_eqb g h (λ e. n (ap (λ (x : ℕ). Some x) e))
 

@@ -4,3 +4,6 @@ pub mod Scans
 pub mod Counts
 pub mod Admits
 pub mod Replays
+pub mod Positions
+pub mod Faults
+pub mod Bounds

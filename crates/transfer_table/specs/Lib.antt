@@ -3,4 +3,6 @@ pub mod Plan
 pub mod Table
 pub mod Board
 pub mod Journal
+pub mod Entry
 pub mod Allowed
+pub mod Laws

@@ -3,6 +3,7 @@ ghost use Rattle.std.specs.Prelude.{◌≡◌, ◌≤◌, ◌<◌, ◌+◌, IfEr
 ghost use Rattle.transfer_table.specs.Plan.{IsHart, IsSite, IsPlan, parent, site_count};
 ghost use Rattle.transfer_table.specs.Table.{admit_of, common_refusals, first_state, IsPosition, hart_inside, child_left, owner, row, blank, is_gone, is_home, home_number};
 ghost use Rattle.transfer_table.specs.Causes.{cause_if, first_cause};
+ghost use Rattle.transfer_table.specs.Journal.{unfinished};
 ghost use Rattle.transfer_table.specs.Board.{IsCount, count_left};
 
 use crate::entry::{Entry, NotAdmitted, Row, Stage};
@@ -35,7 +36,8 @@ impl Model for Board {
 impl Board {
     /// The first state of the plan's table: every hart is in the base, and every site is new.
     pub fn new(alloc: Global, plan: &Plan) -> Result<Board, AllocError>
-        ensures { IfOk result (λ b. b ≡ record { plan = plan.now; state = first_state plan.now }) }
+        ensures first { IfOk result (λ b. b ≡ record { plan = plan.now; state = first_state plan.now }) }
+        ensures kept { IfOk result IsPosition }
     {
         let blank = Row {
             stage: Stage::New,
@@ -248,6 +250,18 @@ impl Board {
         let owner = self.owners[hart as usize];
         if owner != wanted {
             return Some(NotAdmitted::NotOwner { owner });
+        }
+        None
+    }
+
+    // The least site that isn't gone.
+    pub(crate) fn unfinished(&self) -> Option<u16>
+        ensures { result ≡ unfinished self.now.state.rows 1 }
+    {
+        for i in 0..self.rows.len() {
+            if !self.rows[i].stage.is_gone() {
+                return Some(i as u16 + 1);
+            }
         }
         None
     }

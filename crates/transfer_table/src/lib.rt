@@ -14,7 +14,7 @@ mod plan;
 pub use board::Board;
 pub use entries::Entries;
 pub use entry::{Entry, NotAdmitted, Row, Stage};
-pub use fault::{Fault, Why};
+pub use fault::{Fault, Why, first_fault};
 pub use plan::{Plan, PlanFault};
 
 #[cfg(test)]

@@ -1,0 +1,46 @@
+-- A state keeps its size, and what each entry of a legal list keeps holds at its end.
+use Rattle.std.proofs.Common.{◌≡◌, ◌≢◌, ℕ, zero, suc, ◌+◌, ◌-◌, ◌<◌, ◌≤◌, List, [], ◌∷◌, ◌++◌, length, get_or, set, replicate, refl, sym, ap, subst, ◌∙◌, arith, slice_index, slice_index_or, slice_set, Some, Ok, length-set, get_or-set_same, get_or-set_other}
+use Rattle.transfer_table.specs.Plan.{Plan, IsPlan, IsHart, IsSite, parent, site_count}
+use Rattle.transfer_table.specs.Table.{TableState, IsPosition, admit_of, effect_of, first_state, owner, row, blank}
+use Rattle.transfer_table.specs.Journal.{Reaches}
+use Rattle.transfer_table.specs.Entry.{hart_of, site_of}
+use Rattle.transfer_table.specs.Allowed.{IsAllowed}
+use Rattle.transfer_table.specs.declared.entry.Row.{Row}
+use Rattle.transfer_table.specs.declared.entry.Stage.TheVariants.{New, Live, Gone}
+use Rattle.transfer_table.specs.declared.entry.Entry.{Entry}
+use Rattle.transfer_table.specs.declared.entry.Entry.TheVariants.{Register, Request, Enter, Yield, Unregister}
+use Rattle.transfer_table.proofs.Admits.{admitted}
+use Rattle.transfer_table.proofs.Replays.{kept}
+
+-- a plan and a state that fit together
+abbrev pub Fits : Plan → TableState → Type 0
+Fits p t = IsPosition record { plan = p; state = t }
+
+pub get_or-replicate : {A : Type 0} (n i : ℕ) (a : A) → get_or (replicate n a) i a ≡ a
+get_or-replicate zero i a = refl
+get_or-replicate (suc n) zero a = refl
+get_or-replicate (suc n) (suc i) a = get_or-replicate n i a
+
+length-replicate : {A : Type 0} (n : ℕ) (a : A) → length (replicate n a) ≡ n
+length-replicate zero a = refl
+length-replicate (suc n) a = ap suc (length-replicate n a)
+
+pub fits_first : (p : Plan) → IsPlan p → Fits p (first_state p)
+fits_first p is = record { plan = is; owners = length-replicate p.harts 0; rows = length-replicate (site_count p) blank }
+
+pub fits_effect : (p : Plan) (t : TableState) (e : Entry) → Fits p t → Fits p (effect_of p t e)
+fits_effect p t (Register h s) f = record { plan = f.plan; owners = length-set t.owners h s ∙ f.owners; rows = length-set t.rows (s - 1) _ ∙ f.rows }
+fits_effect p t (Request h s k) f = record { plan = f.plan; owners = f.owners; rows = length-set t.rows (s - 1) _ ∙ f.rows }
+fits_effect p t (Enter h s) f = record { plan = f.plan; owners = length-set t.owners h s ∙ f.owners; rows = length-set t.rows (s - 1) _ ∙ f.rows }
+fits_effect p t (Yield h s) f = record { plan = f.plan; owners = length-set t.owners h _ ∙ f.owners; rows = f.rows }
+fits_effect p t (Unregister h s) f = record { plan = f.plan; owners = length-set t.owners h _ ∙ f.owners; rows = length-set t.rows (s - 1) _ ∙ f.rows }
+
+-- after a legal list plan and state fit together
+pub legal_position : (p : Plan) → IsPlan p → (es : List Entry) (t : TableState) → Reaches p es t → Fits p t
+legal_position p is es t leads = kept p (λ _ u. Fits p u) (fits_first p is) (λ xs u v e before f a. subst (Fits p) (sym (admitted p u e v f a).1) (fits_effect p u e f)) es t leads
+
+-- what holds at first, and is kept by each entry that is allowed, holds after every legal list
+pub lasts : (p : Plan) → IsPlan p → (P : List Entry → TableState → Type 0) → P [] (first_state p)
+    → ((es : List Entry) (t : TableState) (e : Entry) → Reaches p es t → Fits p t → P es t → IsAllowed p t e → P (es ++ e ∷ []) (effect_of p t e))
+    → (es : List Entry) (t : TableState) → Reaches p es t → P es t
+lasts p is P start step es t leads = kept p P start (λ xs u v e before holds a. let f = legal_position p is xs u before in let d = admitted p u e v f a in subst (P (xs ++ e ∷ [])) (sym d.1) (step xs u e before f holds d.0)) es t leads
