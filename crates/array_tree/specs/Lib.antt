@@ -1,3 +1,5 @@
 pub mod Digest
 pub mod Trees
 pub mod Small
+pub mod Equal
+pub mod EqualLaws

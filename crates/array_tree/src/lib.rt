@@ -1,6 +1,7 @@
 //! The tree of the array language: what a program is, apart from how its text is laid out.
 #![tactic(auto)]
 
+mod equal;
 mod name;
 mod tree;
 
