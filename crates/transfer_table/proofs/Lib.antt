@@ -7,3 +7,6 @@ pub mod Replays
 pub mod Positions
 pub mod Faults
 pub mod Bounds
+pub mod Effects
+pub mod Stages
+pub mod Homes

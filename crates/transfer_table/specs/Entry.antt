@@ -1,5 +1,6 @@
--- Whose entry it is, and of which site.
-use Rattle.std.specs.Prelude.{ℕ, ◌==◌, Bool, if◌then◌else◌, List, [], ◌∷◌}
+-- Whose entry it is, of which site, and of which kind.
+use Rattle.std.specs.Prelude.{ℕ, ◌==◌, Bool, true, false, if◌then◌else◌, List}
+use Rattle.std.specs.List.{filter, count_by, sum_by}
 use Rattle.transfer_table.specs.declared.entry.Entry.{Entry}
 use Rattle.transfer_table.specs.declared.entry.Entry.TheVariants.{Register, Request, Enter, Yield, Unregister}
 
@@ -19,7 +20,51 @@ site_of (Enter h s) = s
 site_of (Yield h s) = s
 site_of (Unregister h s) = s
 
+-- how many harts the entry asks for
+abbrev pub count_of : Entry → ℕ
+count_of (Register h s) = 0
+count_of (Request h s k) = k
+count_of (Enter h s) = 0
+count_of (Yield h s) = 0
+count_of (Unregister h s) = 0
+
+abbrev pub is_register : Entry → Bool
+is_register (Register h s) = true
+is_register (Request h s k) = false
+is_register (Enter h s) = false
+is_register (Yield h s) = false
+is_register (Unregister h s) = false
+
+abbrev pub is_enter : Entry → Bool
+is_enter (Register h s) = false
+is_enter (Request h s k) = false
+is_enter (Enter h s) = true
+is_enter (Yield h s) = false
+is_enter (Unregister h s) = false
+
+abbrev pub is_unregister : Entry → Bool
+is_unregister (Register h s) = false
+is_unregister (Request h s k) = false
+is_unregister (Enter h s) = false
+is_unregister (Yield h s) = false
+is_unregister (Unregister h s) = true
+
 -- the entries that the hart made, in order
 abbrev pub made_by : ℕ → List Entry → List Entry
-made_by h [] = []
-made_by h (e ∷ es) = if hart_of e == h then e ∷ made_by h es else made_by h es
+made_by h es = filter (λ e. hart_of e == h) es
+
+-- how many entries register the site
+abbrev pub registers : ℕ → List Entry → ℕ
+registers s es = count_by (λ e. if site_of e == s then is_register e else false) es
+
+-- how many entries let a hart enter the site
+abbrev pub enters : ℕ → List Entry → ℕ
+enters s es = count_by (λ e. if site_of e == s then is_enter e else false) es
+
+-- how many entries unregister the site
+abbrev pub unregisters : ℕ → List Entry → ℕ
+unregisters s es = count_by (λ e. if site_of e == s then is_unregister e else false) es
+
+-- how many harts the entries ask for, for the site
+abbrev pub requested : ℕ → List Entry → ℕ
+requested s es = sum_by (λ e. if site_of e == s then count_of e else 0) es
