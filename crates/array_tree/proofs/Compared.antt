@@ -1,5 +1,5 @@
 -- Comparing lists of children one after another.
-use Rattle.std.proofs.Common.{◌≡◌, ℕ, ◌&&◌, Bool, true, false, List, [], ◌∷◌, ◌+◌, ◌<◌, length, map, drop, get_or, refl, ap, arith, add-one, vec_len}
+use Rattle.std.proofs.Common.{◌≡◌, ℕ, ◌&&◌, Bool, true, false, List, [], ◌∷◌, ◌+◌, ◌<◌, length, map, drop, get_or, refl, arith, add-one, vec_len}
 use Rattle.std.proofs.Math.Seq.{drop-cons}
 use Rattle.std.proofs.lemmas.Grind.{common_steps}
 use Rattle.array_tree.specs.declared.tree.Stmt.{Stmt}
@@ -42,12 +42,12 @@ blocks_of b = search the_lemmas
 pub block_uneven : (a b : Block) → (vec_len (out-Block a).statements ≡ vec_len (out-Block b).statements → ⊥) → sequence_eq (sequence_of a) (sequence_of b) ≡ false
 block_uneven a b h =
     rw (statements_of a, statements_of b)
-      (statements_uneven (out-Block a).statements.items (out-Block b).statements.items (λ e. h (grind (arith, common_steps))))
+    (statements_uneven (out-Block a).statements.items (out-Block b).statements.items (λ e. h (grind (arith, common_steps))))
 
 pub sides_uneven : (a b : Blocks) → (vec_len (out-Blocks a).blocks ≡ vec_len (out-Blocks b).blocks → ⊥) → sequences_eq (sequences_of a) (sequences_of b) ≡ false
 sides_uneven a b h =
     rw (blocks_of a, blocks_of b)
-      (blocks_uneven (out-Blocks a).blocks.items (out-Blocks b).blocks.items (λ e. h (grind (arith, common_steps))))
+    (blocks_uneven (out-Blocks a).blocks.items (out-Blocks b).blocks.items (λ e. h (grind (arith, common_steps))))
 
 -- where two blocks are the same, the rest decides
 pub blocks_step : (xs ys : List Block) (i : ℕ) (x y : Block) → i < length xs → i < length ys → x ≡ get_or xs i x → y ≡ get_or ys i y → true ≡ sequence_eq (sequence_of x) (sequence_of y) → sequences_eq (sequences (map sequence_of (drop i xs))) (sequences (map sequence_of (drop i ys))) ≡ sequences_eq (sequences (map sequence_of (drop (i + 1) xs))) (sequences (map sequence_of (drop (i + 1) ys)))

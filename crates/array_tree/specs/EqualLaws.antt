@@ -177,8 +177,30 @@ pub program_refl : (p : ProgramTree) → program_eq p p ≡ true
 program_refl p = and_true (declarations_refl p.arrays) (sequence_refl p.body)
 
 -- A value of such a test tells whether the two are equal.
-pub decided : {X : Type 0} (eq : X → X → Bool) → ((x y : X) → eq x y ≡ true → x ≡ y) → ((x : X) → eq x x ≡ true) → (x y : X) (b : Bool) → b ≡ eq x y → IsTrue b ↔ (x ≡ y)
+decided : {X : Type 0} (eq : X → X → Bool) → ((x y : X) → eq x y ≡ true → x ≡ y) → ((x : X) → eq x x ≡ true) → (x y : X) (b : Bool) → b ≡ eq x y → IsTrue b ↔ (x ≡ y)
 decided eq same all x y b e = rw e (λ h. same x y h, λ p. subst (λ z. eq x z ≡ true) p (all x))
+
+-- What `==` answers of two trees tells whether they are equal.
+pub expression_decided : (x y : Expression) (b : Bool) → b ≡ expression_eq x y → IsTrue b ↔ (x ≡ y)
+expression_decided = decided expression_eq expression_same expression_refl
+
+pub statement_decided : (x y : Statement) (b : Bool) → b ≡ statement_eq x y → IsTrue b ↔ (x ≡ y)
+statement_decided = decided statement_eq statement_same statement_refl
+
+pub sequence_decided : (x y : Sequence) (b : Bool) → b ≡ sequence_eq x y → IsTrue b ↔ (x ≡ y)
+sequence_decided = decided sequence_eq sequence_same sequence_refl
+
+pub sequences_decided : (x y : Sequences) (b : Bool) → b ≡ sequences_eq x y → IsTrue b ↔ (x ≡ y)
+sequences_decided = decided sequences_eq sequences_same sequences_refl
+
+pub declaration_decided : (x y : Declaration) (b : Bool) → b ≡ declaration_eq x y → IsTrue b ↔ (x ≡ y)
+declaration_decided = decided declaration_eq declaration_same declaration_refl
+
+pub declarations_decided : (x y : List Declaration) (b : Bool) → b ≡ declarations_eq x y → IsTrue b ↔ (x ≡ y)
+declarations_decided = decided declarations_eq declarations_same declarations_refl
+
+pub program_decided : (x y : ProgramTree) (b : Bool) → b ≡ program_eq x y → IsTrue b ↔ (x ≡ y)
+program_decided = decided program_eq program_same program_refl
 
 false_unless : (b : Bool) → (b ≡ true → ⊥) → b ≡ false
 false_unless true h = absurd (h refl)

@@ -124,6 +124,8 @@ impl PartialEq for Program {
     }
 }
 
+// Equality itself, apart from the impls: these call one another.
+
 fn same_expression(a: &Expr, b: &Expr) -> bool
     ensures { result ≡ expression_eq (expression_of a.now) (expression_of b.now) }
 {

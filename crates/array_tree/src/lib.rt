@@ -3,6 +3,8 @@
 
 mod equal;
 mod name;
+#[cfg(test)]
+mod tests;
 mod tree;
 
 pub use name::Name;

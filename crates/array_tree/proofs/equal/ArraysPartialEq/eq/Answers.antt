@@ -1,8 +1,8 @@
-use Rattle.std.proofs.Common.{◌≡◌, ◌∙◌, sym}
+use Rattle.std.proofs.Common.{◌∙◌, sym}
 use Rattle.std.specs.Cmp.Derive.Mapped.{pointwise-map}
-use Rattle.array_tree.specs.Trees.{declaration_of, declarations_of}
-use Rattle.array_tree.specs.Equal.{declaration_eq, declarations_eq}
-use Rattle.array_tree.specs.EqualLaws.{decided, declarations_same, declarations_refl}
+use Rattle.array_tree.specs.Trees.{declaration_of}
+use Rattle.array_tree.specs.Equal.{declaration_eq}
+use Rattle.array_tree.specs.EqualLaws.{declarations_decided}
 use Rattle.array_tree.proofs.equal.ArraysPartialEq.eq.Goals as goal
 
 pub returns-clause-tested : goal.returns-clause-tested
@@ -10,5 +10,4 @@ returns-clause-tested c =
     c.eq.ensures ∙ sym (pointwise-map declaration_of declaration_eq c.args.self.now.declarations.items c.args.other.now.declarations.items)
 
 pub returns-clause-same : goal.returns-clause-same
-returns-clause-same c =
-    decided declarations_eq declarations_same declarations_refl (declarations_of c.args.self.now) (declarations_of c.args.other.now) _ (returns-clause-tested c)
+returns-clause-same c = declarations_decided _ _ _ (returns-clause-tested c)
