@@ -1,7 +1,7 @@
 //! Running a program on one thread.
-ghost use Rattle.std.specs.Prelude.{◌≡◌, IfOk};
+ghost use Rattle.std.specs.Prelude.{◌≡◌, IfOk, length};
 ghost use Rattle.array_tree.specs.Trees.{statement_of, sequence_of, sequences_of, declarations_of, program_of};
-ghost use Rattle.array_meaning.specs.Stores.{arrays_of, AreSized};
+ghost use Rattle.array_meaning.specs.Stores.{arrays_of, AreSized, cells_of};
 ghost use Rattle.array_meaning.specs.Steps.{exec};
 ghost use Rattle.array_meaning.specs.Work.{statement_work, sequence_work, branches_work, phases_work, loop, final_store};
 ghost use Rattle.array_eval.specs.Views.{vars_of};
@@ -19,9 +19,11 @@ use crate::value::{dynamic, value};
 ///
 /// Each array must have a cell, and all at most 4,096. That the names are known and the indexes inside their arrays
 /// is not needed: a read behind the last cell gives 0, and a write there does nothing.
+#[tactic(auto, using(array_meaning::proofs::StepLemmas::length_final_store))]
 pub fn run_one(alloc: Global, program: &Program) -> Result<Store, AllocError>
     requires { AreSized (arrays_of (declarations_of program.now.arrays)) }
-    ensures { IfOk result (λ store. store ≡ final_store (program_of program.now)) }
+    ensures meaning { IfOk result (λ store. store ≡ final_store (program_of program.now)) }
+    ensures whole { IfOk result (λ store. length store ≡ cells_of (arrays_of (declarations_of program.now.arrays))) }
 {
     let mut cells = vec![in alloc; 0; count_cells(&program.arrays)]?;
     run_block(&program.arrays, &program.body, &Scope::Outermost, &mut cells);
