@@ -50,4 +50,4 @@ pub finished : (p : Plan) → IsSerial p → 0 < length p.parents → (t u : Tab
     admit_of p (first_state p) (Register 0 1) ≡ Ok t → admit_of p t (Unregister 0 1) ≡ Ok u → AllGone p u
 finished p serial some t u =
     subst (λ (q : Plan). admit_of q (first_state q) (Register 0 1) ≡ Ok t → admit_of q t (Unregister 0 1) ≡ Ok u → AllGone q u)
-      (sym (plan_is_lone p serial some)) (finished_lone t u)
+    (sym (plan_is_lone p serial some)) (finished_lone t u)

@@ -34,3 +34,10 @@ IsCause fault.Memory left faults faults' = Unit {0}
 abbrev pub IsFault : List (List ℕ) → Fault → Option (List ℕ) → ℕ → ℕ → Type 0
 IsFault words fault.Usage left faults faults' = form_of words ≡ None
 IsFault words why left faults faults' = (form_of words ≢ None) × IsCause why left faults faults'
+
+-- why the program of these bytes has no output
+abbrev pub IsNoRun : List ℕ → Fault → Type 0
+IsNoRun bytes fault.Syntax = SpellNothing bytes
+IsNoRun bytes fault.Refused = SpellRefused bytes
+IsNoRun bytes fault.Memory = Unit {0}
+IsNoRun bytes why = ⊥

@@ -6,3 +6,4 @@ pub mod Status
 pub mod FaultOf
 pub mod Serial
 pub mod Refusal
+pub mod Writing

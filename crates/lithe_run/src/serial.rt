@@ -48,7 +48,11 @@ pub fn serial_journal(alloc: Global, plan: &Plan) -> Result<Entries, AllocError>
         return Ok(Entries::new(list));
     }
     note(&mut board, &mut list, Entry::Register { hart: 0, site: 1 })?;
-    note(&mut board, &mut list, Entry::Unregister { hart: 0, site: 1 })?;
+    note(
+        &mut board,
+        &mut list,
+        Entry::Unregister { hart: 0, site: 1 },
+    )?;
     Ok(Entries::new(list))
 }
 

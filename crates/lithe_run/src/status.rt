@@ -34,7 +34,8 @@ impl Status {
     }
 }
 
-const USAGE: &[u8] = b"usage: lithe_run run --harts N\n       lithe_run solo\n       lithe_run audit --harts N\n       lithe_run make --seed X --size K --harts N\n";
+const USAGE: &[u8] =
+    b"usage: lithe_run run --harts N\n       lithe_run solo\n       lithe_run audit --harts N\n       lithe_run make --seed X --size K --harts N\n";
 
 /// The text that the status writes to the stream of errors.
 pub fn text_of(status: Status) -> &'static [u8]

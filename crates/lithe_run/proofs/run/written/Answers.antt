@@ -1,6 +1,4 @@
-use Rattle.std.proofs.Common.{◌≡◌, ◌∙◌, ap, length}
 use Rattle.array_tree.specs.Trees.{program_of}
-use Rattle.array_meaning.proofs.StepLemmas.{length_final_store}
 use Rattle.lithe_run.proofs.Sizes.{accepted_sized}
 use Rattle.lithe_run.proofs.run.written.Goals as goal
 
@@ -9,6 +7,3 @@ run_one-requires c = accepted_sized (program_of c.args.program.now) c.requires.a
 
 pub write_arrays-requires-clause-sized : goal.write_arrays-requires-clause-sized
 write_arrays-requires-clause-sized c = accepted_sized (program_of c.args.program.now) c.requires.accepted
-
-pub write_arrays-requires-clause-whole : goal.write_arrays-requires-clause-whole
-write_arrays-requires-clause-whole c = ap length c.in_ok-store.ensures ∙ length_final_store (program_of c.args.program.now)

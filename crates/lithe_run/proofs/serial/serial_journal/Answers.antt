@@ -13,8 +13,8 @@ returns-then-sites-eq0-clause-complete c =
 pub returns-clause-complete : goal.returns-clause-complete
 returns-clause-complete c =
     let p = c.args.plan.now in
-    let start = ap (λ b. b.plan) c.in_ok-board.ensures in
-    let first = ap (λ b. b.state) c.in_ok-board.ensures in
+    let start = ap (λ b. b.plan) c.in_ok-board.ensures.first in
+    let first = ap (λ b. b.state) c.in_ok-board.ensures.first in
     let one = c.in_ok-note.ensures.plan ∙ start in
     let two = c.in_ok-note-2.ensures.plan ∙ one in
     let some : 0 < length p.parents = omega (arith, c.sites.ensures.same, c.if-sites-eq0.false) in
