@@ -10,3 +10,5 @@ pub mod Bounds
 pub mod Effects
 pub mod Stages
 pub mod Homes
+pub mod Balance
+pub mod Held
