@@ -1,11 +1,9 @@
 -- What the entries of a site add up to.
-use Rattle.std.proofs.Common.{◌≡◌, ◌≢◌, ℕ, zero, suc, ◌+◌, ◌-◌, ◌<◌, ◌≤◌, ◌⊎◌, inl, inr, ⊎_elim, Bool, true, false, cond, eqb, ◌==◌, eq-eqb, ne_eqb, if◌then◌else◌, List, [], ◌∷◌, ◌++◌, length, get_or, refl, sym, ap, subst, ◌∙◌, arith, Option, Some, None}
-use mathlib.Core.Logic.{dite}
-use native.Mathlib.Decide.{ℕ_discrete}
-use Rattle.std.specs.List.{All, count_by, sum_by, filter}
+use Rattle.std.proofs.Common.{◌≡◌, ◌≢◌, ℕ, ◌+◌, ◌-◌, ◌≤◌, false, cond, ◌==◌, eq-eqb, ne_eqb, if◌then◌else◌, List, [], ◌∷◌, ◌++◌, refl, sym, ap, subst, ◌∙◌, arith, Some, None}
+use Rattle.std.specs.List.{All}
 use Rattle.std.proofs.lemmas.List.Sums.{sum_by-append}
 use Rattle.std.proofs.lemmas.List.Elements.{All-append, All-cons, All-nil, filter-append}
-use Rattle.transfer_table.specs.Plan.{Plan, IsPlan, IsHart, IsSite, parent, site_count}
+use Rattle.transfer_table.specs.Plan.{Plan, IsPlan, IsHart, IsSite}
 use Rattle.transfer_table.specs.Table.{TableState, effect_of, first_state, owner, row, blank, is_new, is_gone}
 use Rattle.transfer_table.specs.Journal.{Reaches, AllGone}
 use Rattle.transfer_table.specs.Entry.{hart_of, site_of, count_of, is_register, is_enter, is_unregister, made_by, registers, enters, unregisters, requested}
@@ -13,11 +11,11 @@ use Rattle.transfer_table.specs.Allowed.{IsAllowed}
 use Rattle.transfer_table.specs.Laws.{IsByHome, IsEntryOf}
 use Rattle.transfer_table.specs.declared.entry.Row.{Row}
 use Rattle.transfer_table.specs.declared.entry.Stage.{Stage}
-use Rattle.transfer_table.specs.declared.entry.Stage.TheVariants.{New, Live, Gone}
+use Rattle.transfer_table.specs.declared.entry.Stage.TheVariants.{New, Live}
 use Rattle.transfer_table.specs.declared.entry.Entry.{Entry}
 use Rattle.transfer_table.specs.declared.entry.Entry.TheVariants.{Register, Request, Enter, Yield, Unregister}
 use Rattle.transfer_table.proofs.Positions.{Fits, get_or-replicate, lasts}
-use Rattle.transfer_table.proofs.Effects.{at_site, at_hart, row_after, owner_after, allowed_hart, allowed_site}
+use Rattle.transfer_table.proofs.Effects.{at_site, at_hart, row_after, allowed_site}
 use Rattle.transfer_table.proofs.Stages.{first_blank, home_lasts, legal_blank, live_home}
 
 -- one entry more adds what it counts, where it is of the site
@@ -80,8 +78,8 @@ pub legal_balance : (p : Plan) → IsPlan p → (es : List Entry) (t : TableStat
 legal_balance p plan es t is = lasts p plan (λ xs u. (s : ℕ) → IsSite p s → IsBalanced p xs s (row u s))
     (λ s _. subst (IsBalanced p [] s) (sym (first_blank p s)) record { wished = refl; asked = refl; few = omega arith })
     (λ xs u e leads fits f a s site. at_site p u e s (λ x r. IsBalanced p (xs ++ e ∷ []) x r) fits a site.0
-        (balanced_here p u xs e a (legal_blank p plan xs u leads (site_of e) (allowed_site p u e a)) (f (site_of e) (allowed_site p u e a)))
-        (λ n. balanced_else p xs e s (row u s) n (f s site))) es t is
+    (balanced_here p u xs e a (legal_blank p plan xs u leads (site_of e) (allowed_site p u e a)) (f (site_of e) (allowed_site p u e a)))
+    (λ n. balanced_else p xs e s (row u s) n (f s site))) es t is
 
 by_home_after : (p : Plan) → IsPlan p → (es : List Entry) (t : TableState) (e : Entry) → Reaches p es t → Fits p t → IsAllowed p t e → (x : Entry) → IsEntryOf p x → IsByHome t x → IsByHome (effect_of p t e) x
 by_home_after p plan es t e leads fits a (Register h s) in_plan b = tt
@@ -115,8 +113,8 @@ legal_entries p plan es t is = lasts p plan (λ xs _. All (IsEntryOf p) xs) (All
 pub legal_by_home : (p : Plan) → IsPlan p → (es : List Entry) (t : TableState) → Reaches p es t → All (IsByHome t) es
 legal_by_home p plan es t is = lasts p plan (λ xs u. All (IsByHome u) xs) (All-nil (IsByHome (first_state p)))
     (λ xs u e leads fits f a. let all = legal_entries p plan xs u leads in All-append (IsByHome (effect_of p u e)) xs (e ∷ [])
-        (λ k d lt. by_home_after p plan xs u e leads fits a _ (all k d lt) (f k d lt))
-        (one (IsByHome (effect_of p u e)) e (by_home_after p plan xs u e leads fits a e (in_plan_now p u e a) (by_home_now p u e a)))) es t is
+    (λ k d lt. by_home_after p plan xs u e leads fits a _ (all k d lt) (f k d lt))
+    (one (IsByHome (effect_of p u e)) e (by_home_after p plan xs u e leads fits a e (in_plan_now p u e a) (by_home_now p u e a)))) es t is
 
 -- how often a site was registered and unregistered
 pub record IsCounted (es : List Entry) (s : ℕ) (r : Row) : Type 0 where
@@ -136,8 +134,8 @@ pub legal_counts : (p : Plan) → IsPlan p → (es : List Entry) (t : TableState
 legal_counts p plan es t is = lasts p plan (λ xs u. (s : ℕ) → IsSite p s → IsCounted xs s (row u s))
     (λ s _. subst (IsCounted [] s) (sym (first_blank p s)) record { came = refl; went = refl })
     (λ xs u e leads fits f a s site. at_site p u e s (λ x r. IsCounted (xs ++ e ∷ []) x r) fits a site.0
-        (counted_here p u xs e a (live_home p plan xs u leads) (f (site_of e) (allowed_site p u e a)))
-        (λ n. let b = f s site in record { came = registers-other s xs e n ∙ b.came; went = unregisters-other s xs e n ∙ b.went })) es t is
+    (counted_here p u xs e a (live_home p plan xs u leads) (f (site_of e) (allowed_site p u e a)))
+    (λ n. let b = f s site in record { came = registers-other s xs e n ∙ b.came; went = unregisters-other s xs e n ∙ b.went })) es t is
 
 -- where each site is gone, each was registered once and unregistered once
 pub complete_counts : (p : Plan) → IsPlan p → (es : List Entry) (t : TableState) → Reaches p es t → AllGone p t → (s : ℕ) → IsSite p s → (registers s es ≡ 1) × (unregisters s es ≡ 1)

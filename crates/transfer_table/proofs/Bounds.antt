@@ -1,5 +1,5 @@
 -- A legal list is short: each entry lowers a potential.
-use Rattle.std.proofs.Common.{◌≡◌, ◌≢◌, ◌⊎◌, ℕ, suc, zero, ◌+◌, ◌-◌, ◌*◌, ◌<◌, ◌≤◌, Bool, true, false, not, cond, eqb, List, [], ◌∷◌, length, get_or, set, replicate, refl, sym, ap, subst, ◌∙◌, arith, rules, slice_index, slice_index_or, Option, Some, None, Result, Ok, Err, eq-eqb, ne_eqb, inl, inr, ⊎_elim, length-set, length-append, get_or-set_same, get_or-set_other}
+use Rattle.std.proofs.Common.{◌≡◌, ◌≢◌, ℕ, suc, zero, ◌+◌, ◌-◌, ◌*◌, ◌<◌, ◌≤◌, Bool, true, false, not, cond, eqb, List, [], ◌∷◌, length, set, refl, sym, ap, subst, ◌∙◌, arith, slice_index_or, Option, Some, eq-eqb, ne_eqb, inl, inr, length-set, length-append, get_or-set_same, get_or-set_other}
 use mathlib.Core.Logic.{dite}
 use native.Mathlib.Decide.{ℕ_discrete}
 use Rattle.std.specs.List.{sum_by}
@@ -7,7 +7,7 @@ use Rattle.std.proofs.lemmas.List.Folds.{sum_by-replicate}
 use Rattle.std.proofs.lemmas.List.Sums.{sum_by-set}
 use Rattle.std.proofs.lemmas.List.{set-get_or}
 use Rattle.transfer_table.specs.Plan.{Plan, IsPlan, IsHart, IsSite, parent, site_count}
-use Rattle.transfer_table.specs.Table.{TableState, Position, IsPosition, owner, row, blank, first_state, effect_of, is_new, is_live, is_gone, is_home}
+use Rattle.transfer_table.specs.Table.{TableState, owner, row, blank, first_state, effect_of, is_new, is_live, is_gone, is_home}
 use Rattle.transfer_table.specs.Journal.{Reaches}
 use Rattle.transfer_table.specs.declared.entry.Row.{Row}
 use Rattle.transfer_table.specs.declared.entry.Stage.{Stage}

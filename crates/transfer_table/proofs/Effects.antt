@@ -1,14 +1,13 @@
 -- What the new state holds: the entry's hart and site change, all else stays.
-use Rattle.std.proofs.Common.{◌≡◌, ◌≢◌, ℕ, ◌+◌, ◌-◌, ◌<◌, ◌≤◌, ◌⊎◌, inl, inr, List, length, get_or, set, refl, sym, ap, subst, ◌∙◌, arith, slice_index, slice_index_or, Option, Some, None, get_or-set_same, get_or-set_other}
+use Rattle.std.proofs.Common.{◌≡◌, ◌≢◌, ℕ, ◌+◌, ◌-◌, ◌≤◌, set, refl, sym, subst, arith, slice_index_or, Some, get_or-set_same, get_or-set_other}
 use mathlib.Core.Logic.{dite}
 use native.Mathlib.Decide.{ℕ_discrete}
-use Rattle.transfer_table.specs.Plan.{Plan, IsPlan, IsHart, IsSite, parent, site_count}
+use Rattle.transfer_table.specs.Plan.{Plan, IsHart, IsSite, parent}
 use Rattle.transfer_table.specs.Table.{TableState, effect_of, owner, row, blank}
 use Rattle.transfer_table.specs.Entry.{hart_of, site_of}
 use Rattle.transfer_table.specs.Allowed.{IsAllowed}
 use Rattle.transfer_table.specs.declared.entry.Row.{Row}
-use Rattle.transfer_table.specs.declared.entry.Stage.{Stage}
-use Rattle.transfer_table.specs.declared.entry.Stage.TheVariants.{New, Live, Gone}
+use Rattle.transfer_table.specs.declared.entry.Stage.TheVariants.{Live, Gone}
 use Rattle.transfer_table.specs.declared.entry.Entry.{Entry}
 use Rattle.transfer_table.specs.declared.entry.Entry.TheVariants.{Register, Request, Enter, Yield, Unregister}
 use Rattle.transfer_table.proofs.Positions.{Fits}

@@ -1,9 +1,9 @@
 -- The first fault, step by step, and that there is none exactly where the list is complete.
-use Rattle.std.proofs.Common.{◌≡◌, ℕ, zero, suc, ◌+◌, ◌-◌, ◌<◌, ◌≤◌, Bool, true, false, not, if◌then◌else◌, List, [], ◌∷◌, length, drop, get_or, refl, sym, ap, ◌∙◌, ◌↔◌, add-one, arith, slice_index_or, Option, Some, None, Result, Ok, Err}
+use Rattle.std.proofs.Common.{◌≡◌, ℕ, zero, suc, ◌+◌, ◌-◌, ◌<◌, Bool, true, false, if◌then◌else◌, List, [], ◌∷◌, length, drop, get_or, refl, sym, ap, ◌∙◌, ◌↔◌, add-one, arith, Option, Some, None, Result, Ok, Err}
 use Rattle.std.specs.Option.{option_map}
-use Rattle.transfer_table.specs.Plan.{Plan, IsPlan, IsSite, site_count}
-use Rattle.transfer_table.specs.Table.{TableState, admit_of, first_state, row, blank, is_gone}
-use Rattle.transfer_table.specs.Journal.{replay_from, and_then, or_refused, fault_from, first_fault_of, unfinished, IsComplete, Reaches, AllGone}
+use Rattle.transfer_table.specs.Plan.{Plan, IsPlan}
+use Rattle.transfer_table.specs.Table.{TableState, admit_of, first_state, blank, is_gone}
+use Rattle.transfer_table.specs.Journal.{replay_from, and_then, or_refused, fault_from, first_fault_of, unfinished, IsComplete}
 use Rattle.transfer_table.specs.declared.entry.Row.{Row}
 use Rattle.transfer_table.specs.declared.entry.Entry.{Entry}
 use Rattle.transfer_table.specs.declared.entry.NotAdmitted.{NotAdmitted}

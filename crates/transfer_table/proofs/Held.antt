@@ -1,14 +1,13 @@
 -- The harts that the base and the sites hold are all harts, and at the end of a complete list all are in the base.
-use Rattle.std.proofs.Common.{◌≡◌, ◌≢◌, ℕ, zero, suc, ◌+◌, ◌-◌, ◌<◌, ◌≤◌, ◌⊎◌, inl, inr, ⊎_elim, Bool, true, false, cond, eqb, ◌==◌, eq-eqb, ne_eqb, List, [], ◌∷◌, length, refl, sym, ap, subst, ◌∙◌, arith, slice_index, Option, Some, None}
+use Rattle.std.proofs.Common.{◌≡◌, ◌≢◌, ℕ, zero, suc, ◌+◌, ◌<◌, ◌≤◌, ⊎_elim, cond, ◌==◌, eq-eqb, ne_eqb, List, [], ◌∷◌, length, refl, ap, ◌∙◌, arith, slice_index}
 use mathlib.Core.Logic.{dite}
 use native.Mathlib.Decide.{ℕ_discrete}
 use Rattle.std.specs.List.{count_by}
 use Rattle.std.proofs.lemmas.List.Sums.{sum_by-append}
-use Rattle.transfer_table.specs.Plan.{Plan, IsPlan, IsHart, IsSite, parent, site_count}
-use Rattle.transfer_table.specs.Table.{TableState, owner, row}
+use Rattle.transfer_table.specs.Plan.{Plan, IsPlan, IsHart, site_count}
+use Rattle.transfer_table.specs.Table.{TableState, owner}
 use Rattle.transfer_table.specs.Journal.{Reaches, AllGone}
-use Rattle.transfer_table.specs.Laws.{IsBaseOrLive, harts_in, harts_up_to}
-use Rattle.transfer_table.specs.declared.entry.Stage.TheVariants.{New, Live, Gone}
+use Rattle.transfer_table.specs.Laws.{harts_up_to}
 use Rattle.transfer_table.specs.declared.entry.Entry.{Entry}
 use Rattle.transfer_table.proofs.Positions.{legal_position}
 use Rattle.transfer_table.proofs.Bounds.{legal_owner}

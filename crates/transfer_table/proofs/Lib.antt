@@ -12,3 +12,4 @@ pub mod Stages
 pub mod Homes
 pub mod Balance
 pub mod Held
+pub mod LawsHold

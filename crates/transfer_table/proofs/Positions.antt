@@ -1,12 +1,9 @@
 -- A state keeps its size, and what each entry of a legal list keeps holds at its end.
-use Rattle.std.proofs.Common.{◌≡◌, ◌≢◌, ℕ, zero, suc, ◌+◌, ◌-◌, ◌<◌, ◌≤◌, List, [], ◌∷◌, ◌++◌, length, get_or, set, replicate, refl, sym, ap, subst, ◌∙◌, arith, slice_index, slice_index_or, slice_set, Some, Ok, length-set, get_or-set_same, get_or-set_other}
-use Rattle.transfer_table.specs.Plan.{Plan, IsPlan, IsHart, IsSite, parent, site_count}
-use Rattle.transfer_table.specs.Table.{TableState, IsPosition, admit_of, effect_of, first_state, owner, row, blank}
+use Rattle.std.proofs.Common.{◌≡◌, ℕ, zero, suc, ◌-◌, List, [], ◌∷◌, ◌++◌, length, get_or, replicate, refl, sym, ap, subst, ◌∙◌, length-set}
+use Rattle.transfer_table.specs.Plan.{Plan, IsPlan, site_count}
+use Rattle.transfer_table.specs.Table.{TableState, IsPosition, effect_of, first_state, blank}
 use Rattle.transfer_table.specs.Journal.{Reaches}
-use Rattle.transfer_table.specs.Entry.{hart_of, site_of}
 use Rattle.transfer_table.specs.Allowed.{IsAllowed}
-use Rattle.transfer_table.specs.declared.entry.Row.{Row}
-use Rattle.transfer_table.specs.declared.entry.Stage.TheVariants.{New, Live, Gone}
 use Rattle.transfer_table.specs.declared.entry.Entry.{Entry}
 use Rattle.transfer_table.specs.declared.entry.Entry.TheVariants.{Register, Request, Enter, Yield, Unregister}
 use Rattle.transfer_table.proofs.Admits.{admitted}

@@ -1,15 +1,13 @@
 -- New rows are blank, homes last, and the children of a gone site are gone.
-use Rattle.std.proofs.Common.{◌≡◌, ◌≢◌, ℕ, ◌+◌, ◌-◌, ◌<◌, ◌≤◌, ◌⊎◌, inl, inr, ⊎_elim, List, [], ◌∷◌, ◌++◌, refl, sym, ap, subst, ◌∙◌, arith, Option, Some, None}
+use Rattle.std.proofs.Common.{◌≡◌, ℕ, ◌-◌, ◌≤◌, ◌⊎◌, inl, inr, ⊎_elim, List, refl, sym, ap, subst, ◌∙◌, arith, Some, None}
 use mathlib.Core.Logic.{dite}
 use native.Mathlib.Decide.{ℕ_discrete}
 use Rattle.transfer_table.specs.Plan.{Plan, IsPlan, IsHart, IsSite, parent, site_count}
-use Rattle.transfer_table.specs.Table.{TableState, effect_of, first_state, owner, row, blank, is_new, is_live, is_gone}
+use Rattle.transfer_table.specs.Table.{TableState, effect_of, first_state, owner, row, blank}
 use Rattle.transfer_table.specs.Journal.{Reaches}
-use Rattle.transfer_table.specs.Entry.{hart_of, site_of}
+use Rattle.transfer_table.specs.Entry.{site_of}
 use Rattle.transfer_table.specs.Allowed.{IsAllowed}
-use Rattle.transfer_table.specs.Laws.{IsBaseOrLive}
 use Rattle.transfer_table.specs.declared.entry.Row.{Row}
-use Rattle.transfer_table.specs.declared.entry.Stage.{Stage}
 use Rattle.transfer_table.specs.declared.entry.Stage.TheVariants.{New, Live, Gone}
 use Rattle.transfer_table.specs.declared.entry.Entry.{Entry}
 use Rattle.transfer_table.specs.declared.entry.Entry.TheVariants.{Register, Request, Enter, Yield, Unregister}
@@ -81,6 +79,6 @@ gone_lasts p t e fits a s site z = at_site p t e s (λ x r. (row t x).stage ≡ 
 pub legal_children : (p : Plan) → IsPlan p → (es : List Entry) (t : TableState) → Reaches p es t → ChildrenAreGone p t
 legal_children p plan es t is = lasts p plan (λ _ u. ChildrenAreGone p u) (λ s c _ _ _ gone. absurd (let new : (row (first_state p) s).stage ≡ New = ap (λ (r : Row). r.stage) (first_blank p s) in cc))
     (λ xs u e leads fits f a s c site child up gone. gone_lasts p u e fits a c child
-        (at_site p u e s (λ x r. x ≡ s → r.stage ≡ Gone → (row u c).stage ≡ Gone) fits a site.0
-            (λ z g. ⊎_elim (λ was. f s c site child up (let Q : ℕ → Type 0 = λ x. (row u x).stage ≡ Gone in subst Q z was)) (λ all. all c child (up ∙ sym z)) (not_gone_after p u e a g))
-            (λ _ _ g. f s c site child up g) refl gone)) es t is
+    (at_site p u e s (λ x r. x ≡ s → r.stage ≡ Gone → (row u c).stage ≡ Gone) fits a site.0
+    (λ z g. ⊎_elim (λ was. f s c site child up (let Q : ℕ → Type 0 = λ x. (row u x).stage ≡ Gone in subst Q z was)) (λ all. all c child (up ∙ sym z)) (not_gone_after p u e a g))
+    (λ _ _ g. f s c site child up g) refl gone)) es t is

@@ -1,6 +1,6 @@
 -- The laws of the table, for every plan and every list of entries. What is said of the last state of
 -- a legal list holds after each of its entries, since each list that it begins with is legal too.
-use Rattle.std.specs.Prelude.{◌≡◌, ◌≢◌, ℕ, zero, suc, ◌+◌, ◌-◌, ◌*◌, ◌<◌, ◌≤◌, ◌==◌, ◌⊎◌, ◌↔◌, List, [], ◌++◌, length, Some, Ok}
+use Rattle.std.specs.Prelude.{◌≡◌, ◌≢◌, ℕ, zero, suc, ◌+◌, ◌-◌, ◌*◌, ◌≤◌, ◌==◌, ◌⊎◌, List, [], ◌++◌, length, Some, Ok}
 use Rattle.std.specs.List.{All, count_by}
 use Rattle.transfer_table.specs.Plan.{Plan, IsPlan, IsHart, IsSite, parent, site_count}
 use Rattle.transfer_table.specs.Table.{TableState, IsPosition, admit_of, effect_of, owner, row, blank}

@@ -26,11 +26,7 @@ pub struct Fault {
 
 /// Where the list isn't complete for the plan, and why; `None` exactly where it is complete. The
 /// list has fewer than 2^32 entries. The work grows as the list and the plan do.
-pub fn first_fault(
-    alloc: Global,
-    plan: &Plan,
-    list: &[Entry],
-) -> Result<Option<Fault>, AllocError>
+pub fn first_fault(alloc: Global, plan: &Plan, list: &[Entry]) -> Result<Option<Fault>, AllocError>
     requires { length list.now < 2 ^ 32 }
     ensures fault { IfOk result (λ fault. fault ≡ first_fault_of plan.now list.now) }
     ensures complete { IfOk result (λ fault. fault ≡ None ↔ IsComplete plan.now list.now) }

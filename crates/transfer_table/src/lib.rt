@@ -9,6 +9,7 @@ mod board;
 mod entries;
 mod entry;
 mod fault;
+pub mod laws;
 mod plan;
 
 pub use board::Board;

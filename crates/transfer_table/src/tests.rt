@@ -4,6 +4,20 @@ use crate::entry::NotAdmitted::*;
 use crate::*;
 use std::test::Fail;
 
+const REGISTER: Entry = Entry::Register { hart: 0, site: 1 };
+
+const REQUEST: Entry = Entry::Request {
+    hart: 0,
+    site: 1,
+    count: 1,
+};
+
+const ENTER: Entry = Entry::Enter { hart: 1, site: 1 };
+
+const YIELD: Entry = Entry::Yield { hart: 1, site: 1 };
+
+const UNREGISTER: Entry = Entry::Unregister { hart: 0, site: 1 };
+
 #[test]
 fn plans(rt: HostRuntime) -> Result<(), Fail> {
     let alloc = rt.alloc();
@@ -28,27 +42,14 @@ fn plans(rt: HostRuntime) -> Result<(), Fail> {
 fn one_site_with_a_guest(rt: HostRuntime) -> Result<(), Fail> {
     let plan = Plan::new(rt.alloc(), 2, &[0])?;
     let mut board = Board::new(rt.alloc(), &plan)?;
-    assert_eq!(rt; board.stage(1), Stage::New);
-    assert_eq!(rt; board.home(1), None);
-    assert_eq!(rt; board.admit(Entry::Register { hart: 0, site: 1 }), Ok(()));
-    assert_eq!(rt; board.owner(0), 1);
-    assert_eq!(rt; board.home(1), Some(0));
-    assert_eq!(rt;
-        board.admit(Entry::Request {
-            hart: 0,
-            site: 1,
-            count: 1
-        }),
-        Ok(())
-    );
-    assert_eq!(rt; board.wishes(1), 1);
-    assert_eq!(rt; board.admit(Entry::Enter { hart: 1, site: 1 }), Ok(()));
-    assert_eq!(rt; board.wishes(1), 0);
-    assert_eq!(rt; board.asked(1), 1);
-    assert_eq!(rt; board.admit(Entry::Yield { hart: 1, site: 1 }), Ok(()));
-    assert_eq!(rt; board.admit(Entry::Unregister { hart: 0, site: 1 }), Ok(()));
-    assert_eq!(rt; board.owner(0), 0);
-    assert_eq!(rt; board.stage(1), Stage::Gone);
+    assert_eq!(rt; board.admit(REGISTER), Ok(()));
+    assert_eq!(rt; board.admit(REQUEST), Ok(()));
+    assert_eq!(rt; (board.owner(0), board.owner(1)), (1, 0));
+    assert_eq!(rt; (board.home(1), board.stage(1)), (Some(0), Stage::Live));
+    assert_eq!(rt; (board.wishes(1), board.asked(1)), (1, 1));
+    for entry in [ENTER, YIELD, UNREGISTER] {
+        assert_eq!(rt; board.admit(entry), Ok(()));
+    }
     Ok(())
 }
 
@@ -56,64 +57,38 @@ fn one_site_with_a_guest(rt: HostRuntime) -> Result<(), Fail> {
 fn refusals(rt: HostRuntime) -> Result<(), Fail> {
     let plan = Plan::new(rt.alloc(), 2, &[0, 1])?;
     let mut board = Board::new(rt.alloc(), &plan)?;
-    assert_eq!(rt;
-        board.admit(Entry::Register { hart: 2, site: 0 }),
-        Err(NoSuchHart)
-    );
-    assert_eq!(rt;
-        board.admit(Entry::Register { hart: 0, site: 3 }),
-        Err(NoSuchSite)
-    );
-    assert_eq!(rt;
-        board.admit(Entry::Register { hart: 0, site: 2 }),
-        Err(NotOwner { owner: 0 })
-    );
-    assert_eq!(rt;
-        board.admit(Entry::Enter { hart: 1, site: 1 }),
-        Err(NotLive)
-    );
-    assert_eq!(rt; board.admit(Entry::Register { hart: 0, site: 1 }), Ok(()));
-    assert_eq!(rt;
-        board.admit(Entry::Register { hart: 1, site: 1 }),
-        Err(NotNew)
-    );
-    assert_eq!(rt; board.admit(Entry::Enter { hart: 1, site: 1 }), Err(NoWish));
-    assert_eq!(rt;
-        board.admit(Entry::Request {
-            hart: 0,
-            site: 1,
-            count: 0
-        }),
-        Err(NoCount)
-    );
-    assert_eq!(rt;
-        board.admit(Entry::Request {
-            hart: 0,
-            site: 1,
-            count: 1
-        }),
-        Ok(())
-    );
-    let more = Entry::Request {
+    let none_wanted = Entry::Request {
         hart: 0,
         site: 1,
-        count: 1,
+        count: 0,
     };
-    assert_eq!(rt; board.admit(more), Err(TooManyWished { asked: 1 }));
-    assert_eq!(rt; board.admit(Entry::Yield { hart: 0, site: 1 }), Err(IsHome));
-    assert_eq!(rt;
-        board.admit(Entry::Unregister { hart: 0, site: 1 }),
-        Err(ChildLeft { site: 2 })
-    );
-    assert_eq!(rt; board.admit(Entry::Enter { hart: 1, site: 1 }), Ok(()));
-    assert_eq!(rt;
-        board.admit(Entry::Unregister { hart: 1, site: 1 }),
-        Err(NotHome { home: 0 })
-    );
-    assert_eq!(rt;
-        board.admit(Entry::Unregister { hart: 0, site: 1 }),
-        Err(HartInside { hart: 1 })
-    );
+    let rows = [
+        (Entry::Register { hart: 2, site: 0 }, Err(NoSuchHart)),
+        (Entry::Register { hart: 0, site: 3 }, Err(NoSuchSite)),
+        (
+            Entry::Register { hart: 0, site: 2 },
+            Err(NotOwner { owner: 0 }),
+        ),
+        (ENTER, Err(NotLive)),
+        (REGISTER, Ok(())),
+        (Entry::Register { hart: 1, site: 1 }, Err(NotNew)),
+        (ENTER, Err(NoWish)),
+        (none_wanted, Err(NoCount)),
+        (REQUEST, Ok(())),
+        (REQUEST, Err(TooManyWished { asked: 1 })),
+        (none_wanted, Err(NoCount)),
+        (Entry::Yield { hart: 0, site: 1 }, Err(IsHome)),
+        (UNREGISTER, Err(ChildLeft { site: 2 })),
+        (ENTER, Ok(())),
+        (
+            Entry::Unregister { hart: 1, site: 1 },
+            Err(NotHome { home: 0 }),
+        ),
+        (UNREGISTER, Err(HartInside { hart: 1 })),
+    ];
+    for (entry, answer) in rows {
+        assert_eq!(rt; board.admit(entry), answer, "{entry:?}");
+    }
     Ok(())
 }
 
@@ -126,5 +101,35 @@ fn lists_of_entries(rt: HostRuntime) -> Result<(), Fail> {
         [Entry::Yield { hart: 1, site: 2 }].as_slice()
     );
     assert_eq!(rt; entries.into_vec().len(), 1);
+    Ok(())
+}
+
+#[test]
+fn a_complete_journal(rt: HostRuntime) -> Result<(), Fail> {
+    let plan = Plan::new(rt.alloc(), 2, &[0])?;
+    let list = [REGISTER, REQUEST, ENTER, YIELD, UNREGISTER];
+    assert_eq!(rt; first_fault(rt.alloc(), &plan, &list)?, None);
+    Ok(())
+}
+
+#[test]
+fn forged_journals(rt: HostRuntime) -> Result<(), Fail> {
+    let plan = Plan::new(rt.alloc(), 2, &[0])?;
+    let left_inside = [REGISTER, REQUEST, ENTER, UNREGISTER];
+    let why = Why::Refused(HartInside { hart: 1 });
+    assert_eq!(rt;
+        first_fault(rt.alloc(), &plan, &left_inside)?,
+        Some(Fault { place: 3, why })
+    );
+    let why = Why::Refused(NoWish);
+    assert_eq!(rt;
+        first_fault(rt.alloc(), &plan, &[REGISTER, ENTER])?,
+        Some(Fault { place: 1, why })
+    );
+    let why = Why::Unfinished { site: 1 };
+    assert_eq!(rt;
+        first_fault(rt.alloc(), &plan, &[REGISTER])?,
+        Some(Fault { place: 1, why })
+    );
     Ok(())
 }

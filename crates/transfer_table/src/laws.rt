@@ -1,0 +1,61 @@
+//! The laws of the table, each the contract of a function that does nothing. They hold for every
+//! plan and every list of entries; `specs/Laws.antt` says them.
+ghost use Rattle.transfer_table.specs.Laws.{AllowedIsAdmitted, EntriesAreInThePlan, HartsAreConserved, HomesStayInside, IdleHartsStay, LegalListsAreShort, NewRowsAreBlank, ParentsOutliveChildren, PrefixesAreLegal, SitesComeAndGoOnce, WishesBalance};
+
+/// Every owner is the base or a live site, and the harts that the base and the sites hold are all
+/// harts.
+pub fn harts_are_conserved()
+    ensures { HartsAreConserved }
+{}
+
+/// The parent of a live site is the base or live, and every child of a gone site is gone.
+pub fn parents_outlive_children()
+    ensures { ParentsOutliveChildren }
+{}
+
+/// The home of a live site is a hart whose owner is the site or a descendant of it.
+pub fn homes_stay_inside()
+    ensures { HomesStayInside }
+{}
+
+/// Every request is by the site's home. The harts that entered a site, and its wishes, are what it
+/// asked, which is at most all harts but one.
+pub fn wishes_balance()
+    ensures { WishesBalance }
+{}
+
+/// A legal list has at most `S * (3n - 1)` entries, for `S` sites and `n` harts.
+pub fn legal_lists_are_short()
+    ensures { LegalListsAreShort }
+{}
+
+/// Where every site is gone, every owner is the base, and each site was registered exactly once and
+/// unregistered exactly once.
+pub fn sites_come_and_go_once()
+    ensures { SitesComeAndGoOnce }
+{}
+
+/// What a legal list begins with is legal.
+pub fn prefixes_are_legal()
+    ensures { PrefixesAreLegal }
+{}
+
+/// An entry is admitted exactly where it is allowed, and then it has its effect.
+pub fn allowed_is_admitted()
+    ensures { AllowedIsAdmitted }
+{}
+
+/// The hart and the site of every entry of a legal list are the plan's.
+pub fn entries_are_in_the_plan()
+    ensures { EntriesAreInThePlan }
+{}
+
+/// The row of a new site is blank.
+pub fn new_rows_are_blank()
+    ensures { NewRowsAreBlank }
+{}
+
+/// A hart that made no entry is in the base, and the home of no site.
+pub fn idle_harts_stay()
+    ensures { IdleHartsStay }
+{}
