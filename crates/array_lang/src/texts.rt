@@ -11,9 +11,9 @@ use array_tokens::{TokenFault, tokens};
 use array_tree::Program;
 use std::alloc::Global;
 
-/// The program that the text spells.
+/// The program that a text of fewer than 2^32 bytes spells.
 ///
-/// `NotBuilt` comes exactly where the text spells no program.
+/// `NotBuilt` comes exactly where the text spells no program, and `Memory` where memory runs out.
 pub fn parse(alloc: Global, text: &[u8]) -> Result<Program, SyntaxFault>
     requires { length text.now < 2 ^ 32 }
     // What is read is spelled.
