@@ -1,3 +1,11 @@
 mod Examples
 pub mod StepLemmas
 pub mod ThreadLemmas
+pub mod FrameLemmas
+pub mod LastLemmas
+pub mod OrderLemmas
+pub mod MemberLemmas
+pub mod OverlapLemmas
+pub mod MergeLemmas
+pub mod PlanLemmas
+pub mod CellLemmas

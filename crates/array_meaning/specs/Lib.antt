@@ -11,3 +11,4 @@ pub mod Pieces
 pub mod Names
 pub mod Limits
 pub mod Accepted
+pub mod Laws

@@ -1,6 +1,6 @@
 -- The plan of a program: the parent of each site, in the order in which the meaning enters them. Site s stands at
 -- place s - 1; the parent is the innermost construct around, 0 for none. Bounds are literals, so no store is needed.
-use Rattle.std.specs.Prelude.{ℕ, zero, suc, ◌+◌, ◌*◌, List, [], ◌∷◌, ◌++◌, length}
+use Rattle.std.specs.Prelude.{ℕ, zero, suc, ◌+◌, ◌*◌, ◌<◌, List, [], ◌∷◌, ◌++◌, length}
 use Rattle.array_tree.specs.Trees.{Statement, Assign, For, If, Par, Team, Sequence, ended, followed, Sequences, no_more, beside, ProgramTree}
 use Rattle.array_meaning.specs.Work.{span}
 
@@ -65,3 +65,8 @@ abbrev mutual
   pub branches_sites_in : Sequences → ℕ
   branches_sites_in no_more = 0
   branches_sites_in (beside first rest) = sites_in first + branches_sites_in rest
+
+-- Each of these parents has a smaller number than its site; the first site has this number.
+abbrev pub AreEarlier : ℕ → List ℕ → Type 0
+AreEarlier next [] = Unit {0}
+AreEarlier next (parent ∷ more) = (parent < next) × AreEarlier (next + 1) more

@@ -1,3 +1,41 @@
-//! The meaning of the array language: what a program computes, what its parts touch, and what is accepted. It holds
-//! definitions and laws; no code here runs.
+//! The meaning of the array language: what a program computes, what its parts touch, and what is accepted.
+//!
+//! The crate holds definitions and laws. No code here runs: each function's contract is a law, and its body is empty.
 #![tactic(auto)]
+
+ghost use Rattle.array_meaning.specs.Laws.{WritesDependOnReads, ArePiecesIndependent, AreBranchesIndependent, AreMembersIndependent, ApartIsTested, PlansAreRight, SitesArePlanned};
+
+/// What steps write depends only on what they read.
+pub fn writes_depend_on_reads()
+    ensures { WritesDependOnReads }
+{}
+
+/// Pieces that are apart, each run from the one store and merged in any order, give what they give one after another.
+pub fn pieces_are_independent()
+    ensures { ArePiecesIndependent }
+{}
+
+/// So do the branches of a `par`.
+pub fn branches_are_independent()
+    ensures { AreBranchesIndependent }
+{}
+
+/// So do the members of one phase of a `team`.
+pub fn members_are_independent()
+    ensures { AreMembersIndependent }
+{}
+
+/// Pieces are apart exactly where no cell passes the test of an overlap.
+pub fn apart_is_tested()
+    ensures { ApartIsTested }
+{}
+
+/// In the plan of a program each parent comes before its site, and each site that the program enters has one.
+pub fn plans_are_right()
+    ensures { PlansAreRight }
+{}
+
+/// The sites that are checked for overlaps are as many as those of the plan.
+pub fn sites_are_planned()
+    ensures { SitesArePlanned }
+{}
