@@ -32,9 +32,9 @@ pub above_trans : (a b : ℕ) (ws : List Write) → a < b → IsAbove b ws → I
 above_trans a b [] h q = tt
 above_trans a b (w ∷ ws) h q = (omega (arith, q.0), above_trans a b ws h q.1)
 
-above-value_at : (c : ℕ) (ws : List Write) (k : ℕ) → k ≤ c → IsAbove c ws → value_at ws k ≡ None
-above-value_at c [] k h q = refl
-above-value_at c (w ∷ ws) k h q = let ih = above-value_at c ws k h q.1 in let p = q.0 in grind (arith, nat_tests)
+value_at_above : (c : ℕ) (ws : List Write) (k : ℕ) → k ≤ c → IsAbove c ws → value_at ws k ≡ None
+value_at_above c [] k h q = refl
+value_at_above c (w ∷ ws) k h q = let ih = value_at_above c ws k h q.1 in let p = q.0 in grind (arith, nat_tests)
 
 pub above_lay : (d c : ℕ) (v : ℤ) (o : List Write) → d < c → IsAbove d o → IsAbove d (lay c v o)
 above_lay d c v [] h q = (h, tt)
@@ -66,13 +66,13 @@ same_rising (x ∷ a) [] p q h = let e = h x.0 in absurd (grind (arith, nat_test
 same_rising (x ∷ a) (y ∷ b) p q h =
     let ex = h x.0 in
     let ey = h y.0 in
-    let ax = above-value_at x.0 a y.0 in
-    let by = above-value_at y.0 b x.0 in
+    let ax = value_at_above x.0 a y.0 in
+    let by = value_at_above y.0 b x.0 in
     let cell : x.0 ≡ y.0 = grind (arith, nat_tests) in
     let number : x.1 ≡ y.1 = grind (arith, nat_tests) in
     let rest = same_rising a b p.1 q.1 (λ k. ⊎_elim
     (λ lt. let ek = h k in grind (arith, nat_tests))
-    (λ le. above-value_at x.0 a k le p.0 ∙ sym (above-value_at y.0 b k (omega arith) q.0))
+    (λ le. value_at_above x.0 a k le p.0 ∙ sym (value_at_above y.0 b k (omega arith) q.0))
     (cases_lt x.0 k)) in
     let pair : x ≡ y = ap (λ c. (c, x.1)) cell ∙ ap (λ v. (y.0, v)) number in
     cc
@@ -83,13 +83,13 @@ same_last a b h = same_rising (last_writes a) (last_writes b) (rising_lays a [] 
     (λ k. value_at_lays a [] k ∙ rw (h k) (sym (value_at_lays b [] k)))
 
 -- a rising list leaves what it has
-found-last_value : (o : List Write) (k : ℕ) → IsRising o → last_value o k ≡ value_at o k
-found-last_value [] k q = refl
-found-last_value (w ∷ o) k q =
-    rw (found-last_value o k q.1) (cases (nat_eq w.0 k) refl)
+rising_last_value : (o : List Write) (k : ℕ) → IsRising o → last_value o k ≡ value_at o k
+rising_last_value [] k q = refl
+rising_last_value (w ∷ o) k q =
+    rw (rising_last_value o k q.1) (cases (nat_eq w.0 k) refl)
   where
     cases : (x : Bool) → nat_eq w.0 k ≡ x → or_else (value_at o k) (cond x (Some w.1) None) ≡ cond x (Some w.1) (value_at o k)
-    cases true e = let same : k ≤ w.0 = grind (arith, nat_tests) in rw (above-value_at w.0 o k same q.0) refl
+    cases true e = let same : k ≤ w.0 = grind (arith, nat_tests) in rw (value_at_above w.0 o k same q.0) refl
     cases false e = or_none (value_at o k)
       where
         or_none : (x : Option ℤ) → or_else x None ≡ x
@@ -98,7 +98,7 @@ found-last_value (w ∷ o) k q =
 
 -- a piece leaves what its writes leave
 pub last_value_last : (ws : List Write) (k : ℕ) → last_value (last_writes ws) k ≡ last_value ws k
-last_value_last ws k = found-last_value (last_writes ws) k (rising_lays ws [] tt) ∙ value_at_lays ws [] k ∙ or_none (last_value ws k)
+last_value_last ws k = rising_last_value (last_writes ws) k (rising_lays ws [] tt) ∙ value_at_lays ws [] k ∙ or_none (last_value ws k)
   where
     or_none : (x : Option ℤ) → or_else x None ≡ x
     or_none None = refl
