@@ -72,7 +72,10 @@ same_rising (x ∷ a) (y ∷ b) p q h =
     let number : x.1 ≡ y.1 = grind (arith, nat_tests) in
     let rest = same_rising a b p.1 q.1 (λ k. ⊎_elim
     (λ lt. let ek = h k in grind (arith, nat_tests))
-    (λ le. value_at_above x.0 a k le p.0 ∙ sym (value_at_above y.0 b k (omega arith) q.0))
+    (λ le.
+    let none_a : value_at a k ≡ None = value_at_above x.0 a k le p.0 in
+    let none_b : value_at b k ≡ None = value_at_above y.0 b k (omega arith) q.0 in
+    none_a ∙ sym none_b)
     (cases_lt x.0 k)) in
     let pair : x ≡ y = ap (λ c. (c, x.1)) cell ∙ ap (λ v. (y.0, v)) number in
     cc
