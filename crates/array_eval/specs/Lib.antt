@@ -1,2 +1,4 @@
 pub mod Views
 pub mod ArrayText
+pub mod Overlays
+pub mod Bindings

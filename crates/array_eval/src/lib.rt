@@ -1,16 +1,20 @@
-//! The one-thread evaluator of the array language: stores, and what a program leaves in them.
+//! The one-thread evaluator of the array language: stores, what a program leaves in them, and what was written apart.
 #![tactic(auto)]
 
 mod array_text;
 mod cells;
+mod overlay;
 mod run;
 mod scope;
 mod store;
 mod value;
+mod vars;
 
 pub use array_text::write_arrays;
+pub use overlay::Overlay;
 pub use run::run_one;
 pub use store::Store;
+pub use vars::Vars;
 
 #[cfg(test)]
 mod tests;

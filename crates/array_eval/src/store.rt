@@ -1,9 +1,11 @@
 //! Stores: the value of each cell.
-ghost use Rattle.std.specs.Prelude.{◌≡◌, ◌<◌, IfOk, OnOk, OnErr, length, replicate, pos};
-ghost use Rattle.array_meaning.specs.Stores.{at_cell, written};
+ghost use Rattle.std.specs.Prelude.{◌≡◌, ◌<◌, All, IfOk, OnOk, OnErr, length, replicate, pos};
+ghost use Rattle.array_meaning.specs.Stores.{after, at_cell, written};
 
 use std::alloc::{AllocError, Global};
 use std::marker::Model;
+
+use crate::overlay::Overlay;
 
 /// The value of each cell. The cells of the arrays are numbered from 0 in order of declaration.
 ///
@@ -58,6 +60,29 @@ impl Store {
         })
     }
 
+    /// The store after an overlay's cells are written. Each of them must be there.
+    pub fn with(&self, written: &Overlay) -> Result<Store, AllocError>
+        requires { All (λ pair. pair.0 < length self.now) written.now.pairs }
+        ensures merged { IfOk result (λ store. store ≡ after written.now.pairs self.now) }
+        ensures cells { IfOk result (λ store. length store ≡ length self.now) }
+    {
+        let mut store = self.copy()?;
+        store.merge(written)?;
+        Ok(store)
+    }
+
+    /// Writes an overlay's cells. Each of them must be there. Where memory is wanting, nothing changes.
+    #[tactic(auto, using(array_meaning::proofs::StepLemmas::length_after))]
+    pub fn merge(&mut self, written: &Overlay) -> Result<(), AllocError>
+        requires { All (λ pair. pair.0 < length self.old) written.now.pairs }
+        ensures merged { OnOk result (self.new ≡ after written.now.pairs self.old) }
+        ensures unchanged { OnErr result (self.new ≡ self.old) }
+        ensures cells { length self.new ≡ length self.old }
+    {
+        write_pairs(&mut self.cells, written.pairs());
+        Ok(())
+    }
+
     /// The cells, in order.
     pub(crate) fn cells(&self) -> &[i64]
         ensures { result.now ≡ self.now }
@@ -70,5 +95,15 @@ impl Store {
         ensures { result ≡ cells.items }
     {
         Store { cells }
+    }
+}
+
+// Writes pairs of a cell and a value, one after another.
+fn write_pairs(cells: &mut [i64], pairs: &[(u16, i64)])
+    requires { All (λ pair. pair.0 < length cells.old) pairs.now }
+    ensures { cells.new ≡ after pairs.now cells.old }
+{
+    for (cell, value) in pairs {
+        cells[usize::from(*cell)] = *value;
     }
 }

@@ -9,7 +9,7 @@ use std::test::Fail;
 
 use array_tree::{ArrayDecl, Arrays, Block, Blocks, Expr, Name, Op, Program, Stmt};
 
-use crate::{Store, run_one, write_arrays};
+use crate::{Overlay, Store, Vars, run_one, write_arrays};
 
 type Made<T> = Result<T, AllocError>;
 
@@ -176,5 +176,44 @@ fn a_store_is_written_and_copied(rt: HostRuntime) -> Result<(), Fail> {
     assert_eq!(rt; store.get(1), 8);
     assert_eq!(rt; copy.get(1), -7);
     assert_eq!(rt; copy.get(2), 0);
+    Ok(())
+}
+
+#[test]
+fn an_overlay_keeps_last_values_in_rising_order(rt: HostRuntime) -> Result<(), Fail> {
+    let mut overlay = Overlay::empty(rt.alloc());
+    overlay.put(5, 50)?;
+    overlay.put(2, 20)?;
+    overlay.put(5, 51)?;
+    assert_eq!(rt; overlay.pairs(), [(2, 20), (5, 51)].as_slice());
+    assert_eq!(rt; overlay.get(5), Some(51));
+    assert_eq!(rt; overlay.get(3), None);
+    Ok(())
+}
+
+#[test]
+fn a_roomy_overlay_is_merged(rt: HostRuntime) -> Result<(), Fail> {
+    let mut overlay = Overlay::roomy(rt.alloc(), 1)?;
+    overlay.lay(1, 7);
+    overlay.lay(1, 8);
+    let mut store = Store::zero(rt.alloc(), 3)?;
+    let other = store.with(&overlay)?;
+    assert_eq!(rt; store.get(1), 0);
+    assert_eq!(rt; other.get(1), 8);
+    store.merge(&overlay)?;
+    assert_eq!(rt; store.get(1), 8);
+    Ok(())
+}
+
+#[test]
+fn the_innermost_variable_is_found_first(rt: HostRuntime) -> Result<(), Fail> {
+    let name = Name::new(rt.alloc(), "i".as_bytes())?;
+    let other = Name::new(rt.alloc(), "j".as_bytes())?;
+    let outer = Vars::empty(rt.alloc()).with(&name, 1)?;
+    let inner = outer.with(&other, 2)?.with(&name, 3)?;
+    let copy = inner.copy()?;
+    assert_eq!(rt; outer.get(&other), None);
+    assert_eq!(rt; copy.get(&name), Some(3));
+    assert_eq!(rt; copy.get(&other), Some(2));
     Ok(())
 }

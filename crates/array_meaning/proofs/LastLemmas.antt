@@ -77,7 +77,9 @@ same_rising (x ∷ a) (y ∷ b) p q h =
     let none_b : value_at b k ≡ None = value_at_above y.0 b k (omega arith) q.0 in
     none_a ∙ sym none_b)
     (cases_lt x.0 k)) in
-    let pair : x ≡ y = ap (λ c. (c, x.1)) cell ∙ ap (λ v. (y.0, v)) number in
+    let moved : x ≡ (y.0, x.1) = ap (λ c. (c, x.1)) cell in
+    let valued : (y.0, x.1) ≡ y = ap (λ v. (y.0, v)) number in
+    let pair : x ≡ y = moved ∙ valued in
     cc
 
 -- the last values depend on what is left at each cell alone

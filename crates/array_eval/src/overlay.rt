@@ -1,0 +1,151 @@
+//! Overlays: the cells that were written, with their last values.
+ghost use Rattle.std.specs.Prelude.{◌≡◌, ◌≤◌, ◌<◌, OnOk, OnErr, IfOk, IfErr, IsTrue, ◌↔◌, [], length, slice_index_or, pos, vec_capacity};
+ghost use Rattle.array_meaning.specs.Pieces.{lay, value_at, IsRising};
+ghost use Rattle.array_eval.specs.Overlays.{place_in, HasRoom, StandsAt, WouldStandAt};
+
+use std::alloc::{AllocError, Global};
+use std::marker::Model;
+
+/// Pairs of a cell and a value, with rising cells.
+///
+/// Contracts see an overlay as its `pairs`, and beside them its `room`: so many pairs fit without memory.
+#[derive(Debug, Drop)]
+pub struct Overlay {
+    pairs: Vec<(u16, i64)>,
+}
+
+impl Model for Overlay {
+    ghost use Rattle.std.specs.Prelude.{vec_capacity};
+    ghost use Rattle.array_meaning.specs.Pieces.{IsRising};
+    ghost use Rattle.array_eval.specs.Overlays.{Laid};
+
+    ghost Value = { Laid };
+
+    ghost view = { λ overlay. record { pairs = overlay.pairs.items; room = vec_capacity overlay.pairs } };
+
+    ghost invariant = { λ overlay. IsRising overlay.pairs.items };
+}
+
+impl Overlay {
+    /// An overlay of no cell, with no room. It takes no memory.
+    pub fn empty(alloc: Global) -> Overlay
+        ensures pairs { result.pairs ≡ [] }
+        ensures room { result.room ≡ 0 }
+    {
+        Overlay {
+            pairs: Vec::new(alloc),
+        }
+    }
+
+    /// An overlay of no cell, with room for so many.
+    pub fn roomy(alloc: Global, room: u16) -> Result<Overlay, AllocError>
+        ensures pairs { IfOk result (λ overlay. overlay.pairs ≡ []) }
+        ensures room { IfOk result (λ overlay. overlay.room ≡ room) }
+    {
+        Ok(Overlay {
+            pairs: Vec::with_capacity(alloc, usize::from(room))?,
+        })
+    }
+
+    /// Lays one more pair, in the place of an earlier one of its cell. Where memory is wanting, the pairs stay.
+    #[tactic(auto, using(array_meaning::proofs::LastLemmas::rising_lay))]
+    pub fn put(&mut self, cell: u16, value: i64) -> Result<(), AllocError>
+        ensures ok { OnOk result (self.new.pairs ≡ lay cell value self.old.pairs) }
+        ensures err { OnErr result (self.new.pairs ≡ self.old.pairs) }
+        ensures room { self.old.room ≤ self.new.room }
+        ensures full { OnErr result (¬ HasRoom cell self.old.pairs self.old.room) }
+    {
+        put_pair(&mut self.pairs, cell, value)
+    }
+
+    /// Lays one more pair as `put` does, keeps the room and takes no memory.
+    ///
+    /// The cell must be in the list, or the list shorter than the room.
+    #[tactic(auto, using(array_meaning::proofs::LastLemmas::rising_lay))]
+    pub fn lay(&mut self, cell: u16, value: i64)
+        requires { HasRoom cell self.old.pairs self.old.room }
+        ensures pairs { self.new.pairs ≡ lay cell value self.old.pairs }
+        ensures room { self.new.room ≡ self.old.room }
+    {
+        let _ = put_pair(&mut self.pairs, cell, value);
+    }
+
+    /// The value of a cell, if it was written.
+    pub fn get(&self, cell: u16) -> Option<i64>
+        ensures { result ≡ value_at self.now.pairs cell }
+    {
+        match find(&self.pairs, cell) {
+            Ok(place) => Some(self.pairs[place].1),
+            Err(_) => None,
+        }
+    }
+
+    /// The pairs, with rising cells.
+    pub fn pairs(&self) -> &[(u16, i64)]
+        ensures { result.now ≡ self.now.pairs }
+    {
+        &self.pairs
+    }
+}
+
+// How many pairs have a smaller cell.
+#[tactic(auto, using(crate::proofs::OverlayLemmas::place_after, crate::proofs::OverlayLemmas::place_before, crate::proofs::OverlayLemmas::place_within))]
+fn place(pairs: &[(u16, i64)], cell: u16) -> usize
+    requires { IsRising pairs.now }
+    ensures place { result ≡ place_in cell pairs.now }
+    ensures within { result ≤ length pairs.now }
+{
+    let mut low = 0;
+    let mut high = pairs.len();
+    while low < high {
+        let middle = low + (high - low) / 2;
+        if pairs[middle].0 < cell {
+            low = middle + 1;
+        } else {
+            high = middle;
+        }
+    }
+    low
+}
+
+// Whether the pair at a place is that of a cell.
+fn is_there(pairs: &[(u16, i64)], place: usize, cell: u16) -> bool
+    ensures { IsTrue result ↔ (place < length pairs.now) × ((slice_index_or pairs.now place (0, pos 0)).0 ≡ cell) }
+{
+    place < pairs.len() && pairs[place].0 == cell
+}
+
+// Where the pair of a cell stands, or else where it would stand.
+fn find(pairs: &[(u16, i64)], cell: u16) -> Result<usize, usize>
+    requires { IsRising pairs.now }
+    ensures there { IfOk result (StandsAt cell pairs.now) }
+    ensures missing { IfErr result (WouldStandAt cell pairs.now) }
+{
+    let place = place(pairs, cell);
+    if is_there(pairs, place, cell) {
+        Ok(place)
+    } else {
+        Err(place)
+    }
+}
+
+// Lays one more pair. Only where there is no room, and the cell isn't in the list, memory is taken.
+fn put_pair(pairs: &mut Vec<(u16, i64)>, cell: u16, value: i64) -> Result<(), AllocError>
+    requires { IsRising pairs.old.items }
+    ensures ok { OnOk result (pairs.new.items ≡ lay cell value pairs.old.items) }
+    ensures err { OnErr result (pairs.new.items ≡ pairs.old.items) }
+    ensures room { vec_capacity pairs.old ≤ vec_capacity pairs.new }
+    ensures kept { HasRoom cell pairs.old.items (vec_capacity pairs.old) → vec_capacity pairs.new ≡ vec_capacity pairs.old }
+    ensures full { OnErr result (¬ HasRoom cell pairs.old.items (vec_capacity pairs.old)) }
+{
+    match find(pairs, cell) {
+        Ok(place) => {
+            pairs[place] = (cell, value);
+            Ok(())
+        }
+        Err(place) => {
+            pairs.insert(place, (cell, value))?;
+            Ok(())
+        }
+    }
+}
