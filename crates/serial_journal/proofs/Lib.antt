@@ -1,0 +1,5 @@
+pub mod Chains
+pub mod PlanNests
+pub mod Standing
+pub mod Leaves
+pub mod Steps
