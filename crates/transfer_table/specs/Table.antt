@@ -1,5 +1,5 @@
 -- The table of transfers: what an entry needs, what it does, and what it is refused for.
-use Rattle.std.specs.Prelude.{◌≡◌, ℕ, ◌+◌, ◌-◌, ◌==◌, nat_le, nat_lt, Bool, true, false, not, ◌||◌, ◌&&◌, if◌then◌else◌, List, [], ◌∷◌, ◌++◌, length, replicate, slice_index, slice_index_or, slice_set, Option, Some, None, Result, Ok, Err}
+use Rattle.std.specs.Prelude.{◌≡◌, ℕ, ◌+◌, ◌-◌, ◌==◌, nat_le, nat_lt, Bool, true, false, not, ◌||◌, ◌&&◌, if◌then◌else◌, List, [], ◌∷◌, ◌++◌, length, replicate, slice_index, slice_index_or, slice_set, Option, Some, None, Result, Ok, Err, IfOk, IfErr, OnErr}
 use Rattle.std.specs.Option.{option_map}
 use Rattle.transfer_table.specs.Causes.{cause_if, first_cause}
 use Rattle.transfer_table.specs.Plan.{Plan, parent, site_count, IsPlan}
@@ -148,3 +148,11 @@ pub record IsPosition (b : Position) : Type 0 where
   pub plan : IsPlan b.plan
   pub owners : length b.state.owners ≡ b.plan.harts
   pub rows : length b.state.rows ≡ site_count b.plan
+
+-- the answer to an entry: its effect, or its refusal, which changes nothing; the plan stays
+pub record IsAnswer (old new : Position) (e : Entry) (answer : Result (Unit {0}) NotAdmitted) : Type 0 where
+  pub plan : new.plan ≡ old.plan
+  pub kept : IsPosition new
+  pub ok : IfOk answer (λ _. admit_of old.plan old.state e ≡ Ok new.state)
+  pub err : IfErr answer (λ why. admit_of old.plan old.state e ≡ Err why)
+  pub unchanged : OnErr answer (new ≡ old)

@@ -1,8 +1,8 @@
 //! The table of one thread.
-ghost use Rattle.std.specs.Prelude.{◌≡◌, ◌≤◌, ◌<◌, ◌+◌, IfErr, IfOk, OnErr, IfNone, Ok, Err, length, slice_index, slice_index_or, not, ◌&&◌, ◌==◌, ℕ};
+ghost use Rattle.std.specs.Prelude.{◌≡◌, ◌≤◌, ◌<◌, ◌+◌, IfErr, IfOk, OnErr, Ok, Err, Some, None, true, false, length, slice_index, slice_index_or, not, ◌&&◌, ◌==◌, ℕ};
 ghost use Rattle.transfer_table.specs.Plan.{IsHart, IsSite, IsPlan, parent, site_count};
-ghost use Rattle.transfer_table.specs.Table.{admit_of, common_refusals, first_state, IsPosition, hart_inside, child_left, owner, row, blank, is_gone, is_home, home_number};
-ghost use Rattle.transfer_table.specs.Causes.{cause_if, first_cause};
+ghost use Rattle.transfer_table.specs.Table.{admit_of, IsAnswer, common_refusals, first_state, IsPosition, hart_inside, child_left, owner, row, blank, is_gone, is_home, home_number};
+ghost use Rattle.transfer_table.specs.Causes.{first_cause};
 ghost use Rattle.transfer_table.specs.Journal.{unfinished};
 ghost use Rattle.transfer_table.specs.Board.{IsCount, count_left};
 
@@ -117,15 +117,9 @@ impl Board {
     }
 
     fn register(&mut self, hart: u8, site: u16) -> Result<(), NotAdmitted>
-        ensures plan { self.new.plan ≡ self.old.plan }
-        ensures ok { IfOk result (λ _. admit_of self.old.plan self.old.state (Entry.Register hart site) ≡ Ok self.new.state) }
-        ensures err { IfErr result (λ why. admit_of self.old.plan self.old.state (Entry.Register hart site) ≡ Err why) }
-        ensures unchanged { OnErr result (self.new ≡ self.old) }
-        ensures kept { IsPosition self.new }
+        ensures { IsAnswer self.old self.new (Entry.Register hart site) result }
     {
-        if let Some(refusal) = self.common_refusal(hart, site, self.plan.parent(site)) {
-            return Err(refusal);
-        }
+        self.check_owner(hart, site, self.plan.parent(site))?;
         let row = &mut self.rows[site as usize - 1];
         let Stage::New = row.stage else {
             return Err(NotAdmitted::NotNew);
@@ -141,18 +135,10 @@ impl Board {
     }
 
     fn request(&mut self, hart: u8, site: u16, count: u8) -> Result<(), NotAdmitted>
-        ensures plan { self.new.plan ≡ self.old.plan }
-        ensures ok { IfOk result (λ _. admit_of self.old.plan self.old.state (Entry.Request hart site count) ≡ Ok self.new.state) }
-        ensures err { IfErr result (λ why. admit_of self.old.plan self.old.state (Entry.Request hart site count) ≡ Err why) }
-        ensures unchanged { OnErr result (self.new ≡ self.old) }
-        ensures kept { IsPosition self.new }
+        ensures { IsAnswer self.old self.new (Entry.Request hart site count) result }
     {
-        if let Some(refusal) = self.common_refusal(hart, site, site) {
-            return Err(refusal);
-        }
-        if let Some(refusal) = self.home_refusal(hart, site) {
-            return Err(refusal);
-        }
+        self.check_owner(hart, site, site)?;
+        self.check_home(hart, site)?;
         let most = self.plan.harts() - 1;
         let row = &mut self.rows[site as usize - 1];
         let asked = row.asked as u16 + count as u16;
@@ -168,15 +154,9 @@ impl Board {
     }
 
     fn enter(&mut self, hart: u8, site: u16) -> Result<(), NotAdmitted>
-        ensures plan { self.new.plan ≡ self.old.plan }
-        ensures ok { IfOk result (λ _. admit_of self.old.plan self.old.state (Entry.Enter hart site) ≡ Ok self.new.state) }
-        ensures err { IfErr result (λ why. admit_of self.old.plan self.old.state (Entry.Enter hart site) ≡ Err why) }
-        ensures unchanged { OnErr result (self.new ≡ self.old) }
-        ensures kept { IsPosition self.new }
+        ensures { IsAnswer self.old self.new (Entry.Enter hart site) result }
     {
-        if let Some(refusal) = self.common_refusal(hart, site, self.plan.parent(site)) {
-            return Err(refusal);
-        }
+        self.check_owner(hart, site, self.plan.parent(site))?;
         let row = &mut self.rows[site as usize - 1];
         let Stage::Live = row.stage else {
             return Err(NotAdmitted::NotLive);
@@ -190,16 +170,10 @@ impl Board {
     }
 
     fn yield_hart(&mut self, hart: u8, site: u16) -> Result<(), NotAdmitted>
-        ensures plan { self.new.plan ≡ self.old.plan }
-        ensures ok { IfOk result (λ _. admit_of self.old.plan self.old.state (Entry.Yield hart site) ≡ Ok self.new.state) }
-        ensures err { IfErr result (λ why. admit_of self.old.plan self.old.state (Entry.Yield hart site) ≡ Err why) }
-        ensures unchanged { OnErr result (self.new ≡ self.old) }
-        ensures kept { IsPosition self.new }
+        ensures { IsAnswer self.old self.new (Entry.Yield hart site) result }
     {
-        if let Some(refusal) = self.common_refusal(hart, site, site) {
-            return Err(refusal);
-        }
-        if self.home_refusal(hart, site).is_none() {
+        self.check_owner(hart, site, site)?;
+        if self.check_home(hart, site).is_ok() {
             return Err(NotAdmitted::IsHome);
         }
         self.owners[hart as usize] = self.plan.parent(site);
@@ -207,18 +181,10 @@ impl Board {
     }
 
     fn unregister(&mut self, hart: u8, site: u16) -> Result<(), NotAdmitted>
-        ensures plan { self.new.plan ≡ self.old.plan }
-        ensures ok { IfOk result (λ _. admit_of self.old.plan self.old.state (Entry.Unregister hart site) ≡ Ok self.new.state) }
-        ensures err { IfErr result (λ why. admit_of self.old.plan self.old.state (Entry.Unregister hart site) ≡ Err why) }
-        ensures unchanged { OnErr result (self.new ≡ self.old) }
-        ensures kept { IsPosition self.new }
+        ensures { IsAnswer self.old self.new (Entry.Unregister hart site) result }
     {
-        if let Some(refusal) = self.common_refusal(hart, site, site) {
-            return Err(refusal);
-        }
-        if let Some(refusal) = self.home_refusal(hart, site) {
-            return Err(refusal);
-        }
+        self.check_owner(hart, site, site)?;
+        self.check_home(hart, site)?;
         if let Some(hart) = self.hart_inside(hart, site) {
             return Err(NotAdmitted::HartInside { hart });
         }
@@ -237,21 +203,22 @@ impl Board {
 
     // What every entry may be refused for: its hart, its site, and an owner that isn't the wanted
     // one.
-    fn common_refusal(&self, hart: u8, site: u16, wanted: u16) -> Option<NotAdmitted>
-        ensures same { result ≡ first_cause (common_refusals self.now.plan self.now.state hart site wanted) }
-        ensures found { IfNone result ((IsHart self.now.plan hart) × (IsSite self.now.plan site) × (owner self.now.state hart ≡ wanted)) }
+    fn check_owner(&self, hart: u8, site: u16, wanted: u16) -> Result<(), NotAdmitted>
+        ensures ok { IfOk result (λ _. first_cause (common_refusals self.now.plan self.now.state hart site wanted) ≡ None) }
+        ensures found { IfOk result (λ _. (IsHart self.now.plan hart) × (IsSite self.now.plan site) × (owner self.now.state hart ≡ wanted)) }
+        ensures err { IfErr result (λ why. first_cause (common_refusals self.now.plan self.now.state hart site wanted) ≡ Some why) }
     {
         if hart >= self.plan.harts() {
-            return Some(NotAdmitted::NoSuchHart);
+            return Err(NotAdmitted::NoSuchHart);
         }
         if site == 0 || site > self.plan.sites() {
-            return Some(NotAdmitted::NoSuchSite);
+            return Err(NotAdmitted::NoSuchSite);
         }
         let owner = self.owners[hart as usize];
         if owner != wanted {
-            return Some(NotAdmitted::NotOwner { owner });
+            return Err(NotAdmitted::NotOwner { owner });
         }
-        None
+        Ok(())
     }
 
     // The least site that isn't gone.
@@ -267,14 +234,15 @@ impl Board {
     }
 
     // What an entry that only the site's home may make is refused for.
-    fn home_refusal(&self, hart: u8, site: u16) -> Option<NotAdmitted>
+    fn check_home(&self, hart: u8, site: u16) -> Result<(), NotAdmitted>
         requires { IsSite self.now.plan site }
-        ensures { result ≡ cause_if (not (is_home (row self.now.state site).home hart)) (NotAdmitted.NotHome (home_number (row self.now.state site).home)) }
+        ensures ok { IfOk result (λ _. is_home (row self.now.state site).home hart ≡ true) }
+        ensures err { IfErr result (λ why. (is_home (row self.now.state site).home hart ≡ false) × (why ≡ NotAdmitted.NotHome (home_number (row self.now.state site).home))) }
     {
         match self.rows[site as usize - 1].home {
-            None => Some(NotAdmitted::NotHome { home: 0 }),
-            Some(home) if home != hart => Some(NotAdmitted::NotHome { home }),
-            Some(_) => None,
+            None => Err(NotAdmitted::NotHome { home: 0 }),
+            Some(home) if home != hart => Err(NotAdmitted::NotHome { home }),
+            Some(_) => Ok(()),
         }
     }
 
