@@ -9,3 +9,5 @@ pub mod OverlapLemmas
 pub mod MergeLemmas
 pub mod PlanLemmas
 pub mod CellLemmas
+pub mod InsideLemmas
+pub mod KnownLemmas

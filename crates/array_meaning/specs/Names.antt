@@ -2,6 +2,7 @@
 use Rattle.std.specs.Prelude.{ℕ, Bool, true, false, not, ◌&&◌, ◌||◌, List, [], ◌∷◌, map}
 use Rattle.array_tree.specs.Trees.{Expression, Number, Var, Read, Neg, Binary, Statement, Assign, For, If, Par, Team, Sequence, ended, followed, Sequences, no_more, beside, Declaration, ProgramTree}
 use Rattle.array_meaning.specs.Stores.{is_name}
+use Rattle.array_meaning.specs.Touch.{Visit}
 
 -- Whether the name is one of these.
 abbrev pub is_among : List ℕ → List (List ℕ) → Bool
@@ -69,3 +70,8 @@ abbrev mutual
 -- Whether no name is unknown.
 abbrev pub has_only_known_names : ProgramTree → Bool
 has_only_known_names program = has_known_names program.body (names_of program.arrays) []
+
+-- Whether each visit of a walk is to an array of these names.
+abbrev pub are_known : List (List ℕ) → List Visit → Bool
+are_known arrays [] = true
+are_known arrays (v ∷ more) = is_among v.array arrays && are_known arrays more
