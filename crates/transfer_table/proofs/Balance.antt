@@ -1,12 +1,12 @@
 -- What the entries of a site add up to.
-use Rattle.std.proofs.Common.{◌≡◌, ◌≢◌, ℕ, ◌+◌, ◌-◌, ◌≤◌, false, cond, ◌==◌, eq-eqb, ne_eqb, if◌then◌else◌, List, [], ◌∷◌, ◌++◌, refl, sym, ap, subst, ◌∙◌, arith, Some, None}
+use Rattle.std.proofs.Common.{◌≡◌, ◌≢◌, ℕ, ◌+◌, ◌-◌, ◌≤◌, false, cond, ◌==◌, eq-eqb, ne_eqb, if◌then◌else◌, List, [], ◌∷◌, ◌++◌, refl, sym, ap, subst, ◌∙◌, arith}
 use Rattle.std.specs.List.{All}
 use Rattle.std.proofs.lemmas.List.Sums.{sum_by-append}
-use Rattle.std.proofs.lemmas.List.Elements.{All-append, All-cons, All-nil, filter-append}
+use Rattle.std.proofs.lemmas.List.Elements.{All-append, All-cons, All-nil}
 use Rattle.transfer_table.specs.Plan.{Plan, IsPlan, IsHart, IsSite}
 use Rattle.transfer_table.specs.Table.{TableState, effect_of, first_state, owner, row, blank, is_new, is_gone}
 use Rattle.transfer_table.specs.Journal.{Reaches, AllGone}
-use Rattle.transfer_table.specs.Entry.{hart_of, site_of, count_of, is_register, is_enter, is_unregister, made_by, registers, enters, unregisters, requested}
+use Rattle.transfer_table.specs.Entry.{site_of, count_of, is_register, is_enter, is_unregister, registers, enters, unregisters, requested}
 use Rattle.transfer_table.specs.Allowed.{IsAllowed}
 use Rattle.transfer_table.specs.Laws.{IsByHome, IsEntryOf}
 use Rattle.transfer_table.specs.declared.entry.Row.{Row}
@@ -14,8 +14,8 @@ use Rattle.transfer_table.specs.declared.entry.Stage.{Stage}
 use Rattle.transfer_table.specs.declared.entry.Stage.TheVariants.{New, Live}
 use Rattle.transfer_table.specs.declared.entry.Entry.{Entry}
 use Rattle.transfer_table.specs.declared.entry.Entry.TheVariants.{Register, Request, Enter, Yield, Unregister}
-use Rattle.transfer_table.proofs.Positions.{Fits, get_or-replicate, lasts}
-use Rattle.transfer_table.proofs.Effects.{at_site, at_hart, row_after, allowed_site}
+use Rattle.transfer_table.proofs.Positions.{Fits, lasts}
+use Rattle.transfer_table.proofs.Effects.{at_site, row_after, allowed_site}
 use Rattle.transfer_table.proofs.Stages.{first_blank, home_lasts, legal_blank, live_home}
 
 -- one entry more adds what it counts, where it is of the site
@@ -142,33 +142,6 @@ pub complete_counts : (p : Plan) → IsPlan p → (es : List Entry) (t : TableSt
 complete_counts p plan es t is gone s site = let b = legal_counts p plan es t is s site in
     (b.came ∙ ap (λ (g : Stage). if is_new g then 0 else 1) (gone s site), b.went ∙ ap (λ (g : Stage). if is_gone g then 1 else 0) (gone s site))
 
-made_by-snoc : (h : ℕ) (es : List Entry) (e : Entry) → made_by h (es ++ e ∷ []) ≡ made_by h es ++ made_by h (e ∷ [])
-made_by-snoc h es e = filter-append (λ x. hart_of x == h) es (e ∷ [])
-
-nothing_left : {A : Type 0} (xs ys : List A) → xs ++ ys ≡ [] → (xs ≡ []) × (ys ≡ [])
-nothing_left [] ys e = (refl, e)
-nothing_left (x ∷ xs) ys e = absurd (cc)
-
-not_by : (h : ℕ) (e : Entry) → made_by h (e ∷ []) ≡ [] → h ≢ hart_of e
-not_by h e is = λ z. let w : made_by h (e ∷ []) ≡ e ∷ [] = rw (eq-eqb (hart_of e) h (sym z)) refl in absurd (cc)
-
--- the hart is in the base, and the home of no site
-pub record IsIdle (p : Plan) (t : TableState) (h : ℕ) : Type 0 where
-  pub base : owner t h ≡ 0
-  pub homeless : (s : ℕ) → IsSite p s → (row t s).home ≢ Some h
-
-other_home : (p : Plan) (t : TableState) (e : Entry) (h : ℕ) → h ≢ hart_of e → (row t (site_of e)).home ≢ Some h → (row_after t e).home ≢ Some h
-other_home p t (Register g s) h n f = λ z. let w : g ≡ h = cc in n (sym w)
-other_home p t (Request g s k) h n f = f
-other_home p t (Enter g s) h n f = f
-other_home p t (Yield g s) h n f = f
-other_home p t (Unregister g s) h n f = f
-
--- a hart that made no entry is idle
-pub legal_idle : (p : Plan) → IsPlan p → (es : List Entry) (t : TableState) → Reaches p es t → (h : ℕ) → made_by h es ≡ [] → IsIdle p t h
-legal_idle p plan es t is = lasts p plan (λ xs u. (h : ℕ) → made_by h xs ≡ [] → IsIdle p u h)
-    (λ h _. record { base = get_or-replicate p.harts h 0; homeless = λ s _ z. let w : (row (first_state p) s).home ≡ None = ap (λ (r : Row). r.home) (first_blank p s) in absurd (cc) })
-    (λ xs u e leads fits f a h none. let both = nothing_left (made_by h xs) (made_by h (e ∷ [])) (sym (made_by-snoc h xs e) ∙ none) in let n = not_by h e both.1 in let old = f h both.0 in record {
-      base = at_hart p u e h (λ g o. g ≡ h → o ≡ 0) fits a (λ z. absurd (n (sym z))) (λ _ _. old.base) refl;
-      homeless = λ s site. at_site p u e s (λ x r. r.home ≢ Some h) fits a site.0 (other_home p u e h n (old.homeless (site_of e) (allowed_site p u e a))) (λ _. old.homeless s site);
-    }) es t is
+-- no site has more wishes than it asked for, and none asked for more than all harts but one
+pub legal_wishes : (p : Plan) → IsPlan p → (es : List Entry) (t : TableState) → Reaches p es t → (s : ℕ) → IsSite p s → ((row t s).wishes ≤ (row t s).asked) × ((row t s).asked ≤ p.harts - 1)
+legal_wishes p plan es t is s site = let b = legal_balance p plan es t is s site in let w = b.wished in let f = b.few in (omega arith, omega arith)

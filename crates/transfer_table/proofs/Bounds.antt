@@ -1,5 +1,5 @@
 -- A legal list is short: each entry lowers a potential.
-use Rattle.std.proofs.Common.{◌≡◌, ◌≢◌, ℕ, suc, zero, ◌+◌, ◌-◌, ◌*◌, ◌<◌, ◌≤◌, Bool, true, false, not, cond, eqb, List, [], ◌∷◌, length, set, refl, sym, ap, subst, ◌∙◌, arith, slice_index_or, Option, Some, eq-eqb, ne_eqb, inl, inr, length-set, length-append, get_or-set_same, get_or-set_other}
+use Rattle.std.proofs.Common.{◌≡◌, ◌≢◌, ℕ, suc, zero, ◌+◌, ◌-◌, ◌*◌, ◌<◌, ◌≤◌, Bool, true, false, not, cond, eqb, List, [], ◌∷◌, length, set, refl, sym, ap, subst, ◌∙◌, arith, slice_index_or, Option, Some, Ok, ◌++◌, eq-eqb, ne_eqb, inl, inr, length-set, length-append, get_or-set_same, get_or-set_other}
 use mathlib.Core.Logic.{dite}
 use native.Mathlib.Decide.{ℕ_discrete}
 use Rattle.std.specs.List.{sum_by}
@@ -7,7 +7,7 @@ use Rattle.std.proofs.lemmas.List.Folds.{sum_by-replicate}
 use Rattle.std.proofs.lemmas.List.Sums.{sum_by-set}
 use Rattle.std.proofs.lemmas.List.{set-get_or}
 use Rattle.transfer_table.specs.Plan.{Plan, IsPlan, IsHart, IsSite, parent, site_count}
-use Rattle.transfer_table.specs.Table.{TableState, owner, row, blank, first_state, effect_of, is_new, is_live, is_gone, is_home}
+use Rattle.transfer_table.specs.Table.{TableState, owner, row, blank, first_state, effect_of, is_new, is_live, is_gone, is_home, admit_of}
 use Rattle.transfer_table.specs.Journal.{Reaches}
 use Rattle.transfer_table.specs.declared.entry.Row.{Row}
 use Rattle.transfer_table.specs.declared.entry.Stage.{Stage}
@@ -17,6 +17,7 @@ use Rattle.transfer_table.specs.declared.entry.Entry.TheVariants.{Register, Requ
 use Rattle.transfer_table.specs.Allowed.{IsAllowed}
 use Rattle.transfer_table.specs.Laws.{IsBaseOrLive}
 use Rattle.transfer_table.proofs.Admits.{live_is, not_home}
+use Rattle.transfer_table.proofs.Replays.{reaches-snoc}
 use Rattle.transfer_table.proofs.Positions.{Fits, fits_first, get_or-replicate, lasts}
 
 abbrev IsLive : TableState → ℕ → Type 0
@@ -330,6 +331,10 @@ fine p plan es t is = lasts p plan (λ l u. Fine p (length l) u) (fine_first p p
 -- a legal list has at most S * (3n - 1) entries
 pub legal_length : (p : Plan) → IsPlan p → (es : List Entry) (t : TableState) → Reaches p es t → length es ≤ site_count p * (3 * p.harts - 1)
 legal_length p plan es t is = let f = fine p plan es t is in let b = f.short in omega arith
+
+-- a legal list that goes on has fewer
+pub legal_room : (p : Plan) → IsPlan p → (es : List Entry) (t u : TableState) (e : Entry) → Reaches p es t → admit_of p t e ≡ Ok u → length es < site_count p * (3 * p.harts - 1)
+legal_room p plan es t u e leads is = let f = legal_length p plan (es ++ e ∷ []) u (reaches-snoc p es e t u leads is) in let n = length-append es (e ∷ []) in omega arith
 
 live_path : (p : Plan) (t : TableState) (o : ℕ) → IsPath p t o → IsBaseOrLive p t o
 live_path p t o path = dite (ℕ_discrete o 0) (λ z. inl z) (λ n. inr (let r = path n in ((omega arith, r.0), live_is (row t o).stage r.1)))

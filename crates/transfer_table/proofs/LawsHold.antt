@@ -6,7 +6,8 @@ use Rattle.transfer_table.proofs.Replays.{replay_from-append}
 use Rattle.transfer_table.proofs.Bounds.{legal_length, legal_owner, legal_parent}
 use Rattle.transfer_table.proofs.Stages.{legal_blank, legal_children}
 use Rattle.transfer_table.proofs.Homes.{legal_home}
-use Rattle.transfer_table.proofs.Balance.{legal_balance, legal_by_home, legal_entries, legal_idle, complete_counts}
+use Rattle.transfer_table.proofs.Balance.{legal_balance, legal_by_home, legal_entries, complete_counts}
+use Rattle.transfer_table.proofs.Makers.{legal_idle}
 use Rattle.transfer_table.proofs.Held.{legal_held, complete_owner}
 
 pub harts_are_conserved : HartsAreConserved

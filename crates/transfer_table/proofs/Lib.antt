@@ -11,5 +11,6 @@ pub mod Effects
 pub mod Stages
 pub mod Homes
 pub mod Balance
+pub mod Makers
 pub mod Held
 pub mod LawsHold

@@ -6,8 +6,8 @@ use Rattle.transfer_table.specs.Journal.{Reaches}
 use Rattle.transfer_table.specs.Allowed.{IsAllowed}
 use Rattle.transfer_table.specs.declared.entry.Entry.{Entry}
 use Rattle.transfer_table.specs.declared.entry.Entry.TheVariants.{Register, Request, Enter, Yield, Unregister}
-use Rattle.transfer_table.proofs.Admits.{admitted}
-use Rattle.transfer_table.proofs.Replays.{kept}
+use Rattle.transfer_table.proofs.Admits.{admits, admitted}
+use Rattle.transfer_table.proofs.Replays.{kept, reaches-snoc}
 
 -- a plan and a state that fit together
 abbrev pub Fits : Plan → TableState → Type 0
@@ -41,3 +41,7 @@ pub lasts : (p : Plan) → IsPlan p → (P : List Entry → TableState → Type 
     → ((es : List Entry) (t : TableState) (e : Entry) → Reaches p es t → Fits p t → P es t → IsAllowed p t e → P (es ++ e ∷ []) (effect_of p t e))
     → (es : List Entry) (t : TableState) → Reaches p es t → P es t
 lasts p is P start step es t leads = kept p P start (λ xs u v e before holds a. let f = legal_position p is xs u before in let d = admitted p u e v f a in subst (P (xs ++ e ∷ [])) (sym d.1) (step xs u e before f holds d.0)) es t leads
+
+-- a legal list goes on with an entry that is allowed
+pub reaches-allowed : (p : Plan) → IsPlan p → (es : List Entry) (t : TableState) (e : Entry) → Reaches p es t → IsAllowed p t e → Reaches p (es ++ e ∷ []) (effect_of p t e)
+reaches-allowed p plan es t e leads a = reaches-snoc p es e t (effect_of p t e) leads (admits p t e (legal_position p plan es t leads) a)

@@ -51,6 +51,10 @@ abbrev pub is_home : Option ℕ → ℕ → Bool
 is_home None h = false
 is_home (Some g) h = g == h
 
+-- the site is live, and the hart is its home
+abbrev pub lives_with : TableState → ℕ → ℕ → Bool
+lives_with t s h = is_live (row t s).stage && is_home (row t s).home h
+
 -- the home as a number; 0 where there is none
 abbrev pub home_number : Option ℕ → ℕ
 home_number None = 0
