@@ -18,7 +18,8 @@ use Rattle.transfer_table.specs.Allowed.{IsAllowed}
 use Rattle.transfer_table.specs.Laws.{IsBaseOrLive}
 use Rattle.transfer_table.proofs.Admits.{live_is, not_home}
 use Rattle.transfer_table.proofs.Replays.{reaches-snoc}
-use Rattle.transfer_table.proofs.Positions.{Fits, fits_first, get_or-replicate, lasts}
+use Rattle.transfer_table.proofs.Positions.{Fits, fits_first, lasts}
+use Rattle.transfer_table.proofs.Lists.{replicate_at}
 
 abbrev IsLive : TableState → ℕ → Type 0
 IsLive t x = is_live (row t x).stage ≡ true
@@ -315,13 +316,13 @@ fine_step p n t u (Unregister h x) f a is = subst (Fine p (suc n)) (sym is) (unr
 no_guests : (p : Plan) (m : ℕ) → harts_sum p (first_state p) m ≡ 0
 unfolding harts_sum
 no_guests p zero = refl
-no_guests p (suc m) = let r = no_guests p m in let a : all p (first_state p) m (owner (first_state p) m) ≡ 0 = ap (all p (first_state p) m) (get_or-replicate p.harts m 0) ∙ all_zero p (first_state p) m in omega arith
+no_guests p (suc m) = let r = no_guests p m in let a : all p (first_state p) m (owner (first_state p) m) ≡ 0 = ap (all p (first_state p) m) (replicate_at p.harts m 0) ∙ all_zero p (first_state p) m in omega arith
 
 fine_first : (p : Plan) → IsPlan p → Fine p 0 (first_state p)
 fine_first p plan = record {
   size = fits_first p plan;
-  owners = λ h l nonzero. absurd (nonzero (get_or-replicate p.harts h 0));
-  nested = λ x a b live. absurd (let new : (row (first_state p) x).stage ≡ New = ap (λ (r : Row). r.stage) (get_or-replicate (site_count p) (x - 1) blank) in cc);
+  owners = λ h l nonzero. absurd (nonzero (replicate_at p.harts h 0));
+  nested = λ x a b live. absurd (let new : (row (first_state p) x).stage ≡ New = ap (λ (r : Row). r.stage) (replicate_at (site_count p) (x - 1) blank) in cc);
   short = let a = sum_by-replicate (site_due p.harts) (site_count p) blank in let b = no_guests p p.harts in omega arith;
 }
 

@@ -1,5 +1,6 @@
 -- How the count of children that aren't gone changes with a row.
 use Rattle.std.proofs.Common.{◌≡◌, ◌≢◌, ℕ, zero, suc, ◌+◌, ◌-◌, ◌<◌, ◌≤◌, Bool, true, false, not, ◌&&◌, ◌==◌, if◌then◌else◌, eq-eqb, ne_eqb, List, [], ◌∷◌, length, get_or, set, replicate, drop, refl, sym, ap, subst, ◌∙◌, add-one, arith, slice_index, slice_index_or, slice_set, Some, None, length-set, get_or-set_same, get_or-set_other}
+use Rattle.std.proofs.lemmas.List.{length-replicate}
 use mathlib.Core.Logic.{dite}
 use native.Mathlib.Decide.{ℕ_discrete}
 use mir.Val.{bool_byte}
@@ -8,6 +9,7 @@ use Rattle.transfer_table.specs.declared.entry.Stage.TheVariants.{Gone}
 use Rattle.transfer_table.specs.Plan.{Plan, IsPlan, site_count, parent}
 use Rattle.transfer_table.specs.Table.{Position, first_state, least_left, is_gone, blank}
 use Rattle.transfer_table.specs.Board.{IsBoard, IsCount, count_left}
+use Rattle.transfer_table.proofs.Lists.{any_default, replicate_at}
 
 -- a row that is as gone as the old one keeps the count
 pub count_left-set_same : (qs : List ℕ) (rs : List Row) (s i : ℕ) (r d : Row) → is_gone r.stage ≡ is_gone (get_or rs i d).stage → count_left qs (set rs i r) s ≡ count_left qs rs s
@@ -109,27 +111,17 @@ board-gone b counts h o i n r is lt gone few here = record {
     falls false e = let n1 : n ≡ 1 = here ∙ ap (λ (x : Bool). if x then 0 else 1) e in let k = is.left.counted (slice_index b.plan.parents i) (small_parent b.plan is.position.plan i lt) in let z = is.position.rows in
         let a = count_left-set_gone b.plan.parents b.state.rows i r blank lt (omega arith) e gone in omega arith
 
-any_default : (rs : List Row) (i : ℕ) (d e : Row) → i < length rs → get_or rs i d ≡ get_or rs i e
-any_default [] i d e lt = absurd (omega arith)
-any_default (r ∷ rs) zero d e lt = refl
-any_default (r ∷ rs) (suc i) d e lt = any_default rs i d e (omega arith)
-
 -- what was read in a place of the rows is the row there
 pub row_read : (b : Position) (counts : List ℕ) (i : ℕ) (r : Row) → IsBoard b counts → i < site_count b.plan → r ≡ slice_index_or b.state.rows i r → r ≡ slice_index_or b.state.rows i blank
 row_read b counts i r is lt read = read ∙ any_default b.state.rows i r blank (let z = is.position.rows in omega arith)
 
-any_number : (xs : List ℕ) (i d : ℕ) → i < length xs → get_or xs i d ≡ get_or xs i 0
-any_number [] i d lt = absurd (omega arith)
-any_number (x ∷ xs) zero d lt = refl
-any_number (x ∷ xs) (suc i) d lt = any_number xs i d (omega arith)
-
 -- what was read in a place of the counts is the count there
 pub count_read : (b : Position) (counts : List ℕ) (s n : ℕ) → IsBoard b counts → s ≤ site_count b.plan → n ≡ slice_index_or counts s n → n ≡ count_left b.plan.parents b.state.rows s
-count_read b counts s n is high read = read ∙ any_number counts s n (let z = is.left.size in omega arith) ∙ is.left.counted s high
+count_read b counts s n is high read = read ∙ any_default counts s n 0 (let z = is.left.size in omega arith) ∙ is.left.counted s high
 
 -- what was read in the place of a site's parent is the parent's count
 pub start_read : (b : Position) (counts : List ℕ) (i n : ℕ) → IsBoard b counts → i < site_count b.plan → n ≡ slice_index_or counts (slice_index b.plan.parents i) n → n ≡ slice_index counts (slice_index b.plan.parents i)
-start_read b counts i n is lt read = read ∙ any_number counts (slice_index b.plan.parents i) n (let z = is.left.size in let bound = small_parent b.plan is.position.plan i lt in omega arith)
+start_read b counts i n is lt read = read ∙ any_default counts (slice_index b.plan.parents i) n 0 (let z = is.left.size in let bound = small_parent b.plan is.position.plan i lt in omega arith)
 
 byte_for : (g : Bool) → bool_byte (not g) ≡ (if g then 0 else 1)
 byte_for true = refl
@@ -175,20 +167,11 @@ pub record AreCounted (qs counts : List ℕ) (i : ℕ) : Type 0 where
   pub few : (s : ℕ) → slice_index counts s ≤ i
   pub so_far : (s : ℕ) → s ≤ length qs → slice_index counts s + children (drop i qs) s ≡ children qs s
 
-same_at : {A : Type 0} (n i : ℕ) (a : A) → get_or (replicate n a) i a ≡ a
-same_at zero i a = refl
-same_at (suc n) zero a = refl
-same_at (suc n) (suc i) a = same_at n i a
-
-long : {A : Type 0} (n : ℕ) (a : A) → length (replicate n a) ≡ n
-long zero a = refl
-long (suc n) a = ap suc (long n a)
-
 pub none_counted : (qs : List ℕ) → AreCounted qs (replicate (length qs + 1) 0) 0
 none_counted qs = record {
-  size = long (length qs + 1) 0;
-  few = λ s. let e : slice_index (replicate (length qs + 1) 0) s ≡ 0 = same_at (length qs + 1) s 0 in omega arith;
-  so_far = λ s high. let e : slice_index (replicate (length qs + 1) 0) s ≡ 0 = same_at (length qs + 1) s 0 in omega arith;
+  size = length-replicate (length qs + 1) 0;
+  few = λ s. let e : slice_index (replicate (length qs + 1) 0) s ≡ 0 = replicate_at (length qs + 1) s 0 in omega arith;
+  so_far = λ s high. let e : slice_index (replicate (length qs + 1) 0) s ≡ 0 = replicate_at (length qs + 1) s 0 in omega arith;
 }
 
 pub one_counted : (qs counts : List ℕ) (i : ℕ) → AreCounted qs counts i → i < length qs → get_or qs i 0 ≤ length qs → AreCounted qs (slice_set counts (get_or qs i 0) (get_or counts (get_or qs i 0) 0 + 1)) (i + 1)
@@ -215,7 +198,7 @@ all_counted p counts is = record {
 -- the first state of a plan is a board
 pub board-first : (p : Plan) (counts : List ℕ) → IsPlan p → IsCount p (first_state p).rows counts → IsBoard record { plan = p; state = first_state p } counts
 board-first p counts plan is = record {
-  position = record { plan = plan; owners = long p.harts 0; rows = long (site_count p) blank };
-  wished = λ s. let e = same_at (site_count p) (s - 1) blank in subst (λ (x : Row). x.wishes ≤ x.asked) (sym e) (omega arith);
+  position = record { plan = plan; owners = length-replicate p.harts 0; rows = length-replicate (site_count p) blank };
+  wished = λ s. let e = replicate_at (site_count p) (s - 1) blank in subst (λ (x : Row). x.wishes ≤ x.asked) (sym e) (omega arith);
   left = is;
 }

@@ -1,3 +1,4 @@
+pub mod Lists
 pub mod Causes
 pub mod Plans
 pub mod Scans

@@ -1,5 +1,6 @@
 -- A state keeps its size, and what each entry of a legal list keeps holds at its end.
-use Rattle.std.proofs.Common.{◌≡◌, ℕ, zero, suc, ◌-◌, List, [], ◌∷◌, ◌++◌, length, get_or, replicate, refl, sym, ap, subst, ◌∙◌, length-set}
+use Rattle.std.proofs.Common.{◌-◌, List, [], ◌∷◌, ◌++◌, sym, subst, ◌∙◌, length-set}
+use Rattle.std.proofs.lemmas.List.{length-replicate}
 use Rattle.transfer_table.specs.Plan.{Plan, IsPlan, site_count}
 use Rattle.transfer_table.specs.Table.{TableState, IsPosition, effect_of, first_state, blank}
 use Rattle.transfer_table.specs.Journal.{Reaches}
@@ -12,15 +13,6 @@ use Rattle.transfer_table.proofs.Replays.{kept, reaches-snoc}
 -- a plan and a state that fit together
 abbrev pub Fits : Plan → TableState → Type 0
 Fits p t = IsPosition record { plan = p; state = t }
-
-pub get_or-replicate : {A : Type 0} (n i : ℕ) (a : A) → get_or (replicate n a) i a ≡ a
-get_or-replicate zero i a = refl
-get_or-replicate (suc n) zero a = refl
-get_or-replicate (suc n) (suc i) a = get_or-replicate n i a
-
-length-replicate : {A : Type 0} (n : ℕ) (a : A) → length (replicate n a) ≡ n
-length-replicate zero a = refl
-length-replicate (suc n) a = ap suc (length-replicate n a)
 
 pub fits_first : (p : Plan) → IsPlan p → Fits p (first_state p)
 fits_first p is = record { plan = is; owners = length-replicate p.harts 0; rows = length-replicate (site_count p) blank }

@@ -11,12 +11,13 @@ use Rattle.transfer_table.specs.declared.entry.Row.{Row}
 use Rattle.transfer_table.specs.declared.entry.Stage.TheVariants.{New, Live, Gone}
 use Rattle.transfer_table.specs.declared.entry.Entry.{Entry}
 use Rattle.transfer_table.specs.declared.entry.Entry.TheVariants.{Register, Request, Enter, Yield, Unregister}
-use Rattle.transfer_table.proofs.Positions.{Fits, get_or-replicate, lasts}
+use Rattle.transfer_table.proofs.Positions.{Fits, lasts}
+use Rattle.transfer_table.proofs.Lists.{replicate_at}
 use Rattle.transfer_table.proofs.Effects.{at_site, row_after, allowed_site}
 use Rattle.transfer_table.proofs.Bounds.{legal_owner}
 
 pub first_blank : (p : Plan) (s : ℕ) → row (first_state p) s ≡ blank
-first_blank p s = get_or-replicate (site_count p) (s - 1) blank
+first_blank p s = replicate_at (site_count p) (s - 1) blank
 
 abbrev IsBlankIfNew : ℕ → Row → Type 0
 IsBlankIfNew y r = r.stage ≡ New → r ≡ blank
