@@ -4,11 +4,9 @@ ghost use Rattle.array_tree.specs.Trees.{declarations_of, program_of};
 ghost use Rattle.array_meaning.specs.Stores.{arrays_of, AreSized, cells_of};
 ghost use Rattle.array_eval.specs.ArrayText.{array_text, array_line};
 
-use std::alloc::{AllocError, Global};
-
-use array_tree::{Name, Program};
-
 use crate::store::Store;
+use array_tree::{Name, Program};
+use std::alloc::{AllocError, Global};
 
 /// The array lines of a program's store: for each array its name, ` =`, and after a space each the decimal values of
 /// its cells.
@@ -30,7 +28,12 @@ pub fn write_arrays(alloc: Global, program: &Program, store: &Store) -> Result<V
 }
 
 // Appends the line of one array with these cells.
-fn write_line(alloc: Global, name: &Name, cells: &[i64], text: &mut Vec<u8>) -> Result<(), AllocError>
+fn write_line(
+    alloc: Global,
+    name: &Name,
+    cells: &[i64],
+    text: &mut Vec<u8>,
+) -> Result<(), AllocError>
     ensures { OnOk result (text.new.items ≡ text.old.items ++ array_line name.now cells.now) }
 {
     text.extend_from_slice(name.as_bytes())?;

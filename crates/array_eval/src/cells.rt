@@ -25,17 +25,11 @@ pub(crate) fn place_of(arrays: &Arrays, name: &Name) -> Place
     for array in &arrays.declarations {
         let length = array.length.unsigned_abs() as usize;
         if array.name == *name {
-            return Place {
-                base,
-                length,
-            };
+            return Place { base, length };
         }
         base += length;
     }
-    Place {
-        base,
-        length: 1,
-    }
+    Place { base, length: 1 }
 }
 
 /// The cell that an index of an array leads to.

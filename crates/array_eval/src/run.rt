@@ -6,14 +6,12 @@ ghost use Rattle.array_meaning.specs.Steps.{exec};
 ghost use Rattle.array_meaning.specs.Work.{statement_work, sequence_work, branches_work, phases_work, loop, final_store};
 ghost use Rattle.array_eval.specs.Views.{vars_of};
 
-use std::alloc::{AllocError, Global};
-
-use array_tree::{Arrays, Block, Blocks, Name, Program, Stmt};
-
 use crate::cells::{cell, count_cells, write};
 use crate::scope::Scope;
 use crate::store::Store;
 use crate::value::{dynamic, value};
+use array_tree::{Arrays, Block, Blocks, Name, Program, Stmt};
+use std::alloc::{AllocError, Global};
 
 /// The store that a program ends with on one thread, branches from left to right and phases one after another.
 ///
@@ -26,7 +24,12 @@ pub fn run_one(alloc: Global, program: &Program) -> Result<Store, AllocError>
     ensures whole { IfOk result (λ store. length store ≡ cells_of (arrays_of (declarations_of program.now.arrays))) }
 {
     let mut cells = vec![in alloc; 0; count_cells(&program.arrays)]?;
-    run_block(&program.arrays, &program.body, &Scope::Outermost, &mut cells);
+    run_block(
+        &program.arrays,
+        &program.body,
+        &Scope::Outermost,
+        &mut cells,
+    );
     Ok(Store::of_cells(cells))
 }
 

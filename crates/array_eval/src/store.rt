@@ -2,10 +2,9 @@
 ghost use Rattle.std.specs.Prelude.{◌≡◌, ◌<◌, All, IfOk, OnOk, OnErr, length, replicate, pos};
 ghost use Rattle.array_meaning.specs.Stores.{after, at_cell, written};
 
+use crate::overlay::Overlay;
 use std::alloc::{AllocError, Global};
 use std::marker::Model;
-
-use crate::overlay::Overlay;
 
 /// The value of each cell. The cells of the arrays are numbered from 0 in order of declaration.
 ///
@@ -90,7 +89,7 @@ impl Store {
         &self.cells
     }
 
-    /// The cells, to be written.
+    /// A store of these cells.
     pub(crate) fn of_cells(cells: Vec<i64>) -> Store
         ensures { result ≡ cells.items }
     {

@@ -3,13 +3,11 @@ ghost use Rattle.std.specs.Prelude.{IsTrue};
 ghost use Rattle.array_tree.specs.Trees.{declarations_of};
 ghost use Rattle.array_meaning.specs.Stores.{arrays_of, AreSized};
 
+use crate::{Overlay, Store, Vars, run_one, write_arrays};
+use array_tree::{ArrayDecl, Arrays, Block, Blocks, Expr, Name, Op, Program, Stmt};
 use std::alloc::{AllocError, Global};
 use std::process::Abort;
 use std::test::Fail;
-
-use array_tree::{ArrayDecl, Arrays, Block, Blocks, Expr, Name, Op, Program, Stmt};
-
-use crate::{Overlay, Store, Vars, run_one, write_arrays};
 
 type Made<T> = Result<T, AllocError>;
 
@@ -110,12 +108,12 @@ fn branches_run_from_left_to_right(rt: HostRuntime) -> Result<(), Fail> {
     let branches = pair(
         alloc,
         only(alloc, assign(alloc, "a", number(0), number(1))),
-        only(alloc, assign(alloc, "a", number(1), read(alloc, "a", number(0)))),
+        only(
+            alloc,
+            assign(alloc, "a", number(1), read(alloc, "a", number(0))),
+        ),
     )?;
-    let par = Stmt::Par {
-        line: 1,
-        branches,
-    };
+    let par = Stmt::Par { line: 1, branches };
     let text = outcome(&rt, alloc, program(alloc, 4, 1, only(alloc, Ok(par))))?;
     assert_eq!(rt; text.as_slice(), b"a = 1 1 0 0\nb = 0\n".as_slice());
     Ok(())
@@ -141,7 +139,10 @@ fn mirror(alloc: Global) -> Made<Stmt> {
 fn a_phase_ends_before_the_next_begins(rt: HostRuntime) -> Result<(), Fail> {
     let alloc = rt.alloc();
     let text = outcome(&rt, alloc, program(alloc, 6, 6, only(alloc, mirror(alloc))))?;
-    assert_eq!(rt; text.as_slice(), b"a = 1 2 3 4 5 6\nb = 6 5 4 3 2 1\n".as_slice());
+    assert_eq!(rt;
+        text.as_slice(),
+        b"a = 1 2 3 4 5 6\nb = 6 5 4 3 2 1\n".as_slice()
+    );
     Ok(())
 }
 
@@ -150,7 +151,11 @@ fn a_dynamic_index_is_reduced(rt: HostRuntime) -> Result<(), Fail> {
     let alloc = rt.alloc();
     let first = assign(alloc, "b", number(0), minus(alloc, number(1)));
     let second = assign(alloc, "a", read(alloc, "b", number(0)), number(5));
-    let text = outcome(&rt, alloc, program(alloc, 4, 1, sequence(alloc, first, second)))?;
+    let text = outcome(
+        &rt,
+        alloc,
+        program(alloc, 4, 1, sequence(alloc, first, second)),
+    )?;
     assert_eq!(rt; text.as_slice(), b"a = 0 0 0 5\nb = -1\n".as_slice());
     Ok(())
 }
@@ -159,11 +164,23 @@ fn a_dynamic_index_is_reduced(rt: HostRuntime) -> Result<(), Fail> {
 fn numbers_wrap_and_divide_by_zero(rt: HostRuntime) -> Result<(), Fail> {
     let alloc = rt.alloc();
     let above = binary(alloc, Op::Add, number(i64::MAX), number(1));
-    let first = assign(alloc, "a", binary(alloc, Op::Div, number(7), number(0)), above);
+    let first = assign(
+        alloc,
+        "a",
+        binary(alloc, Op::Div, number(7), number(0)),
+        above,
+    );
     let rest = binary(alloc, Op::Rem, minus(alloc, number(7)), number(3));
     let second = assign(alloc, "a", number(2), rest);
-    let text = outcome(&rt, alloc, program(alloc, 3, 1, sequence(alloc, first, second)))?;
-    assert_eq!(rt; text.as_slice(), b"a = -9223372036854775808 0 -1\nb = 0\n".as_slice());
+    let text = outcome(
+        &rt,
+        alloc,
+        program(alloc, 3, 1, sequence(alloc, first, second)),
+    )?;
+    assert_eq!(rt;
+        text.as_slice(),
+        b"a = -9223372036854775808 0 -1\nb = 0\n".as_slice()
+    );
     Ok(())
 }
 

@@ -5,10 +5,9 @@ ghost use Rattle.array_meaning.specs.Stores.{arrays_of, AreSized, is_dynamic, va
 ghost use Rattle.array_meaning.specs.Values.{applied, wrapping_minus};
 ghost use Rattle.array_eval.specs.Views.{vars_of};
 
-use array_tree::{Arrays, Expr, Op};
-
 use crate::cells::{cell, read};
 use crate::scope::Scope;
+use array_tree::{Arrays, Expr, Op};
 
 /// The value of an expression.
 pub(crate) fn value(arrays: &Arrays, expr: &Expr, scope: &Scope, cells: &[i64]) -> i64
@@ -51,20 +50,8 @@ fn apply(op: Op, a: i64, b: i64) -> i64
         Op::Add => a.wrapping_add(b),
         Op::Sub => a.wrapping_sub(b),
         Op::Mul => a.wrapping_mul(b),
-        Op::Div => {
-            if b == 0 {
-                0
-            } else {
-                a.wrapping_div(b)
-            }
-        }
-        Op::Rem => {
-            if b == 0 {
-                0
-            } else {
-                a.wrapping_rem(b)
-            }
-        }
+        Op::Div => { if b == 0 { 0 } else { a.wrapping_div(b) } }
+        Op::Rem => { if b == 0 { 0 } else { a.wrapping_rem(b) } }
         Op::Less => i64::from(a < b),
         Op::Greater => i64::from(a > b),
         Op::LessEq => i64::from(a <= b),

@@ -3,10 +3,9 @@ ghost use Rattle.std.specs.Prelude.{◌≡◌, ◌∷◌, ◌++◌, [], IfOk, On
 ghost use Rattle.array_eval.specs.Bindings.{pairs_of};
 ghost use Rattle.array_eval.specs.Overlays.{bound_to};
 
+use array_tree::Name;
 use std::alloc::{AllocError, Global};
 use std::marker::Model;
-
-use array_tree::Name;
 
 /// The loop variables around a place in a program, with their values.
 ///

@@ -16,7 +16,7 @@ run_block-loop-statement-preserved t c =
     let vars = vars_of c.args.scope.now in
     let items = c.deref-statement-items.result.now in
     ap (exec arrays (sequence_work (sequence (map statement_of (drop (c.loop-statement.statement-index + 1) items))) vars))
-        (c.run_statement.ensures ∙ ap (λ s. exec arrays (statement_work (statement_of s) vars) c.loop-statement.cells) c.statement-item.is)
+    (c.run_statement.ensures ∙ ap (λ s. exec arrays (statement_work (statement_of s) vars) c.loop-statement.cells) c.statement-item.is)
     ∙ sym (statements_left Store (exec arrays) (exec_followed_by arrays) items c.loop-statement.statement-index c.statement-item.result vars c.loop-statement.cells c.loop-statement-test.true)
     ∙ c.loop-statement.invariant
 
@@ -26,7 +26,7 @@ run_branches-loop-branch-preserved t c =
     let vars = vars_of c.args.scope.now in
     let items = c.deref-branch-items.result.now in
     ap (exec arrays (branches_work (sequences (map sequence_of (drop (c.loop-branch.branch-index + 1) items))) vars))
-        (c.run_block.ensures ∙ ap (λ b. exec arrays (sequence_work (sequence_of b) vars) c.loop-branch.cells) c.branch-item.is)
+    (c.run_block.ensures ∙ ap (λ b. exec arrays (sequence_work (sequence_of b) vars) c.loop-branch.cells) c.branch-item.is)
     ∙ sym (branches_left Store (exec arrays) (exec_followed_by arrays) items c.loop-branch.branch-index c.branch-item.result vars c.loop-branch.cells c.loop-branch-test.true)
     ∙ c.loop-branch.invariant
 
@@ -56,6 +56,6 @@ run_phases-loop-phase-preserved t c =
     let high = to_z w64 (of_z w64 c.args.high) in
     let items = c.deref-phase-items.result.now in
     ap (exec arrays (phases_work (sequences (map sequence_of (drop (c.loop-phase.phase-index + 1) items))) var low high vars))
-        (c.run_loop.ensures ∙ ap (λ b. exec arrays (loop var low high (sequence_work (sequence_of b)) vars) c.loop-phase.cells) c.phase-item.is)
+    (c.run_loop.ensures ∙ ap (λ b. exec arrays (loop var low high (sequence_work (sequence_of b)) vars) c.loop-phase.cells) c.phase-item.is)
     ∙ sym (phases_left Store (exec arrays) (exec_followed_by arrays) items c.loop-phase.phase-index c.phase-item.result var low high vars c.loop-phase.cells c.loop-phase-test.true)
     ∙ c.loop-phase.invariant
