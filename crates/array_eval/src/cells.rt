@@ -46,7 +46,7 @@ pub(crate) fn cell(arrays: &Arrays, name: &Name, dynamic: bool, index: i64) -> u
 }
 
 /// How many cells the arrays have.
-pub(crate) fn count_cells(arrays: &Arrays) -> usize
+pub fn count_cells(arrays: &Arrays) -> usize
     requires { AreSized (arrays_of (declarations_of arrays.now)) }
     ensures { result ≡ cells_of (arrays_of (declarations_of arrays.now)) }
 {

@@ -11,9 +11,12 @@ mod value;
 mod vars;
 
 pub use array_text::write_arrays;
+pub use cells::count_cells;
 pub use overlay::Overlay;
 pub use run::run_one;
+pub use scope::Scope;
 pub use store::Store;
+pub use value::{dynamic as is_dynamic, value as evaluate};
 pub use vars::Vars;
 
 #[cfg(test)]

@@ -8,7 +8,7 @@ use array_tree::Name;
 /// The loop variables around a place in a program, the innermost first. A loop's turn makes one on the stack, and
 /// copies neither a name nor the variables around it.
 #[derive(Drop)]
-pub(crate) enum Scope<'s> {
+pub enum Scope<'s> {
     /// No loop is around.
     Outermost,
     /// A loop, and the value of its variable in this turn.
@@ -21,7 +21,7 @@ pub(crate) enum Scope<'s> {
 
 impl Scope<'_> {
     /// The value of a variable, 0 where there is none of the name.
-    pub(crate) fn get(&self, name: &Name) -> i64
+    pub fn get(&self, name: &Name) -> i64
         ensures { result ≡ var_of (vars_of self.now) name.now }
     {
         match self {

@@ -89,7 +89,7 @@ impl Store {
         &self.cells
     }
 
-    /// A store of these cells.
+    /// The cells, to be written.
     pub(crate) fn of_cells(cells: Vec<i64>) -> Store
         ensures { result ≡ cells.items }
     {

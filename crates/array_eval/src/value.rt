@@ -10,7 +10,7 @@ use crate::scope::Scope;
 use array_tree::{Arrays, Expr, Op};
 
 /// The value of an expression.
-pub(crate) fn value(arrays: &Arrays, expr: &Expr, scope: &Scope, cells: &[i64]) -> i64
+pub fn value(arrays: &Arrays, expr: &Expr, scope: &Scope, cells: &[i64]) -> i64
     requires { AreSized (arrays_of (declarations_of arrays.now)) }
     ensures { result ≡ value_of (arrays_of (declarations_of arrays.now)) (vars_of scope.now) (expression_of expr.now) cells.now }
 {
@@ -31,7 +31,7 @@ pub(crate) fn value(arrays: &Arrays, expr: &Expr, scope: &Scope, cells: &[i64]) 
 }
 
 /// Whether an index holds an array read.
-pub(crate) fn dynamic(index: &Expr) -> bool
+pub fn dynamic(index: &Expr) -> bool
     ensures { result ≡ is_dynamic (expression_of index.now) }
 {
     match index {

@@ -1,74 +1,336 @@
 -- What is spelled is read.
-use Rattle.std.proofs.Common.{◌≡◌, ℕ, List, [], ◌∷◌, ◌++◌, Some, refl, sym, ap, ◌∙◌, append_assoc, append-nil}
-use Rattle.array_tokens.specs.Lexemes.{sign, Spot}
+use Rattle.std.proofs.Common.{◌≡◌, ◌≢◌, ℕ, ℤ, suc, ◌≤◌, Bool, true, false, List, [], ◌∷◌, ◌++◌, Option, Some, None, Ok, refl, sym, ap, ◌∙◌, subst, arith, append_assoc, append-nil}
+use Rattle.array_tokens.specs.Lexemes.{Lexeme, word, sign, Spot}
+use Rattle.array_tokens.specs.declared.token.Word.{Word}
+use Rattle.array_tokens.specs.declared.token.Word.TheVariants as words
 use Rattle.array_tokens.specs.declared.token.Sign.TheVariants as signs
-use Rattle.array_tree.specs.Trees.{Statement, Par, Sequence, ended, followed, Sequences, no_more, beside, sequence, sequences, Declaration, ProgramTree}
-use Rattle.array_lang.specs.Grammar.{spot, numbered, AssignOf, assigned, AssignsOf, no_assign, next_assign, BlockOf, block, BlocksOf, no_block, next_block, ParOf, parallel, DeclarationOf, declaration, ProgramOf, no_array, no_par, one_par}
-use Rattle.array_lang.specs.Machine.{Around, Mode, begun, await, declared, in_block, after_block, whole, with_block, run, parse_of}
+use Rattle.array_tree.specs.Trees.{Expression, Var, Neg, Statement, If, Par, Team, Sequence, ended, followed, sequence, Sequences, no_more, beside, sequences, Declaration, ProgramTree}
+use Rattle.array_tree.specs.declared.tree.Op.{Op}
+use Rattle.array_lang.specs.Grammar.{operator_of, spot, ExpressionOf, lone_sum, compared, SumOf, lone_term, added, TermOf, lone_factor, multiplied, FactorOf, negated, numbered, named, indexed, grouped, BoundOf, plain_bound, negative_bound, RangeOf, range, StatementOf, assigned, looped, chosen, chosen_else, parallel, teamed, BranchesOf, last_branch, next_branch, PhasesOf, last_phase, next_phase, block, SequenceOf, no_statement, next_statement, DeclarationOf, declaration, DeclarationsOf, no_declaration, next_declaration, SpellsProgram}
+use Rattle.array_lang.specs.Reading.{pull_of, pull, head_of}
+use Rattle.array_lang.specs.Machine.{Side, Level, fresh, joined, term_value, Outer, group, index, Top, target, value, condition, bare, called, Ranged, looping, teaming, Slot, low_of, high_of, Crew, team_of, bound, range_name, range_over, bounded, declaring, statement, header, operand, after, closed, par_open, par_side, phase_open, phase_closed, Branch, then_side, else_side, in_for, in_par, in_team, Frame, Nest, nest, with_array, with_done, opened, close_into, goes_on, step_after, step, at_end, continued, run, top_nest, parse_of}
+use Rattle.array_lang.specs.declared.operator.Strength.{Strength}
+use Rattle.array_lang.specs.declared.operator.Strength.TheVariants.{Comparison as comparison, Addition as addition, Product as product}
+
+-- the same, with 4 for an index
+abbrev pub hold_of : Lexeme → ℕ
+hold_of (sign signs.OpenIndex) = 4
+hold_of t = pull_of t
+
+abbrev pub hold : List Spot → ℕ
+hold [] = 0
+hold (t ∷ ts) = hold_of t.lexeme
+
+pull_below : (t : Lexeme) → pull_of t ≤ hold_of t
+pull_below (sign signs.OpenIndex) = omega arith
+pull_below t = omega arith
+
+pub pull_le : (ts : List Spot) → pull ts ≤ hold ts
+pull_le [] = omega arith
+pull_le (t ∷ ts) = pull_below t.lexeme
+
+abbrev pub is_strong : Strength → ℕ
+is_strong comparison = 1
+is_strong addition = 2
+is_strong product = 3
+
+abbrev pull_of_some : Lexeme → Option (Strength × Op) → Type 0
+pull_of_some l None = Unit {0}
+pull_of_some l (Some o) = (hold_of l ≡ is_strong o.0) × (pull_of l ≡ is_strong o.0)
+
+pull_here : (l : Lexeme) → pull_of_some l (operator_of l)
+pull_here (sign signs.Star) = (refl, refl)
+pull_here (sign signs.Slash) = (refl, refl)
+pull_here (sign signs.Percent) = (refl, refl)
+pull_here (sign signs.Greater) = (refl, refl)
+pull_here (sign signs.GreaterEq) = (refl, refl)
+pull_here (sign signs.NotEqual) = (refl, refl)
+pull_here (sign signs.Plus) = (refl, refl)
+pull_here (sign signs.Minus) = (refl, refl)
+pull_here (sign signs.Less) = (refl, refl)
+pull_here (sign signs.LessEq) = (refl, refl)
+pull_here (sign signs.Equal) = (refl, refl)
+pull_here t = tt
+
+pub pull_operator : (l : Lexeme) (s : Strength) (op : Op) → operator_of l ≡ Some (s, op) → (hold_of l ≡ is_strong s) × (pull_of l ≡ is_strong s)
+pull_operator l s op e = subst (pull_of_some l) e (pull_here l)
+
+-- a name that no index follows is a variable
+step_called : (n : Nest) (b : List ℕ) (l : Level) (outers : List Outer) (top : Top) (t : Lexeme) → hold_of t ≤ 3 → step_after n (called b) l outers top t ≡ step_after n (bare (Var b)) l outers top t
+step_called n b l outers top (sign signs.OpenIndex) h = absurd (omega arith)
+step_called n b l outers top t h = refl
+
+pub settle_called : (n : Nest) (b : List ℕ) (l : Level) (outers : List Outer) (top : Top) (ts : List Spot) → hold ts ≤ 3 → run (after (called b) l outers top) n ts ≡ run (after (bare (Var b)) l outers top) n ts
+settle_called n b l outers top [] h = refl
+settle_called n b l outers top (t ∷ ts) h = ap (λ o. continued o (λ s. run s.mode s.nest ts) (t ∷ ts)) (step_called n b l outers top t.lexeme h)
+
+-- the factors so far are one
+pub settle_term : (n : Nest) (x : Expression) (l : Level) (outers : List Outer) (top : Top) (ts : List Spot) → run (after (bare x) l outers top) n ts ≡ run (after (bare (term_value l x)) (record { compare = l.compare; sum = l.sum; term = None; minus = 0 }) outers top) n ts
+settle_term n x l outers top [] = refl
+settle_term n x l outers top (t ∷ ts) = refl
+
+step_sum : (n : Nest) (c s : Side) (x : Expression) (outers : List Outer) (top : Top) (t : Lexeme) → pull_of t ≤ 2 → goes_on n c s x outers top t (operator_of t) ≡ goes_on n c None (joined s x) outers top t (operator_of t)
+step_sum n c s x outers top (sign signs.Star) h = absurd (omega arith)
+step_sum n c s x outers top (sign signs.Slash) h = absurd (omega arith)
+step_sum n c s x outers top (sign signs.Percent) h = absurd (omega arith)
+step_sum n None s x outers top t h = refl
+step_sum n (Some c) s x outers top t h = refl
+
+-- the terms so far are one, where no factor follows
+pub settle_sum : (n : Nest) (c s : Side) (x : Expression) (outers : List Outer) (top : Top) (ts : List Spot) → pull ts ≤ 2 → run (after (bare x) (record { compare = c; sum = s; term = None; minus = 0 }) outers top) n ts ≡ run (after (bare (joined s x)) (record { compare = c; sum = None; term = None; minus = 0 }) outers top) n ts
+settle_sum n c s x outers top [] h = refl
+settle_sum n c s x outers top (t ∷ ts) h = ap (λ o. continued o (λ s. run s.mode s.nest ts) (t ∷ ts)) (step_sum n c s x outers top t.lexeme h)
+
+step_compare : (n : Nest) (c : Side) (x : Expression) (outers : List Outer) (top : Top) (t : Lexeme) → pull_of t ≤ 0 → goes_on n c None x outers top t (operator_of t) ≡ goes_on n None None (joined c x) outers top t (operator_of t)
+step_compare n c x outers top (sign signs.Star) h = absurd (omega arith)
+step_compare n c x outers top (sign signs.Slash) h = absurd (omega arith)
+step_compare n c x outers top (sign signs.Percent) h = absurd (omega arith)
+step_compare n c x outers top (sign signs.Greater) h = absurd (omega arith)
+step_compare n c x outers top (sign signs.GreaterEq) h = absurd (omega arith)
+step_compare n c x outers top (sign signs.NotEqual) h = absurd (omega arith)
+step_compare n c x outers top (sign signs.Plus) h = absurd (omega arith)
+step_compare n c x outers top (sign signs.Minus) h = absurd (omega arith)
+step_compare n c x outers top (sign signs.Less) h = absurd (omega arith)
+step_compare n c x outers top (sign signs.LessEq) h = absurd (omega arith)
+step_compare n c x outers top (sign signs.Equal) h = absurd (omega arith)
+step_compare n c x outers top t h = refl
+
+-- both sides of a comparison are one, where no operator follows
+pub settle_compare : (n : Nest) (c : Side) (x : Expression) (outers : List Outer) (top : Top) (ts : List Spot) → pull ts ≤ 0 → run (after (bare x) (record { compare = c; sum = None; term = None; minus = 0 }) outers top) n ts ≡ run (after (bare (joined c x)) fresh outers top) n ts
+settle_compare n c x outers top [] h = refl
+settle_compare n c x outers top (t ∷ ts) h = ap (λ o. continued o (λ s. run s.mode s.nest ts) (t ∷ ts)) (step_compare n c x outers top t.lexeme h)
+
+-- an operator after a whole left side
+pub take_product : (n : Nest) (c s : Side) (x : Expression) (outers : List Outer) (top : Top) (l : Lexeme) (a k : ℕ) (ts : List Spot) (op : Op) → operator_of l ≡ Some (product, op) → run (after (bare x) (record { compare = c; sum = s; term = None; minus = 0 }) outers top) n (spot l a k ∷ ts) ≡ run (operand (record { compare = c; sum = s; term = Some (x, op); minus = 0 }) outers top) n ts
+take_product n c s x outers top l a k ts op e = ap (λ o. continued (goes_on n c s x outers top l o) (λ s. run s.mode s.nest ts) (spot l a k ∷ ts)) e
+
+pub take_addition : (n : Nest) (c : Side) (x : Expression) (outers : List Outer) (top : Top) (l : Lexeme) (a k : ℕ) (ts : List Spot) (op : Op) → operator_of l ≡ Some (addition, op) → run (after (bare x) (record { compare = c; sum = None; term = None; minus = 0 }) outers top) n (spot l a k ∷ ts) ≡ run (operand (record { compare = c; sum = Some (x, op); term = None; minus = 0 }) outers top) n ts
+take_addition n c x outers top l a k ts op e = ap (λ o. continued (goes_on n c None x outers top l o) (λ s. run s.mode s.nest ts) (spot l a k ∷ ts)) e
+
+pub take_comparison : (n : Nest) (x : Expression) (outers : List Outer) (top : Top) (l : Lexeme) (a k : ℕ) (ts : List Spot) (op : Op) → operator_of l ≡ Some (comparison, op) → run (after (bare x) fresh outers top) n (spot l a k ∷ ts) ≡ run (operand (record { compare = Some (x, op); sum = None; term = None; minus = 0 }) outers top) n ts
+take_comparison n x outers top l a k ts op e = ap (λ o. continued (goes_on n None None x outers top l o) (λ s. run s.mode s.nest ts) (spot l a k ∷ ts)) e
+
+mutual
+  pub expr_runs : {s t : List Spot} {x : Expression} → ExpressionOf s t x → hold t ≤ 0 → (n : Nest) (outers : List Outer) (top : Top) → run (operand fresh outers top) n s ≡ run (after (bare x) fresh outers top) n t
+  expr_runs (lone_sum d) h n outers top = sum_runs d (omega (arith, h)) n None outers top
+  expr_runs (compared {s} {t} {u} {x} {y} {l} {a} {n = k} {op} d e f) h n outers top =
+      let p = pull_operator l comparison op e in
+      sum_runs d (omega (arith, h)) n None outers top
+      ∙ take_comparison n x outers top l a k t op e
+      ∙ sum_runs f (omega (arith, h)) n (Some (x, op)) outers top
+      ∙ settle_compare n (Some (x, op)) y outers top u (omega (arith, pull_le u))
+
+  pub sum_runs : {s t : List Spot} {x : Expression} → SumOf s t x → hold t ≤ 2 → (n : Nest) (c : Side) (outers : List Outer) (top : Top) → run (operand (record { compare = c; sum = None; term = None; minus = 0 }) outers top) n s ≡ run (after (bare x) (record { compare = c; sum = None; term = None; minus = 0 }) outers top) n t
+  sum_runs (lone_term d) h n c outers top = term_runs d (omega (arith, h)) n c None outers top
+  sum_runs (added {s} {t} {u} {x} {y} {l} {a} {n = k} {op} d e f) h n c outers top =
+      let p = pull_operator l addition op e in
+      sum_runs d (omega (arith, h)) n c outers top
+      ∙ take_addition n c x outers top l a k t op e
+      ∙ term_runs f (omega (arith, h)) n c (Some (x, op)) outers top
+      ∙ settle_sum n c (Some (x, op)) y outers top u (omega (arith, pull_le u))
+
+  pub term_runs : {s t : List Spot} {x : Expression} → TermOf s t x → hold t ≤ 3 → (n : Nest) (c z : Side) (outers : List Outer) (top : Top) → run (operand (record { compare = c; sum = z; term = None; minus = 0 }) outers top) n s ≡ run (after (bare x) (record { compare = c; sum = z; term = None; minus = 0 }) outers top) n t
+  term_runs (lone_factor d) h n c z outers top = factor_runs d h n _ outers top
+  term_runs (multiplied {s} {t} {u} {x} {y} {l} {a} {n = k} {op} d e f) h n c z outers top =
+      let p = pull_operator l product op e in
+      term_runs d (omega (arith, h)) n c z outers top
+      ∙ take_product n c z x outers top l a k t op e
+      ∙ factor_runs f h n (record { compare = c; sum = z; term = Some (x, op); minus = 0 }) outers top
+      ∙ settle_term n y (record { compare = c; sum = z; term = Some (x, op); minus = 0 }) outers top u
+
+  pub factor_runs : {s t : List Spot} {x : Expression} → FactorOf s t x → hold t ≤ 3 → (n : Nest) (l : Level) (outers : List Outer) (top : Top) → run (operand l outers top) n s ≡ run (after (bare x) l outers top) n t
+  factor_runs (negated {s} {t} {x} {a} {n = k} d) h n l outers top =
+      let m : Level = record { compare = l.compare; sum = l.sum; term = l.term; minus = suc l.minus } in
+      factor_runs d h n m outers top ∙ settle_term n x m outers top t ∙ sym (settle_term n (Neg x) l outers top t)
+  factor_runs numbered h n l outers top = refl
+  factor_runs (named {t} {b}) h n l outers top = settle_called n b l outers top t h
+  factor_runs (indexed {b} d) h n l outers top =
+      expr_runs d (omega (arith, h)) n (index b l ∷ outers) top
+  factor_runs (grouped d) h n l outers top = expr_runs d (omega (arith, h)) n (group l ∷ outers) top
+
+-- bounds and ranges
+bound_runs : {s t : List Spot} {v : ℤ} → BoundOf s t v → (n : Nest) (slot : Slot) → run (header (bound slot)) n s ≡ run (header (bounded slot v)) n t
+bound_runs plain_bound n slot = refl
+bound_runs negative_bound n slot = refl
+
+range_runs : {s t : List Spot} {b : List ℕ} {low high : ℤ} → RangeOf s t b low high → (n : Nest) (r : Ranged) (k : ℕ) → run (header (range_name r k)) n s ≡ run (header (range_over r k b low high)) n t
+range_runs (range {b} {low} d e) n r k = bound_runs d n (low_of r k b) ∙ bound_runs e n (high_of r k b low)
+
+-- the blocks as a list
+abbrev pub sides : Sequences → List Sequence
+sides no_more = []
+sides (beside p ps) = p ∷ sides ps
+
+sequences-sides : (ps : Sequences) → sequences (sides ps) ≡ ps
+sequences-sides no_more = refl
+sequences-sides (beside p ps) = ap (beside p) (sequences-sides ps)
 
 -- the statements as a list
 abbrev pub listed : Sequence → List Statement
 listed ended = []
 listed (followed c p) = c ∷ listed p
 
-sequence-listed : (p : Sequence) → sequence (listed p) ≡ p
+pub sequence-listed : (p : Sequence) → sequence (listed p) ≡ p
 sequence-listed ended = refl
 sequence-listed (followed c p) = ap (followed c) (sequence-listed p)
 
-assign_runs : {s t : List Spot} {c : Statement} → AssignOf s t c → (done : List Statement) (around : Around) → run (in_block done around) s ≡ run (in_block (done ++ c ∷ []) around) t
-assign_runs (assigned numbered numbered) done around = refl
+step_closed : (n : Nest) (line : ℕ) (x : Expression) (p : Sequence) (k : ℕ) (t : Lexeme) → Some t ≢ Some (word words.Else) → step (closed line x p) n k t ≡ step statement (with_done n (If line x p ended)) k t
+step_closed n line x p k (word words.Else) h = absurd (h refl)
+step_closed n line x p k t h = refl
 
-assigns_run : {s t : List Spot} {p : Sequence} → AssignsOf s t p → (done : List Statement) (around : Around) → run (in_block done around) s ≡ run (in_block (done ++ listed p) around) t
-assigns_run (no_assign {s}) done around = ap (λ d. run (in_block d around) s) (sym (append-nil done))
-assigns_run (next_assign {u} {c} {p} d e) done around =
-    assign_runs d done around
-    ∙ assigns_run e (done ++ c ∷ []) around
-    ∙ ap (λ l. run (in_block l around) u) (append_assoc done (c ∷ []) (listed p))
+end_closed : (ds : List Declaration) (d : List Statement) (frames : List Frame) (line : ℕ) (x : Expression) (p : Sequence) → at_end (closed line x p) ds d frames ≡ at_end statement ds (d ++ If line x p ended ∷ []) frames
+end_closed ds d [] line x p = refl
+end_closed ds d (f ∷ frames) line x p = refl
 
-block_runs : {s t : List Spot} {p : Sequence} → BlockOf s t p → (around : Around) → run (await signs.OpenBlock (in_block [] around)) s ≡ run (after_block p around) t
-block_runs (block {t} {p} d) around = assigns_run d [] around ∙ ap (λ q. run (after_block q around) t) (sequence-listed p)
+-- a choice that no else follows
+pub settle_closed : (n : Nest) (line : ℕ) (x : Expression) (p : Sequence) (ts : List Spot) → head_of ts ≢ Some (word words.Else) → run (closed line x p) n ts ≡ run statement (with_done n (If line x p ended)) ts
+settle_closed n line x p [] h = end_closed n.arrays n.done n.frames line x p
+settle_closed n line x p (t ∷ ts) h = ap (λ o. continued o (λ s. run s.mode s.nest ts) (t ∷ ts)) (step_closed n line x p t.line t.lexeme h)
 
-next_runs : {s t : List Spot} {p : Sequence} → BlockOf s t p → (last : Sequence) (around : Around) → run (after_block last around) s ≡ run (after_block p (with_block last around)) t
-next_runs (block d) last around = block_runs (block {a = 0} {n = 0} d) (with_block last around)
+step_phase : (n : Nest) (c : Crew) (ps : List Sequence) (p : Sequence) (k : ℕ) (t : Lexeme) → Some t ≢ Some (word words.Barrier) → step (phase_closed c ps p) n k t ≡ step statement (with_done n (team_of c (ps ++ p ∷ []))) k t
+step_phase n c ps p k (word words.Barrier) h = absurd (h refl)
+step_phase n c ps p k t h = refl
 
--- where a par stands after these blocks too
-abbrev after_blocks : Sequence → Around → Sequences → Mode
-after_blocks last around no_more = after_block last around
-after_blocks last around (beside p bs) = after_blocks p (with_block last around) bs
+end_phase : (ds : List Declaration) (d : List Statement) (frames : List Frame) (c : Crew) (ps : List Sequence) (p : Sequence) → at_end (phase_closed c ps p) ds d frames ≡ at_end statement ds (d ++ team_of c (ps ++ p ∷ []) ∷ []) frames
+end_phase ds d [] c ps p = refl
+end_phase ds d (f ∷ frames) c ps p = refl
 
-blocks_run : {s t : List Spot} {bs : Sequences} → BlocksOf s t bs → (last : Sequence) (around : Around) → run (after_block last around) s ≡ run (after_blocks last around bs) t
-blocks_run no_block last around = refl
-blocks_run (next_block {p} d e) last around = next_runs d last around ∙ blocks_run e p (with_block last around)
+-- a team's phase that no barrier follows
+pub settle_phase : (n : Nest) (c : Crew) (ps : List Sequence) (p : Sequence) (ts : List Spot) → head_of ts ≢ Some (word words.Barrier) → run (phase_closed c ps p) n ts ≡ run statement (with_done n (team_of c (ps ++ p ∷ []))) ts
+settle_phase n c ps p [] h = end_phase n.arrays n.done n.frames c ps p
+settle_phase n c ps p (t ∷ ts) h = ap (λ o. continued o (λ s. run s.mode s.nest ts) (t ∷ ts)) (step_phase n c ps p t.line t.lexeme h)
 
--- blocks before others
-abbrev pub with_sides : List Sequence → Sequences → Sequences
-with_sides [] bs = bs
-with_sides (p ∷ ps) bs = beside p (with_sides ps bs)
+step_declaring : (n : Nest) (k : ℕ) (t : Lexeme) → Some t ≢ Some (word words.Array) → step declaring n k t ≡ step statement n k t
+step_declaring n k (word words.Array) h = absurd (h refl)
+step_declaring n k t h = refl
 
-pub with_sides-more : (ps : List Sequence) (q : Sequence) (bs : Sequences) → with_sides (ps ++ q ∷ []) bs ≡ with_sides ps (beside q bs)
-with_sides-more [] q bs = refl
-with_sides-more (p ∷ ps) q bs = ap (beside p) (with_sides-more ps q bs)
+end_declaring : (ds : List Declaration) (d : List Statement) (frames : List Frame) → at_end declaring ds d frames ≡ at_end statement ds d frames
+end_declaring ds d [] = refl
+end_declaring ds d (f ∷ frames) = refl
 
-pub sequences-last : (ps : List Sequence) (q : Sequence) → sequences (ps ++ q ∷ []) ≡ with_sides ps (beside q no_more)
-sequences-last [] q = refl
-sequences-last (p ∷ ps) q = ap (beside p) (sequences-last ps q)
+-- no further declaration
+pub settle_declaring : (n : Nest) (ts : List Spot) → head_of ts ≢ Some (word words.Array) → run declaring n ts ≡ run statement n ts
+settle_declaring n [] h = end_declaring n.arrays n.done n.frames
+settle_declaring n (t ∷ ts) h = ap (λ o. continued o (λ s. run s.mode s.nest ts) (t ∷ ts)) (step_declaring n t.line t.lexeme h)
 
-closes : (bs : Sequences) (last : Sequence) (around : Around) (a n : ℕ) (u : List Spot) → run (after_blocks last around bs) (spot (sign signs.CloseBlock) a n ∷ u) ≡ run (whole around.array (Par around.line (with_sides around.before (beside last bs)))) u
-closes no_more last around a n u =
-    ap (λ b. run (whole around.array (Par around.line b)) u) (sequences-last around.before last)
-closes (beside p bs) last around a n u =
-    closes bs p (with_block last around) a n u
-    ∙ ap (λ b. run (whole around.array (Par around.line b)) u) (with_sides-more around.before last (beside p bs))
+-- the words that go on with what stands before them
+abbrev is_joint : Option Lexeme → Bool
+is_joint (Some (word words.Else)) = true
+is_joint (Some (word words.Barrier)) = true
+is_joint (Some (word words.Array)) = true
+is_joint l = false
 
-par_runs : {s t : List Spot} {c : Statement} → ParOf s t c → (array : Declaration) → run (declared array) s ≡ run (whole array c) t
-par_runs (parallel {u} {p} {bs} {n = k} {a2 = a} {n2 = m} d e) array =
-    let around : Around = record { array = array; line = k; before = [] } in
-    block_runs d around ∙ blocks_run e p around ∙ closes bs p around a m u
+statement_settles : {s t : List Spot} {c : Statement} → StatementOf s t c → is_joint (head_of s) ≡ false
+statement_settles (assigned d e) = refl
+statement_settles (looped d e) = refl
+statement_settles (chosen d e) = refl
+statement_settles (chosen_else d e f) = refl
+statement_settles (parallel d) = refl
+statement_settles (teamed d e) = refl
 
-declaration_runs : {s t : List Spot} {d : Declaration} → DeclarationOf s t d → run begun s ≡ run (declared d) t
-declaration_runs declaration = refl
+sequence_settles : {s t : List Spot} {p : Sequence} → SequenceOf s t p → is_joint (head_of t) ≡ false → is_joint (head_of s) ≡ false
+sequence_settles no_statement h = h
+sequence_settles (next_statement d e) h = statement_settles d
 
-pub complete : {s : List Spot} {p : ProgramTree} → ProgramOf s p → parse_of s ≡ Some p
-complete no_array = refl
-complete (no_par d) = declaration_runs d
-complete (one_par {d = array} d e) = declaration_runs d ∙ par_runs e array
+not_word : (ts : List Spot) (w : Word) → is_joint (head_of ts) ≡ false → is_joint (Some (word w)) ≡ true → head_of ts ≢ Some (word w)
+not_word ts w h k = λ e. let q : is_joint (Some (word w)) ≡ false = subst (λ o. is_joint o ≡ false) e h in cc
+
+-- where a block is closed
+side_closes : (p : Sequence) (n : Nest) (b : Branch) (t : List Spot) → run (close_into n b (sequence (listed p))).mode (close_into n b (sequence (listed p))).nest t ≡ run (close_into n b p).mode (close_into n b p).nest t
+side_closes p n b t = ap (λ q. run (close_into n b q).mode (close_into n b q).nest t) (sequence-listed p)
+
+mutual
+  pub statement_runs : {s t : List Spot} {c : Statement} → StatementOf s t c → is_joint (head_of t) ≡ false → (n : Nest) → run statement n s ≡ run statement (with_done n c) t
+  statement_runs (assigned {b} {x} {n = k} d e) h n =
+      expr_runs d (omega arith) n [] (target k b) ∙ expr_runs e (omega arith) n [] (value k b x)
+  statement_runs (looped {u} {b} {low} {high} {p} {n = k} d (block e)) h n =
+      let side : Branch = in_for k b low high in
+      range_runs d n looping k
+      ∙ sequence_runs e refl (opened n side).nest
+      ∙ side_closes p n side u
+  statement_runs (chosen {u} {x} {p} {n = k} d (block e)) h n =
+      let side : Branch = then_side k x in
+      expr_runs d (omega arith) n [] (condition k)
+      ∙ sequence_runs e refl (opened n side).nest
+      ∙ side_closes p n side u
+      ∙ settle_closed n k x p u (not_word u words.Else h refl)
+  statement_runs (chosen_else {u} {v} {x} {p} {q} {n = k} {a1} {n1} d (block e) (block f)) h n =
+      let left : Branch = then_side k x in
+      let right : Branch = else_side k x p in
+      expr_runs d (omega arith) n [] (condition k)
+      ∙ sequence_runs e refl (opened n left).nest
+      ∙ side_closes p n left (spot (word words.Else) a1 n1 ∷ u)
+      ∙ sequence_runs f refl (opened n right).nest
+      ∙ side_closes q n right v
+  statement_runs (parallel {t} {ps} {n = k} d) h n =
+      first_branch_runs d n k ∙ ap (λ q. run statement (with_done n (Par k q)) t) (sequences-sides ps)
+  statement_runs (teamed {u} {b} {low} {high} {members} {ps} {n = k} d e) h n =
+      let c : Crew = record { line = k; var = b; low = low; high = high; members = members } in
+      range_runs d n teaming k
+      ∙ phases_run e h n c []
+      ∙ ap (λ q. run statement (with_done n (Team k b low high members q)) u) (sequences-sides ps)
+
+  first_branch_runs : {s t : List Spot} {ps : Sequences} → BranchesOf s t ps → (n : Nest) (k : ℕ) → run (par_open k) n s ≡ run statement (with_done n (Par k (sequences (sides ps)))) t
+  first_branch_runs (last_branch {t} {p} {a = a0} {n = k0} (block e)) n k =
+      let side : Branch = in_par k [] in
+      sequence_runs e refl (opened n side).nest
+      ∙ side_closes p n side (spot (sign signs.CloseBlock) a0 k0 ∷ t)
+  first_branch_runs (next_branch {t} {p} (block e) d) n k =
+      let side : Branch = in_par k [] in
+      sequence_runs e refl (opened n side).nest
+      ∙ side_closes p n side t
+      ∙ branches_run d n k [] p
+
+  branches_run : {s t : List Spot} {ps : Sequences} → BranchesOf s t ps → (n : Nest) (k : ℕ) (qs : List Sequence) (q : Sequence) → run (par_side k qs q) n s ≡ run statement (with_done n (Par k (sequences ((qs ++ q ∷ []) ++ sides ps)))) t
+  branches_run (last_branch {t} {p} {a = a0} {n = k0} (block e)) n k qs q =
+      let side : Branch = in_par k (qs ++ q ∷ []) in
+      sequence_runs e refl (opened n side).nest
+      ∙ side_closes p n side (spot (sign signs.CloseBlock) a0 k0 ∷ t)
+  branches_run (next_branch {t} {u} {p} {ps} (block e) d) n k qs q =
+      let side : Branch = in_par k (qs ++ q ∷ []) in
+      sequence_runs e refl (opened n side).nest
+      ∙ side_closes p n side t
+      ∙ branches_run d n k (qs ++ q ∷ []) p
+      ∙ ap (λ l. run statement (with_done n (Par k (sequences l))) u) (append_assoc (qs ++ q ∷ []) (p ∷ []) (sides ps))
+
+  phases_run : {s t : List Spot} {ps : Sequences} → PhasesOf s t ps → is_joint (head_of t) ≡ false → (n : Nest) (c : Crew) (qs : List Sequence) → run (phase_open c qs) n s ≡ run statement (with_done n (team_of c (qs ++ sides ps))) t
+  phases_run (last_phase {t} {p} (block e)) h n c qs =
+      let side : Branch = in_team c qs in
+      sequence_runs e refl (opened n side).nest
+      ∙ side_closes p n side t
+      ∙ settle_phase n c qs p t (not_word t words.Barrier h refl)
+  phases_run (next_phase {t} {u} {p} {ps} {a = a0} {n = k0} (block e) d) h n c qs =
+      let side : Branch = in_team c qs in
+      sequence_runs e refl (opened n side).nest
+      ∙ side_closes p n side (spot (word words.Barrier) a0 k0 ∷ t)
+      ∙ phases_run d h n c (qs ++ p ∷ [])
+      ∙ ap (λ l. run statement (with_done n (team_of c l)) u) (append_assoc qs (p ∷ []) (sides ps))
+
+  pub sequence_runs : {s t : List Spot} {p : Sequence} → SequenceOf s t p → is_joint (head_of t) ≡ false → (n : Nest) → run statement n s ≡ run statement (nest n.arrays (n.done ++ listed p) n.frames) t
+  sequence_runs (no_statement {s}) h n = ap (λ d. run statement (nest n.arrays d n.frames) s) (sym (append-nil n.done))
+  sequence_runs (next_statement {u} {c} {p} d e) h n =
+      statement_runs d (sequence_settles e h) n
+      ∙ sequence_runs e h (with_done n c)
+      ∙ ap (λ d. run statement (nest n.arrays d n.frames) u) (append_assoc n.done (c ∷ []) (listed p))
+
+declaration_runs : {s t : List Spot} {d : Declaration} → DeclarationOf s t d → (n : Nest) → run declaring n s ≡ run declaring (with_array n d) t
+declaration_runs declaration n = refl
+
+declarations_run : {s t : List Spot} {ds : List Declaration} → DeclarationsOf s t ds → (n : Nest) → run declaring n s ≡ run declaring (nest (n.arrays ++ ds) n.done n.frames) t
+declarations_run (no_declaration {s}) n = ap (λ ds. run declaring (nest ds n.done n.frames) s) (sym (append-nil n.arrays))
+declarations_run (next_declaration {u} {d} {ds} e f) n =
+    declaration_runs e n
+    ∙ declarations_run f (with_array n d)
+    ∙ ap (λ l. run declaring (nest l n.done n.frames) u) (append_assoc n.arrays (d ∷ []) ds)
+
+-- a program that is spelled is what reading gives
+pub complete : {tokens : List Spot} {p : ProgramTree} → SpellsProgram tokens p → parse_of tokens ≡ Ok p
+complete {tokens} {p} d =
+    declarations_run d.declares top_nest
+    ∙ settle_declaring (nest p.arrays [] []) d.body (not_word d.body words.Array (sequence_settles d.does refl) refl)
+    ∙ sequence_runs d.does refl (nest p.arrays [] [])
+    ∙ ap (λ q. Ok (record { arrays = p.arrays; body = q })) (sequence-listed p.body)
+
+-- no tokens spell two programs
+pub one_program : {tokens : List Spot} {p q : ProgramTree} → SpellsProgram tokens p → SpellsProgram tokens q → p ≡ q
+one_program d e = let h = sym (complete d) ∙ complete e in cc

@@ -1,4 +1,8 @@
+pub mod Bounded
 pub mod Complete
 pub mod Sound
-pub mod Whole
 pub mod Stops
+pub mod Whole
+pub mod Nested
+pub mod Places
+pub mod OneProgram

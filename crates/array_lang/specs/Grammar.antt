@@ -1,61 +1,151 @@
--- The grammar. `BlockOf s t p`: the tokens from s up to t spell the block p. One constructor for each rule.
-use Rattle.std.specs.Prelude.{ℕ, ℤ, List, [], ◌∷◌}
+-- The grammar, one case per rule: tokens to trees. `SumOf s t x` says that the tokens from s up to t spell the sum x;
+-- s is the list from the sum's first token on, and t is what follows its last.
+use Rattle.std.specs.Prelude.{◌≡◌, ℕ, ℤ, pos, neg_ℤ, List, [], ◌∷◌, ◌++◌, Option, Some, None}
 use Rattle.array_tokens.specs.Lexemes.{Lexeme, name, number, word, sign, Spot}
 use Rattle.array_tokens.specs.declared.token.Word.TheVariants as words
 use Rattle.array_tokens.specs.declared.token.Sign.TheVariants as signs
-use Rattle.array_tree.specs.Trees.{Expression, Number, Statement, Assign, Par, Sequence, ended, followed, Sequences, no_more, beside, Declaration, ProgramTree}
+use Rattle.array_tree.specs.Trees.{Expression, Number, Var, Read, Neg, Binary, Statement, Assign, For, If, Par, Team, Sequence, ended, followed, Sequences, no_more, beside, Declaration, ProgramTree}
+use Rattle.array_tree.specs.declared.tree.Op.{Op}
+use Rattle.array_tree.specs.declared.tree.Op.TheVariants as ops
+use Rattle.array_lang.specs.declared.operator.Strength.{Strength}
+use Rattle.array_lang.specs.declared.operator.Strength.TheVariants.{Comparison as comparison, Addition as addition, Product as product}
 
--- a token, with the place of its first byte and its line
+-- a token at a place, on a line
 abbrev pub spot : Lexeme → ℕ → ℕ → Spot
 spot l a n = record { lexeme = l; at = a; line = n }
 
--- expr = NUMBER
-pub data ExprOf : List Spot → List Spot → Expression → Type 0 where
-  numbered : {t : List Spot} {v : ℤ} {a n : ℕ} → ExprOf (spot (number v) a n ∷ t) t (Number v)
+-- the binary operator that a token is, and how strongly it binds
+abbrev pub operator_of : Lexeme → Option (Strength × Op)
+operator_of (sign signs.Less) = Some (comparison, ops.Less)
+operator_of (sign signs.Greater) = Some (comparison, ops.Greater)
+operator_of (sign signs.LessEq) = Some (comparison, ops.LessEq)
+operator_of (sign signs.GreaterEq) = Some (comparison, ops.GreaterEq)
+operator_of (sign signs.Equal) = Some (comparison, ops.Equal)
+operator_of (sign signs.NotEqual) = Some (comparison, ops.NotEqual)
+operator_of (sign signs.Plus) = Some (addition, ops.Add)
+operator_of (sign signs.Minus) = Some (addition, ops.Sub)
+operator_of (sign signs.Star) = Some (product, ops.Mul)
+operator_of (sign signs.Slash) = Some (product, ops.Div)
+operator_of (sign signs.Percent) = Some (product, ops.Rem)
+operator_of _ = None
 
--- assign = NAME "[" expr "]" "=" expr ";"
-pub data AssignOf : List Spot → List Spot → Statement → Type 0 where
-  assigned : {s t u : List Spot} {b : List ℕ} {x y : Expression} {a n a1 n1 a2 n2 a3 n3 a4 n4 : ℕ} →
-      ExprOf s (spot (sign signs.CloseIndex) a2 n2 ∷ spot (sign signs.Assign) a3 n3 ∷ t) x →
-      ExprOf t (spot (sign signs.Semicolon) a4 n4 ∷ u) y →
-      AssignOf (spot (name b) a n ∷ spot (sign signs.OpenIndex) a1 n1 ∷ s) u (Assign n b x y)
+mutual
+  -- expr = sum [ comparison sum ]
+  pub data ExpressionOf : List Spot → List Spot → Expression → Type 0 where
+    lone_sum : {s t : List Spot} {x : Expression} → SumOf s t x → ExpressionOf s t x
+    compared : {s t u : List Spot} {x y : Expression} {l : Lexeme} {a n : ℕ} {op : Op} →
+        SumOf s (spot l a n ∷ t) x → operator_of l ≡ Some (comparison, op) → SumOf t u y → ExpressionOf s u (Binary op x y)
 
--- { assign }
-pub data AssignsOf : List Spot → List Spot → Sequence → Type 0 where
-  no_assign : {s : List Spot} → AssignsOf s s ended
-  next_assign : {s t u : List Spot} {c : Statement} {p : Sequence} → AssignOf s t c → AssignsOf t u p → AssignsOf s u (followed c p)
+  -- sum = term { addition term }
+  pub data SumOf : List Spot → List Spot → Expression → Type 0 where
+    lone_term : {s t : List Spot} {x : Expression} → TermOf s t x → SumOf s t x
+    added : {s t u : List Spot} {x y : Expression} {l : Lexeme} {a n : ℕ} {op : Op} →
+        SumOf s (spot l a n ∷ t) x → operator_of l ≡ Some (addition, op) → TermOf t u y → SumOf s u (Binary op x y)
 
--- block = "{" { assign } "}"
-pub data BlockOf : List Spot → List Spot → Sequence → Type 0 where
-  block : {s t : List Spot} {p : Sequence} {a n a1 n1 : ℕ} →
-      AssignsOf s (spot (sign signs.CloseBlock) a1 n1 ∷ t) p → BlockOf (spot (sign signs.OpenBlock) a n ∷ s) t p
+  -- term = factor { product factor }
+  pub data TermOf : List Spot → List Spot → Expression → Type 0 where
+    lone_factor : {s t : List Spot} {x : Expression} → FactorOf s t x → TermOf s t x
+    multiplied : {s t u : List Spot} {x y : Expression} {l : Lexeme} {a n : ℕ} {op : Op} →
+        TermOf s (spot l a n ∷ t) x → operator_of l ≡ Some (product, op) → FactorOf t u y → TermOf s u (Binary op x y)
 
--- { block }
-pub data BlocksOf : List Spot → List Spot → Sequences → Type 0 where
-  no_block : {s : List Spot} → BlocksOf s s no_more
-  next_block : {s t u : List Spot} {p : Sequence} {bs : Sequences} → BlockOf s t p → BlocksOf t u bs → BlocksOf s u (beside p bs)
+  -- factor = "-" factor | atom
+  -- atom = NUMBER | NAME | NAME "[" expr "]" | "(" expr ")"
+  pub data FactorOf : List Spot → List Spot → Expression → Type 0 where
+    negated : {s t : List Spot} {x : Expression} {a n : ℕ} → FactorOf s t x → FactorOf (spot (sign signs.Minus) a n ∷ s) t (Neg x)
+    numbered : {t : List Spot} {v : ℤ} {a n : ℕ} → FactorOf (spot (number v) a n ∷ t) t (Number v)
+    named : {t : List Spot} {b : List ℕ} {a n : ℕ} → FactorOf (spot (name b) a n ∷ t) t (Var b)
+    indexed : {s t : List Spot} {b : List ℕ} {x : Expression} {a n a1 n1 a2 n2 : ℕ} →
+        ExpressionOf s (spot (sign signs.CloseIndex) a2 n2 ∷ t) x →
+        FactorOf (spot (name b) a n ∷ spot (sign signs.OpenIndex) a1 n1 ∷ s) t (Read b x)
+    grouped : {s t : List Spot} {x : Expression} {a n a1 n1 : ℕ} →
+        ExpressionOf s (spot (sign signs.CloseGroup) a1 n1 ∷ t) x → FactorOf (spot (sign signs.OpenGroup) a n ∷ s) t x
 
--- par = "par" "{" block { block } "}"
-pub data ParOf : List Spot → List Spot → Statement → Type 0 where
-  parallel : {s t u : List Spot} {p : Sequence} {bs : Sequences} {a n a1 n1 a2 n2 : ℕ} →
-      BlockOf s t p → BlocksOf t (spot (sign signs.CloseBlock) a2 n2 ∷ u) bs →
-      ParOf (spot (word words.Par) a n ∷ spot (sign signs.OpenBlock) a1 n1 ∷ s) u (Par n (beside p bs))
+-- bound = [ "-" ] NUMBER
+pub data BoundOf : List Spot → List Spot → ℤ → Type 0 where
+  plain_bound : {t : List Spot} {v : ℤ} {a n : ℕ} → BoundOf (spot (number v) a n ∷ t) t v
+  negative_bound : {t : List Spot} {k a n a1 n1 : ℕ} → BoundOf (spot (sign signs.Minus) a n ∷ spot (number (pos k)) a1 n1 ∷ t) t (neg_ℤ (pos k))
+
+-- range = NAME "in" bound ".." bound
+pub data RangeOf : List Spot → List Spot → List ℕ → ℤ → ℤ → Type 0 where
+  range : {s t u : List Spot} {b : List ℕ} {low high : ℤ} {a n a1 n1 a2 n2 : ℕ} →
+      BoundOf s (spot (sign signs.Range) a2 n2 ∷ t) low → BoundOf t u high →
+      RangeOf (spot (name b) a n ∷ spot (word words.In) a1 n1 ∷ s) u b low high
+
+mutual
+  pub data StatementOf : List Spot → List Spot → Statement → Type 0 where
+    -- assign = NAME "[" expr "]" "=" expr ";"
+    assigned : {s t u : List Spot} {b : List ℕ} {x y : Expression} {a n a1 n1 a2 n2 a3 n3 a4 n4 : ℕ} →
+        ExpressionOf s (spot (sign signs.CloseIndex) a2 n2 ∷ spot (sign signs.Assign) a3 n3 ∷ t) x →
+        ExpressionOf t (spot (sign signs.Semicolon) a4 n4 ∷ u) y →
+        StatementOf (spot (name b) a n ∷ spot (sign signs.OpenIndex) a1 n1 ∷ s) u (Assign n b x y)
+    -- for = "for" range block
+    looped : {s t u : List Spot} {b : List ℕ} {low high : ℤ} {p : Sequence} {a n : ℕ} →
+        RangeOf s t b low high → BlockOf t u p → StatementOf (spot (word words.For) a n ∷ s) u (For n b low high p)
+    -- if = "if" expr block [ "else" block ]
+    chosen : {s t u : List Spot} {x : Expression} {p : Sequence} {a n : ℕ} →
+        ExpressionOf s t x → BlockOf t u p → StatementOf (spot (word words.If) a n ∷ s) u (If n x p ended)
+    chosen_else : {s t u v : List Spot} {x : Expression} {p q : Sequence} {a n a1 n1 : ℕ} →
+        ExpressionOf s t x → BlockOf t (spot (word words.Else) a1 n1 ∷ u) p → BlockOf u v q →
+        StatementOf (spot (word words.If) a n ∷ s) v (If n x p q)
+    -- par = "par" "{" block { block } "}"
+    parallel : {s t : List Spot} {ps : Sequences} {a n a1 n1 : ℕ} →
+        BranchesOf s t ps → StatementOf (spot (word words.Par) a n ∷ spot (sign signs.OpenBlock) a1 n1 ∷ s) t (Par n ps)
+    -- team = "team" range "by" NUMBER block { "barrier" block }
+    teamed : {s t u : List Spot} {b : List ℕ} {low high members : ℤ} {ps : Sequences} {a n a1 n1 a2 n2 : ℕ} →
+        RangeOf s (spot (word words.By) a1 n1 ∷ spot (number members) a2 n2 ∷ t) b low high → PhasesOf t u ps →
+        StatementOf (spot (word words.Team) a n ∷ s) u (Team n b low high members ps)
+
+  -- block { block } "}"
+  pub data BranchesOf : List Spot → List Spot → Sequences → Type 0 where
+    last_branch : {s t : List Spot} {p : Sequence} {a n : ℕ} → BlockOf s (spot (sign signs.CloseBlock) a n ∷ t) p → BranchesOf s t (beside p no_more)
+    next_branch : {s t u : List Spot} {p : Sequence} {ps : Sequences} → BlockOf s t p → BranchesOf t u ps → BranchesOf s u (beside p ps)
+
+  -- block { "barrier" block }
+  pub data PhasesOf : List Spot → List Spot → Sequences → Type 0 where
+    last_phase : {s t : List Spot} {p : Sequence} → BlockOf s t p → PhasesOf s t (beside p no_more)
+    next_phase : {s t u : List Spot} {p : Sequence} {ps : Sequences} {a n : ℕ} →
+        BlockOf s (spot (word words.Barrier) a n ∷ t) p → PhasesOf t u ps → PhasesOf s u (beside p ps)
+
+  -- block = "{" { stmt } "}"
+  pub data BlockOf : List Spot → List Spot → Sequence → Type 0 where
+    block : {s t : List Spot} {p : Sequence} {a n a1 n1 : ℕ} →
+        SequenceOf s (spot (sign signs.CloseBlock) a1 n1 ∷ t) p → BlockOf (spot (sign signs.OpenBlock) a n ∷ s) t p
+
+  -- { stmt }
+  pub data SequenceOf : List Spot → List Spot → Sequence → Type 0 where
+    no_statement : {s : List Spot} → SequenceOf s s ended
+    next_statement : {s t u : List Spot} {c : Statement} {p : Sequence} → StatementOf s t c → SequenceOf t u p → SequenceOf s u (followed c p)
 
 -- decl = "array" NAME "[" NUMBER "]" ";"
 pub data DeclarationOf : List Spot → List Spot → Declaration → Type 0 where
   declaration : {t : List Spot} {b : List ℕ} {v : ℤ} {a n a1 n1 a2 n2 a3 n3 a4 n4 a5 n5 : ℕ} →
-      DeclarationOf
-      (spot (word words.Array) a n ∷ spot (name b) a1 n1 ∷ spot (sign signs.OpenIndex) a2 n2 ∷ spot (number v) a3 n3
-      ∷ spot (sign signs.CloseIndex) a4 n4 ∷ spot (sign signs.Semicolon) a5 n5 ∷ t)
+      DeclarationOf (spot (word words.Array) a n ∷ spot (name b) a1 n1 ∷ spot (sign signs.OpenIndex) a2 n2 ∷ spot (number v) a3 n3 ∷ spot (sign signs.CloseIndex) a4 n4 ∷ spot (sign signs.Semicolon) a5 n5 ∷ t)
       t (record { line = n; name = b; length = v })
 
--- program = [ decl [ par ] ]
-pub data ProgramOf : List Spot → ProgramTree → Type 0 where
-  no_array : ProgramOf [] (record { arrays = []; body = ended })
-  no_par : {s : List Spot} {d : Declaration} → DeclarationOf s [] d → ProgramOf s (record { arrays = d ∷ []; body = ended })
-  one_par : {s t : List Spot} {d : Declaration} {c : Statement} → DeclarationOf s t d → ParOf t [] c →
-      ProgramOf s (record { arrays = d ∷ []; body = followed c ended })
+-- { decl }
+pub data DeclarationsOf : List Spot → List Spot → List Declaration → Type 0 where
+  no_declaration : {s : List Spot} → DeclarationsOf s s []
+  next_declaration : {s t u : List Spot} {d : Declaration} {ds : List Declaration} → DeclarationOf s t d → DeclarationsOf t u ds → DeclarationsOf s u (d ∷ ds)
 
--- the tokens spell the program
-abbrev pub SpellsProgram : List Spot → ProgramTree → Type 0
-SpellsProgram tokens p = ProgramOf tokens p
+-- The tokens spell the program, but for the bounds on nesting.
+-- program = { decl } { stmt }
+pub record SpellsProgram (tokens : List Spot) (p : ProgramTree) : Type 0 where
+  pub body : List Spot
+  pub declares : DeclarationsOf tokens body p.arrays
+  pub does : SequenceOf body [] p.body
+
+-- Some program begins with these tokens.
+abbrev pub Begins : List Spot → Type 0
+Begins tokens = (more : List Spot) × (p : ProgramTree) × SpellsProgram (tokens ++ more) p
+
+-- No program begins with the tokens and the first of the rest; where there is no rest, the tokens spell none.
+abbrev pub EndsAt : List Spot → List Spot → Type 0
+EndsAt front [] = (p : ProgramTree) → SpellsProgram front p → ⊥
+EndsAt front (t ∷ rest) = Begins (front ++ t ∷ []) → ⊥
+
+-- The rest begins with the first token such that no program begins with the tokens up to and including it.
+pub record StopsAt (tokens rest : List Spot) : Type 0 where
+  pub front : List Spot
+  pub all : tokens ≡ front ++ rest
+  pub begins : Begins front
+  pub ends : EndsAt front rest

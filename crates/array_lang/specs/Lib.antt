@@ -1,4 +1,6 @@
+pub mod Bounds
 pub mod Grammar
-pub mod Spelled
 pub mod Machine
 pub mod Reading
+pub mod Spelled
+pub mod Nesting

@@ -1,99 +1,279 @@
--- Reading tokens one after another, with what is under way kept in a mode.
-use Rattle.std.specs.Prelude.{ℕ, ℤ, Bool, true, false, List, [], ◌∷◌, ◌++◌, Option, Some, None, if◌then◌else◌}
+-- Reading tokens one after another, with what is under way kept in a state. The machine says nothing that the grammar
+-- doesn't: what it reads is what the grammar spells. It gives the place where a text first goes wrong.
+use Rattle.std.specs.Prelude.{ℕ, zero, suc, ℤ, pos, neg_ℤ, List, [], ◌∷◌, ◌++◌, Option, Some, None, Result, Ok, Err}
 use Rattle.array_tokens.specs.Lexemes.{Lexeme, name, number, word, sign, Spot}
 use Rattle.array_tokens.specs.declared.token.Word.TheVariants as words
-use Rattle.array_tokens.specs.declared.token.Sign.{Sign}
 use Rattle.array_tokens.specs.declared.token.Sign.TheVariants as signs
-use Rattle.array_tree.specs.Trees.{Number, Statement, Assign, Par, Sequence, ended, followed, sequence, sequences, Declaration, ProgramTree}
+use Rattle.array_tree.specs.Trees.{Expression, Number, Var, Read, Neg, Binary, Statement, Assign, For, If, Par, Team, Sequence, ended, sequence, sequences, Declaration, ProgramTree}
+use Rattle.array_tree.specs.declared.tree.Op.{Op}
+use Rattle.array_lang.specs.Grammar.{operator_of}
+use Rattle.array_lang.specs.declared.operator.Strength.{Strength}
+use Rattle.array_lang.specs.declared.operator.Strength.TheVariants.{Comparison as comparison, Addition as addition, Product as product}
 
--- a `par` under way, with the blocks before the last one
-pub record Around : Type 0 where
-  pub array : Declaration
+-- a left side and its operator, which wait for a right side
+abbrev pub Side : Type 0
+Side = Option (Expression × Op)
+
+-- the expression under way: what waits at each strength, and minus signs
+pub record Level : Type 0 where
+  pub compare : Side
+  pub sum : Side
+  pub term : Side
+  pub minus : ℕ
+
+abbrev pub fresh : Level
+fresh = record { compare = None; sum = None; term = None; minus = 0 }
+
+abbrev pub joined : Side → Expression → Expression
+joined None x = x
+joined (Some w) x = Binary w.1 w.0 x
+
+abbrev pub negs : ℕ → Expression → Expression
+negs zero x = x
+negs (suc n) x = negs n (Neg x)
+
+abbrev pub term_value : Level → Expression → Expression
+term_value l x = joined l.term (negs l.minus x)
+
+-- what an expression stands in, inside another one
+pub data Outer : Type 0 where
+  group : (l : Level) → Outer
+  index : (b : List ℕ) (l : Level) → Outer
+
+-- what an outermost expression is
+pub data Top : Type 0 where
+  target : (line : ℕ) (b : List ℕ) → Top
+  value : (line : ℕ) (b : List ℕ) (i : Expression) → Top
+  condition : (line : ℕ) → Top
+
+-- an operand; after a name an index may follow
+pub data Operand : Type 0 where
+  bare : (x : Expression) → Operand
+  called : (b : List ℕ) → Operand
+
+abbrev pub operand_value : Operand → Expression
+operand_value (bare x) = x
+operand_value (called b) = Var b
+
+-- the two statements that have a range
+pub data Ranged : Type 0 where
+  looping : Ranged
+  teaming : Ranged
+
+-- which bound of a range is read
+pub data Slot : Type 0 where
+  low_of : (r : Ranged) (line : ℕ) (b : List ℕ) → Slot
+  high_of : (r : Ranged) (line : ℕ) (b : List ℕ) (low : ℤ) → Slot
+
+-- a team without its phases
+pub record Crew : Type 0 where
   pub line : ℕ
-  pub before : List Sequence
+  pub var : List ℕ
+  pub low : ℤ
+  pub high : ℤ
+  pub members : ℤ
 
--- what a number is
-pub data Place : Type 0 where
-  length_of : (line : ℕ) (b : List ℕ) → Place
-  index_of : (line : ℕ) (b : List ℕ) (done : List Statement) (around : Around) → Place
-  value_of : (line : ℕ) (b : List ℕ) (i : ℤ) (done : List Statement) (around : Around) → Place
+abbrev pub team_of : Crew → List Sequence → Statement
+team_of c ps = Team c.line c.var c.low c.high c.members (sequences ps)
 
--- what is read next
+-- a position inside a declaration, or before the first block of a `for` or a `team`, by what comes next
+pub data Position : Type 0 where
+  array_name : (line : ℕ) → Position
+  array_open : (line : ℕ) (b : List ℕ) → Position
+  array_length : (line : ℕ) (b : List ℕ) → Position
+  array_close : (line : ℕ) (b : List ℕ) (v : ℤ) → Position
+  array_end : (line : ℕ) (b : List ℕ) (v : ℤ) → Position
+  range_name : (r : Ranged) (line : ℕ) → Position
+  range_in : (r : Ranged) (line : ℕ) (b : List ℕ) → Position
+  bound : (s : Slot) → Position
+  bound_number : (s : Slot) → Position
+  range_dots : (r : Ranged) (line : ℕ) (b : List ℕ) (low : ℤ) → Position
+  range_over : (r : Ranged) (line : ℕ) (b : List ℕ) (low high : ℤ) → Position
+  team_members : (line : ℕ) (b : List ℕ) (low high : ℤ) → Position
+
+-- what comes next; a closed side or phase may go on by `else` or `barrier`, or be followed by what follows its statement
 pub data Mode : Type 0 where
-  begun : Mode
-  await : (g : Sign) (next : Mode) → Mode
-  array_name : (line : ℕ) → Mode
-  number_at : (p : Place) → Mode
-  declared : (d : Declaration) → Mode
-  in_block : (done : List Statement) (around : Around) → Mode
-  after_block : (last : Sequence) (around : Around) → Mode
-  whole : (d : Declaration) (c : Statement) → Mode
+  declaring : Mode
+  statement : Mode
+  header : (at : Position) → Mode
+  operand : (l : Level) (outers : List Outer) (top : Top) → Mode
+  after : (x : Operand) (l : Level) (outers : List Outer) (top : Top) → Mode
+  array : (line : ℕ) (b : List ℕ) → Mode
+  equals : (line : ℕ) (b : List ℕ) (i : Expression) → Mode
+  closed : (line : ℕ) (x : Expression) (p : Sequence) → Mode
+  otherwise : (line : ℕ) (x : Expression) (p : Sequence) → Mode
+  par_begun : (line : ℕ) → Mode
+  par_open : (line : ℕ) → Mode
+  par_side : (line : ℕ) (ps : List Sequence) (p : Sequence) → Mode
+  phase_open : (c : Crew) (ps : List Sequence) → Mode
+  phase_closed : (c : Crew) (ps : List Sequence) (p : Sequence) → Mode
 
--- whether the lexeme is the sign, at the signs that are awaited
-abbrev pub is_sign : Sign → Lexeme → Bool
-is_sign signs.OpenIndex (sign signs.OpenIndex) = true
-is_sign signs.CloseIndex (sign signs.CloseIndex) = true
-is_sign signs.OpenBlock (sign signs.OpenBlock) = true
-is_sign signs.CloseBlock (sign signs.CloseBlock) = true
-is_sign signs.Semicolon (sign signs.Semicolon) = true
-is_sign signs.Assign (sign signs.Assign) = true
-is_sign g l = false
+-- what a block is a part of
+pub data Branch : Type 0 where
+  then_side : (line : ℕ) (x : Expression) → Branch
+  else_side : (line : ℕ) (x : Expression) (p : Sequence) → Branch
+  in_for : (line : ℕ) (b : List ℕ) (low high : ℤ) → Branch
+  in_par : (line : ℕ) (ps : List Sequence) → Branch
+  in_team : (c : Crew) (ps : List Sequence) → Branch
 
--- an index in brackets
-abbrev pub cell : Place → Mode
-cell p = await signs.OpenIndex (number_at p)
+-- a block around, with the statements before
+pub record Frame : Type 0 where
+  pub before : List Statement
+  pub branch : Branch
 
-abbrev pub after_number : Place → ℤ → Mode
-after_number (length_of line b) v =
-    await signs.CloseIndex (await signs.Semicolon (declared (record { line = line; name = b; length = v })))
-after_number (index_of line b done around) v =
-    await signs.CloseIndex (await signs.Assign (number_at (value_of line b v done around)))
-after_number (value_of line b i done around) v =
-    await signs.Semicolon (in_block (done ++ Assign line b (Number i) (Number v) ∷ []) around)
+-- the declarations, the statements of this block so far, and the blocks around
+pub record Nest : Type 0 where
+  pub arrays : List Declaration
+  pub done : List Statement
+  pub frames : List Frame
 
-abbrev pub with_block : Sequence → Around → Around
-with_block last around = record { array = around.array; line = around.line; before = around.before ++ last ∷ [] }
+abbrev pub nest : List Declaration → List Statement → List Frame → Nest
+nest ds d f = record { arrays = ds; done = d; frames = f }
 
-abbrev pub par_begun : ℕ → Declaration → Mode
-par_begun line d =
-    await signs.OpenBlock (await signs.OpenBlock (in_block [] (record { array = d; line = line; before = [] })))
+pub record State : Type 0 where
+  pub mode : Mode
+  pub nest : Nest
 
-abbrev pub closed : Sequence → Around → Mode
-closed last around = whole around.array (Par around.line (sequences (around.before ++ last ∷ [])))
+abbrev pub state : Mode → Nest → State
+state m n = record { mode = m; nest = n }
 
-abbrev pub step : Mode → ℕ → Lexeme → Option Mode
-step begun line (word words.Array) = Some (array_name line)
-step begun line l = None
-step (await g next) line l = if is_sign g l then Some next else None
-step (array_name at) line (name b) = Some (cell (length_of at b))
-step (array_name at) line l = None
-step (number_at p) line (number v) = Some (after_number p v)
-step (number_at p) line l = None
-step (declared d) line (word words.Par) = Some (par_begun line d)
-step (declared d) line l = None
-step (in_block done around) line (name b) = Some (cell (index_of line b done around))
-step (in_block done around) line (sign signs.CloseBlock) = Some (after_block (sequence done) around)
-step (in_block done around) line l = None
-step (after_block last around) line (sign signs.OpenBlock) = Some (in_block [] (with_block last around))
-step (after_block last around) line (sign signs.CloseBlock) = Some (closed last around)
-step (after_block last around) line l = None
-step (whole d c) line l = None
+abbrev pub with_array : Nest → Declaration → Nest
+with_array n d = nest (n.arrays ++ d ∷ []) n.done n.frames
+
+abbrev pub with_done : Nest → Statement → Nest
+with_done n c = nest n.arrays (n.done ++ c ∷ []) n.frames
+
+abbrev pub opened : Nest → Branch → State
+opened n b = state statement (nest n.arrays [] (record { before = n.done; branch = b } ∷ n.frames))
+
+abbrev pub ends : Nest → Expression → Top → Lexeme → Option State
+ends n x (target line b) (sign signs.CloseIndex) = Some (state (equals line b x) n)
+ends n x (value line b i) (sign signs.Semicolon) = Some (state statement (with_done n (Assign line b i x)))
+ends n x (condition line) (sign signs.OpenBlock) = Some (opened n (then_side line x))
+ends n x top l = None
+
+abbrev pub closes : Nest → Expression → List Outer → Top → Lexeme → Option State
+closes n x [] top l = ends n x top l
+closes n x (group o ∷ outers) top (sign signs.CloseGroup) = Some (state (after (bare x) o outers top) n)
+closes n x (index b o ∷ outers) top (sign signs.CloseIndex) = Some (state (after (bare (Read b x)) o outers top) n)
+closes n x (o ∷ outers) top l = None
+
+-- what comes after the term x, which stands to the right of what waits
+abbrev pub goes_on : Nest → Side → Side → Expression → List Outer → Top → Lexeme → Option (Strength × Op) → Option State
+goes_on n c s x outers top l (Some (product, op)) =
+    Some (state (operand (record { compare = c; sum = s; term = Some (x, op); minus = 0 }) outers top) n)
+goes_on n c s x outers top l (Some (addition, op)) =
+    Some (state (operand (record { compare = c; sum = Some (joined s x, op); term = None; minus = 0 }) outers top) n)
+goes_on n None s x outers top l (Some (comparison, op)) =
+    Some (state (operand (record { compare = Some (joined s x, op); sum = None; term = None; minus = 0 }) outers top) n)
+goes_on n (Some c) s x outers top l (Some (comparison, op)) = None
+goes_on n c s x outers top l None = closes n (joined c (joined s x)) outers top l
+
+abbrev pub step_after : Nest → Operand → Level → List Outer → Top → Lexeme → Option State
+step_after n (called b) l outers top (sign signs.OpenIndex) = Some (state (operand fresh (index b l ∷ outers) top) n)
+step_after n x l outers top t = goes_on n l.compare l.sum (term_value l (operand_value x)) outers top t (operator_of t)
+
+abbrev pub step_operand : Nest → Level → List Outer → Top → Lexeme → Option State
+step_operand n l outers top (number v) = Some (state (after (bare (Number v)) l outers top) n)
+step_operand n l outers top (name b) = Some (state (after (called b) l outers top) n)
+step_operand n l outers top (sign signs.Minus) =
+    Some (state (operand (record { compare = l.compare; sum = l.sum; term = l.term; minus = suc l.minus }) outers top) n)
+step_operand n l outers top (sign signs.OpenGroup) = Some (state (operand fresh (group l ∷ outers) top) n)
+step_operand n l outers top t = None
+
+-- after a block, which is closed
+abbrev pub close_into : Nest → Branch → Sequence → State
+close_into n (then_side line x) p = state (closed line x p) n
+close_into n (else_side line x q) p = state statement (with_done n (If line x q p))
+close_into n (in_for line b low high) p = state statement (with_done n (For line b low high p))
+close_into n (in_par line ps) p = state (par_side line ps p) n
+close_into n (in_team c ps) p = state (phase_closed c ps p) n
+
+abbrev pub close_block : List Declaration → List Statement → List Frame → Option State
+close_block ds done [] = None
+close_block ds done (f ∷ frames) = Some (close_into (nest ds f.before frames) f.branch (sequence done))
+
+abbrev pub step_statement : Nest → ℕ → Lexeme → Option State
+step_statement n line (name b) = Some (state (array line b) n)
+step_statement n line (word words.For) = Some (state (header (range_name looping line)) n)
+step_statement n line (word words.If) = Some (state (operand fresh [] (condition line)) n)
+step_statement n line (word words.Par) = Some (state (par_begun line) n)
+step_statement n line (word words.Team) = Some (state (header (range_name teaming line)) n)
+step_statement n line (sign signs.CloseBlock) = close_block n.arrays n.done n.frames
+step_statement n line t = None
+
+-- after a bound, which is read
+abbrev pub bounded : Slot → ℤ → Position
+bounded (low_of r line b) v = range_dots r line b v
+bounded (high_of r line b low) v = range_over r line b low v
+
+abbrev pub step_header : Position → Nest → Lexeme → Option State
+step_header (array_name line) n (name b) = Some (state (header (array_open line b)) n)
+step_header (array_open line b) n (sign signs.OpenIndex) = Some (state (header (array_length line b)) n)
+step_header (array_length line b) n (number v) = Some (state (header (array_close line b v)) n)
+step_header (array_close line b v) n (sign signs.CloseIndex) = Some (state (header (array_end line b v)) n)
+step_header (array_end line b v) n (sign signs.Semicolon) = Some (state declaring (with_array n (record { line = line; name = b; length = v })))
+step_header (range_name r line) n (name b) = Some (state (header (range_in r line b)) n)
+step_header (range_in r line b) n (word words.In) = Some (state (header (bound (low_of r line b))) n)
+step_header (bound s) n (sign signs.Minus) = Some (state (header (bound_number s)) n)
+step_header (bound s) n (number v) = Some (state (header (bounded s v)) n)
+step_header (bound_number s) n (number (pos k)) = Some (state (header (bounded s (neg_ℤ (pos k)))) n)
+step_header (range_dots r line b low) n (sign signs.Range) = Some (state (header (bound (high_of r line b low))) n)
+step_header (range_over looping line b low high) n (sign signs.OpenBlock) = Some (opened n (in_for line b low high))
+step_header (range_over teaming line b low high) n (word words.By) = Some (state (header (team_members line b low high)) n)
+step_header (team_members line b low high) n (number v) =
+    Some (state (phase_open (record { line = line; var = b; low = low; high = high; members = v }) []) n)
+step_header at n t = None
+
+abbrev pub step : Mode → Nest → ℕ → Lexeme → Option State
+step declaring n line (word words.Array) = Some (state (header (array_name line)) n)
+step declaring n line t = step_statement n line t
+step statement n line t = step_statement n line t
+step (header at) n line t = step_header at n t
+step (operand l outers top) n line t = step_operand n l outers top t
+step (after x l outers top) n line t = step_after n x l outers top t
+step (array at b) n line (sign signs.OpenIndex) = Some (state (operand fresh [] (target at b)) n)
+step (array at b) n line t = None
+step (equals at b i) n line (sign signs.Assign) = Some (state (operand fresh [] (value at b i)) n)
+step (equals at b i) n line t = None
+step (closed at x p) n line (word words.Else) = Some (state (otherwise at x p) n)
+step (closed at x p) n line t = step_statement (with_done n (If at x p ended)) line t
+step (otherwise at x p) n line (sign signs.OpenBlock) = Some (opened n (else_side at x p))
+step (otherwise at x p) n line t = None
+step (par_begun at) n line (sign signs.OpenBlock) = Some (state (par_open at) n)
+step (par_begun at) n line t = None
+step (par_open at) n line (sign signs.OpenBlock) = Some (opened n (in_par at []))
+step (par_open at) n line t = None
+step (par_side at ps p) n line (sign signs.OpenBlock) = Some (opened n (in_par at (ps ++ p ∷ [])))
+step (par_side at ps p) n line (sign signs.CloseBlock) = Some (state statement (with_done n (Par at (sequences (ps ++ p ∷ [])))))
+step (par_side at ps p) n line t = None
+step (phase_open c ps) n line (sign signs.OpenBlock) = Some (opened n (in_team c ps))
+step (phase_open c ps) n line t = None
+step (phase_closed c ps p) n line (word words.Barrier) = Some (state (phase_open c (ps ++ p ∷ [])) n)
+step (phase_closed c ps p) n line t = step_statement (with_done n (team_of c (ps ++ p ∷ []))) line t
+
+abbrev pub program : List Declaration → List Statement → ProgramTree
+program ds done = record { arrays = ds; body = sequence done }
 
 -- the program, where the tokens end here
-abbrev pub at_end : Mode → Option ProgramTree
-at_end begun = Some (record { arrays = []; body = ended })
-at_end (declared d) = Some (record { arrays = d ∷ []; body = ended })
-at_end (whole d c) = Some (record { arrays = d ∷ []; body = followed c ended })
-at_end m = None
+abbrev pub at_end : Mode → List Declaration → List Statement → List Frame → Result ProgramTree (List Spot)
+at_end declaring ds done [] = Ok (program ds done)
+at_end statement ds done [] = Ok (program ds done)
+at_end (closed line x p) ds done [] = Ok (program ds (done ++ If line x p ended ∷ []))
+at_end (phase_closed c ps p) ds done [] = Ok (program ds (done ++ team_of c (ps ++ p ∷ []) ∷ []))
+at_end m ds done frames = Err []
 
-abbrev pub continued : {X : Type 0} → Option Mode → (Mode → Option X) → Option X
-continued None go = None
-continued (Some m) go = go m
+abbrev pub continued : Option State → (State → Result ProgramTree (List Spot)) → List Spot → Result ProgramTree (List Spot)
+continued None go here = Err here
+continued (Some s) go here = go s
 
-abbrev pub run : Mode → List Spot → Option ProgramTree
-run m [] = at_end m
-run m (t ∷ ts) = continued (step m t.line t.lexeme) (λ next. run next ts)
+-- the program, or the tokens from the first that can't come
+abbrev pub run : Mode → Nest → List Spot → Result ProgramTree (List Spot)
+run m n [] = at_end m n.arrays n.done n.frames
+run m n (t ∷ ts) = continued (step m n t.line t.lexeme) (λ s. run s.mode s.nest ts) (t ∷ ts)
 
--- the program that the tokens spell, if they spell one
-abbrev pub parse_of : List Spot → Option ProgramTree
-parse_of tokens = run begun tokens
+abbrev pub top_nest : Nest
+top_nest = nest [] [] []
+
+abbrev pub parse_of : List Spot → Result ProgramTree (List Spot)
+parse_of tokens = run declaring top_nest tokens

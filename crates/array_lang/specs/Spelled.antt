@@ -1,24 +1,71 @@
--- The texts that spell a program, and the programs that some text spells.
-use Rattle.std.specs.Prelude.{◌≡◌, ℕ, List, Result, Ok, Err}
+-- The texts that spell a program, and the faults of the others.
+use Rattle.std.specs.Prelude.{◌≡◌, ℕ, ◌+◌, ◌≤◌, ◌<◌, List, [], ◌∷◌, length, take, drop, Option, Some, None, Result, Ok, Err, IsTrue}
 use Rattle.array_tokens.specs.Lexemes.{Spot, tokens_of}
+use Rattle.array_tokens.specs.declared.fault.TokenFault.{TokenFault}
+use Rattle.array_tokens.specs.declared.fault.TokenFault.TheVariants as cutting
 use Rattle.array_tree.specs.Trees.{ProgramTree, program_of}
 use Rattle.array_tree.specs.declared.tree.Program.{Program}
-use Rattle.array_lang.specs.Grammar.{SpellsProgram}
+use Rattle.array_lang.specs.Grammar.{SpellsProgram, Begins, StopsAt}
+use Rattle.array_lang.specs.Nesting.{program_fits, first_beyond}
 use Rattle.array_lang.specs.declared.fault.SyntaxFault.{SyntaxFault}
-use Rattle.array_lang.specs.declared.fault.SyntaxFault.TheVariants.{NotBuilt, Memory}
+use Rattle.array_lang.specs.declared.fault.SyntaxFault.TheVariants.{NotAscii, BadToken, Unexpected, NumberTooLarge, Memory, TooNested}
 
--- The text spells the program: it is cut into tokens that spell it.
+-- The text spells the program: it is cut into tokens that spell it, every outermost expression has at most 64 marks, and
+-- at most 32 braces are open at once.
 pub record Spells (text : List ℕ) (p : ProgramTree) : Type 0 where
   pub tokens : List Spot
   pub cut : tokens_of text ≡ Ok tokens
   pub tree : SpellsProgram tokens p
+  pub fits : IsTrue (program_fits tree)
+
+-- the place of the first token, or where the text ends
+abbrev pub place_of : ℕ → List Spot → ℕ
+place_of end [] = end
+place_of end (t ∷ ts) = t.at
+
+-- the token at this place in a list, if any, doesn't stand among the first n
+abbrev pub IsAfter : ℕ → Option ℕ → Type 0
+IsAfter n None = Unit {0}
+IsAfter n (Some k) = n ≤ k
+
+-- The first token with which no program goes on is at this place. In a program that begins with the tokens before it,
+-- none of these passes a bound.
+pub record IsUnexpected (tokens : List Spot) (end at : ℕ) : Type 0 where
+  pub rest : List Spot
+  pub stops : StopsAt tokens rest
+  pub place : at ≡ place_of end rest
+  pub within : IsAfter (length stops.front) (first_beyond stops.begins.2)
+
+-- The token at this place in the list stands at this place of the text. In a program that begins with the tokens up to
+-- and including it, it is the first that passes a bound.
+pub record IsTooNested (tokens : List Spot) (end at : ℕ) : Type 0 where
+  pub index : ℕ
+  pub inside : index < length tokens
+  pub begins : Begins (take (index + 1) tokens)
+  pub beyond : first_beyond begins.2 ≡ Some index
+  pub place : at ≡ place_of end (drop index tokens)
+
+-- the faults of a text that is cut into tokens
+abbrev pub HasTokenFault : List Spot → ℕ → SyntaxFault → Type 0
+HasTokenFault tokens end Memory = Unit {0}
+HasTokenFault tokens end (Unexpected at) = IsUnexpected tokens end at
+HasTokenFault tokens end (TooNested at) = IsTooNested tokens end at
+HasTokenFault tokens end fault = ⊥
+
+-- a fault of cutting, as one of the text
+abbrev pub cutting_fault : TokenFault → SyntaxFault
+cutting_fault (cutting.NotAscii at) = NotAscii at
+cutting_fault (cutting.BadToken at) = BadToken at
+cutting_fault (cutting.NumberTooLarge at) = NumberTooLarge at
+cutting_fault cutting.Memory = Memory
+
+-- The fault is the text's first: that of cutting it, and else the first of its tokens. Want of memory may come at any text.
+pub data HasFault (text : List ℕ) (fault : SyntaxFault) : Type 0 where
+  in_cutting : (cause : TokenFault) → tokens_of text ≡ Err cause → fault ≡ cutting_fault cause → HasFault text fault
+  in_tokens : (tokens : List Spot) → tokens_of text ≡ Ok tokens → HasTokenFault tokens (length text) fault → HasFault text fault
+  no_memory : fault ≡ Memory → HasFault text fault
 
 -- The answer is this program, unless memory ran out.
 abbrev pub IsRead : ProgramTree → Result Program SyntaxFault → Type 0
 IsRead p (Ok program) = program_of program ≡ p
 IsRead p (Err fault) = fault ≡ Memory
-
--- The text spells no program, unless the fault is want of memory.
-abbrev pub HasFault : List ℕ → SyntaxFault → Type 0
-HasFault text NotBuilt = (p : ProgramTree) → Spells text p → ⊥
-HasFault text Memory = Unit {0}

@@ -1,33 +1,37 @@
-//! Why a text is no program.
-use std::alloc::{AllocError, AllocFailed};
+//! Why a text spells no program.
 
-/// Why a text wasn't read.
+use array_tokens::TokenFault;
+
+/// The first fault of a text. A place is that of a byte, counted from 0.
 #[derive(Clone, Copy, PartialEq, Eq, Debug, Drop)]
 pub enum SyntaxFault {
-    /// The text spells no program of what is built.
-    NotBuilt,
+    /// The first byte of 128 or more, anywhere in the text.
+    NotAscii { at: u32 },
+    /// The first place where no token begins.
+    BadToken { at: u32 },
+    /// The first token such that no program begins with the tokens up to and including it, or the end of a text
+    /// that is right so far but not whole.
+    Unexpected { at: u32 },
+    /// The first digit of a number above 9223372036854775807.
+    NumberTooLarge { at: u32 },
     /// Want of memory.
     Memory,
+    /// The 65th mark of one outermost expression, or the 33rd `{` that is open at once.
+    TooNested { at: u32 },
 }
 
-impl From<AllocError> for SyntaxFault {
+impl From<TokenFault> for SyntaxFault {
     ghost use Rattle.std.specs.Prelude.{◌≡◌};
-    ghost use Rattle.array_lang.specs.declared.fault.SyntaxFault.TheVariants.{Memory};
+    ghost use Rattle.array_lang.specs.Spelled.{cutting_fault};
 
-    ghost from_gives = { λ _ e. e ≡ Memory };
+    ghost from_gives = { λ cause fault. fault ≡ cutting_fault cause };
 
-    fn from(_e: AllocError) -> Self {
-        SyntaxFault::Memory
-    }
-}
-
-impl<T: Drop> From<AllocFailed<T>> for SyntaxFault {
-    ghost use Rattle.std.specs.Prelude.{◌≡◌};
-    ghost use Rattle.array_lang.specs.declared.fault.SyntaxFault.TheVariants.{Memory};
-
-    ghost from_gives = { λ _ e. e ≡ Memory };
-
-    fn from(_e: AllocFailed<T>) -> Self {
-        SyntaxFault::Memory
+    fn from(cause: TokenFault) -> Self {
+        match cause {
+            TokenFault::NotAscii { at } => SyntaxFault::NotAscii { at },
+            TokenFault::BadToken { at } => SyntaxFault::BadToken { at },
+            TokenFault::NumberTooLarge { at } => SyntaxFault::NumberTooLarge { at },
+            TokenFault::Memory => SyntaxFault::Memory,
+        }
     }
 }

@@ -1,71 +1,78 @@
-use crate::{Expr, Program, Stmt, SyntaxFault, parse};
-use std::test::Fail;
+//! Texts, their programs and their faults.
+
+use crate::fault::SyntaxFault;
+use crate::spelling::parse;
+use array_tree::{Program, Stmt};
+
+const EVERY_CONSTRUCT: &[u8] = b"array a[4]; array b[0008];\n\
+    # a comment\n\
+    a[1 + 2 * -3] = (4 - a[0]) % 5 == 6;\n\
+    for i in -9..3 { if i < 2 { b[i] = 1; } else { b[i] = 2; } }\n\
+    par { { a[0] = 1; } { } }\n\
+    team j in 0..6 by 3 { b[j] = j; } barrier { b[j] = b[j] / 2; }";
 
 #[test]
-fn reads_an_array_and_a_par(rt: HostRuntime) -> Result<(), Fail> {
-    let text = b"array a[4]; par { { a[0] = 1; } { a[1] = 2; } }";
-    let program = parse(rt.alloc(), text)?;
-    assert_eq!(rt; program.arrays.declarations.len(), 1);
-    let array = &program.arrays.declarations[0];
-    assert_eq!(rt; array.name.as_bytes(), b"a".as_slice());
-    assert_eq!(rt; array.length, 4);
-    assert_eq!(rt; program.body.statements.len(), 1);
-    assert!(rt; assigned(&program, 0) == Some((1, 0, 1)));
-    assert!(rt; assigned(&program, 1) == Some((1, 1, 2)));
-    assert!(rt; assigned(&program, 2) == None);
-    Ok(())
-}
-
-#[test]
-fn counts_lines_and_skips_comments(rt: HostRuntime) -> Result<(), Fail> {
-    let program = parse(
-        rt.alloc(),
-        b"array a[4]; # a;\npar {\n{}\n{ a[3] = 007; } }",
-    )?;
-    assert!(rt; assigned(&program, 0) == None);
-    assert!(rt; assigned(&program, 1) == Some((4, 3, 7)));
-    Ok(())
-}
-
-#[test]
-fn reads_a_text_without_tokens(rt: HostRuntime) -> Result<(), Fail> {
-    assert_eq!(rt; parse(rt.alloc(), b"")?.body.statements.len(), 0);
-    assert_eq!(rt;
-        parse(rt.alloc(), b" # array")?.arrays.declarations.len(),
-        0
-    );
-    Ok(())
-}
-
-#[test]
-fn refuses_what_is_not_built(rt: HostRuntime) {
-    let alloc = rt.alloc();
-    assert!(rt; is_not_built(parse(alloc, b"array a[4]")));
-    assert!(rt; is_not_built(parse(alloc, b"array a[4]; par { }")));
-    assert!(rt; is_not_built(parse(alloc, b"array a[4]; for i in 0..4 { a[i] = 1; }")));
-    assert!(rt; is_not_built(parse(alloc, b"array a[9223372036854775808];")));
-    assert!(rt; is_not_built(parse(alloc, b"array a[4]; $")));
-}
-
-// The line, index and value of a branch's first assignment.
-fn assigned(program: &Program, branch: usize) -> Option<(u32, i64, i64)> {
-    let Stmt::Par { branches, .. } = program.body.statements.first()? else {
-        return None;
-    };
-    match branches.blocks.get(branch)?.statements.first()? {
-        Stmt::Assign {
-            line,
-            index: Expr::Number(index),
-            value: Expr::Number(value),
-            ..
-        } => Some((*line, *index, *value)),
-        _ => None,
+fn every_construct_is_read(rt: HostRuntime) {
+    let parsed = parse(rt.alloc(), EVERY_CONSTRUCT);
+    assert!(rt; matches!(&parsed, Ok(_)));
+    if let Ok(program) = parsed {
+        assert!(rt; program.arrays.declarations.len() == 2);
+        assert!(rt; has_these_lines(&program));
+        assert!(rt; loops_from_minus_nine(&program));
     }
 }
 
-fn is_not_built(parsed: Result<Program, SyntaxFault>) -> bool {
+// Four statements, on the lines 3 to 6.
+fn has_these_lines(program: &Program) -> bool {
+    let statements = program.body.statements.as_slice();
+    match statements {
+        [
+            Stmt::Assign { line: 3, .. },
+            Stmt::For { line: 4, .. },
+            Stmt::Par { line: 5, .. },
+            Stmt::Team { line: 6, .. },
+        ] => true,
+        _ => false,
+    }
+}
+
+fn loops_from_minus_nine(program: &Program) -> bool {
+    match program.body.statements.as_slice() {
+        [_, Stmt::For { low, high, .. }, ..] => *low == -9 && *high == 3,
+        _ => false,
+    }
+}
+
+#[test]
+fn first_faults_are_told(rt: HostRuntime) {
+    let faults = [
+        (b"array a[4".as_slice(), SyntaxFault::Unexpected { at: 9 }),
+        (
+            b"array a[9223372036854775808];".as_slice(),
+            SyntaxFault::NumberTooLarge { at: 8 },
+        ),
+        (
+            b"array \xc3\xa9".as_slice(),
+            SyntaxFault::NotAscii { at: 6 },
+        ),
+        (b"a[0] = $;".as_slice(), SyntaxFault::BadToken { at: 7 }),
+        (
+            b"a[1 < 2 < 3] = 1;".as_slice(),
+            SyntaxFault::Unexpected { at: 8 },
+        ),
+        (
+            b"a[0]=(((((((((((((((((((((((((((((((((((((((((((((((((((((((((((((((((".as_slice(),
+            SyntaxFault::TooNested { at: 69 },
+        ),
+    ];
+    for (text, fault) in faults {
+        assert!(rt; fault_is(parse(rt.alloc(), text), fault), "at {fault:?}");
+    }
+}
+
+fn fault_is(parsed: Result<Program, SyntaxFault>, fault: SyntaxFault) -> bool {
     match parsed {
-        Err(fault) => fault == SyntaxFault::NotBuilt,
         Ok(_) => false,
+        Err(found) => found == fault,
     }
 }

@@ -1,5 +1,4 @@
 pub mod Digest
 pub mod Trees
-pub mod Small
 pub mod Equal
 pub mod EqualLaws

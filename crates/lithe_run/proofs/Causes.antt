@@ -1,11 +1,23 @@
 -- From the faults of the steps to those of the whole.
-use Rattle.std.proofs.Common.{◌≡◌, ◌≢◌, ◌∙◌, ℕ, List, [], ◌++◌, Option, Some, None, Result, Ok, Err, IfOk, IfErr, sym, ap, subst, append-nil}
-use Rattle.outside_io.specs.Outside.{Gives, IsAtEnd}
-use Rattle.lithe_run.specs.Telling.{GivesAll}
+use Rattle.std.proofs.Common.{◌≡◌, ◌≢◌, ◌⊎◌, ◌∙◌, ◌≤◌, ℕ, List, [], ◌++◌, length, Option, Some, None, Result, Ok, Err, IfOk, IfErr, sym, ap, subst, append-nil, arith, inl, inr, refl}
+use Rattle.outside_io.specs.Outside.{Gives, IsAtEnd, Rose}
+use Rattle.array_tree.specs.Trees.{ProgramTree}
+use Rattle.array_lang.specs.Spelled.{Spells, HasFault}
+use Rattle.array_lang.specs.declared.fault.SyntaxFault.{SyntaxFault}
+use Rattle.array_lang.specs.declared.fault.SyntaxFault.TheVariants as syntax
+use Rattle.array_meaning.specs.Accepted.{IsAccepted}
+use Rattle.disjoint_check.specs.FaultOf.{check_fault_of}
+use Rattle.disjoint_check.proofs.Accepting.{none_of_accepted}
+use Rattle.disjoint_check.specs.declared.fault.CheckFault.{CheckFault}
+use Rattle.disjoint_check.specs.declared.fault.CheckFault.TheVariants as check
+use Rattle.lithe_run.specs.Lines.{TellsSyntax, TellsRefusal}
+use Rattle.lithe_run.specs.Telling.{GivesAll, IsLonger, Tells}
 use Rattle.lithe_run.specs.Command.{form_of}
 use Rattle.lithe_run.specs.Faults.{SpellNothing, SpellRefused, IsCause, IsFault, IsNoRun}
-use Rattle.lithe_run.specs.Output.{IsRunOf}
-use Rattle.lithe_run.specs.FaultOf.{status_of}
+use Rattle.lithe_run.specs.Output.{IsOutputOf, SpellAccepted}
+use Rattle.lithe_run.specs.FaultOf.{status_of, line_of}
+use Rattle.lithe_run.specs.Served.{TellsStatus}
+use Rattle.lithe_run.specs.declared.command.Command.{Command}
 use Rattle.lithe_run.specs.declared.fault.Fault.{Fault}
 use Rattle.lithe_run.specs.declared.fault.Fault.TheVariants as fault
 use Rattle.lithe_run.specs.declared.status.Status.TheVariants as status
@@ -18,41 +30,86 @@ given_bytes bytes read (Some b) (Some rest) e all =
     let same : b ≡ bytes = cc in
     sym same ∙ all.given ∙ ap (λ r. read ++ r) all.ended ∙ append-nil read
 
-pub no_run_is_fault : (words : List (List ℕ)) (why : Fault) (read : List ℕ) (left left' : Option (List ℕ)) (faults faults' : ℕ) → form_of words ≢ None →
+no_run_is_fault : (words : List (List ℕ)) (why : Fault) (read : List ℕ) (left left' : Option (List ℕ)) (faults faults' : ℕ) → form_of words ≢ None →
     GivesAll left read left' → IsNoRun read why → IsFault words why left faults faults'
 no_run_is_fault words fault.Usage read left left' faults faults' form all h = absurd h
 no_run_is_fault words fault.TooLong read left left' faults faults' form all h = absurd h
 no_run_is_fault words fault.ReadFault read left left' faults faults' form all h = absurd h
-no_run_is_fault words fault.Syntax read left left' faults faults' form all h =
-    (form, λ bytes e. subst SpellNothing (sym (given_bytes bytes read left left' e all)) h)
-no_run_is_fault words fault.Refused read left left' faults faults' form all h =
-    (form, λ bytes e. subst SpellRefused (sym (given_bytes bytes read left left' e all)) h)
+no_run_is_fault words (fault.Syntax line) read left left' faults faults' form all h =
+    (form, λ bytes e. subst (λ b. SpellNothing b line.items) (sym (given_bytes bytes read left left' e all)) h)
+no_run_is_fault words (fault.Refused line) read left left' faults faults' form all h =
+    (form, λ bytes e. subst (λ b. SpellRefused b line.items) (sym (given_bytes bytes read left left' e all)) h)
 no_run_is_fault words fault.Memory read left left' faults faults' form all h = (form, tt)
 
-pub no_run_is_fault_of : {X : Type 0} (words : List (List ℕ)) (result : Result X Fault) (read : List ℕ) (left left' : Option (List ℕ)) (faults faults' : ℕ) →
+pub fault_of_no_run : {X : Type 0} (words : List (List ℕ)) (result : Result X Fault) (read : List ℕ) (left left' : Option (List ℕ)) (faults faults' : ℕ) →
     form_of words ≢ None → GivesAll left read left' → IfErr result (IsNoRun read) → IfErr result (λ why. IsFault words why left faults faults')
-no_run_is_fault_of words (Ok x) read left left' faults faults' form all h = tt
-no_run_is_fault_of words (Err why) read left left' faults faults' form all h = no_run_is_fault words why read left left' faults faults' form all h
+fault_of_no_run words (Ok x) read left left' faults faults' form all h = tt
+fault_of_no_run words (Err why) read left left' faults faults' form all h = no_run_is_fault words why read left left' faults faults' form all h
 
-pub run_of_given : {X : Type 0} (text : X → List ℕ) (result : Result X Fault) (read : List ℕ) (left left' : Option (List ℕ)) →
-    GivesAll left read left' → IfOk result (λ x. IsRunOf read 1 (text x)) → IfOk result (λ x. (bytes : List ℕ) → left ≡ Some bytes → IsRunOf bytes 1 (text x))
-run_of_given text (Ok x) read left left' all h = λ bytes e. subst (λ b. IsRunOf b 1 (text x)) (sym (given_bytes bytes read left left' e all)) h
-run_of_given text (Err why) read left left' all h = tt
+pub output_of_given : {X : Type 0} (text : X → List ℕ) (command : Command) (words : List (List ℕ)) (result : Result X Fault) (read : List ℕ) (left left' : Option (List ℕ)) →
+    Some command ≡ form_of words → GivesAll left read left' → IfOk result (λ x. IsOutputOf command read (text x)) →
+    IfOk result (λ x. (other : Command) → form_of words ≡ Some other → (bytes : List ℕ) → left ≡ Some bytes → IsOutputOf other bytes (text x))
+output_of_given text command words (Ok x) read left left' form all h = λ other is bytes e.
+    let same : command ≡ other = let both : Some command ≡ Some other = form ∙ is in cc in
+    subst (λ k. IsOutputOf k bytes (text x)) same (subst (λ b. IsOutputOf command b (text x)) (sym (given_bytes bytes read left left' e all)) h)
+output_of_given text command words (Err why) read left left' form all h = tt
 
-pub syntax_cause : (words : List (List ℕ)) (why : Fault) (left : Option (List ℕ)) (faults faults' : ℕ) → IsFault words why left faults faults' →
-    status_of why ≡ status.Syntax → (bytes : List ℕ) → left ≡ Some bytes → SpellNothing bytes
-syntax_cause words fault.Usage left faults faults' h is = cc
-syntax_cause words fault.TooLong left faults faults' h is = cc
-syntax_cause words fault.ReadFault left faults faults' h is = cc
-syntax_cause words fault.Syntax left faults faults' h is = h.1
-syntax_cause words fault.Refused left faults faults' h is = cc
-syntax_cause words fault.Memory left faults faults' h is = cc
+-- what a fault's line tells is the status's text
+pub fault_told : (words : List (List ℕ)) (why : Fault) (left before : Option (List ℕ)) (faults faults' told : ℕ) (after : Option (List ℕ)) (told' : ℕ) →
+    IsFault words why left faults faults' → Tells before told (line_of why) after told' → TellsStatus (status_of why) left before told after told'
+fault_told words fault.Usage left before faults faults' told after told' h tells = record { text = line_of fault.Usage; right = refl; tells = tells }
+fault_told words fault.TooLong left before faults faults' told after told' h tells = record { text = line_of fault.TooLong; right = refl; tells = tells }
+fault_told words fault.ReadFault left before faults faults' told after told' h tells = record { text = line_of fault.ReadFault; right = refl; tells = tells }
+fault_told words (fault.Syntax line) left before faults faults' told after told' h tells = record { text = line.items; right = h.1; tells = tells }
+fault_told words (fault.Refused line) left before faults faults' told after told' h tells = record { text = line.items; right = h.1; tells = tells }
+fault_told words fault.Memory left before faults faults' told after told' h tells = record { text = line_of fault.Memory; right = refl; tells = tells }
 
-pub refused_cause : (words : List (List ℕ)) (why : Fault) (left : Option (List ℕ)) (faults faults' : ℕ) → IsFault words why left faults faults' →
-    status_of why ≡ status.Refused → (bytes : List ℕ) → left ≡ Some bytes → SpellRefused bytes
-refused_cause words fault.Usage left faults faults' h is = cc
-refused_cause words fault.TooLong left faults faults' h is = cc
-refused_cause words fault.ReadFault left faults faults' h is = cc
-refused_cause words fault.Syntax left faults faults' h is = cc
-refused_cause words fault.Refused left faults faults' h is = h.1
-refused_cause words fault.Memory left faults faults' h is = cc
+-- an accepted program has no fault but want of memory, while the source doesn't fail
+pub only_memory : (one_program : (text : List ℕ) (p q : ProgramTree) → Spells text p → Spells text q → p ≡ q) (words : List (List ℕ)) (why : Fault) (left : Option (List ℕ)) (faults faults' : ℕ) →
+    IsFault words why left faults faults' → form_of words ≢ None → (bytes : List ℕ) → left ≡ Some bytes → (program : ProgramTree) → SpellAccepted bytes program →
+    (Rose faults faults' → ⊥) → status_of why ≡ status.NoMemory
+only_memory one words fault.Usage left faults faults' h form bytes e program is calm = absurd (form h)
+only_memory one words fault.TooLong left faults faults' h form bytes e program is calm = absurd (too_long left e h.1)
+  where
+    too_long : (l : Option (List ℕ)) → l ≡ Some bytes → IsLonger l 65536 → ⊥
+    too_long None e h = cc
+    too_long (Some b) e h = let same : b ≡ bytes = cc in let s = is.short in absurd (omega (arith, ap length same, h, s))
+only_memory one words fault.ReadFault left faults faults' h form bytes e program is calm = absurd (calm h.1)
+only_memory one words (fault.Syntax line) left faults faults' h form bytes e program is calm = absurd ((h.1 bytes e).nothing program is.spelled)
+only_memory one words (fault.Refused line) left faults faults' h form bytes e program is calm =
+    let r = h.1 bytes e in
+    let same = one bytes program r.program is.spelled r.spelled in
+    absurd (r.refused (subst IsAccepted same is.accepted))
+only_memory one words fault.Memory left faults faults' h form bytes e program is calm = refl
+
+-- a program that isn't accepted has no output
+pub refused_line : (bytes : List ℕ) (program : ProgramTree) (cause : CheckFault) (why : Fault) → length bytes ≤ 65536 → Spells bytes program → TellsRefusal program cause why →
+    (cause ≡ check.Memory) ⊎ (check_fault_of program ≡ Some cause) → IsNoRun bytes why
+refused_line bytes program cause fault.Usage short spelled tells first = absurd tells
+refused_line bytes program cause fault.TooLong short spelled tells first = absurd tells
+refused_line bytes program cause fault.ReadFault short spelled tells first = absurd tells
+refused_line bytes program cause (fault.Syntax line) short spelled tells first = absurd tells
+refused_line bytes program cause (fault.Refused line) short spelled tells first = elim first [
+  | inl memory ↦ absurd (tells.0 memory)
+  | inr is ↦ record {
+    short = short;
+    program = program;
+    spelled = spelled;
+    fault = cause;
+    first = is;
+    told = tells.1;
+    refused = λ accepted. let none = none_of_accepted program accepted in cc;
+  }
+]
+refused_line bytes program cause fault.Memory short spelled tells first = tt
+
+-- a text that spells no program has no output
+pub syntax_line_told : (bytes : List ℕ) (cause : SyntaxFault) (why : Fault) → length bytes ≤ 65536 → TellsSyntax cause why →
+    ((program : ProgramTree) → Spells bytes program → cause ≡ syntax.Memory) → HasFault bytes cause → IsNoRun bytes why
+syntax_line_told bytes cause fault.Usage short tells only first = absurd tells
+syntax_line_told bytes cause fault.TooLong short tells only first = absurd tells
+syntax_line_told bytes cause fault.ReadFault short tells only first = absurd tells
+syntax_line_told bytes cause (fault.Syntax line) short tells only first =
+    record { short = short; nothing = λ program spelled. tells.0 (only program spelled); fault = cause; first = first; told = tells.1 }
+syntax_line_told bytes cause (fault.Refused line) short tells only first = absurd tells
+syntax_line_told bytes cause fault.Memory short tells only first = tt

@@ -2,32 +2,44 @@
 use Rattle.std.specs.Prelude.{◌≡◌, ◌≢◌, ℕ, ◌≤◌, List, length, Option, Some, None}
 use Rattle.outside_io.specs.Outside.{Rose}
 use Rattle.array_tree.specs.Trees.{ProgramTree}
-use Rattle.array_lang.specs.Spelled.{Spells}
+use Rattle.array_lang.specs.Spelled.{Spells, HasFault}
+use Rattle.array_lang.specs.declared.fault.SyntaxFault.{SyntaxFault}
 use Rattle.array_meaning.specs.Accepted.{IsAccepted}
+use Rattle.disjoint_check.specs.FaultOf.{check_fault_of}
+use Rattle.disjoint_check.specs.declared.fault.CheckFault.{CheckFault}
+use Rattle.error_text.specs.SyntaxText.{syntax_text}
+use Rattle.error_text.specs.RefusalText.{refusal_text}
 use Rattle.lithe_run.specs.Telling.{IsLonger}
 use Rattle.lithe_run.specs.Command.{form_of}
 use Rattle.lithe_run.specs.Output.{input_limit}
 use Rattle.lithe_run.specs.declared.fault.Fault.{Fault}
 use Rattle.lithe_run.specs.declared.fault.Fault.TheVariants as fault
 
--- bytes within the limit spell no program
-abbrev pub SpellNothing : List ℕ → Type 0
-SpellNothing bytes = (length bytes ≤ input_limit) × ((program : ProgramTree) → Spells bytes program → ⊥)
+-- bytes within the limit spell no program, and the line tells their first fault
+pub record SpellNothing (bytes line : List ℕ) : Type 0 where
+  pub short : length bytes ≤ input_limit
+  pub nothing : (program : ProgramTree) → Spells bytes program → ⊥
+  pub fault : SyntaxFault
+  pub first : HasFault bytes fault
+  pub told : line ≡ syntax_text fault
 
--- bytes within the limit spell a program that isn't accepted
-pub record SpellRefused (bytes : List ℕ) : Type 0 where
+-- bytes within the limit spell a program that isn't accepted, and the line tells the first condition that it fails
+pub record SpellRefused (bytes line : List ℕ) : Type 0 where
   pub short : length bytes ≤ input_limit
   pub program : ProgramTree
   pub spelled : Spells bytes program
   pub refused : IsAccepted program → ⊥
+  pub fault : CheckFault
+  pub first : check_fault_of program ≡ Some fault
+  pub told : line ≡ refusal_text program fault
 
 -- the cause of a fault, by what the source had left and its count of faults before and after. Want of memory has none.
 abbrev pub IsCause : Fault → Option (List ℕ) → ℕ → ℕ → Type 0
 IsCause fault.Usage left faults faults' = ⊥
 IsCause fault.TooLong left faults faults' = IsLonger left input_limit
 IsCause fault.ReadFault left faults faults' = Rose faults faults'
-IsCause fault.Syntax left faults faults' = (bytes : List ℕ) → left ≡ Some bytes → SpellNothing bytes
-IsCause fault.Refused left faults faults' = (bytes : List ℕ) → left ≡ Some bytes → SpellRefused bytes
+IsCause (fault.Syntax line) left faults faults' = (bytes : List ℕ) → left ≡ Some bytes → SpellNothing bytes line.items
+IsCause (fault.Refused line) left faults faults' = (bytes : List ℕ) → left ≡ Some bytes → SpellRefused bytes line.items
 IsCause fault.Memory left faults faults' = Unit {0}
 
 -- the words are no form exactly where the fault is that of usage
@@ -37,7 +49,7 @@ IsFault words why left faults faults' = (form_of words ≢ None) × IsCause why 
 
 -- why the program of these bytes has no output
 abbrev pub IsNoRun : List ℕ → Fault → Type 0
-IsNoRun bytes fault.Syntax = SpellNothing bytes
-IsNoRun bytes fault.Refused = SpellRefused bytes
+IsNoRun bytes (fault.Syntax line) = SpellNothing bytes line.items
+IsNoRun bytes (fault.Refused line) = SpellRefused bytes line.items
 IsNoRun bytes fault.Memory = Unit {0}
 IsNoRun bytes why = ⊥

@@ -2,8 +2,7 @@ pub mod Telling
 pub mod Command
 pub mod Output
 pub mod Faults
-pub mod Status
 pub mod FaultOf
-pub mod Serial
-pub mod Refusal
-pub mod Writing
+pub mod Status
+pub mod Served
+pub mod Lines

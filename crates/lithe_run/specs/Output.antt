@@ -1,5 +1,4 @@
--- What a run writes: the arrays as the one-thread meaning leaves them, and a journal that is complete for the
--- program's plan.
+-- What a command writes for an accepted program.
 use Rattle.std.specs.Prelude.{◌≡◌, ℕ, ◌≤◌, List, ◌++◌, length}
 use Rattle.transfer_table.specs.Plan.{Plan}
 use Rattle.transfer_table.specs.Journal.{IsComplete}
@@ -12,6 +11,8 @@ use Rattle.array_meaning.specs.Work.{final_store}
 use Rattle.array_meaning.specs.Plans.{plan_of}
 use Rattle.array_meaning.specs.Accepted.{IsAccepted}
 use Rattle.array_eval.specs.ArrayText.{array_text}
+use Rattle.lithe_run.specs.declared.command.Command.{Command}
+use Rattle.lithe_run.specs.declared.command.Command.TheVariants.{Run, Solo}
 
 -- the program's plan for so many harts
 abbrev pub table_plan : ProgramTree → ℕ → Plan
@@ -21,20 +22,29 @@ table_plan program harts = record { harts = harts; parents = plan_of program }
 abbrev pub output_text : ProgramTree → Plan → Store → List Entry → List ℕ
 output_text program plan store journal = array_text program store ++ journal_text plan journal
 
--- the text is the output of an accepted program's run on so many harts
-pub record IsOutput (program : ProgramTree) (harts : ℕ) (text : List ℕ) : Type 0 where
-  pub accepted : IsAccepted program
+-- `run` writes the arrays as the one-thread meaning leaves them, and a journal that is complete for the program's plan
+pub record IsRunOutput (program : ProgramTree) (harts : ℕ) (text : List ℕ) : Type 0 where
   pub journal : List Entry
   pub complete : IsComplete (table_plan program harts) journal
   pub whole : text ≡ output_text program (table_plan program harts) (final_store program) journal
+
+-- `solo` writes the arrays alone
+abbrev pub IsOutput : Command → ProgramTree → List ℕ → Type 0
+IsOutput Run program text = IsRunOutput program 1 text
+IsOutput Solo program text = text ≡ array_text program (final_store program)
 
 -- the greatest length of an input, in bytes
 abbrev pub input_limit : ℕ
 input_limit = 65536
 
--- the text is the output of the run of the program that these bytes spell
-pub record IsRunOf (bytes : List ℕ) (harts : ℕ) (text : List ℕ) : Type 0 where
+-- these bytes spell an accepted program
+pub record SpellAccepted (bytes : List ℕ) (program : ProgramTree) : Type 0 where
   pub short : length bytes ≤ input_limit
-  pub program : ProgramTree
   pub spelled : Spells bytes program
-  pub output : IsOutput program harts text
+  pub accepted : IsAccepted program
+
+-- the text is what the command writes for the program that these bytes spell
+pub record IsOutputOf (command : Command) (bytes text : List ℕ) : Type 0 where
+  pub program : ProgramTree
+  pub input : SpellAccepted bytes program
+  pub output : IsOutput command program text

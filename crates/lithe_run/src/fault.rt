@@ -1,14 +1,13 @@
 //! Why there is no output.
 ghost use Rattle.std.specs.Prelude.{◌≡◌};
-ghost use Rattle.lithe_run.specs.FaultOf.{status_of};
+ghost use Rattle.lithe_run.specs.FaultOf.{status_of, line_of};
 
 use crate::reading::ReadError;
-use crate::status::Status;
-use array_lang::SyntaxFault;
+use crate::status::{Status, constant_text};
 use std::alloc::AllocError;
 
 /// Why a command has no output.
-#[derive(Clone, Copy, Debug, PartialEq, Eq)]
+#[derive(Debug, Drop)]
 pub enum Fault {
     /// The words are no form.
     Usage,
@@ -16,10 +15,10 @@ pub enum Fault {
     TooLong,
     /// The source failed.
     ReadFault,
-    /// The input spells no program.
-    Syntax,
-    /// The program isn't accepted.
-    Refused,
+    /// The input spells no program; the line tells its first fault.
+    Syntax(Vec<u8>),
+    /// The program isn't accepted; the line tells the first condition that it fails.
+    Refused(Vec<u8>),
     /// Want of memory.
     Memory,
 }
@@ -50,32 +49,32 @@ impl From<ReadError> for Fault {
     }
 }
 
-impl From<SyntaxFault> for Fault {
-    ghost use Rattle.std.specs.Prelude.{◌≡◌};
-    ghost use Rattle.lithe_run.specs.FaultOf.{syntax_fault_of};
-
-    ghost from_gives = { λ error fault. fault ≡ syntax_fault_of error };
-
-    fn from(error: SyntaxFault) -> Fault {
-        match error {
-            SyntaxFault::NotBuilt => Fault::Syntax,
-            SyntaxFault::Memory => Fault::Memory,
-        }
-    }
-}
-
 impl Fault {
-    /// The status that tells the fault.
-    pub fn status(self) -> Status
-        ensures { result ≡ status_of self }
+    /// The status of a command that has the fault.
+    pub fn status(&self) -> Status
+        ensures { result ≡ status_of self.now }
     {
         match self {
             Fault::Usage => Status::Usage,
             Fault::TooLong => Status::TooLong,
             Fault::ReadFault => Status::ReadFault,
-            Fault::Syntax => Status::Syntax,
-            Fault::Refused => Status::Refused,
+            Fault::Syntax(_) => Status::Syntax,
+            Fault::Refused(_) => Status::Refused,
             Fault::Memory => Status::NoMemory,
+        }
+    }
+
+    /// The text that tells the fault.
+    pub fn line(&self) -> &[u8]
+        ensures { result.now ≡ line_of self.now }
+    {
+        match self {
+            Fault::Syntax(line) => line,
+            Fault::Refused(line) => line,
+            Fault::Usage => constant_text(Status::Usage),
+            Fault::TooLong => constant_text(Status::TooLong),
+            Fault::ReadFault => constant_text(Status::ReadFault),
+            Fault::Memory => constant_text(Status::NoMemory),
         }
     }
 }

@@ -1,20 +1,22 @@
 //! The top call: from the words and the input to the output and the status.
-ghost use Rattle.std.specs.Prelude.{◌≡◌, ◌≢◌, ◌≤◌, ◌↔◌, ℕ, List, length, map, string_bytes, Option, Some, None, IfOk, IfErr};
-ghost use Rattle.outside_io.specs.Outside.{Rose, Appends};
+ghost use Rattle.std.specs.Prelude.{◌≡◌, ◌≢◌, ◌⊎◌, ◌↔◌, ℕ, List, map, string_bytes, Some, None, IfOk, IfErr};
+ghost use Rattle.outside_io.specs.Outside.{Rose};
+ghost use Rattle.array_tree.specs.Trees.{ProgramTree};
+ghost use Rattle.lithe_run.specs.declared.command.Command.{Command};
 ghost use Rattle.lithe_run.specs.Telling.{IsLonger, Tells};
 ghost use Rattle.lithe_run.specs.Command.{form_of};
-ghost use Rattle.lithe_run.specs.Output.{IsRunOf, input_limit};
-ghost use Rattle.lithe_run.specs.Faults.{SpellNothing, SpellRefused, IsFault, IsNoRun};
-ghost use Rattle.lithe_run.specs.Status.{error_text};
-ghost use Rattle.lithe_run.specs.Writing.{WritesRun, WritesRunPrefix};
+ghost use Rattle.lithe_run.specs.Output.{IsOutputOf, SpellAccepted, input_limit};
+ghost use Rattle.lithe_run.specs.Faults.{IsFault};
+ghost use Rattle.lithe_run.specs.FaultOf.{status_of, line_of};
+ghost use Rattle.lithe_run.specs.Status.{constant_text};
+ghost use Rattle.lithe_run.specs.Served.{WritesOutput, WritesPrefix, TellsStatus};
 
-use crate::command::{Command, command_of};
+use crate::command::command_of;
 use crate::fault::Fault;
 use crate::reading::read_all;
-use crate::run::run;
-use crate::status::{Status, text_of};
+use crate::run::answer;
+use crate::status::{Status, constant_text};
 use crate::writing::write_all;
-use array_lang::parse;
 use outside_io::{Gate, Sink, Source};
 use std::alloc::Global;
 use std::sync::Wait;
@@ -25,8 +27,9 @@ const LIMIT: usize = 65536;
 
 /// Serves the words: reads the input, runs its program and writes the output, or tells on `err` why not.
 ///
-/// `run --harts 1` writes the program's arrays and the journal of its transfers. Whatever the status, what was told
-/// on `err` is the status's text, and a failure of `err` changes no status.
+/// `run --harts 1` writes the program's arrays and the journal of its transfers, and `solo` the arrays alone. The
+/// whole output is built before its first byte is written. Whatever the status, its text was told on `err`, and a
+/// failure of `err` changes no status. A source and sinks that don't tell their bytes are served in the same way.
 pub fn lithe<R: Threads + Wait + Sync, A: Source, B: Sink, E: Sink, G: Gate>(
     _rt: &R,
     alloc: Global,
@@ -36,63 +39,68 @@ pub fn lithe<R: Threads + Wait + Sync, A: Source, B: Sink, E: Sink, G: Gate>(
     err: &mut E,
     _gate: &G,
 ) -> Status
-    // The arrays are those of the one-thread meaning, and the transfers are a complete legal run of the table.
-    ensures done { result ≡ Status.Done → (bytes : List ℕ) → A.left source.old ≡ Some bytes → WritesRun bytes 1 (B.taken out.old) (B.taken out.new) }
+    // The arrays are those of the one-thread meaning, and the transfers are a complete legal run of the program's table.
+    ensures done { result ≡ Status.Done → (command : Command) → form_of (map string_bytes words.now) ≡ Some command
+        → (bytes : List ℕ) → A.left source.old ≡ Some bytes → WritesOutput command bytes (B.taken out.old) (B.taken out.new) }
 
+    // An accepted program is served, unless memory runs out or the outside fails.
+    ensures complete { form_of (map string_bytes words.now) ≢ None → (bytes : List ℕ) → A.left source.old ≡ Some bytes
+        → (program : ProgramTree) → SpellAccepted bytes program → (Rose (A.faults source.old) (A.faults source.new) → ⊥)
+        → (Rose (B.faults out.old) (B.faults out.new) → ⊥) → (result ≡ Status.Done) ⊎ (result ≡ Status.NoMemory) }
+
+    // When each other status comes. What is told of Syntax and Refused has their causes.
     ensures usage { (result ≡ Status.Usage) ↔ (form_of (map string_bytes words.now) ≡ None) }
-    ensures syntax { result ≡ Status.Syntax → (bytes : List ℕ) → A.left source.old ≡ Some bytes → SpellNothing bytes }
-    ensures refused { result ≡ Status.Refused → (bytes : List ℕ) → A.left source.old ≡ Some bytes → SpellRefused bytes }
     ensures too_long { result ≡ Status.TooLong → IsLonger (A.left source.old) input_limit }
     ensures read_fault { result ≡ Status.ReadFault → Rose (A.faults source.old) (A.faults source.new) }
     ensures write_fault { result ≡ Status.WriteFault → Rose (B.faults out.old) (B.faults out.new) }
     ensures never_illegal { result ≢ Status.Illegal }
+    ensures told { result ≢ Status.Done → TellsStatus result (A.left source.old) (E.taken err.old) (E.faults err.old) (E.taken err.new) (E.faults err.new) }
 
-    // What `out` and `err` took.
-    ensures prefix { result ≡ Status.WriteFault → (bytes : List ℕ) → A.left source.old ≡ Some bytes → WritesRunPrefix bytes 1 (B.taken out.old) (B.taken out.new) }
+    // What `out` and `err` took otherwise.
+    ensures prefix { result ≡ Status.WriteFault → (command : Command) → form_of (map string_bytes words.now) ≡ Some command
+        → (bytes : List ℕ) → A.left source.old ≡ Some bytes → WritesPrefix command bytes (B.taken out.old) (B.taken out.new) }
     ensures out_stays { result ≢ Status.Done → result ≢ Status.WriteFault → out.new ≡ out.old }
-    ensures told { result ≢ Status.Done → Tells (E.taken err.old) (E.faults err.old) (error_text result) (E.taken err.new) (E.faults err.new) }
     ensures err_stays { result ≡ Status.Done → err.new ≡ err.old }
 {
     match output_of(alloc, words, source) {
-        Err(fault) => tell(err, fault.status()),
+        Err(fault) => tell_fault(err, &fault),
         Ok(output) => {
             if write_all(out, &output) {
                 Status::Done
             } else {
-                tell(err, Status::WriteFault)
+                tell_write_fault(err)
             }
         }
     }
 }
 
-// Writes a status's text, and answers the status.
-fn tell<E: Sink>(err: &mut E, status: Status) -> Status
-    ensures same { result ≡ status }
-    ensures told { Tells (E.taken err.old) (E.faults err.old) (error_text status) (E.taken err.new) (E.faults err.new) }
+// Writes the line that tells the fault, and answers its status.
+fn tell_fault<E: Sink>(err: &mut E, fault: &Fault) -> Status
+    ensures same { result ≡ status_of fault.now }
+    ensures told { Tells (E.taken err.old) (E.faults err.old) (line_of fault.now) (E.taken err.new) (E.faults err.new) }
 {
-    let _ = write_all(err, text_of(status));
-    status
+    let _ = write_all(err, fault.line());
+    fault.status()
 }
 
-// The whole output of the command that the words give, built before any of it is written.
+fn tell_write_fault<E: Sink>(err: &mut E) -> Status
+    ensures same { result ≡ Status.WriteFault }
+    ensures told { Tells (E.taken err.old) (E.faults err.old) (constant_text Status.WriteFault) (E.taken err.new) (E.faults err.new) }
+{
+    let _ = write_all(err, constant_text(Status::WriteFault));
+    Status::WriteFault
+}
+
+// The whole output of the command that the words give.
 fn output_of<A: Source>(alloc: Global, words: &[String], source: &mut A) -> Result<Vec<u8>, Fault>
     ensures form { IfOk result (λ _. form_of (map string_bytes words.now) ≢ None) }
-    ensures output { IfOk result (λ output. (bytes : List ℕ) → A.left source.old ≡ Some bytes → IsRunOf bytes 1 output.items) }
+    ensures output { IfOk result (λ output. (command : Command) → form_of (map string_bytes words.now) ≡ Some command
+        → (bytes : List ℕ) → A.left source.old ≡ Some bytes → IsOutputOf command bytes output.items) }
     ensures fault { IfErr result (λ fault. IsFault (map string_bytes words.now) fault (A.left source.old) (A.faults source.old) (A.faults source.new)) }
 {
-    let Some(Command::Run) = command_of(words) else {
+    let Some(command) = command_of(words) else {
         return Err(Fault::Usage);
     };
     let bytes = read_all(alloc, source, LIMIT)?;
-    answer(alloc, &bytes)
-}
-
-// The output of the program that the bytes spell.
-fn answer(alloc: Global, bytes: &[u8]) -> Result<Vec<u8>, Fault>
-    requires { length bytes.now ≤ 65536 }
-    ensures output { IfOk result (λ output. IsRunOf bytes.now 1 output.items) }
-    ensures fault { IfErr result (IsNoRun bytes.now) }
-{
-    let program = parse(alloc, bytes)?;
-    run(alloc, &program)
+    answer(alloc, command, &bytes)
 }

@@ -6,7 +6,6 @@ mod fault;
 mod lithe;
 mod reading;
 mod run;
-mod serial;
 mod status;
 mod writing;
 

@@ -1,6 +1,6 @@
 //! How a run ends.
 ghost use Rattle.std.specs.Prelude.{◌≡◌};
-ghost use Rattle.lithe_run.specs.Status.{error_text, number_of};
+ghost use Rattle.lithe_run.specs.Status.{constant_text, number_of};
 
 /// How a run ended. Its number is the process's exit status.
 #[derive(Clone, Copy, Debug, PartialEq, Eq)]
@@ -37,18 +37,16 @@ impl Status {
 const USAGE: &[u8] =
     b"usage: lithe_run run --harts N\n       lithe_run solo\n       lithe_run audit --harts N\n       lithe_run make --seed X --size K --harts N\n";
 
-/// The text that the status writes to the stream of errors.
-pub fn text_of(status: Status) -> &'static [u8]
-    ensures { result.now ≡ error_text status }
+/// The text that the status writes to the stream of errors, where it is always the same.
+pub fn constant_text(status: Status) -> &'static [u8]
+    ensures { result.now ≡ constant_text status }
 {
     match status {
-        Status::Done | Status::Illegal => b"",
         Status::Usage => USAGE,
-        Status::Syntax => b"syntax: not built\n",
-        Status::Refused => b"refused\n",
         Status::TooLong => b"too long\n",
         Status::ReadFault => b"read fault\n",
         Status::WriteFault => b"write fault\n",
         Status::NoMemory => b"no memory\n",
+        Status::Done | Status::Illegal | Status::Syntax | Status::Refused => b"",
     }
 }

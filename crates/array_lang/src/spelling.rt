@@ -1,0 +1,92 @@
+//! Texts to programs.
+
+ghost use Rattle.std.specs.Prelude.{◌≡◌, ◌<◌, ◌^◌, length, IfOk, IfErr, ℕ, Some, None};
+ghost use Rattle.array_tokens.specs.Lexemes.{spots};
+ghost use Rattle.array_tree.specs.Trees.{program_of, ProgramTree};
+ghost use Rattle.array_lang.specs.Bounds.{first_nested};
+ghost use Rattle.array_lang.specs.Spelled.{Spells, HasFault, HasTokenFault, IsRead, place_of};
+ghost use Rattle.array_lang.specs.Reading.{IsWhole, IsReading};
+
+use crate::bounds::nested_at;
+use crate::fault::SyntaxFault;
+use crate::program::program;
+use crate::stop::Stop;
+use array_tokens::{Token, tokens};
+use array_tree::Program;
+use std::alloc::Global;
+
+/// The program that the text spells, or the text's first fault.
+///
+/// A fault of cutting the text into tokens comes before every fault of the grammar. Of an unexpected token and one
+/// that passes a bound on nesting, the one with the smaller place is told, and Unexpected at the same place.
+pub fn parse(alloc: Global, text: &[u8]) -> Result<Program, SyntaxFault>
+    requires { length text.now < 2 ^ 32 }
+    // What is read is spelled.
+    ensures found { IfOk result (λ program. Spells text.now (program_of program)) }
+    // What is spelled is read, unless memory runs out.
+    ensures only { (p : ProgramTree) → Spells text.now p → IsRead p result }
+    // Which fault it is, and where.
+    ensures fault { IfErr result (HasFault text.now) }
+{
+    match tokens(alloc, text) {
+        Err(cause) => Err(SyntaxFault::from(cause)),
+        Ok(tokens) => match nested_at(&tokens) {
+            None => whole(alloc, &tokens, text.len() as u32),
+            Some(index) => Err(first_fault(alloc, &tokens, index)),
+        },
+    }
+}
+
+// The program of tokens that pass no bound; the text ends at `end`.
+fn whole(alloc: Global, tokens: &[Token<'_>], end: u32) -> Result<Program, SyntaxFault>
+    requires { first_nested (spots tokens.now) ≡ None }
+    ensures { IsWhole (spots tokens.now) end result }
+{
+    match program(alloc, tokens) {
+        Ok(program) => Ok(program),
+        Err(Stop::Memory) => Err(SyntaxFault::Memory),
+        Err(Stop::Unexpected(rest)) => Err(SyntaxFault::Unexpected {
+            at: place(rest, end),
+        }),
+    }
+}
+
+// The first fault of tokens of which this one passes a bound. Only the tokens up to it are read, which also bounds
+// how deep the parser goes.
+fn first_fault(alloc: Global, tokens: &[Token<'_>], index: usize) -> SyntaxFault
+    requires over { first_nested (spots tokens.now) ≡ Some index }
+    requires within { index < length tokens.now }
+    ensures { (end : ℕ) → HasTokenFault (spots tokens.now) end result }
+{
+    let (_, over) = tokens.split_at(index);
+    let (read, _) = tokens.split_at(index + 1);
+    match stop(alloc, read) {
+        Ok(()) => SyntaxFault::TooNested { at: place(over, 0) },
+        Err(Stop::Memory) => SyntaxFault::Memory,
+        Err(Stop::Unexpected(rest)) => {
+            if rest.is_empty() {
+                SyntaxFault::TooNested { at: place(over, 0) }
+            } else {
+                SyntaxFault::Unexpected { at: place(rest, 0) }
+            }
+        }
+    }
+}
+
+// Why the parser stops within the tokens.
+fn stop<'t>(alloc: Global, tokens: &'t [Token<'t>]) -> Result<(), Stop<'t>>
+    ensures { IsReading (spots tokens.now) result }
+{
+    program(alloc, tokens)?;
+    Ok(())
+}
+
+// The place of the first token, or where the text ends.
+fn place(rest: &[Token<'_>], end: u32) -> u32
+    ensures { result ≡ place_of end (spots rest.now) }
+{
+    match rest.first() {
+        None => end,
+        Some(token) => token.at,
+    }
+}

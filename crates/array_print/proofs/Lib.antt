@@ -1,0 +1,9 @@
+pub mod Cuts
+pub mod Pieces
+pub mod Elses
+pub mod PrintedExpressions
+pub mod PrintedStatements
+pub mod Written
+pub mod SpelledTokens
+pub mod SpelledTrees
+pub mod PrintedPrograms

@@ -1,0 +1,110 @@
+-- The printed text of a program that some text spells spells it up to line numbers.
+use Rattle.std.proofs.Common.{◌≡◌, ℕ, List, [], ◌∷◌, map, true, Result, Ok, Err, IfOk, refl, sym, ap, ◌∙◌, subst}
+use Rattle.std.specs.Prelude.{codes, flat_map}
+use Rattle.array_tokens.specs.Lexemes.{name, number, word, sign, Spot}
+use Rattle.array_tokens.specs.declared.token.Word.TheVariants as words
+use Rattle.array_tokens.specs.declared.token.Sign.TheVariants as signs
+use Rattle.array_tree.specs.Trees.{Sequence, Declaration, ProgramTree}
+use Rattle.array_lang.specs.Grammar.{DeclarationOf, declaration, DeclarationsOf, no_declaration, next_declaration, SpellsProgram}
+use Rattle.array_lang.specs.Nesting.{program_fits}
+use Rattle.array_lang.specs.Spelled.{Spells}
+use Rattle.array_print.specs.Texts.{declaration_text, printed}
+use Rattle.array_print.specs.Spellings.{lineless_sequence, lineless_declaration, lineless, IsSpelled, SpellsButLines}
+use Rattle.array_print.proofs.Cuts.{One, one, Nothing, nothing, Then, joined, Anything, CutsInto, cuts_both, cuts_as, cuts_none, cuts_space, cuts_newline, Whole, cuts_whole}
+use Rattle.array_print.proofs.Pieces.{IsName, cuts_name, cuts_word, cuts_open_index, cuts_close_index, cuts_semicolon, cuts_before}
+use Rattle.array_print.proofs.PrintedExpressions.{IsNumber}
+use Rattle.array_print.proofs.PrintedStatements.{CanFollow, IsSequence, sequence_cuts, member_cuts}
+use Rattle.array_print.proofs.SpelledTokens.{AreGood, tokens_good}
+use Rattle.array_print.proofs.SpelledTrees.{sequence_stands}
+
+-- Declarations that texts spell.
+abbrev AreDeclarable : List Declaration → Type 0
+AreDeclarable [] = Unit {0}
+AreDeclarable (d ∷ ds) = IsName d.name × IsNumber d.length × AreDeclarable ds
+
+record IsDeclaration (array : Declaration) (s t : List Spot) : Type 0 where
+  tree : Declaration
+  d : DeclarationOf s t tree
+  same : lineless_declaration tree ≡ lineless_declaration array
+
+record AreDeclarations (arrays : List Declaration) (s t : List Spot) : Type 0 where
+  trees : List Declaration
+  d : DeclarationsOf s t trees
+  same : map lineless_declaration trees ≡ map lineless_declaration arrays
+
+cuts_array : CutsInto (codes "array ") (One (word words.Array)) Anything
+cuts_array = cuts_before cuts_space (λ rest. refl) (cuts_word 97 (114 ∷ 114 ∷ 97 ∷ 121 ∷ []) words.Array refl (refl, (refl, (refl, (refl, tt)))) refl)
+
+cuts_length_end : CutsInto (codes "];\n") (Then (One (sign signs.CloseIndex)) (One (sign signs.Semicolon))) Anything
+cuts_length_end = cuts_both cuts_close_index (cuts_before cuts_newline (λ rest. tt) cuts_semicolon) (λ rest h. tt)
+
+declaration_is : (array : Declaration) {s t : List Spot} →
+    Then (Then (Then (Then (One (word words.Array)) (One (name array.name))) (One (sign signs.OpenIndex))) (One (number array.length))) (Then (One (sign signs.CloseIndex)) (One (sign signs.Semicolon))) s t →
+    IsDeclaration array s t
+declaration_is array (joined (joined (joined (joined (one {n = n}) one) one) one) (joined one one)) =
+    record { tree = record { line = n; name = array.name; length = array.length }; d = declaration; same = refl }
+
+declaration_cuts : (array : Declaration) → IsName array.name → IsNumber array.length → CutsInto (declaration_text array) (IsDeclaration array) Anything
+declaration_cuts array n l =
+    cuts_as
+    (cuts_both (cuts_both (cuts_both (cuts_both cuts_array (cuts_name array.name n) (λ rest h. tt)) cuts_open_index (λ rest h. refl)) (member_cuts array.length l) (λ rest h. tt)) cuts_length_end (λ rest h. refl))
+    (λ s t d. declaration_is array d)
+
+no_declarations : {s t : List Spot} → Nothing s t → AreDeclarations [] s t
+no_declarations nothing = record { trees = []; d = no_declaration; same = refl }
+
+more_declarations : {array : Declaration} {arrays : List Declaration} {s t : List Spot} → Then (IsDeclaration array) (AreDeclarations arrays) s t → AreDeclarations (array ∷ arrays) s t
+more_declarations {array} (joined a r) =
+    record {
+      trees = a.tree ∷ r.trees;
+      d = next_declaration a.d r.d;
+      same = ap (λ x. x ∷ map lineless_declaration r.trees) a.same ∙ ap (λ l. lineless_declaration array ∷ l) r.same;
+    }
+
+declarations_cut : (arrays : List Declaration) → AreDeclarable arrays → CutsInto (flat_map declaration_text arrays) (AreDeclarations arrays) Anything
+declarations_cut [] h = cuts_as cuts_none (λ s t d. no_declarations d)
+declarations_cut (d ∷ ds) h = cuts_as (cuts_both (declaration_cuts d h.0 h.1) (declarations_cut ds h.2) (λ rest s. tt)) (λ s t e. more_declarations e)
+
+declarations_good : {s t : List Spot} {ds : List Declaration} → DeclarationsOf s t ds → AreGood s → AreDeclarable ds × AreGood t
+declarations_good no_declaration h = (tt, h)
+declarations_good (next_declaration declaration e) h =
+    let p = declarations_good e h.1.1.1.1.1.1 in ((h.1.0, h.1.1.1.0, p.0), p.1)
+
+-- The tokens spell the program up to line numbers, within the bounds.
+record IsProgram (p : ProgramTree) (tokens : List Spot) : Type 0 where
+  tree : ProgramTree
+  d : SpellsProgram tokens tree
+  same : lineless tree ≡ lineless p
+  fits : program_fits d ≡ true
+
+abbrev program : List Declaration → Sequence → ProgramTree
+program arrays body = record { arrays = arrays; body = body }
+
+program_is : (p : ProgramTree) {tokens : List Spot} → Then (AreDeclarations p.arrays) (IsSequence 0 p.body) tokens [] → IsProgram p tokens
+program_is p (joined {t = body} ds q) =
+    record {
+      tree = program ds.trees q.tree;
+      d = record { body = body; declares = ds.d; does = q.d };
+      same = ap (λ l. program l (lineless_sequence q.tree)) ds.same ∙ ap (program (map lineless_declaration p.arrays)) q.same;
+      fits = q.fits;
+    }
+
+program_cuts : (p : ProgramTree) → AreDeclarable p.arrays → CanFollow 0 p.body → CutsInto (printed p) (Then (AreDeclarations p.arrays) (IsSequence 0 p.body)) Anything
+program_cuts p h k = cuts_both (declarations_cut p.arrays h) (sequence_cuts p.body 0 [] cuts_none k) (λ rest s. tt)
+
+whole_spells : (text : List ℕ) (p : ProgramTree) (w : Whole text (Then (AreDeclarations p.arrays) (IsSequence 0 p.body))) → SpellsButLines text p
+whole_spells text p w =
+    let r = program_is p w.spells in
+    (r.tree, record { tokens = w.tokens; cut = w.cut_is; tree = r.d; fits = r.fits }, r.same)
+
+-- where some text spells the program, the printed text does too, up to line numbers
+pub printed_spells : (text : List ℕ) (p : ProgramTree) → Spells text p → SpellsButLines (printed p) p
+printed_spells text p h =
+    let declares = declarations_good h.tree.declares (tokens_good text h.tokens h.cut) in
+    let does = sequence_stands h.tree.does 0 declares.1 h.fits in
+    whole_spells (printed p) p (cuts_whole (program_cuts p declares.0 does.0) tt)
+
+-- the same of what a function answers
+pub answer_spells : {T F : Type 0} (r : Result T F) (view : T → List ℕ) (p : ProgramTree) → IsSpelled p → IfOk r (λ x. view x ≡ printed p) → IfOk r (λ x. SpellsButLines (view x) p)
+answer_spells (Ok x) view p h e = subst (λ text. SpellsButLines text p) (sym e) (printed_spells h.0 p h.1)
+answer_spells (Err f) view p h e = tt

@@ -1,0 +1,12 @@
+//! The printer of the array language: programs to texts.
+#![tactic(auto)]
+
+mod expressions;
+mod laws;
+mod program;
+mod statements;
+#[cfg(test)]
+mod tests;
+
+pub use laws::printed_text_spells;
+pub use program::print;

@@ -1,0 +1,154 @@
+//! The base of one thread.
+ghost use Rattle.std.specs.Prelude.{◌≡◌, ◌*◌, [], IsOk, IfOk, true, false};
+ghost use Rattle.sched_api.specs.declared.hearing.Told.{Told};
+ghost use Rattle.sched_api.specs.Calls.{registered_told, unregistered_told, requested_told, yielded_told, blocked_told};
+ghost use Rattle.sched_api.specs.Wishes.{with_wishes, without_child};
+ghost use Rattle.base_sched.specs.Oldest.{BaseState, shut_base, LendsOldest};
+
+use sched_api::{Call, Hearing, Next, Scheduler, Told, Wishes};
+use std::alloc::{AllocError, Global};
+use std::marker::Model;
+
+/// How many wishes there is room for at each site.
+const WISHES_PER_SITE: usize = 15;
+
+/// What a callback of the base gives.
+#[derive(Drop)]
+pub struct BaseHeard {
+    told: Told,
+}
+
+impl Model for BaseHeard {
+    ghost use Rattle.sched_api.specs.declared.hearing.Told.{Told};
+
+    ghost Value = { Told };
+
+    ghost view = { λ h. h.told };
+}
+
+impl Hearing for BaseHeard {
+    ghost heard = { λ h. h };
+
+    fn told(&self) -> Told {
+        self.told
+    }
+}
+
+// Only the callbacks below call it.
+fn heard(call: Call, child: u16, count: u8) -> BaseHeard
+    ensures { result ≡ record { call = call; child = child; count = count } }
+{
+    BaseHeard {
+        told: Told { call, child, count },
+    }
+}
+
+/// The scheduler of site 0. It keeps the wishes of the top sites, and has no contexts.
+#[derive(Drop)]
+pub struct Base {
+    wishes: Wishes,
+    is_shut: bool,
+}
+
+impl Model for Base {
+    ghost use Rattle.base_sched.specs.Oldest.{BaseState};
+
+    ghost Value = { BaseState };
+
+    ghost view = { λ b. record { wishes = b.wishes; is_shut = b.is_shut } };
+}
+
+impl Base {
+    /// A base with no wish yet, and room for 15 wishes at each of so many sites.
+    pub fn new(alloc: Global, sites: u16) -> Result<Base, AllocError>
+        ensures { IfOk result (λ b. b ≡ record { wishes = record { sites = []; room = 15 * sites }; is_shut = false }) }
+    {
+        Ok(Base {
+            wishes: Wishes::new(alloc, WISHES_PER_SITE * sites as usize)?,
+            is_shut: false,
+        })
+    }
+
+    /// Takes all wishes off for good: there is no room for any from now on.
+    pub fn shut(&mut self)
+        ensures { self.new ≡ shut_base }
+    {
+        self.wishes.close();
+        self.is_shut = true;
+    }
+
+    /// Whether it was shut.
+    pub fn is_shut(&self) -> bool
+        ensures { result ≡ self.now.is_shut }
+    {
+        self.is_shut
+    }
+}
+
+impl Scheduler for Base {
+    type Hold = ();
+
+    type Heard = BaseHeard;
+
+    type Ctx = ();
+
+    ghost site_of = { λ _. 0 };
+
+    ghost answers = { λ before next after. LendsOldest before next after };
+
+    fn site(&self) -> u16 {
+        0
+    }
+
+    fn register(&mut self, _hold: (), child: u16) -> BaseHeard
+        ensures told { result ≡ registered_told child }
+        ensures same { self.new ≡ self.old }
+    {
+        heard(Call::Registered, child, 0)
+    }
+
+    fn unregister(&mut self, _hold: (), child: u16) -> BaseHeard
+        ensures told { result ≡ unregistered_told child }
+        ensures wishes { self.new ≡ record self.old { wishes = without_child self.old.wishes child } }
+    {
+        self.wishes.remove(child);
+        heard(Call::Unregistered, child, 0)
+    }
+
+    fn request(&mut self, _hold: (), child: u16, count: u8) -> BaseHeard
+        ensures told { result ≡ requested_told child count }
+        ensures wishes { self.new ≡ record self.old { wishes = with_wishes self.old.wishes child count } }
+    {
+        self.wishes.add(child, count);
+        heard(Call::Requested, child, count)
+    }
+
+    fn yielded(&mut self, _hold: (), child: u16) -> BaseHeard
+        ensures told { result ≡ yielded_told child }
+        ensures same { self.new ≡ self.old }
+    {
+        heard(Call::Yielded, child, 0)
+    }
+
+    fn enter(&mut self, _hold: ()) -> Next<()> {
+        match self.wishes.take_oldest() {
+            Some(site) => Next::Lend(site),
+            None => Next::Nothing,
+        }
+    }
+
+    fn block(&mut self, _hold: ()) -> BaseHeard
+        ensures told { result ≡ blocked_told }
+        ensures same { self.new ≡ self.old }
+    {
+        heard(Call::Blocked, 0, 0)
+    }
+
+    /// Drops the value: the base has no ready list.
+    fn unblock(&mut self, _hold: (), _c: ()) -> Result<(), ()>
+        ensures done { IsOk result }
+        ensures same { self.new ≡ self.old }
+    {
+        Ok(())
+    }
+}

@@ -1,0 +1,12 @@
+pub mod Among
+pub mod Trees
+pub mod Capped
+pub mod Firsts
+pub mod NameLaws
+pub mod RangeLaws
+pub mod Unrolling
+pub mod Parents
+pub mod ShapeLaws
+pub mod Conditions
+pub mod PlanLaws
+pub mod Accepting

@@ -1,0 +1,26 @@
+-- The first of the ten conditions that a program fails, and what is told of it.
+use Rattle.std.specs.Prelude.{[], ◌∷◌, Option}
+use Rattle.std.specs.Option.{option_map}
+use Rattle.array_tree.specs.Trees.{ProgramTree}
+use Rattle.site_walk.specs.declared.fault.WalkFault.{WalkFault}
+use Rattle.site_walk.specs.declared.fault.WalkFault.TheVariants as walk
+use Rattle.site_walk.specs.Outside.{out_of_range_of}
+use Rattle.site_walk.specs.FirstOverlap.{overlap_of}
+use Rattle.disjoint_check.specs.Faults.{first_fault}
+use Rattle.disjoint_check.specs.LimitFault.{limit_fault_of}
+use Rattle.disjoint_check.specs.declared.fault.CheckFault.{CheckFault}
+use Rattle.disjoint_check.specs.declared.fault.CheckFault.TheVariants.{OutOfRange, Overlap, Memory}
+
+-- What is told of what the walk finds.
+abbrev pub of_walk : WalkFault → CheckFault
+of_walk (walk.OutOfRange line index length) = OutOfRange line index length
+of_walk (walk.Overlap line cell) = Overlap line cell
+of_walk walk.Memory = Memory
+
+-- The conditions on names, ranges and size come first, then the indices, then the overlaps.
+abbrev pub check_fault_of : ProgramTree → Option CheckFault
+check_fault_of program = first_fault
+    (limit_fault_of program
+    ∷ option_map of_walk (out_of_range_of program)
+    ∷ option_map of_walk (overlap_of program)
+    ∷ [])

@@ -1,0 +1,45 @@
+-- The first condition that a program fails, and what is told of it.
+use Rattle.std.specs.Prelude.{ℕ, ◌-◌, ◌^◌, ◌≤◌, IsTrue, min, false, [], ◌∷◌, Option, nat_le}
+use Rattle.std.specs.Option.{option_map}
+use Rattle.array_tree.specs.Trees.{ProgramTree}
+use Rattle.array_meaning.specs.Names.{has_single_names, has_only_known_names}
+use Rattle.array_meaning.specs.Limits.{is_in_range, has_no_site_under_if, depth_of, units_of, pieces_in}
+use Rattle.array_meaning.specs.Plans.{sites_in}
+use Rattle.disjoint_check.specs.Faults.{unless, first_fault}
+use Rattle.disjoint_check.specs.FirstNames.{duplicate_name, unknown_name}
+use Rattle.disjoint_check.specs.FirstRanges.{range_fault}
+use Rattle.disjoint_check.specs.FirstNesting.{site_under_if_in}
+use Rattle.disjoint_check.specs.declared.fault.CheckFault.{CheckFault}
+use Rattle.disjoint_check.specs.declared.fault.CheckFault.TheVariants.{DuplicateName, UnknownName, SiteUnderIf, TooDeep, TooMuchWork, TooManySites, TooManyPieces}
+
+-- A number as it is told: the greatest of 64 bits, where it is above that.
+abbrev pub capped : ℕ → ℕ
+capped n = min n (2 ^ 64 - 1)
+
+-- The greatest depth as it is told: the greatest number of 32 bits, where it is above that.
+abbrev pub told_depth : ℕ → ℕ
+told_depth depth = min depth (2 ^ 32 - 1)
+
+-- The first of the conditions on names, ranges and size that fails.
+abbrev pub limit_fault_of : ProgramTree → Option CheckFault
+limit_fault_of program = first_fault
+    (option_map DuplicateName (duplicate_name program)
+    ∷ option_map UnknownName (unknown_name program)
+    ∷ range_fault program
+    ∷ option_map SiteUnderIf (site_under_if_in program.body false)
+    ∷ unless (nat_le (depth_of program.body) 3) (TooDeep (told_depth (depth_of program.body)))
+    ∷ unless (nat_le (units_of program.body) 1048576) (TooMuchWork (capped (units_of program.body)))
+    ∷ unless (nat_le (sites_in program.body) 4095) (TooManySites (capped (sites_in program.body)))
+    ∷ unless (nat_le (pieces_in program.body) 16384) (TooManyPieces (capped (pieces_in program.body)))
+    ∷ [])
+
+-- The conditions on names, ranges and size.
+pub record MeetsLimits (program : ProgramTree) : Type 0 where
+  pub single_names : IsTrue (has_single_names program)
+  pub known_names : IsTrue (has_only_known_names program)
+  pub ranges : IsTrue (is_in_range program)
+  pub no_site_under_if : IsTrue (has_no_site_under_if program.body false)
+  pub levels : depth_of program.body ≤ 3
+  pub work : units_of program.body ≤ 1048576
+  pub sites : sites_in program.body ≤ 4095
+  pub pieces : pieces_in program.body ≤ 16384

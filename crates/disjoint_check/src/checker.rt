@@ -1,0 +1,34 @@
+//! The check of a program.
+ghost use Rattle.std.specs.Prelude.{◌≡◌, ◌≤◌, ◌⊎◌, IfOk, IfErr, Some};
+ghost use Rattle.array_tree.specs.Trees.{program_of};
+ghost use Rattle.array_meaning.specs.Accepted.{IsAccepted};
+ghost use Rattle.disjoint_check.specs.FaultOf.{check_fault_of};
+
+use crate::accepted::{Accepted, accept};
+use crate::fault::CheckFault;
+use crate::limits::limit_fault;
+use array_tree::Program;
+use site_walk::walk_program;
+use std::alloc::Global;
+
+/// Whether a program may be run in parallel, by so many harts. If so, what is known of it; else the first condition
+/// that it fails, or that memory was wanting, which is answered at will.
+///
+/// Names, ranges and sizes take time in proportion to the text, but for names, each of which is looked for among all
+/// arrays and the loops around. The walk takes time in proportion to the units of work, and comes only where these
+/// are at most 1,048,576.
+#[tactic(auto, using(crate::proofs::Accepting::limit_is_first, crate::proofs::Accepting::walk_is_next))]
+pub fn check<'p>(alloc: Global, program: &'p Program, harts: u8) -> Result<Accepted<'p>, CheckFault>
+    requires some_hart { 1 ≤ harts }
+    requires few_harts { harts ≤ 4 }
+    ensures program { IfOk result (λ a. a.program ≡ program.now) }
+    ensures harts { IfOk result (λ a. a.plan.harts ≡ harts) }
+    ensures accepted { IfOk result (λ a. IsAccepted (program_of program.now)) }
+    ensures fault { IfErr result (λ why. (why ≡ CheckFault.Memory) ⊎ (check_fault_of (program_of program.now) ≡ Some why)) }
+{
+    if let Some(fault) = limit_fault(program) {
+        return Err(fault);
+    }
+    walk_program(alloc, program)?;
+    accept(alloc, program, harts)
+}

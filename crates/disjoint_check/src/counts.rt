@@ -1,0 +1,150 @@
+//! How many sites a program enters, and how many pieces they have.
+ghost use Rattle.std.specs.Prelude.{◌≡◌, ℕ, ◌+◌, ◌*◌};
+ghost use Rattle.array_tree.specs.Trees.{statement_of, sequence_of, sequences_of};
+ghost use Rattle.array_meaning.specs.Plans.{sites_in, statement_sites_in, branches_sites_in};
+ghost use Rattle.array_meaning.specs.Limits.{pieces_in, statement_pieces_in, branches_pieces_in};
+ghost use Rattle.disjoint_check.specs.LimitFault.{capped};
+
+use crate::ranges::count_of;
+use crate::units::span;
+use array_tree::{Block, Blocks, Stmt};
+
+/// How many sites a block enters. Here and below the greatest number of 64 bits stands for all above it. What is
+/// never entered isn't looked into.
+#[cycle(sites)]
+pub(crate) fn sites_in_block(block: &Block) -> u64
+    ensures { result ≡ capped (sites_in (sequence_of block.now)) }
+{
+    let mut sites: u64 = 0;
+    for statement in &block.statements {
+        sites = sites.saturating_add(sites_in_statement(statement));
+    }
+    sites
+}
+
+#[cycle(sites)]
+fn sites_in_statement(statement: &Stmt) -> u64
+    ensures { result ≡ capped (statement_sites_in (statement_of statement.now)) }
+{
+    match statement {
+        Stmt::Assign { .. } => 0,
+        Stmt::For {
+            low,
+            high,
+            body,
+            ..
+        } => {
+            let turns = span(*low, *high);
+            if turns == 0 {
+                0
+            } else {
+                times(turns, sites_in_block(body))
+            }
+        }
+        Stmt::If {
+            then_block,
+            else_block,
+            ..
+        } => sites_in_block(then_block).saturating_add(sites_in_block(else_block)),
+        Stmt::Par { branches, .. } => sites_among(branches).saturating_add(1),
+        Stmt::Team {
+            low,
+            high,
+            phases,
+            ..
+        } => {
+            let turns = span(*low, *high);
+            if turns == 0 {
+                1
+            } else {
+                times(turns, sites_among(phases)).saturating_add(1)
+            }
+        }
+    }
+}
+
+#[cycle(sites)]
+fn sites_among(blocks: &Blocks) -> u64
+    ensures { result ≡ capped (branches_sites_in (sequences_of blocks.now)) }
+{
+    let mut sites: u64 = 0;
+    for block in &blocks.blocks {
+        sites = sites.saturating_add(sites_in_block(block));
+    }
+    sites
+}
+
+/// How many pieces the sites have that a block enters.
+#[cycle(pieces)]
+pub(crate) fn pieces_in_block(block: &Block) -> u64
+    ensures { result ≡ capped (pieces_in (sequence_of block.now)) }
+{
+    let mut pieces: u64 = 0;
+    for statement in &block.statements {
+        pieces = pieces.saturating_add(pieces_in_statement(statement));
+    }
+    pieces
+}
+
+#[cycle(pieces)]
+fn pieces_in_statement(statement: &Stmt) -> u64
+    ensures { result ≡ capped (statement_pieces_in (statement_of statement.now)) }
+{
+    match statement {
+        Stmt::Assign { .. } => 0,
+        Stmt::For {
+            low,
+            high,
+            body,
+            ..
+        } => times(span(*low, *high), pieces_in_block(body)),
+        Stmt::If {
+            then_block,
+            else_block,
+            ..
+        } => pieces_in_block(then_block).saturating_add(pieces_in_block(else_block)),
+        Stmt::Par { branches, .. } => {
+            pieces_among(branches).saturating_add(count_of(branches) as u64)
+        }
+        Stmt::Team {
+            low,
+            high,
+            members,
+            phases,
+            ..
+        } => pieces_of_team(
+            members.unsigned_abs(),
+            count_of(phases) as u64,
+            span(*low, *high),
+            pieces_among(phases),
+        ),
+    }
+}
+
+#[cycle(pieces)]
+fn pieces_among(blocks: &Blocks) -> u64
+    ensures { result ≡ capped (branches_pieces_in (sequences_of blocks.now)) }
+{
+    let mut pieces: u64 = 0;
+    for block in &blocks.blocks {
+        pieces = pieces.saturating_add(pieces_in_block(block));
+    }
+    pieces
+}
+
+// So many times a number.
+#[tactic(auto, using(crate::proofs::Capped::capped_product))]
+fn times(turns: u64, number: u64) -> u64
+    ensures { (each : ℕ) → number ≡ capped each → result ≡ capped (turns * each) }
+{
+    turns.saturating_mul(number)
+}
+
+// The pieces of a team of so many members and phases, with so many inside each turn of all phases.
+fn pieces_of_team(members: u64, phases: u64, turns: u64, inside: u64) -> u64
+    ensures { (each : ℕ) → inside ≡ capped each → result ≡ capped (members * phases + turns * each) }
+{
+    members
+        .saturating_mul(phases)
+        .saturating_add(times(turns, inside))
+}

@@ -1,0 +1,25 @@
+//! The checker: which programs may be run in parallel, the first condition that another one fails, and the plan of
+//! those that are accepted.
+#![tactic(auto)]
+
+mod accepted;
+mod around;
+mod checker;
+mod counts;
+mod depth;
+mod fault;
+mod laws;
+mod limits;
+mod names;
+mod ranges;
+mod under_if;
+mod units;
+mod unroll;
+
+pub use accepted::Accepted;
+pub use checker::check;
+pub use fault::{CheckFault, Limit};
+pub use laws::{conditions_are_checked, conditions_are_tested};
+
+#[cfg(test)]
+mod tests;

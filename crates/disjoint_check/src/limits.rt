@@ -1,0 +1,62 @@
+//! The conditions on names, ranges and size.
+ghost use Rattle.std.specs.Prelude.{◌≡◌};
+ghost use Rattle.std.specs.Option.{option_map};
+ghost use Rattle.array_tree.specs.Trees.{program_of};
+ghost use Rattle.disjoint_check.specs.LimitFault.{limit_fault_of};
+
+use crate::counts::{pieces_in_block, sites_in_block};
+use crate::depth::depth_of_block;
+use crate::fault::CheckFault;
+use crate::names::{duplicate_name, unknown_name};
+use crate::ranges::range_fault;
+use crate::under_if::site_under_if_in_block;
+use crate::units::units_of_block;
+use array_tree::Program;
+
+/// The greatest depth to which constructs nest.
+const MOST_LEVELS: u32 = 3;
+
+/// The greatest number of units of work.
+const MOST_UNITS: u64 = 1_048_576;
+
+/// The greatest number of sites.
+const MOST_SITES: u64 = 4095;
+
+/// The greatest number of pieces.
+const MOST_PIECES: u64 = 16_384;
+
+/// The first of the conditions on names, ranges and size that fails. It takes time in proportion to the program's
+/// text, but for names, which are looked up among all arrays and the loops around.
+pub(crate) fn limit_fault(program: &Program) -> Option<CheckFault>
+    ensures { result ≡ limit_fault_of (program_of program.now) }
+{
+    if let Some(line) = duplicate_name(program) {
+        return Some(CheckFault::DuplicateName { line });
+    }
+    if let Some(line) = unknown_name(program) {
+        return Some(CheckFault::UnknownName { line });
+    }
+    if let Some(fault) = range_fault(program) {
+        return Some(fault);
+    }
+    if let Some(line) = site_under_if_in_block(&program.body, false) {
+        return Some(CheckFault::SiteUnderIf { line });
+    }
+    let level = depth_of_block(&program.body);
+    if level > MOST_LEVELS {
+        return Some(CheckFault::TooDeep { level });
+    }
+    let units = units_of_block(&program.body);
+    if units > MOST_UNITS {
+        return Some(CheckFault::TooMuchWork { units });
+    }
+    let sites = sites_in_block(&program.body);
+    if sites > MOST_SITES {
+        return Some(CheckFault::TooManySites { sites });
+    }
+    let pieces = pieces_in_block(&program.body);
+    if pieces > MOST_PIECES {
+        return Some(CheckFault::TooManyPieces { pieces });
+    }
+    None
+}

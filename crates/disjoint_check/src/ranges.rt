@@ -1,0 +1,162 @@
+//! Lengths, bounds and counts outside their limits.
+ghost use Rattle.std.specs.Prelude.{◌≡◌, ◌≤◌, map};
+ghost use Rattle.array_tree.specs.Trees.{statement_of, sequence_of, sequences_of, declaration_of, program_of};
+ghost use Rattle.array_meaning.specs.Limits.{count_of};
+ghost use Rattle.disjoint_check.specs.FirstRanges.{declaration_fault, declarations_fault, team_fault, range_fault_in, statement_range_fault, range_fault_among, range_fault, told};
+
+use crate::fault::{CheckFault, Limit};
+use array_tree::{ArrayDecl, Block, Blocks, Program, Stmt};
+
+/// The first declaration, `for`, `par` or `team` outside a limit.
+pub(crate) fn range_fault(program: &Program) -> Option<CheckFault>
+    ensures { result ≡ range_fault (program_of program.now) }
+{
+    if let Some(fault) = declarations_fault(&program.arrays.declarations) {
+        return Some(fault);
+    }
+    range_fault_in_block(&program.body)
+}
+
+fn declarations_fault(declarations: &[ArrayDecl]) -> Option<CheckFault>
+    ensures { result ≡ declarations_fault (map declaration_of declarations.now) 0 0 }
+{
+    let mut cells = 0;
+    for (i, array) in declarations.iter().enumerate() {
+        if let Some(fault) = declaration_fault(array, i, cells) {
+            return Some(fault);
+        }
+        cells += array.length.unsigned_abs() as u32;
+    }
+    None
+}
+
+// The limits of a declaration, with so many arrays and so many cells before it.
+fn declaration_fault(array: &ArrayDecl, arrays: usize, cells: u32) -> Option<CheckFault>
+    requires { cells ≤ 4096 }
+    ensures { result ≡ declaration_fault (declaration_of array.now) arrays cells }
+{
+    let line = array.line;
+    let length = array.length;
+    if length < 1 || length > 4096 {
+        return Some(bad_range(line, Limit::Length, length));
+    }
+    if arrays >= 64 {
+        return Some(bad_range(line, Limit::Names, 65));
+    }
+    let sum = i64::from(cells) + length;
+    if sum > 4096 {
+        return Some(bad_range(line, Limit::Cells, sum));
+    }
+    None
+}
+
+#[cycle(ranges)]
+fn range_fault_in_block(block: &Block) -> Option<CheckFault>
+    ensures { result ≡ range_fault_in (sequence_of block.now) }
+{
+    for statement in &block.statements {
+        if let Some(fault) = range_fault_in_statement(statement) {
+            return Some(fault);
+        }
+    }
+    None
+}
+
+#[cycle(ranges)]
+fn range_fault_in_statement(statement: &Stmt) -> Option<CheckFault>
+    ensures { result ≡ statement_range_fault (statement_of statement.now) }
+{
+    match statement {
+        Stmt::Assign { .. } => None,
+        Stmt::For {
+            line,
+            low,
+            high,
+            body,
+            ..
+        } => {
+            if low > high {
+                return Some(bad_range(*line, Limit::Bounds, *high));
+            }
+            range_fault_in_block(body)
+        }
+        Stmt::If {
+            then_block,
+            else_block,
+            ..
+        } => {
+            if let Some(fault) = range_fault_in_block(then_block) {
+                return Some(fault);
+            }
+            range_fault_in_block(else_block)
+        }
+        Stmt::Par { line, branches } => {
+            let count = count_of(branches);
+            if count < 1 || count > 64 {
+                return Some(bad_range(*line, Limit::Branches, told(count)));
+            }
+            range_fault_among(branches)
+        }
+        Stmt::Team {
+            line,
+            low,
+            high,
+            members,
+            phases,
+            ..
+        } => {
+            if let Some(fault) = team_fault(*line, *low, *high, *members, count_of(phases)) {
+                return Some(fault);
+            }
+            range_fault_among(phases)
+        }
+    }
+}
+
+#[cycle(ranges)]
+fn range_fault_among(blocks: &Blocks) -> Option<CheckFault>
+    ensures { result ≡ range_fault_among (sequences_of blocks.now) }
+{
+    for block in &blocks.blocks {
+        if let Some(fault) = range_fault_in_block(block) {
+            return Some(fault);
+        }
+    }
+    None
+}
+
+// The limits of a `team` of so many phases.
+fn team_fault(line: u32, low: i64, high: i64, members: i64, phases: usize) -> Option<CheckFault>
+    ensures { result ≡ team_fault line low high members phases }
+{
+    if low > high {
+        return Some(bad_range(line, Limit::Bounds, high));
+    }
+    if members < 1 || members > 64 {
+        return Some(bad_range(line, Limit::Members, members));
+    }
+    if phases < 1 || phases > 8 {
+        return Some(bad_range(line, Limit::Phases, told(phases)));
+    }
+    None
+}
+
+fn bad_range(line: u32, what: Limit, found: i64) -> CheckFault
+    ensures { result ≡ CheckFault.BadRange line what found }
+{
+    CheckFault::BadRange { line, what, found }
+}
+
+/// How many blocks stand beside one another.
+pub(crate) fn count_of(blocks: &Blocks) -> usize
+    ensures { result ≡ count_of (sequences_of blocks.now) }
+{
+    blocks.blocks.len()
+}
+
+// A number of parts as it is told.
+fn told(count: usize) -> i64
+    ensures { result ≡ told count }
+{
+    i64::try_from(count).unwrap_or(i64::MAX)
+}

@@ -1,0 +1,2 @@
+pub mod SyntaxText
+pub mod RefusalText

@@ -1,0 +1,55 @@
+//! The lines by the faults that they tell.
+use crate::{refusal_line, syntax_line};
+use array_lang::{SyntaxFault, parse};
+use disjoint_check::{CheckFault, Limit};
+use std::test::Fail;
+
+#[test]
+fn faults_of_texts_tell_their_places(rt: HostRuntime) -> Result<(), Fail> {
+    let line = syntax_line(rt.alloc(), SyntaxFault::Unexpected { at: 9 })?;
+    assert_eq!(rt;
+        line.as_slice(),
+        b"syntax: unexpected at byte 9\n".as_slice()
+    );
+    let line = syntax_line(rt.alloc(), SyntaxFault::NotAscii { at: 6 })?;
+    assert_eq!(rt;
+        line.as_slice(),
+        b"syntax: byte 6 is not ASCII\n".as_slice()
+    );
+    Ok(())
+}
+
+#[test]
+fn faults_of_programs_tell_what_was_found(rt: HostRuntime) -> Result<(), Fail> {
+    let alloc = rt.alloc();
+    let program = parse(alloc, b"array a[2]; array b[3];")
+        .ok()
+        .ok_or("no program")?;
+    let fault = CheckFault::Overlap { line: 1, cell: 4 };
+    let line = refusal_line(alloc, &program, fault)?;
+    assert_eq!(rt;
+        line.as_slice(),
+        b"refused: overlap on b[2] at line 1\n".as_slice()
+    );
+    let fault = CheckFault::BadRange {
+        line: 2,
+        what: Limit::Bounds,
+        found: -3,
+    };
+    let line = refusal_line(alloc, &program, fault)?;
+    assert_eq!(rt;
+        line.as_slice(),
+        b"refused: bounds -3 at line 2\n".as_slice()
+    );
+    let fault = CheckFault::OutOfRange {
+        line: 1,
+        index: 4,
+        length: 4,
+    };
+    let line = refusal_line(alloc, &program, fault)?;
+    assert_eq!(rt;
+        line.as_slice(),
+        b"refused: index 4 outside 4 cells at line 1\n".as_slice()
+    );
+    Ok(())
+}

@@ -1,0 +1,4 @@
+pub mod Words
+pub mod Homes
+pub mod Single
+pub mod Hands

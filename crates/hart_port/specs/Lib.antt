@@ -1,0 +1,4 @@
+pub mod Count
+pub mod SiteWord
+pub mod Hand
+pub mod Plain

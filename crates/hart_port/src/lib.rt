@@ -1,0 +1,17 @@
+//! Ports: one hart's right to make transfers.
+//!
+//! A port is what a hart moves by. Its calls are the five kinds of entry of the table, and looks at
+//! what other harts did. `Port` says what each call needs and does, whatever harts there are;
+//! `PlainPort` is the port of a single hart that shares nothing. `specs/Hand.antt` has what contracts
+//! see of a port.
+#![tactic(auto)]
+
+mod plain;
+mod port;
+mod word;
+
+pub use plain::PlainPort;
+pub use port::{Entered, Port, Seen, Taken};
+
+#[cfg(test)]
+mod tests;

@@ -1,0 +1,38 @@
+//! What a callback of a scheduler gives.
+ghost use Rattle.std.specs.Prelude.{◌≡◌};
+ghost use Rattle.sched_api.specs.declared.hearing.Told.{Told};
+
+/// The callbacks that tell.
+#[derive(Clone, Copy, Debug, PartialEq, Eq)]
+pub enum Call {
+    /// A child has registered.
+    Registered,
+    /// A child has unregistered.
+    Unregistered,
+    /// A child asks for harts.
+    Requested,
+    /// A hart came back from a child.
+    Yielded,
+    /// A context waits at a mutex.
+    Blocked,
+}
+
+/// What a scheduler was told.
+#[derive(Clone, Copy, Debug, PartialEq, Eq)]
+pub struct Told {
+    pub call: Call,
+    /// The child's site; 0 for `Blocked`.
+    pub child: u16,
+    /// How many harts the child asks for; 0 for all but `Requested`.
+    pub count: u8,
+}
+
+/// What a callback of a scheduler gives. Only the scheduler's own callbacks make one, so who has one
+/// has called one.
+pub trait Hearing: Drop {
+    ghost heard: { Self → Told };
+
+    /// What the scheduler was told.
+    fn told(&self) -> Told
+        ensures { result ≡ heard self.now };
+}

@@ -1,0 +1,21 @@
+//! What schedulers hear and answer, and the calls that move a hart between a parent and its child.
+//!
+//! A scheduler is told when a child of it registers, unregisters, asks for harts or gives one back,
+//! and when a context of it waits; `enter` says what a hart that comes to it does next. Each of the
+//! six calls that move a hart makes the port's transfer and the callback that belongs to it.
+#![tactic(auto)]
+
+mod hearing;
+mod primitives;
+mod scheduler;
+mod wishes;
+
+pub use hearing::{Call, Hearing, Told};
+pub use primitives::{
+    sched_enter, sched_reenter, sched_register, sched_request, sched_unregister, sched_yield,
+};
+pub use scheduler::{Lent, Next, Scheduler};
+pub use wishes::Wishes;
+
+#[cfg(test)]
+mod tests;

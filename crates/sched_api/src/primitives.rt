@@ -1,0 +1,112 @@
+//! The calls that move a hart. Each makes the port's transfer and the callback that belongs to it.
+ghost use Rattle.std.specs.Prelude.{◌≡◌, ◌<◌, false};
+ghost use Rattle.transfer_table.specs.Plan.{IsSite, parent as parent_of};
+ghost use Rattle.hart_port.specs.Hand.{IsHand, is_in, MayRequest, requested_by, yielded, MayUnregister, unregistered};
+ghost use Rattle.sched_api.specs.Calls.{IsHeard, Lends, requested_told, yielded_told, unregistered_told};
+
+use crate::scheduler::{Lent, Next, Scheduler};
+use hart_port::{Entered, Port, Taken};
+
+/// Registers the site, and tells the parent. Where the site is taken, the parent isn't told.
+pub fn sched_register<P: Port, S: Scheduler>(
+    port: &mut P,
+    ph: P::Hold,
+    parent: &mut S,
+    sh: S::Hold,
+    site: u16,
+) -> Result<S::Heard, Taken>
+    requires known { IsSite (P.seen port.old).plan site }
+    requires child { (P.seen port.old).owner ≡ parent_of (P.seen port.old).plan site }
+    ensures does { IsHeard S.Heard.heard site (P.seen port.old) parent.old result (P.seen port.new) parent.new }
+    ensures site { S.site_of parent.new ≡ S.site_of parent.old }
+    ensures kept { IsHand (P.seen port.new) }
+{
+    port.register(ph, site)?;
+    Ok(parent.register(sh, site))
+}
+
+/// Asks for `count` harts for the site, and tells the parent.
+pub fn sched_request<P: Port, S: Scheduler>(
+    port: &mut P,
+    ph: P::Hold,
+    parent: &mut S,
+    sh: S::Hold,
+    site: u16,
+    count: u8,
+) -> S::Heard
+    requires known { IsSite (P.seen port.old).plan site }
+    requires may { MayRequest (P.seen port.old) site count }
+    ensures does { P.seen port.new ≡ requested_by (P.seen port.old) site count }
+    ensures told { S.Heard.heard result ≡ requested_told site count }
+    ensures site { S.site_of parent.new ≡ S.site_of parent.old }
+    ensures kept { IsHand (P.seen port.new) }
+{
+    port.request(ph, site, count);
+    parent.request(sh, site, count)
+}
+
+/// Unregisters the port's owner, and tells the parent.
+pub fn sched_unregister<P: Port, S: Scheduler>(
+    port: &mut P,
+    ph: P::Hold,
+    parent: &mut S,
+    sh: S::Hold,
+) -> S::Heard
+    requires { MayUnregister (P.seen port.old) }
+    ensures does { P.seen port.new ≡ unregistered (P.seen port.old) }
+    ensures told { S.Heard.heard result ≡ unregistered_told (P.seen port.old).owner }
+    ensures site { S.site_of parent.new ≡ S.site_of parent.old }
+    ensures kept { IsHand (P.seen port.new) }
+{
+    let child = port.owner();
+    port.unregister(ph);
+    parent.unregister(sh, child)
+}
+
+/// Gives the hart back from the port's owner to the parent, and tells the parent.
+pub fn sched_yield<P: Port, S: Scheduler>(
+    port: &mut P,
+    ph: P::Hold,
+    parent: &mut S,
+    sh: S::Hold,
+) -> S::Heard
+    requires inside { 0 < (P.seen port.old).owner }
+    requires guest { is_in (P.seen port.old).homes (P.seen port.old).owner ≡ false }
+    ensures does { P.seen port.new ≡ yielded (P.seen port.old) }
+    ensures told { S.Heard.heard result ≡ yielded_told (P.seen port.old).owner }
+    ensures site { S.site_of parent.new ≡ S.site_of parent.old }
+    ensures kept { IsHand (P.seen port.new) }
+{
+    let child = port.owner();
+    port.yield_hart(ph);
+    parent.yielded(sh, child)
+}
+
+/// Tries to enter the child's site, and asks the child what to do next. Where the hart isn't inside,
+/// the child isn't asked.
+pub fn sched_enter<P: Port, S: Scheduler>(
+    port: &mut P,
+    ph: P::Hold,
+    child: &mut S,
+    sh: S::Hold,
+) -> Lent<S::Ctx>
+    requires known { IsSite (P.seen port.old).plan (S.site_of child.old) }
+    requires child { (P.seen port.old).owner ≡ parent_of (P.seen port.old).plan (S.site_of child.old) }
+    ensures does { Lends S.answers (S.site_of child.old) (P.seen port.old) child.old result (P.seen port.new) child.new }
+    ensures site { S.site_of child.new ≡ S.site_of child.old }
+    ensures kept { IsHand (P.seen port.new) }
+{
+    match port.try_enter(ph, child.site()) {
+        Entered::Inside => Lent::Inside(child.enter(sh)),
+        Entered::NotWanted { shown } => Lent::NotWanted { shown },
+        Entered::Moved { read, found } => Lent::Moved { read, found },
+    }
+}
+
+/// Asks the scheduler that the hart is in what to do next.
+pub fn sched_reenter<S: Scheduler>(current: &mut S, sh: S::Hold) -> Next<S::Ctx>
+    ensures does { S.answers current.old result current.new }
+    ensures site { S.site_of current.new ≡ S.site_of current.old }
+{
+    current.enter(sh)
+}

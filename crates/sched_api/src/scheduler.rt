@@ -1,0 +1,85 @@
+//! Schedulers, as a hart finds them.
+ghost use Rattle.std.specs.Prelude.{◌≡◌, ℕ};
+ghost use Rattle.sched_api.specs.declared.scheduler.Next.{Next};
+ghost use Rattle.sched_api.specs.Calls.{registered_told, unregistered_told, requested_told, yielded_told, blocked_told};
+
+use crate::hearing::{Hearing, Told};
+
+/// What a hart does next.
+#[derive(Clone, Copy, Debug, PartialEq, Eq, Drop)]
+pub enum Next<C> {
+    /// It runs this context.
+    Run(C),
+    /// It tries to enter the child of this site.
+    Lend(u16),
+    /// There is nothing to do.
+    Nothing,
+}
+
+/// What came of a try to enter a child.
+#[derive(Clone, Copy, Debug, PartialEq, Eq, Drop)]
+pub enum Lent<C> {
+    /// The hart is in the child, which says what it does next.
+    Inside(Next<C>),
+    /// The site word, which is shown, wants no hart.
+    NotWanted { shown: u64 },
+    /// The word read wants a hart, but at the exchange another one was found.
+    Moved { read: u64, found: u64 },
+}
+
+/// One hart's hand on one scheduler. No call takes memory.
+pub trait Scheduler {
+    /// What a call needs of the runtime.
+    type Hold: Copy;
+
+    /// What a callback gives.
+    type Heard: Hearing;
+
+    /// The contexts that the scheduler runs.
+    type Ctx;
+
+    /// The scheduler's site.
+    ghost site_of: { Self → ℕ };
+
+    /// Of a scheduler, what `enter` answers there, and the scheduler afterwards.
+    ghost answers: { Self → Next Self.Ctx → Self → Type 0 };
+
+    /// The scheduler's site; 0 is the base.
+    fn site(&self) -> u16
+        ensures { result ≡ site_of self.now };
+
+    /// A child has registered.
+    fn register(&mut self, hold: Self::Hold, child: u16) -> Self::Heard
+        ensures told { Self.Heard.heard result ≡ registered_told child }
+        ensures site { site_of self.new ≡ site_of self.old };
+
+    /// A child has unregistered. Its wishes are met no more.
+    fn unregister(&mut self, hold: Self::Hold, child: u16) -> Self::Heard
+        ensures told { Self.Heard.heard result ≡ unregistered_told child }
+        ensures site { site_of self.new ≡ site_of self.old };
+
+    /// A child asks for `count` harts. A wish may stay unmet.
+    fn request(&mut self, hold: Self::Hold, child: u16, count: u8) -> Self::Heard
+        ensures told { Self.Heard.heard result ≡ requested_told child count }
+        ensures site { site_of self.new ≡ site_of self.old };
+
+    /// A hart came back from a child.
+    fn yielded(&mut self, hold: Self::Hold, child: u16) -> Self::Heard
+        ensures told { Self.Heard.heard result ≡ yielded_told child }
+        ensures site { site_of self.new ≡ site_of self.old };
+
+    /// What a hart that comes to the scheduler does next.
+    fn enter(&mut self, hold: Self::Hold) -> Next<Self::Ctx>
+        ensures does { answers self.old result self.new }
+        ensures site { site_of self.new ≡ site_of self.old };
+
+    /// A context waits at a mutex, which keeps it.
+    fn block(&mut self, hold: Self::Hold) -> Self::Heard
+        ensures told { Self.Heard.heard result ≡ blocked_told }
+        ensures site { site_of self.new ≡ site_of self.old };
+
+    /// A context waits no longer, and is put last on the ready list. Where the list fills its room,
+    /// the context is handed back.
+    fn unblock(&mut self, hold: Self::Hold, c: Self::Ctx) -> Result<(), Self::Ctx>
+        ensures { site_of self.new ≡ site_of self.old };
+}

@@ -1,0 +1,338 @@
+-- Where each index is inside its array and each name known, no least cell of an overlap means that pieces are apart.
+use Rattle.std.proofs.Common.{◌≡◌, ℕ, zero, suc, ◌+◌, ◌<◌, ◌≤◌, cond, Bool, true, false, List, [], ◌∷◌, ◌++◌, Option, Some, None, ℤ, pos, negsuc, ◌+ℤ◌, refl, sym, ap, subst, ◌∙◌, arith}
+use Rattle.std.specs.Prelude.{◌&&◌, ◌||◌, not, unsigned_abs, nat_eq, nat_lt}
+use Rattle.std.proofs.lemmas.Bool.{false≢true}
+use Rattle.std.proofs.lemmas.Bool.Decides.{nat_tests}
+use Rattle.std.proofs.lemmas.Int.{ints}
+use Rattle.array_tree.specs.Trees.{Expression, Number, Var, Read, Neg, Binary, Statement, Assign, For, If, Par, Team, Sequence, ended, followed, Sequences, no_more, beside, Declaration, ProgramTree}
+use Rattle.array_meaning.specs.Stores.{Arrays, Vars, is_name, arrays_of, base_of, length_of, cells_of}
+use Rattle.array_meaning.specs.Steps.{Steps, followed_by, join}
+use Rattle.array_meaning.specs.Work.{Work, turns, span, loop, statement_work, sequence_work, branches_work, phases_work}
+use Rattle.array_meaning.specs.Members.{member_works, team_works}
+use Rattle.array_meaning.specs.Touch.{Visit, walk, visit, reads_in}
+use Rattle.array_meaning.specs.Overlap.{covers, changed, read, overlaps, first_from, overlap}
+use Rattle.array_meaning.specs.Sites.{Site, branch_works, phase_rounds, turn_sites, statement_sites, sequence_sites, branches_sites, phases_sites, AreRoundsApart, AreSitesApart}
+use Rattle.array_meaning.specs.Names.{is_among, names_of, uses_known_names, statement_has_known_names, has_known_names, have_known_names, has_only_known_names}
+use Rattle.array_meaning.specs.Accepted.{is_inside, are_inside, has_indices_inside, HasApartSites}
+use Rattle.array_meaning.proofs.FrameLemmas.{walk_followed_by}
+use Rattle.array_meaning.proofs.MemberLemmas.{members_loop}
+use Rattle.array_meaning.proofs.OverlapLemmas.{apart_of_clear, clear_of_apart}
+use Rattle.site_walk.specs.declared.fault.WalkFault.{WalkFault}
+use Rattle.site_walk.specs.Outside.{or_else, out_of_range_of}
+use Rattle.site_walk.specs.FirstOverlap.{cell_fault, rounds_fault, first_overlap, overlap_of, walk_fault_of}
+use Rattle.site_walk.proofs.OutsideLemmas.{inside_of_none}
+
+both_true : (a b : Bool) → (a && b) ≡ true → (a ≡ true) × (b ≡ true)
+both_true true b e = (refl, e)
+both_true false b e = absurd (false≢true e)
+
+-- ---- what holds of each visit of a program holds of each visit of each piece
+
+module _ (arrays : Arrays) (P : Visit → Type 0) where
+  abbrev Each : List Visit → Type 0
+  Each [] = Unit {0}
+  Each (v ∷ more) = P v × Each more
+
+  each_left : (xs ys : List Visit) → Each (xs ++ ys) → Each xs
+  each_left [] ys h = tt
+  each_left (v ∷ xs) ys h = (h.0, each_left xs ys h.1)
+
+  each_right : (xs ys : List Visit) → Each (xs ++ ys) → Each ys
+  each_right [] ys h = h
+  each_right (v ∷ xs) ys h = each_right xs ys h.1
+
+  each_append : (xs ys : List Visit) → Each xs → Each ys → Each (xs ++ ys)
+  each_append [] ys h k = k
+  each_append (v ∷ xs) ys h k = (h.0, each_append xs ys h.1 k)
+
+  abbrev EachPiece : List Steps → Type 0
+  EachPiece [] = Unit {0}
+  EachPiece (p ∷ more) = Each (walk arrays p) × EachPiece more
+
+  abbrev EachRound : List (List Steps) → Type 0
+  EachRound [] = Unit {0}
+  EachRound (r ∷ more) = EachPiece r × EachRound more
+
+  abbrev EachSite : List Site → Type 0
+  EachSite [] = Unit {0}
+  EachSite (s ∷ more) = EachRound s.rounds × EachSite more
+
+  site_append : (xs ys : List Site) → EachSite xs → EachSite ys → EachSite (xs ++ ys)
+  site_append [] ys h k = k
+  site_append (s ∷ xs) ys h k = (h.0, site_append xs ys h.1 k)
+
+  of_followed : (a b : Steps) → Each (walk arrays (followed_by a b)) → Each (walk arrays a) × Each (walk arrays b)
+  of_followed a b h =
+      let parts : Each (walk arrays a ++ walk arrays b) = subst Each (walk_followed_by arrays a b) h in
+      (each_left (walk arrays a) (walk arrays b) parts, each_right (walk arrays a) (walk arrays b) parts)
+
+  of_join : (ps : List Steps) → Each (walk arrays (join ps)) → EachPiece ps
+  of_join [] h = tt
+  of_join (p ∷ ps) h = let parts = of_followed p (join ps) h in (parts.0, of_join ps parts.1)
+
+  of_branches : (bs : Sequences) (vars : Vars) → Each (walk arrays (branches_work bs vars)) → EachPiece (branch_works bs vars)
+  of_branches no_more vars h = tt
+  of_branches (beside first rest) vars h =
+      let parts = of_followed (sequence_work first vars) (branches_work rest vars) h in (parts.0, of_branches rest vars parts.1)
+
+  of_team : (var : List ℕ) (low high : ℤ) (m : ℕ) (body : Work) (vars : Vars) → Each (walk arrays (loop var low high body vars)) →
+      EachPiece (team_works var low high m body vars)
+  of_team var low high zero body vars h = tt
+  of_team var low high (suc k) body vars h =
+      of_join (member_works var low high (suc k) body 0 (suc k) vars)
+      (subst (λ w. Each (walk arrays w)) (sym (members_loop var low high (suc k) body vars (let some : 0 < suc k = omega arith in some))) h)
+
+  of_phases : (phases : Sequences) (var : List ℕ) (low high : ℤ) (m : ℕ) (vars : Vars) → Each (walk arrays (phases_work phases var low high vars)) →
+      EachRound (phase_rounds phases var low high m vars)
+  of_phases no_more var low high m vars h = tt
+  of_phases (beside first rest) var low high m vars h =
+      let parts = of_followed (loop var low high (sequence_work first) vars) (phases_work rest var low high vars) h in
+      (of_team var low high m (sequence_work first) vars parts.0, of_phases rest var low high m vars parts.1)
+
+  of_turns : (work : ℤ → Steps) (sites : ℤ → List Site) → ((x : ℤ) → Each (walk arrays (work x)) → EachSite (sites x)) → (x : ℤ) (n : ℕ) →
+      Each (walk arrays (turns work x n)) → EachSite (turn_sites sites x n)
+  of_turns work sites one x zero h = tt
+  of_turns work sites one x (suc n) h =
+      let parts = of_followed (work x) (turns work (x +ℤ pos 1) n) h in
+      site_append (sites x) (turn_sites sites (x +ℤ pos 1) n) (one x parts.0) (of_turns work sites one (x +ℤ pos 1) n parts.1)
+
+  mutual
+    of_statement : (s : Statement) (vars : Vars) → Each (walk arrays (statement_work s vars)) → EachSite (statement_sites s vars)
+    of_statement (Assign line array index value) vars h = tt
+    of_statement (For line var low high body) vars h =
+        of_turns (λ x. sequence_work body ((var, x) ∷ vars)) (λ x. sequence_sites body ((var, x) ∷ vars)) (λ x. of_sequence body ((var, x) ∷ vars)) low (span low high) h
+    of_statement (If line test then_block else_block) vars h =
+        let rest = each_right (reads_in arrays line vars test) (walk arrays (sequence_work then_block vars) ++ (walk arrays (sequence_work else_block vars) ++ [])) h in
+        let others = each_right (walk arrays (sequence_work then_block vars)) (walk arrays (sequence_work else_block vars) ++ []) rest in
+        site_append (sequence_sites then_block vars) (sequence_sites else_block vars)
+        (of_sequence then_block vars (each_left (walk arrays (sequence_work then_block vars)) (walk arrays (sequence_work else_block vars) ++ []) rest))
+        (of_sequence else_block vars (each_left (walk arrays (sequence_work else_block vars)) [] others))
+    of_statement (Par line branches) vars h = ((of_branches branches vars h, tt), of_inner_branches branches vars h)
+    of_statement (Team line var low high members phases) vars h =
+        (of_phases phases var low high (unsigned_abs members) vars h, of_inner_phases phases var low high vars h)
+
+    pub of_sequence : (s : Sequence) (vars : Vars) → Each (walk arrays (sequence_work s vars)) → EachSite (sequence_sites s vars)
+    of_sequence ended vars h = tt
+    of_sequence (followed first rest) vars h =
+        let parts = of_followed (statement_work first vars) (sequence_work rest vars) h in
+        site_append (statement_sites first vars) (sequence_sites rest vars) (of_statement first vars parts.0) (of_sequence rest vars parts.1)
+
+    of_inner_branches : (bs : Sequences) (vars : Vars) → Each (walk arrays (branches_work bs vars)) → EachSite (branches_sites bs vars)
+    of_inner_branches no_more vars h = tt
+    of_inner_branches (beside first rest) vars h =
+        let parts = of_followed (sequence_work first vars) (branches_work rest vars) h in
+        site_append (sequence_sites first vars) (branches_sites rest vars) (of_sequence first vars parts.0) (of_inner_branches rest vars parts.1)
+
+    of_inner_phases : (bs : Sequences) (var : List ℕ) (low high : ℤ) (vars : Vars) → Each (walk arrays (phases_work bs var low high vars)) →
+        EachSite (phases_sites bs var low high vars)
+    of_inner_phases no_more var low high vars h = tt
+    of_inner_phases (beside first rest) var low high vars h =
+        let parts = of_followed (loop var low high (sequence_work first) vars) (phases_work rest var low high vars) h in
+        site_append (turn_sites (λ x. sequence_sites first ((var, x) ∷ vars)) low (span low high)) (phases_sites rest var low high vars)
+        (of_turns (λ x. sequence_work first ((var, x) ∷ vars)) (λ x. sequence_sites first ((var, x) ∷ vars)) (λ x. of_sequence first ((var, x) ∷ vars)) low (span low high) parts.0)
+        (of_inner_phases rest var low high vars parts.1)
+
+-- ---- names that are known
+
+module _ (arrays : Arrays) (names : List (List ℕ)) where
+  abbrev IsKnown : Visit → Type 0
+  IsKnown v = is_among v.array names ≡ true
+
+  known_reads : (line : ℕ) (vars : Vars) (e : Expression) (own : List (List ℕ)) → uses_known_names e names own ≡ true → Each arrays IsKnown (reads_in arrays line vars e)
+  known_reads line vars (Number n) own h = tt
+  known_reads line vars (Var name) own h = tt
+  known_reads line vars (Read array index) own h =
+      let parts = both_true (is_among array names) (uses_known_names index names own) h in
+      each_append arrays IsKnown (reads_in arrays line vars index) (visit arrays line false vars array index ∷ []) (known_reads line vars index own parts.1) (parts.0, tt)
+  known_reads line vars (Neg e) own h = known_reads line vars e own h
+  known_reads line vars (Binary op a b) own h =
+      let parts = both_true (uses_known_names a names own) (uses_known_names b names own) h in
+      each_append arrays IsKnown (reads_in arrays line vars a) (reads_in arrays line vars b) (known_reads line vars a own parts.0) (known_reads line vars b own parts.1)
+
+  known_followed : (a b : Steps) → Each arrays IsKnown (walk arrays a) → Each arrays IsKnown (walk arrays b) → Each arrays IsKnown (walk arrays (followed_by a b))
+  known_followed a b h k = subst (Each arrays IsKnown) (sym (walk_followed_by arrays a b)) (each_append arrays IsKnown (walk arrays a) (walk arrays b) h k)
+
+  known_turns : (work : ℤ → Steps) → ((x : ℤ) → Each arrays IsKnown (walk arrays (work x))) → (x : ℤ) (n : ℕ) → Each arrays IsKnown (walk arrays (turns work x n))
+  known_turns work one x zero = tt
+  known_turns work one x (suc n) = known_followed (work x) (turns work (x +ℤ pos 1) n) (one x) (known_turns work one (x +ℤ pos 1) n)
+
+  mutual
+    known_statement : (s : Statement) (vars : Vars) (own : List (List ℕ)) → statement_has_known_names s names own ≡ true → Each arrays IsKnown (walk arrays (statement_work s vars))
+    known_statement (Assign line array index value) vars own h =
+        let parts = both_true (is_among array names) (uses_known_names index names own && uses_known_names value names own) h in
+        let more = both_true (uses_known_names index names own) (uses_known_names value names own) parts.1 in
+        each_append arrays IsKnown (reads_in arrays line vars index) (reads_in arrays line vars value ++ (visit arrays line true vars array index ∷ []))
+        (known_reads line vars index own more.0)
+        (each_append arrays IsKnown (reads_in arrays line vars value) (visit arrays line true vars array index ∷ []) (known_reads line vars value own more.1) (parts.0, tt))
+    known_statement (For line var low high body) vars own h =
+        known_turns (λ x. sequence_work body ((var, x) ∷ vars)) (λ x. known_sequence body ((var, x) ∷ vars) (var ∷ own) h) low (span low high)
+    known_statement (If line test then_block else_block) vars own h =
+        let parts = both_true (uses_known_names test names own) (has_known_names then_block names own && has_known_names else_block names own) h in
+        let more = both_true (has_known_names then_block names own) (has_known_names else_block names own) parts.1 in
+        each_append arrays IsKnown (reads_in arrays line vars test) (walk arrays (sequence_work then_block vars) ++ (walk arrays (sequence_work else_block vars) ++ []))
+        (known_reads line vars test own parts.0)
+        (each_append arrays IsKnown (walk arrays (sequence_work then_block vars)) (walk arrays (sequence_work else_block vars) ++ []) (known_sequence then_block vars own more.0)
+        (each_append arrays IsKnown (walk arrays (sequence_work else_block vars)) [] (known_sequence else_block vars own more.1) tt))
+    known_statement (Par line branches) vars own h = known_branches branches vars own h
+    known_statement (Team line var low high members phases) vars own h = known_phases phases var low high vars own h
+
+    pub known_sequence : (s : Sequence) (vars : Vars) (own : List (List ℕ)) → has_known_names s names own ≡ true → Each arrays IsKnown (walk arrays (sequence_work s vars))
+    known_sequence ended vars own h = tt
+    known_sequence (followed first rest) vars own h =
+        let parts = both_true (statement_has_known_names first names own) (has_known_names rest names own) h in
+        known_followed (statement_work first vars) (sequence_work rest vars) (known_statement first vars own parts.0) (known_sequence rest vars own parts.1)
+
+    known_branches : (bs : Sequences) (vars : Vars) (own : List (List ℕ)) → have_known_names bs names own ≡ true → Each arrays IsKnown (walk arrays (branches_work bs vars))
+    known_branches no_more vars own h = tt
+    known_branches (beside first rest) vars own h =
+        let parts = both_true (has_known_names first names own) (have_known_names rest names own) h in
+        known_followed (sequence_work first vars) (branches_work rest vars) (known_sequence first vars own parts.0) (known_branches rest vars own parts.1)
+
+    known_phases : (bs : Sequences) (var : List ℕ) (low high : ℤ) (vars : Vars) (own : List (List ℕ)) → have_known_names bs names (var ∷ own) ≡ true →
+        Each arrays IsKnown (walk arrays (phases_work bs var low high vars))
+    known_phases no_more var low high vars own h = tt
+    known_phases (beside first rest) var low high vars own h =
+        let parts = both_true (has_known_names first names (var ∷ own)) (have_known_names rest names (var ∷ own)) h in
+        known_followed (loop var low high (sequence_work first) vars) (phases_work rest var low high vars)
+        (known_turns (λ x. sequence_work first ((var, x) ∷ vars)) (λ x. known_sequence first ((var, x) ∷ vars) (var ∷ own) parts.0) low (span low high))
+        (known_phases rest var low high vars own parts.1)
+
+-- a known array lies before the last cell
+known_room : (ds : List Declaration) (name : List ℕ) → is_among name (names_of ds) ≡ true →
+    base_of (arrays_of ds) name + length_of (arrays_of ds) name ≤ cells_of (arrays_of ds)
+known_room [] name h = absurd (false≢true h)
+known_room (d ∷ ds) name h = cases (is_name d.name name) (known_room ds name) h
+  where
+    cases : (b : Bool) → (is_among name (names_of ds) ≡ true → base_of (arrays_of ds) name + length_of (arrays_of ds) name ≤ cells_of (arrays_of ds)) →
+        (b || is_among name (names_of ds)) ≡ true →
+        cond b 0 (unsigned_abs d.length + base_of (arrays_of ds) name) + cond b (unsigned_abs d.length) (length_of (arrays_of ds) name) ≤ unsigned_abs d.length + cells_of (arrays_of ds)
+    cases true rest h = omega arith
+    cases false rest h = let room = rest h in omega arith
+
+-- ---- behind the last cell nothing is touched
+
+IsFit : Arrays → Visit → Type 0
+IsFit arrays v = (is_inside (length_of arrays v.array) v.index ≡ true) × (base_of arrays v.array + length_of arrays v.array ≤ cells_of arrays)
+
+fit_visit : (arrays : Arrays) (v : Visit) (c : ℕ) → IsFit arrays v → cells_of arrays ≤ c → covers arrays v.array v.index c ≡ false
+unfolding IsFit
+fit_visit arrays v c fit far = cases v.index fit.0
+  where
+    cases : (index : Option ℤ) → is_inside (length_of arrays v.array) index ≡ true → covers arrays v.array index c ≡ false
+    cases None inside = let room = fit.1 in grind (arith, nat_tests)
+    cases (Some (pos n)) inside =
+        let below : n < length_of arrays v.array = grind (arith, ints) in
+        let room = fit.1 in
+        grind (arith, nat_tests)
+    cases (Some (negsuc n)) inside = absurd (false≢true inside)
+
+unchanged : (arrays : Arrays) (vs : List Visit) (c : ℕ) → Each arrays (IsFit arrays) vs → cells_of arrays ≤ c → changed arrays vs c ≡ false
+unchanged arrays [] c h far = refl
+unchanged arrays (v ∷ vs) c h far =
+    ap (λ b. (v.writes && b) || changed arrays vs c) (fit_visit arrays v c h.0 far) ∙ ap (λ b. b || changed arrays vs c) (never v.writes) ∙ unchanged arrays vs c h.1 far
+  where
+    never : (b : Bool) → (b && false) ≡ false
+    never true = refl
+    never false = refl
+
+unread : (arrays : Arrays) (vs : List Visit) (c : ℕ) → Each arrays (IsFit arrays) vs → cells_of arrays ≤ c → read arrays vs c ≡ false
+unread arrays [] c h far = refl
+unread arrays (v ∷ vs) c h far =
+    ap (λ b. (not v.writes && b) || read arrays vs c) (fit_visit arrays v c h.0 far) ∙ ap (λ b. b || read arrays vs c) (never (not v.writes)) ∙ unread arrays vs c h.1 far
+  where
+    never : (b : Bool) → (b && false) ≡ false
+    never true = refl
+    never false = refl
+
+far_clear : (arrays : Arrays) (ps : List Steps) (c : ℕ) → EachPiece arrays (IsFit arrays) ps → cells_of arrays ≤ c → overlaps arrays false false ps c ≡ false
+far_clear arrays [] c h far = refl
+far_clear arrays (p ∷ ps) c h far =
+    rw (unchanged arrays (walk arrays p) c h.0 far, unread arrays (walk arrays p) c h.0 far) (far_clear arrays ps c h.1 far)
+
+-- ---- no least cell
+
+none_below : (f : ℕ → Bool) (i k : ℕ) → first_from f i k ≡ None → (c : ℕ) → i ≤ c → c < i + k → f c ≡ false
+none_below f i zero h c low high = absurd (omega arith)
+none_below f i (suc k) h c low high = cases (f i) refl h (λ g. none_below f (i + 1) k g c)
+  where
+    cases : (b : Bool) → f i ≡ b → cond b (Some i) (first_from f (i + 1) k) ≡ None → (first_from f (i + 1) k ≡ None → i + 1 ≤ c → c < i + 1 + k → f c ≡ false) → f c ≡ false
+    cases true e h rest = absurd (cc)
+    cases false e h rest = here (nat_eq c i) refl
+      where
+        here : (b : Bool) → nat_eq c i ≡ b → f c ≡ false
+        here true same = ap f (let at : c ≡ i = grind (arith, nat_tests) in at) ∙ e
+        here false other = rest h (let more : i + 1 ≤ c = grind (arith, nat_tests) in more) (omega arith)
+
+all_none : (f : ℕ → Bool) (i k : ℕ) → ((c : ℕ) → f c ≡ false) → first_from f i k ≡ None
+all_none f i zero h = refl
+all_none f i (suc k) h = ap (λ b. cond b (Some i) (first_from f (i + 1) k)) (h i) ∙ all_none f (i + 1) k h
+
+clear_round : (arrays : Arrays) (ps : List Steps) → EachPiece arrays (IsFit arrays) ps → overlap arrays (cells_of arrays) ps ≡ None → (c : ℕ) → overlaps arrays false false ps c ≡ false
+clear_round arrays ps fit none c = cases (nat_lt c (cells_of arrays)) refl
+  where
+    cases : (b : Bool) → nat_lt c (cells_of arrays) ≡ b → overlaps arrays false false ps c ≡ false
+    cases true e = none_below (overlaps arrays false false ps) 0 (cells_of arrays) none c (omega arith) (let small : c < 0 + cells_of arrays = grind (arith, nat_tests) in small)
+    cases false e = far_clear arrays ps c fit (let far : cells_of arrays ≤ c = grind (arith, nat_tests) in far)
+
+no_cell : (line : ℕ) (o : Option ℕ) → cell_fault line o ≡ None → o ≡ None
+no_cell line None h = refl
+no_cell line (Some c) h = absurd (cc)
+
+pub no_fault : (a b : Option WalkFault) → or_else a b ≡ None → (a ≡ None) × (b ≡ None)
+no_fault None b h = (refl, h)
+no_fault (Some f) b h = absurd (cc)
+
+rounds_apart : (arrays : Arrays) (line : ℕ) (rs : List (List Steps)) → EachRound arrays (IsFit arrays) rs → rounds_fault arrays line rs ≡ None → AreRoundsApart arrays rs
+rounds_apart arrays line [] fit h = tt
+rounds_apart arrays line (r ∷ rs) fit h =
+    let parts = no_fault (cell_fault line (overlap arrays (cells_of arrays) r)) (rounds_fault arrays line rs) h in
+    (apart_of_clear arrays r (clear_round arrays r fit.0 (no_cell line (overlap arrays (cells_of arrays) r) parts.0)), rounds_apart arrays line rs fit.1 parts.1)
+
+sites_apart : (arrays : Arrays) (sites : List Site) → EachSite arrays (IsFit arrays) sites → first_overlap arrays sites ≡ None → AreSitesApart arrays sites
+sites_apart arrays [] fit h = tt
+sites_apart arrays (s ∷ sites) fit h =
+    let parts = no_fault (rounds_fault arrays s.line s.rounds) (first_overlap arrays sites) h in
+    (rounds_apart arrays s.line s.rounds fit.0 parts.0, sites_apart arrays sites fit.1 parts.1)
+
+-- and back
+
+rounds_clear : (arrays : Arrays) (line : ℕ) (rs : List (List Steps)) → AreRoundsApart arrays rs → rounds_fault arrays line rs ≡ None
+rounds_clear arrays line [] h = refl
+rounds_clear arrays line (r ∷ rs) h =
+    ap (λ o. or_else (cell_fault line o) (rounds_fault arrays line rs)) (all_none (overlaps arrays false false r) 0 (cells_of arrays) (clear_of_apart arrays r h.0))
+    ∙ rounds_clear arrays line rs h.1
+
+sites_clear : (arrays : Arrays) (sites : List Site) → AreSitesApart arrays sites → first_overlap arrays sites ≡ None
+sites_clear arrays [] h = refl
+sites_clear arrays (s ∷ sites) h =
+    ap (λ o. or_else o (first_overlap arrays sites)) (rounds_clear arrays s.line s.rounds h.0) ∙ sites_clear arrays sites h.1
+
+-- ---- of a program
+
+fit_visits : (ds : List Declaration) (vs : List Visit) → Each (arrays_of ds) (IsKnown (arrays_of ds) (names_of ds)) vs → are_inside (arrays_of ds) vs ≡ true → Each (arrays_of ds) (IsFit (arrays_of ds)) vs
+unfolding IsFit
+fit_visits ds [] known inside = tt
+fit_visits ds (v ∷ vs) known inside =
+    let parts = both_true (is_inside (length_of (arrays_of ds) v.array) v.index) (are_inside (arrays_of ds) vs) inside in
+    ((parts.0, known_room ds v.array known.0), fit_visits ds vs known.1 parts.1)
+
+pub apart_of_none : (program : ProgramTree) → has_only_known_names program ≡ true → has_indices_inside program ≡ true → overlap_of program ≡ None → HasApartSites program
+apart_of_none program known inside h =
+    let arrays = arrays_of program.arrays in
+    sites_apart arrays (sequence_sites program.body [])
+    (of_sequence arrays (IsFit arrays) program.body []
+    (fit_visits program.arrays (walk arrays (sequence_work program.body []))
+    (known_sequence arrays (names_of program.arrays) program.body [] [] known) inside)) h
+
+pub none_of_apart : (program : ProgramTree) → HasApartSites program → overlap_of program ≡ None
+none_of_apart program h = sites_clear (arrays_of program.arrays) (sequence_sites program.body []) h
+
+-- where the walk finds nothing, both conditions hold
+
+pub indices_of_none : (program : ProgramTree) → walk_fault_of program ≡ None → has_indices_inside program ≡ true
+indices_of_none program h =
+    let arrays = arrays_of program.arrays in
+    inside_of_none arrays (walk arrays (sequence_work program.body [])) (no_fault (out_of_range_of program) (overlap_of program) h).0
+
+pub sites_of_none : (program : ProgramTree) → walk_fault_of program ≡ None → has_only_known_names program ≡ true → HasApartSites program
+sites_of_none program h known = apart_of_none program known (indices_of_none program h) (no_fault (out_of_range_of program) (overlap_of program) h).1

@@ -1,0 +1,11 @@
+pub mod OutsideLemmas
+pub mod TreeLemmas
+pub mod MarkLemmas
+pub mod RoundLemmas
+pub mod TouchedLemmas
+pub mod NumberLemmas
+pub mod ClashLemmas
+pub mod PieceLemmas
+pub mod SiteLemmas
+pub mod StartLemmas
+pub mod ApartLemmas

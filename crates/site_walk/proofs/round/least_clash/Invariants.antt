@@ -1,0 +1,12 @@
+use Rattle.std.proofs.Common.{◌≡◌, ◌-◌}
+use Rattle.array_tree.specs.Trees.{declarations_of}
+use Rattle.array_meaning.specs.Stores.{arrays_of, cells_of}
+use Rattle.array_meaning.specs.Overlap.{first_from}
+use Rattle.site_walk.specs.Touched.{clashes}
+use Rattle.site_walk.specs.Marks.{done_at}
+use Rattle.site_walk.proofs.round.least_clash.Given as goal
+
+abbrev pub invariant-loop-cell : goal.invariant-loop-cell
+invariant-loop-cell l =
+    first_from (λ cell. clashes (done_at (arrays_of (declarations_of l.arrays)) l.table cell)) l.cell (cells_of (arrays_of (declarations_of l.arrays)) - l.cell)
+    ≡ first_from (λ cell. clashes (done_at (arrays_of (declarations_of l.arrays)) l.table cell)) 0 (cells_of (arrays_of (declarations_of l.arrays)))

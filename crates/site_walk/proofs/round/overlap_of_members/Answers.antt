@@ -1,0 +1,33 @@
+use Rattle.std.proofs.Common.{cond, None, ap, sym, subst, ◌∙◌, to_z, of_z, w64}
+use Rattle.array_meaning.specs.Work.{sequence_work}
+use Rattle.std.proofs.lemmas.Int.{to_z-of_z}
+use Rattle.array_tree.specs.Trees.{sequence_of, declarations_of}
+use Rattle.array_meaning.specs.Stores.{arrays_of, cells_of}
+use Rattle.array_meaning.specs.Overlap.{first_from, overlap}
+use Rattle.array_meaning.specs.Members.{team_works}
+use Rattle.array_eval.specs.Views.{vars_of}
+use Rattle.site_walk.specs.Touched.{clashes}
+use Rattle.site_walk.specs.Marks.{with_pieces, done_at, HasPlaces, cleared}
+use Rattle.site_walk.proofs.PieceLemmas.{least_overlap, pieces_keep_places, cleared_places}
+use Rattle.site_walk.proofs.round.overlap_of_members.Goals as goal
+
+pub returns-clause-places : goal.returns-clause-places
+returns-clause-places c =
+    let arrays = arrays_of (declarations_of c.args.arrays.now) in
+    let pieces = team_works c.args.var.now (to_z w64 (of_z w64 c.args.low)) (to_z w64 (of_z w64 c.args.high)) c.args.members (sequence_work (sequence_of c.args.phase.now)) (vars_of c.args.scope.now) in
+    let before = c.args.table.now in
+    subst (HasPlaces arrays) (sym (c.mark_members.ensures ∙ ap (with_pieces arrays 0 pieces) c.clear.ensures))
+    (pieces_keep_places arrays 0 pieces (cleared before) (cleared_places arrays before c.requires.places))
+
+pub returns-clause-found : goal.returns-clause-found
+returns-clause-found c =
+    let arrays = arrays_of (declarations_of c.args.arrays.now) in
+    let pieces = team_works c.args.var.now (to_z w64 (of_z w64 c.args.low)) (to_z w64 (of_z w64 c.args.high)) c.args.members (sequence_work (sequence_of c.args.phase.now)) (vars_of c.args.scope.now) in
+    c.least_overlap.ensures.least
+    ∙ ap (λ t. cond t.suspect (first_from (λ cell. clashes (done_at arrays t cell)) 0 (cells_of arrays)) None)
+    (c.mark_members.ensures ∙ ap (with_pieces arrays 0 pieces) c.clear.ensures)
+    ∙ least_overlap arrays pieces c.args.table.now c.requires.places
+    ∙ ap (λ low. overlap arrays (cells_of arrays) (team_works c.args.var.now low (to_z w64 (of_z w64 c.args.high)) c.args.members (sequence_work (sequence_of c.args.phase.now)) (vars_of c.args.scope.now)))
+    (to_z-of_z w64 c.args.low c.ranges.low)
+    ∙ ap (λ high. overlap arrays (cells_of arrays) (team_works c.args.var.now c.args.low high c.args.members (sequence_work (sequence_of c.args.phase.now)) (vars_of c.args.scope.now)))
+    (to_z-of_z w64 c.args.high c.ranges.high)

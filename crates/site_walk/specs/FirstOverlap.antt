@@ -1,0 +1,38 @@
+-- The first overlap of two pieces of a site.
+use Rattle.std.specs.Prelude.{ℕ, List, [], ◌∷◌, Option, Some, None}
+use Rattle.array_tree.specs.Trees.{ProgramTree}
+use Rattle.array_meaning.specs.Stores.{Arrays, arrays_of, cells_of}
+use Rattle.array_meaning.specs.Steps.{Steps}
+use Rattle.array_meaning.specs.Overlap.{overlap}
+use Rattle.array_meaning.specs.Sites.{Site, sequence_sites}
+use Rattle.site_walk.specs.declared.fault.WalkFault.{WalkFault}
+use Rattle.site_walk.specs.declared.fault.WalkFault.TheVariants.{Overlap}
+use Rattle.site_walk.specs.Outside.{or_else, out_of_range_of}
+
+-- The fault of an overlap on a cell, by its construct's line.
+abbrev pub cell_fault : ℕ → Option ℕ → Option WalkFault
+cell_fault line None = None
+cell_fault line (Some cell) = Some (Overlap line cell)
+
+-- The first of the rounds in which two pieces overlap, and the least cell on which they do.
+abbrev pub rounds_fault : Arrays → ℕ → List (List Steps) → Option WalkFault
+rounds_fault arrays line [] = None
+rounds_fault arrays line (round ∷ more) = or_else (cell_fault line (overlap arrays (cells_of arrays) round)) (rounds_fault arrays line more)
+
+-- The first of the sites with an overlap.
+abbrev pub first_overlap : Arrays → List Site → Option WalkFault
+first_overlap arrays [] = None
+first_overlap arrays (site ∷ more) = or_else (rounds_fault arrays site.line site.rounds) (first_overlap arrays more)
+
+-- What was found, or else the first overlap of sites.
+abbrev pub or_overlap : Arrays → List Site → Option WalkFault → Option WalkFault
+or_overlap arrays sites found = or_else found (first_overlap arrays sites)
+
+-- The first overlap of a program's sites, in the order in which it enters them: by the construct's line and, in a
+-- `team` in its first phase with one, the least cell.
+abbrev pub overlap_of : ProgramTree → Option WalkFault
+overlap_of program = first_overlap (arrays_of program.arrays) (sequence_sites program.body [])
+
+-- What the walk finds: an index outside its array, or else an overlap.
+abbrev pub walk_fault_of : ProgramTree → Option WalkFault
+walk_fault_of program = or_else (out_of_range_of program) (overlap_of program)

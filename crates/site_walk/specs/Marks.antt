@@ -1,0 +1,95 @@
+-- What is marked as the pieces of a round are walked through.
+use Rattle.std.specs.Prelude.{◌≡◌, ℕ, ◌+◌, cond, Bool, false, not, ◌||◌, List, [], ◌∷◌, length, replicate, Option, Some, None, ℤ, slice_set}
+use Rattle.array_meaning.specs.Stores.{Arrays, length_of, cell_of, cells_of}
+use Rattle.array_meaning.specs.Steps.{Steps}
+use Rattle.array_meaning.specs.Touch.{Visit, walk}
+use Rattle.array_meaning.specs.Accepted.{is_inside}
+use Rattle.site_walk.specs.declared.touched.Pieces.TheVariants.{One}
+use Rattle.site_walk.specs.declared.touched.Touched.{Touched}
+use Rattle.site_walk.specs.declared.table.Table.{Table}
+use Rattle.site_walk.specs.Touched.{joined, clashes, touched_at, untouched}
+use Rattle.site_walk.specs.Numbers.{number_of, array_at}
+
+-- Nothing done to so many cells and so many arrays.
+abbrev pub nothing_done : ℕ → ℕ → Table
+nothing_done cells arrays = record {
+  cells = replicate cells untouched;
+  everywhere = replicate arrays untouched;
+  read = replicate arrays untouched;
+  written = replicate arrays untouched;
+  suspect = false;
+}
+
+abbrev pub cleared : Table → Table
+cleared table = record {
+  cells = replicate (length table.cells) untouched;
+  everywhere = replicate (length table.everywhere) untouched;
+  read = replicate (length table.read) untouched;
+  written = replicate (length table.written) untouched;
+  suspect = false;
+}
+
+-- There is a place for each cell and for each array.
+pub record HasPlaces (arrays : Arrays) (table : Table) : Type 0 where
+  pub cells : length table.cells ≡ cells_of arrays
+  pub everywhere : length table.everywhere ≡ length arrays
+  pub read : length table.read ≡ length arrays
+  pub written : length table.written ≡ length arrays
+
+-- With more done at a place.
+abbrev pub added : ℕ → Touched → List Touched → List Touched
+added place touch layer = slice_set layer place (joined touch (touched_at layer place))
+
+-- With a touch of a cell by a static index of an array. An index outside its array is suspect, since its cell is
+-- another array's.
+unfoldable pub with_static : ℕ → ℕ → Bool → Touched → Table → Table
+with_static number cell inside touch table =
+    let all = joined touch (touched_at table.cells cell) in
+    record {
+      cells = slice_set table.cells cell all;
+      everywhere = table.everywhere;
+      read = cond all.written table.read (added number all table.read);
+      written = cond all.written (added number all table.written) table.written;
+      suspect = table.suspect || not inside || clashes (joined all (touched_at table.everywhere number));
+    }
+
+-- With a touch of all cells of an array.
+unfoldable pub with_dynamic : ℕ → Touched → Table → Table
+with_dynamic number touch table =
+    let all = joined touch (touched_at table.everywhere number) in
+    record {
+      cells = table.cells;
+      everywhere = slice_set table.everywhere number all;
+      read = table.read;
+      written = table.written;
+      suspect = table.suspect || clashes (joined all (touched_at table.read number)) || clashes (joined all (touched_at table.written number));
+    }
+
+-- With a visit of an array under an index.
+abbrev pub with_touch : Arrays → Touched → List ℕ → Option ℤ → Table → Table
+with_touch arrays touch array None table = with_dynamic (number_of arrays array) touch table
+with_touch arrays touch array (Some index) table =
+    with_static (number_of arrays array) (cell_of arrays array false index) (is_inside (length_of arrays array) (Some index)) touch table
+
+-- The touch of a piece.
+abbrev pub touch_of : ℕ → Bool → Touched
+touch_of piece writes = record { by = One piece; written = writes }
+
+-- With the visits of a piece.
+abbrev pub with_visits : Arrays → ℕ → List Visit → Table → Table
+with_visits arrays piece [] table = table
+with_visits arrays piece (v ∷ more) table =
+    with_visits arrays piece more (with_touch arrays (touch_of piece v.writes) v.array v.index table)
+
+-- With all that a piece does.
+abbrev pub with_piece : Arrays → ℕ → Steps → Table → Table
+with_piece arrays piece steps table = with_visits arrays piece (walk arrays steps) table
+
+-- With all that pieces do, numbered from one on.
+abbrev pub with_pieces : Arrays → ℕ → List Steps → Table → Table
+with_pieces arrays piece [] table = table
+with_pieces arrays piece (steps ∷ more) table = with_pieces arrays (piece + 1) more (with_piece arrays piece steps table)
+
+-- What was done to a cell of an array with this place, by static and dynamic indexes.
+abbrev pub done_at : Arrays → Table → ℕ → Touched
+done_at arrays table cell = joined (touched_at table.cells cell) (touched_at table.everywhere (array_at arrays cell))

@@ -1,0 +1,110 @@
+//! Lists of what was done, which are cleared at once.
+ghost use Rattle.std.specs.Prelude.{◌≡◌, IfOk, length, replicate, slice_set};
+ghost use Rattle.site_walk.specs.Touched.{joined, touched_at, untouched};
+
+use crate::touched::{Touched, UNTOUCHED};
+use std::alloc::{AllocError, Global};
+use std::marker::Model;
+
+// What was done in a round. It says nothing of other rounds.
+#[derive(Clone, Copy, Debug, Drop)]
+struct Mark {
+    round: u64,
+    touched: Touched,
+}
+
+/// What was done in a round at each of some places.
+///
+/// A new round clears all places at once: what an earlier round did stays in memory and counts no more.
+///
+/// Contracts see it as a list.
+#[derive(Debug, Drop)]
+pub(crate) struct Layer {
+    round: u64,
+    marks: Vec<Mark>,
+}
+
+impl Model for Layer {
+    ghost use Rattle.std.specs.Prelude.{List, map};
+    ghost use Rattle.std.specs.List.{All};
+    ghost use Rattle.site_walk.specs.declared.touched.Touched.{Touched};
+
+    ghost Value = { List Touched };
+
+    ghost use Rattle.site_walk.specs.Rounds.{done_in, IsUpTo};
+
+    ghost view = { λ layer. map (done_in layer.round) layer.marks.items };
+
+    ghost invariant = { λ layer. All (IsUpTo layer.round) layer.marks.items };
+}
+
+impl Layer {
+    /// So many places, with nothing done.
+    #[tactic(auto, using(crate::proofs::RoundLemmas::none_in_round))]
+    pub(crate) fn new(alloc: Global, places: usize) -> Result<Layer, AllocError>
+        ensures { IfOk result (λ layer. layer ≡ replicate places untouched) }
+    {
+        let blank = Mark {
+            round: 0,
+            touched: UNTOUCHED,
+        };
+        Ok(Layer {
+            round: 0,
+            marks: vec![in alloc; blank; places]?,
+        })
+    }
+
+    /// What was done at a place, nothing behind the last.
+    pub(crate) fn get(&self, place: usize) -> Touched
+        ensures { result ≡ touched_at self.now place }
+    {
+        if place >= self.marks.len() {
+            return UNTOUCHED;
+        }
+        let mark = self.marks[place];
+        if mark.round == self.round {
+            mark.touched
+        } else {
+            UNTOUCHED
+        }
+    }
+
+    // Puts what was done at a place, if it is there.
+    #[tactic(auto, using(crate::proofs::RoundLemmas::put_in_round))]
+    fn put(&mut self, place: usize, touched: Touched)
+        ensures { self.new ≡ slice_set self.old place touched }
+    {
+        if place < self.marks.len() {
+            self.marks[place] = Mark {
+                round: self.round,
+                touched,
+            };
+        }
+    }
+
+    /// Adds what is done at a place. The result is what is done there in all.
+    pub(crate) fn add(&mut self, place: usize, touched: Touched) -> Touched
+        ensures all { result ≡ joined touched (touched_at self.old place) }
+        ensures added { self.new ≡ slice_set self.old place (joined touched (touched_at self.old place)) }
+    {
+        let all = touched.with(self.get(place));
+        self.put(place, all);
+        all
+    }
+
+    /// Begins a round, in which nothing is done yet.
+    #[tactic(auto, using(crate::proofs::RoundLemmas::next_round, crate::proofs::RoundLemmas::none_in_round))]
+    pub(crate) fn clear(&mut self)
+        ensures { self.new ≡ replicate (length self.old) untouched }
+    {
+        if self.round == u64::MAX {
+            self.marks.fill(Mark {
+                round: 0,
+                touched: UNTOUCHED,
+            });
+            self.round = 0;
+        } else {
+            self.round += 1;
+        }
+    }
+}

@@ -1,0 +1,21 @@
+//! The checker's walk: whether each static index is inside its array, and whether the pieces of each site are apart.
+#![tactic(auto)]
+
+mod fault;
+mod inside;
+mod laws;
+mod layer;
+mod mark;
+mod overlap;
+mod places;
+mod round;
+mod table;
+mod touched;
+mod walk;
+
+pub use fault::WalkFault;
+pub use laws::{outsides_are_found, overlaps_are_found};
+pub use walk::walk_program;
+
+#[cfg(test)]
+mod tests;

@@ -1,0 +1,194 @@
+//! The walk that marks what a piece does.
+ghost use Rattle.std.specs.Prelude.{◌≡◌, true, false};
+ghost use Rattle.array_tree.specs.Trees.{expression_of, statement_of, sequence_of, sequences_of, declarations_of};
+ghost use Rattle.array_meaning.specs.Stores.{arrays_of, AreSized};
+ghost use Rattle.array_meaning.specs.Work.{statement_work, sequence_work, branches_work, phases_work, loop};
+ghost use Rattle.array_meaning.specs.Touch.{reads_in, visit};
+ghost use Rattle.array_eval.specs.Views.{vars_of};
+ghost use Rattle.site_walk.specs.Marks.{with_touch, with_visits, with_piece, touch_of};
+
+use crate::places::place_of;
+use crate::table::Table;
+use crate::touched::{Pieces, Touched};
+use array_eval::{Scope, evaluate, is_dynamic};
+use array_tree::{Arrays, Block, Blocks, Expr, Name, Stmt};
+
+// Marks what a piece does by an index of an array.
+fn mark_index(
+    arrays: &Arrays,
+    piece: usize,
+    writes: bool,
+    scope: &Scope,
+    array: &Name,
+    index: &Expr,
+    table: &mut Table,
+)
+    requires { AreSized (arrays_of (declarations_of arrays.now)) }
+    ensures { table.new ≡ with_touch (arrays_of (declarations_of arrays.now)) (touch_of piece writes) array.now
+        (visit (arrays_of (declarations_of arrays.now)) 0 writes (vars_of scope.now) array.now (expression_of index.now)).index table.old }
+{
+    let place = place_of(arrays, array);
+    let touch = Touched {
+        by: Pieces::One(piece),
+        written: writes,
+    };
+    if is_dynamic(index) {
+        table.touch_array(place.number, touch);
+    } else {
+        let number = evaluate(arrays, index, scope, &[]);
+        let inside = 0 <= number && number < place.length as i64;
+        let cell = place.base + number.unsigned_abs() as usize;
+        table.touch_cell(place.number, cell, inside, touch);
+    }
+}
+
+// Marks the reads of an expression. No mark tells a line.
+#[tactic(auto, using(crate::proofs::MarkLemmas::visits_append))]
+fn mark_reads(arrays: &Arrays, piece: usize, scope: &Scope, expr: &Expr, table: &mut Table)
+    requires { AreSized (arrays_of (declarations_of arrays.now)) }
+    ensures { table.new ≡ with_visits (arrays_of (declarations_of arrays.now)) piece
+        (reads_in (arrays_of (declarations_of arrays.now)) 0 (vars_of scope.now) (expression_of expr.now)) table.old }
+{
+    match expr {
+        Expr::Number(_) | Expr::Var(_) => {}
+        Expr::Read(array, index) => {
+            mark_reads(arrays, piece, scope, index, table);
+            mark_index(arrays, piece, false, scope, array, index, table);
+        }
+        Expr::Neg(operand) => mark_reads(arrays, piece, scope, operand, table),
+        Expr::Binary(_, left, right) => {
+            mark_reads(arrays, piece, scope, left, table);
+            mark_reads(arrays, piece, scope, right, table);
+        }
+    }
+}
+
+/// Marks what a piece does in a block: whatever is on either side of an `if`, and in whatever order it may run.
+#[cycle(mark)]
+pub(crate) fn mark_block<'s>(
+    arrays: &Arrays,
+    piece: usize,
+    block: &'s Block,
+    scope: &'s Scope<'s>,
+    table: &mut Table,
+)
+    requires { AreSized (arrays_of (declarations_of arrays.now)) }
+    ensures { table.new ≡ with_piece (arrays_of (declarations_of arrays.now)) piece (sequence_work (sequence_of block.now) (vars_of scope.now)) table.old }
+{
+    for statement in &block.statements {
+        mark_statement(arrays, piece, statement, scope, table);
+    }
+}
+
+// The same of a statement.
+#[cycle(mark)]
+fn mark_statement<'s>(
+    arrays: &Arrays,
+    piece: usize,
+    statement: &'s Stmt,
+    scope: &'s Scope<'s>,
+    table: &mut Table,
+)
+    requires { AreSized (arrays_of (declarations_of arrays.now)) }
+    ensures { table.new ≡ with_piece (arrays_of (declarations_of arrays.now)) piece (statement_work (statement_of statement.now) (vars_of scope.now)) table.old }
+{
+    match statement {
+        Stmt::Assign {
+            array,
+            index,
+            value,
+            ..
+        } => {
+            mark_reads(arrays, piece, scope, index, table);
+            mark_reads(arrays, piece, scope, value, table);
+            mark_index(arrays, piece, true, scope, array, index, table);
+        }
+        Stmt::For {
+            var,
+            low,
+            high,
+            body,
+            ..
+        } => mark_loop(arrays, piece, body, var, *low, *high, scope, table),
+        Stmt::If {
+            cond,
+            then_block,
+            else_block,
+            ..
+        } => {
+            mark_reads(arrays, piece, scope, cond, table);
+            mark_block(arrays, piece, then_block, scope, table);
+            mark_block(arrays, piece, else_block, scope, table);
+        }
+        Stmt::Par { branches, .. } => mark_branches(arrays, piece, branches, scope, table),
+        Stmt::Team {
+            var,
+            low,
+            high,
+            phases,
+            ..
+        } => mark_phases(arrays, piece, phases, var, *low, *high, scope, table),
+    }
+}
+
+/// The same of a block for each number from low to before high.
+#[cycle(mark)]
+pub(crate) fn mark_loop<'s>(
+    arrays: &Arrays,
+    piece: usize,
+    body: &'s Block,
+    var: &'s Name,
+    low: i64,
+    high: i64,
+    scope: &'s Scope<'s>,
+    table: &mut Table,
+)
+    requires { AreSized (arrays_of (declarations_of arrays.now)) }
+    ensures { table.new ≡ with_piece (arrays_of (declarations_of arrays.now)) piece (loop var.now low high (sequence_work (sequence_of body.now)) (vars_of scope.now)) table.old }
+{
+    for number in low..high {
+        let turn = Scope::Turn {
+            name: var,
+            value: number,
+            outer: scope,
+        };
+        mark_block(arrays, piece, body, &turn, table);
+    }
+}
+
+// The same of the branches of a `par` inside the piece.
+#[cycle(mark)]
+fn mark_branches<'s>(
+    arrays: &Arrays,
+    piece: usize,
+    branches: &'s Blocks,
+    scope: &'s Scope<'s>,
+    table: &mut Table,
+)
+    requires { AreSized (arrays_of (declarations_of arrays.now)) }
+    ensures { table.new ≡ with_piece (arrays_of (declarations_of arrays.now)) piece (branches_work (sequences_of branches.now) (vars_of scope.now)) table.old }
+{
+    for branch in &branches.blocks {
+        mark_block(arrays, piece, branch, scope, table);
+    }
+}
+
+// The same of the phases of a `team` inside the piece.
+#[cycle(mark)]
+fn mark_phases<'s>(
+    arrays: &Arrays,
+    piece: usize,
+    phases: &'s Blocks,
+    var: &'s Name,
+    low: i64,
+    high: i64,
+    scope: &'s Scope<'s>,
+    table: &mut Table,
+)
+    requires { AreSized (arrays_of (declarations_of arrays.now)) }
+    ensures { table.new ≡ with_piece (arrays_of (declarations_of arrays.now)) piece (phases_work (sequences_of phases.now) var.now low high (vars_of scope.now)) table.old }
+{
+    for phase in &phases.blocks {
+        mark_loop(arrays, piece, phase, var, low, high, scope, table);
+    }
+}

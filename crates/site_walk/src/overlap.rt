@@ -1,0 +1,244 @@
+//! The walk that looks for an overlap of two pieces of a site.
+ghost use Rattle.std.specs.Prelude.{◌≡◌, [], ◌∷◌};
+ghost use Rattle.array_tree.specs.Trees.{statement_of, sequence_of, sequences_of, declarations_of};
+ghost use Rattle.array_meaning.specs.Stores.{arrays_of, AreSized, cells_of};
+ghost use Rattle.array_meaning.specs.Work.{sequence_work};
+ghost use Rattle.array_meaning.specs.Members.{team_works};
+ghost use Rattle.array_meaning.specs.Sites.{branch_works, phase_rounds, statement_sites, sequence_sites, branches_sites, phases_sites, loop_sites};
+ghost use Rattle.array_eval.specs.Views.{vars_of};
+ghost use Rattle.site_walk.specs.Outside.{or_else};
+ghost use Rattle.site_walk.specs.FirstOverlap.{rounds_fault, or_overlap};
+ghost use Rattle.site_walk.specs.Marks.{HasPlaces};
+
+use crate::fault::WalkFault;
+use crate::round::{overlap_of_branches, overlap_of_members};
+use crate::table::Table;
+use array_eval::Scope;
+use array_tree::{Arrays, Block, Blocks, Name, Stmt};
+
+// Keeps the overlap of a `par` itself, unless something was found before.
+fn keep_par<'s>(
+    arrays: &Arrays,
+    line: u32,
+    branches: &'s Blocks,
+    scope: &'s Scope<'s>,
+    table: &mut Table,
+    found: &mut Option<WalkFault>,
+)
+    requires sized { AreSized (arrays_of (declarations_of arrays.now)) }
+    requires places { HasPlaces (arrays_of (declarations_of arrays.now)) table.old }
+    ensures places { HasPlaces (arrays_of (declarations_of arrays.now)) table.new }
+    ensures found { found.new ≡ or_else found.old (rounds_fault (arrays_of (declarations_of arrays.now)) line (branch_works (sequences_of branches.now) (vars_of scope.now) ∷ [])) }
+{
+    if found.is_none() {
+        if let Some(cell) = overlap_of_branches(arrays, branches, scope, table) {
+            *found = Some(WalkFault::Overlap {
+                line,
+                cell: cell as u16,
+            });
+        }
+    }
+}
+
+// Keeps the overlap of the first phase of a `team` that has one, unless something was found before.
+fn keep_team<'s>(
+    arrays: &Arrays,
+    line: u32,
+    phases: &'s Blocks,
+    var: &'s Name,
+    low: i64,
+    high: i64,
+    members: u64,
+    scope: &'s Scope<'s>,
+    table: &mut Table,
+    found: &mut Option<WalkFault>,
+)
+    requires sized { AreSized (arrays_of (declarations_of arrays.now)) }
+    requires places { HasPlaces (arrays_of (declarations_of arrays.now)) table.old }
+    ensures places { HasPlaces (arrays_of (declarations_of arrays.now)) table.new }
+    ensures found { found.new ≡ or_else found.old (rounds_fault (arrays_of (declarations_of arrays.now)) line (phase_rounds (sequences_of phases.now) var.now low high members (vars_of scope.now))) }
+{
+    for phase in &phases.blocks {
+        keep_phase(
+            arrays, line, phase, var, low, high, members, scope, table, found,
+        );
+    }
+}
+
+// Keeps the overlap of the members of a `team` in one phase, unless something was found before.
+fn keep_phase<'s>(
+    arrays: &Arrays,
+    line: u32,
+    phase: &'s Block,
+    var: &'s Name,
+    low: i64,
+    high: i64,
+    members: u64,
+    scope: &'s Scope<'s>,
+    table: &mut Table,
+    found: &mut Option<WalkFault>,
+)
+    requires sized { AreSized (arrays_of (declarations_of arrays.now)) }
+    requires places { HasPlaces (arrays_of (declarations_of arrays.now)) table.old }
+    ensures places { HasPlaces (arrays_of (declarations_of arrays.now)) table.new }
+    ensures found { found.new ≡ or_else found.old (rounds_fault (arrays_of (declarations_of arrays.now)) line (team_works var.now low high members (sequence_work (sequence_of phase.now)) (vars_of scope.now) ∷ [])) }
+{
+    if found.is_none() {
+        if let Some(cell) = overlap_of_members(
+            arrays, phase, var, low, high, members, scope, table,
+        ) {
+            *found = Some(WalkFault::Overlap {
+                line,
+                cell: cell as u16,
+            });
+        }
+    }
+}
+
+/// Keeps the first overlap of the sites of a block, in the order in which it enters them, unless something was found
+/// before.
+#[cycle(seek)]
+pub(crate) fn seek_block<'s>(
+    arrays: &Arrays,
+    block: &'s Block,
+    scope: &'s Scope<'s>,
+    table: &mut Table,
+    found: &mut Option<WalkFault>,
+)
+    requires sized { AreSized (arrays_of (declarations_of arrays.now)) }
+    requires places { HasPlaces (arrays_of (declarations_of arrays.now)) table.old }
+    ensures places { HasPlaces (arrays_of (declarations_of arrays.now)) table.new }
+    ensures found { found.new ≡ or_overlap (arrays_of (declarations_of arrays.now)) (sequence_sites (sequence_of block.now) (vars_of scope.now)) found.old }
+{
+    for statement in &block.statements {
+        seek_statement(arrays, statement, scope, table, found);
+    }
+}
+
+// The same of a statement.
+#[cycle(seek)]
+fn seek_statement<'s>(
+    arrays: &Arrays,
+    statement: &'s Stmt,
+    scope: &'s Scope<'s>,
+    table: &mut Table,
+    found: &mut Option<WalkFault>,
+)
+    requires sized { AreSized (arrays_of (declarations_of arrays.now)) }
+    requires places { HasPlaces (arrays_of (declarations_of arrays.now)) table.old }
+    ensures places { HasPlaces (arrays_of (declarations_of arrays.now)) table.new }
+    ensures found { found.new ≡ or_overlap (arrays_of (declarations_of arrays.now)) (statement_sites (statement_of statement.now) (vars_of scope.now)) found.old }
+{
+    match statement {
+        Stmt::Assign { .. } => {}
+        Stmt::For {
+            var,
+            low,
+            high,
+            body,
+            ..
+        } => seek_loop(arrays, body, var, *low, *high, scope, table, found),
+        Stmt::If {
+            then_block,
+            else_block,
+            ..
+        } => {
+            seek_block(arrays, then_block, scope, table, found);
+            seek_block(arrays, else_block, scope, table, found);
+        }
+        Stmt::Par { line, branches } => {
+            keep_par(arrays, *line, branches, scope, table, found);
+            seek_branches(arrays, branches, scope, table, found);
+        }
+        Stmt::Team {
+            line,
+            var,
+            low,
+            high,
+            members,
+            phases,
+        } => {
+            keep_team(
+                arrays,
+                *line,
+                phases,
+                var,
+                *low,
+                *high,
+                members.unsigned_abs(),
+                scope,
+                table,
+                found,
+            );
+            seek_phases(arrays, phases, var, *low, *high, scope, table, found);
+        }
+    }
+}
+
+// The same of a block for each number from low to before high.
+#[cycle(seek)]
+fn seek_loop<'s>(
+    arrays: &Arrays,
+    body: &'s Block,
+    var: &'s Name,
+    low: i64,
+    high: i64,
+    scope: &'s Scope<'s>,
+    table: &mut Table,
+    found: &mut Option<WalkFault>,
+)
+    requires sized { AreSized (arrays_of (declarations_of arrays.now)) }
+    requires places { HasPlaces (arrays_of (declarations_of arrays.now)) table.old }
+    ensures places { HasPlaces (arrays_of (declarations_of arrays.now)) table.new }
+    ensures found { found.new ≡ or_overlap (arrays_of (declarations_of arrays.now)) (loop_sites var.now low high (sequence_sites (sequence_of body.now)) (vars_of scope.now)) found.old }
+{
+    for number in low..high {
+        let turn = Scope::Turn {
+            name: var,
+            value: number,
+            outer: scope,
+        };
+        seek_block(arrays, body, &turn, table, found);
+    }
+}
+
+// The same of the branches of a `par`.
+#[cycle(seek)]
+fn seek_branches<'s>(
+    arrays: &Arrays,
+    branches: &'s Blocks,
+    scope: &'s Scope<'s>,
+    table: &mut Table,
+    found: &mut Option<WalkFault>,
+)
+    requires sized { AreSized (arrays_of (declarations_of arrays.now)) }
+    requires places { HasPlaces (arrays_of (declarations_of arrays.now)) table.old }
+    ensures places { HasPlaces (arrays_of (declarations_of arrays.now)) table.new }
+    ensures found { found.new ≡ or_overlap (arrays_of (declarations_of arrays.now)) (branches_sites (sequences_of branches.now) (vars_of scope.now)) found.old }
+{
+    for branch in &branches.blocks {
+        seek_block(arrays, branch, scope, table, found);
+    }
+}
+
+// The same of the phases of a `team`.
+#[cycle(seek)]
+fn seek_phases<'s>(
+    arrays: &Arrays,
+    phases: &'s Blocks,
+    var: &'s Name,
+    low: i64,
+    high: i64,
+    scope: &'s Scope<'s>,
+    table: &mut Table,
+    found: &mut Option<WalkFault>,
+)
+    requires sized { AreSized (arrays_of (declarations_of arrays.now)) }
+    requires places { HasPlaces (arrays_of (declarations_of arrays.now)) table.old }
+    ensures places { HasPlaces (arrays_of (declarations_of arrays.now)) table.new }
+    ensures found { found.new ≡ or_overlap (arrays_of (declarations_of arrays.now)) (phases_sites (sequences_of phases.now) var.now low high (vars_of scope.now)) found.old }
+{
+    for phase in &phases.blocks {
+        seek_loop(arrays, phase, var, low, high, scope, table, found);
+    }
+}

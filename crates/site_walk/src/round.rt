@@ -1,0 +1,163 @@
+//! The pieces of one round, and the least cell on which two of them overlap.
+ghost use Rattle.std.specs.Prelude.{◌≡◌, ◌<◌, ◌≤◌, ◌+◌, cond, Some, None, IfSome};
+ghost use Rattle.array_tree.specs.Trees.{sequence_of, sequences_of, declarations_of};
+ghost use Rattle.array_meaning.specs.Stores.{arrays_of, AreSized, cells_of};
+ghost use Rattle.array_meaning.specs.Work.{sequence_work, span};
+ghost use Rattle.array_meaning.specs.Members.{team_works, first_of, start_of};
+ghost use Rattle.array_meaning.specs.Overlap.{first_from, overlap};
+ghost use Rattle.array_meaning.specs.Sites.{branch_works};
+ghost use Rattle.array_eval.specs.Views.{vars_of};
+ghost use Rattle.site_walk.specs.Touched.{clashes};
+ghost use Rattle.site_walk.specs.Marks.{with_pieces, done_at, HasPlaces, cleared};
+
+use crate::mark::{mark_block, mark_loop};
+use crate::places::number_at;
+use crate::table::Table;
+use array_eval::{Scope, count_cells};
+use array_tree::{Arrays, Block, Blocks, Name};
+
+// Whether the pieces of a round clash on a cell.
+fn clashes_on(arrays: &Arrays, table: &Table, cell: usize) -> bool
+    requires { AreSized (arrays_of (declarations_of arrays.now)) }
+    ensures { result ≡ clashes (done_at (arrays_of (declarations_of arrays.now)) table.now cell) }
+{
+    let here = table.cells.get(cell);
+    here.with(table.everywhere.get(number_at(arrays, cell)))
+        .clashes()
+}
+
+// The least cell on which the pieces of a round clash.
+#[tactic(auto, using(crate::proofs::PieceLemmas::first_found, crate::proofs::PieceLemmas::first_later, crate::proofs::PieceLemmas::first_end))]
+fn least_clash(arrays: &Arrays, table: &Table) -> Option<usize>
+    requires { AreSized (arrays_of (declarations_of arrays.now)) }
+    ensures least { result ≡ first_from (λ cell. clashes (done_at (arrays_of (declarations_of arrays.now)) table.now cell)) 0 (cells_of (arrays_of (declarations_of arrays.now))) }
+    ensures small { IfSome result (λ cell. cell < 4096) }
+{
+    for cell in 0..count_cells(arrays) {
+        if clashes_on(arrays, table, cell) {
+            return Some(cell);
+        }
+    }
+    None
+}
+
+// The least cell on which the pieces of a round clash. Mostly nothing is suspect, and no cell is looked at.
+fn least_overlap(arrays: &Arrays, table: &Table) -> Option<usize>
+    requires { AreSized (arrays_of (declarations_of arrays.now)) }
+    ensures least { result ≡ cond table.now.suspect (first_from (λ cell. clashes (done_at (arrays_of (declarations_of arrays.now)) table.now cell)) 0 (cells_of (arrays_of (declarations_of arrays.now)))) None }
+    ensures small { IfSome result (λ cell. cell < 4096) }
+{
+    if table.suspect {
+        least_clash(arrays, table)
+    } else {
+        None
+    }
+}
+
+// Marks what the branches of a `par` do, each as a piece.
+fn mark_pieces<'s>(arrays: &Arrays, branches: &'s Blocks, scope: &'s Scope<'s>, table: &mut Table)
+    requires { AreSized (arrays_of (declarations_of arrays.now)) }
+    ensures { table.new ≡ with_pieces (arrays_of (declarations_of arrays.now)) 0 (branch_works (sequences_of branches.now) (vars_of scope.now)) table.old }
+{
+    for (piece, branch) in branches.blocks.iter().enumerate() {
+        mark_block(arrays, piece, branch, scope, table);
+    }
+}
+
+/// The least cell on which two branches of a `par` overlap.
+pub(crate) fn overlap_of_branches<'s>(
+    arrays: &Arrays,
+    branches: &'s Blocks,
+    scope: &'s Scope<'s>,
+    table: &mut Table,
+) -> Option<usize>
+    requires sized { AreSized (arrays_of (declarations_of arrays.now)) }
+    requires places { HasPlaces (arrays_of (declarations_of arrays.now)) table.old }
+    ensures places { HasPlaces (arrays_of (declarations_of arrays.now)) table.new }
+    ensures found { result ≡ overlap (arrays_of (declarations_of arrays.now)) (cells_of (arrays_of (declarations_of arrays.now))) (branch_works (sequences_of branches.now) (vars_of scope.now)) }
+    ensures small { IfSome result (λ cell. cell < 4096) }
+{
+    table.clear();
+    mark_pieces(arrays, branches, scope, table);
+    least_overlap(arrays, table)
+}
+
+// How many numbers lie from low to before high.
+fn span_of(low: i64, high: i64) -> u64
+    ensures { result ≡ span low high }
+{
+    if low < high { low.abs_diff(high) } else { 0 }
+}
+
+// The first iteration of a member, counted from the first of the team; there is none behind the last.
+#[tactic(auto, using(crate::proofs::StartLemmas::first_within))]
+fn first_iteration(iterations: u64, members: u64, member: u64) -> u64
+    requires some { 0 < members }
+    requires inside { member ≤ members }
+    ensures first { result ≡ first_of iterations members member }
+    ensures within { result ≤ iterations }
+{
+    (u128::from(iterations) * u128::from(member) / u128::from(members)) as u64
+}
+
+// The number with which the iterations of a member begin, and those of the member before it end.
+fn start_of_member(low: i64, high: i64, members: u64, member: u64) -> i64
+    requires some { 0 < members }
+    requires inside { member ≤ members }
+    ensures { result ≡ start_of low high members member }
+{
+    let first = first_iteration(span_of(low, high), members, member);
+    (i128::from(low) + i128::from(first)) as i64
+}
+
+// Marks what the members of a `team` do in one phase, each as a piece.
+fn mark_members<'s>(
+    arrays: &Arrays,
+    phase: &'s Block,
+    var: &'s Name,
+    low: i64,
+    high: i64,
+    members: u64,
+    scope: &'s Scope<'s>,
+    table: &mut Table,
+)
+    requires { AreSized (arrays_of (declarations_of arrays.now)) }
+    ensures { table.new ≡ with_pieces (arrays_of (declarations_of arrays.now)) 0 (team_works var.now low high members (sequence_work (sequence_of phase.now)) (vars_of scope.now)) table.old }
+{
+    for member in 0..members {
+        let start = start_of_member(low, high, members, member);
+        let end = start_of_member(low, high, members, member + 1);
+        mark_loop(
+            arrays,
+            member as usize,
+            phase,
+            var,
+            start,
+            end,
+            scope,
+            table,
+        );
+    }
+}
+
+/// The least cell on which two members of a `team` overlap in one phase.
+pub(crate) fn overlap_of_members<'s>(
+    arrays: &Arrays,
+    phase: &'s Block,
+    var: &'s Name,
+    low: i64,
+    high: i64,
+    members: u64,
+    scope: &'s Scope<'s>,
+    table: &mut Table,
+) -> Option<usize>
+    requires sized { AreSized (arrays_of (declarations_of arrays.now)) }
+    requires places { HasPlaces (arrays_of (declarations_of arrays.now)) table.old }
+    ensures places { HasPlaces (arrays_of (declarations_of arrays.now)) table.new }
+    ensures found { result ≡ overlap (arrays_of (declarations_of arrays.now)) (cells_of (arrays_of (declarations_of arrays.now))) (team_works var.now low high members (sequence_work (sequence_of phase.now)) (vars_of scope.now)) }
+    ensures small { IfSome result (λ cell. cell < 4096) }
+{
+    table.clear();
+    mark_members(arrays, phase, var, low, high, members, scope, table);
+    least_overlap(arrays, table)
+}

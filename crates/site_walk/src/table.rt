@@ -1,0 +1,80 @@
+//! What the pieces of a round do, cell by cell and array by array.
+ghost use Rattle.std.specs.Prelude.{◌≡◌, IfOk, length};
+ghost use Rattle.array_tree.specs.Trees.{declarations_of};
+ghost use Rattle.array_meaning.specs.Stores.{arrays_of, AreSized, cells_of};
+ghost use Rattle.site_walk.specs.Marks.{with_static, with_dynamic, nothing_done, cleared};
+
+use crate::layer::Layer;
+use crate::touched::Touched;
+use array_eval::count_cells;
+use array_tree::Arrays;
+use std::alloc::{AllocError, Global};
+
+/// What the pieces of a round do. A static index touches a cell, and a dynamic one all cells of an array by one mark.
+#[derive(Debug, Drop)]
+pub(crate) struct Table {
+    /// For each cell: what is done by static indexes.
+    pub(crate) cells: Layer,
+    /// For each array: what is done by dynamic indexes.
+    pub(crate) everywhere: Layer,
+    /// For each array: what is done by static indexes to cells that none of them writes.
+    pub(crate) read: Layer,
+    /// For each array: what is done by static indexes to cells that one of them writes.
+    pub(crate) written: Layer,
+    /// Whether two pieces may overlap. If not, none do.
+    pub(crate) suspect: bool,
+}
+
+impl Table {
+    /// A table for these arrays, with nothing done.
+    pub(crate) fn new(alloc: Global, arrays: &Arrays) -> Result<Table, AllocError>
+        requires { AreSized (arrays_of (declarations_of arrays.now)) }
+        ensures { IfOk result (λ table. table ≡ nothing_done (cells_of (arrays_of (declarations_of arrays.now))) (length (arrays_of (declarations_of arrays.now)))) }
+    {
+        let count = arrays.declarations.len();
+        Ok(Table {
+            cells: Layer::new(alloc, count_cells(arrays))?,
+            everywhere: Layer::new(alloc, count)?,
+            read: Layer::new(alloc, count)?,
+            written: Layer::new(alloc, count)?,
+            suspect: false,
+        })
+    }
+
+    /// Begins a round, in which nothing is done yet.
+    pub(crate) fn clear(&mut self)
+        ensures { self.new ≡ cleared self.old }
+    {
+        self.cells.clear();
+        self.everywhere.clear();
+        self.read.clear();
+        self.written.clear();
+        self.suspect = false;
+    }
+
+    /// Adds what is done to a cell by a static index of an array, which may be outside the array.
+    #[tactic(auto, unfolding(crate::specs::Marks::with_static))]
+    pub(crate) fn touch_cell(&mut self, number: usize, cell: usize, inside: bool, touch: Touched)
+        ensures { self.new ≡ with_static number cell inside touch self.old }
+    {
+        let all = self.cells.add(cell, touch);
+        let clash = all.with(self.everywhere.get(number)).clashes();
+        self.suspect = self.suspect || !inside || clash;
+        if all.written {
+            self.written.add(number, all);
+        } else {
+            self.read.add(number, all);
+        }
+    }
+
+    /// Adds what is done to all cells of an array by a dynamic index.
+    #[tactic(auto, unfolding(crate::specs::Marks::with_dynamic))]
+    pub(crate) fn touch_array(&mut self, number: usize, touch: Touched)
+        ensures { self.new ≡ with_dynamic number touch self.old }
+    {
+        let all = self.everywhere.add(number, touch);
+        let with_read = all.with(self.read.get(number)).clashes();
+        let with_written = all.with(self.written.get(number)).clashes();
+        self.suspect = self.suspect || with_read || with_written;
+    }
+}

@@ -1,0 +1,59 @@
+//! What pieces do to something.
+ghost use Rattle.std.specs.Prelude.{◌≡◌};
+ghost use Rattle.site_walk.specs.Touched.{joined_pieces, joined, clashes};
+
+/// Which pieces of a round touched something.
+#[derive(Clone, Copy, PartialEq, Eq, Debug, Drop)]
+pub(crate) enum Pieces {
+    Nobody,
+    One(usize),
+    Several,
+}
+
+impl Pieces {
+    /// The pieces of one set or another.
+    fn with(self, other: Pieces) -> Pieces
+        ensures { result ≡ joined_pieces self other }
+    {
+        match (self, other) {
+            (Pieces::Nobody, _) => other,
+            (_, Pieces::Nobody) => self,
+            (Pieces::One(one), Pieces::One(two)) => {
+                if one == two { self } else { Pieces::Several }
+            }
+            _ => Pieces::Several,
+        }
+    }
+}
+
+/// What the pieces of a round did to something: which touched it, and whether one of them wrote.
+#[derive(Clone, Copy, PartialEq, Eq, Debug, Drop)]
+pub(crate) struct Touched {
+    pub(crate) by: Pieces,
+    pub(crate) written: bool,
+}
+
+/// Nobody touched it.
+pub(crate) const UNTOUCHED: Touched = Touched {
+    by: Pieces::Nobody,
+    written: false,
+};
+
+impl Touched {
+    /// What was done here or there.
+    pub(crate) fn with(self, other: Touched) -> Touched
+        ensures { result ≡ joined self other }
+    {
+        Touched {
+            by: self.by.with(other.by),
+            written: self.written || other.written,
+        }
+    }
+
+    /// Whether two pieces touched it, of which one wrote.
+    pub(crate) fn clashes(self) -> bool
+        ensures { result ≡ clashes self }
+    {
+        self.written && matches!(self.by, Pieces::Several)
+    }
+}

@@ -1,0 +1,58 @@
+//! The walk through a program.
+ghost use Rattle.std.specs.Prelude.{◌≡◌, ◌⊎◌, IfErr, OnOk, IsTrue, Some, None};
+ghost use Rattle.array_tree.specs.Trees.{declarations_of, program_of};
+ghost use Rattle.array_meaning.specs.Stores.{arrays_of, AreSized};
+ghost use Rattle.array_meaning.specs.Names.{has_only_known_names};
+ghost use Rattle.array_meaning.specs.Accepted.{has_indices_inside, HasApartSites};
+ghost use Rattle.site_walk.specs.FirstOverlap.{walk_fault_of};
+
+use crate::fault::WalkFault;
+use crate::inside::keep_block;
+use crate::overlap::seek_block;
+use crate::table::Table;
+use array_eval::Scope;
+use array_tree::Program;
+use std::alloc::Global;
+
+/// Walks through a program: each static index must be inside its array, and the pieces of each site must not overlap.
+///
+/// The fault is the first index outside its array, over the whole program, or else the first overlap. Want of memory
+/// alone is answered at will.
+///
+/// Each array must have a cell, and all at most 4,096. In a walk that finds nothing the pieces of each site are apart,
+/// where no name is unknown: an unknown array would have a cell behind the last.
+#[tactic(auto, using(crate::proofs::ApartLemmas::sites_of_none))]
+pub fn walk_program(alloc: Global, program: &Program) -> Result<(), WalkFault>
+    requires { AreSized (arrays_of (declarations_of program.now.arrays)) }
+    ensures ok { OnOk result (walk_fault_of (program_of program.now) ≡ None) }
+    ensures indices { OnOk result (IsTrue (has_indices_inside (program_of program.now))) }
+    ensures apart { OnOk result (IsTrue (has_only_known_names (program_of program.now)) → HasApartSites (program_of program.now)) }
+
+    ensures fault { IfErr result (λ fault. (fault ≡ WalkFault.Memory) ⊎ (walk_fault_of (program_of program.now) ≡ Some fault)) }
+{
+    let mut found = None;
+    keep_block(
+        &program.arrays,
+        &program.body,
+        &Scope::Outermost,
+        &mut found,
+    );
+    if let Some(fault) = found {
+        return Err(fault);
+    }
+    let mut table = match Table::new(alloc, &program.arrays) {
+        Ok(table) => table,
+        Err(_) => return Err(WalkFault::Memory),
+    };
+    seek_block(
+        &program.arrays,
+        &program.body,
+        &Scope::Outermost,
+        &mut table,
+        &mut found,
+    );
+    match found {
+        Some(fault) => Err(fault),
+        None => Ok(()),
+    }
+}

@@ -1,4 +1,0 @@
-pub mod Branches
-pub mod Marking
-pub mod Accepting
-pub mod Units

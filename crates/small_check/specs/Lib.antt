@@ -1,2 +1,0 @@
-pub mod Test
-pub mod SmallPlan
