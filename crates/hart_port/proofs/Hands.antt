@@ -2,16 +2,17 @@
 use Rattle.std.proofs.Common.{◌≡◌, ℕ, ◌+◌, ◌<◌, ◌≤◌, ⊎_elim, Bool, true, false, ◌&&◌, List, ◌++◌, ◌∷◌, [], length, refl, sym, ap, subst, ◌∙◌, arith, Option, Some, None, zero, suc}
 use Rattle.std.proofs.lemmas.Bool.Decides.{nat_tests}
 use Rattle.transfer_table.specs.Plan.{Plan, IsPlan, IsHart, IsSite, parent, site_count}
-use Rattle.transfer_table.specs.Table.{TableState, effect_of, first_state, owner, row, is_home}
+use Rattle.transfer_table.specs.Table.{TableState, effect_of, first_state, owner, row, is_home, lives_with}
 use Rattle.transfer_table.specs.Journal.{Reaches}
 use Rattle.transfer_table.specs.Allowed.{IsAllowed}
 use Rattle.transfer_table.specs.declared.entry.Entry.{Entry}
 use Rattle.transfer_table.specs.declared.entry.Entry.TheVariants.{Register, Yield, Unregister}
-use Rattle.transfer_table.proofs.Positions.{legal_position, get_or-replicate}
+use Rattle.transfer_table.proofs.Positions.{legal_position}
+use Rattle.transfer_table.proofs.Lists.{replicate_at}
 use Rattle.transfer_table.proofs.Effects.{owner-effect_same}
 use Rattle.transfer_table.proofs.Bounds.{legal_owner}
 use Rattle.transfer_table.proofs.Stages.{live_home}
-use Rattle.hart_port.specs.Hand.{Hand, IsHand, is_in, with_site, without, lives_with, homes_of, MayUnregister, registered, unregistered}
+use Rattle.hart_port.specs.Hand.{Hand, IsHand, is_in, with_site, without, homes_of, MayUnregister, registered, unregistered}
 use Rattle.hart_port.specs.Plain.{IsPlain, first_hand, no_site}
 use Rattle.hart_port.proofs.Homes.{length-homes_of, is_in-homes_of, homes_of-register, homes_of-unregister, homes_of-first}
 use Rattle.hart_port.proofs.Single.{alone}
@@ -84,5 +85,5 @@ hand-unregister p q t mine capacity closed empty gone refused s is a o p' u mine
     subst P o same
 
 pub hand-first : (p : Plan) → p.harts ≡ 1 → hand_of p (first_state p) [] (no_site p) (no_site p) (no_site p) 0 ≡ first_hand p
-hand-first p one = let there : owner (first_state p) 0 ≡ 0 = get_or-replicate p.harts 0 0 in let home = homes_of-first p 0 in
+hand-first p one = let there : owner (first_state p) 0 ≡ 0 = replicate_at p.harts 0 0 in let home = homes_of-first p 0 in
     (λ i. record { plan = p; hart = 0; owner = there i; mine = []; homes = home i; closed = no_site p; empty = no_site p; gone = no_site p; refused = 0 })

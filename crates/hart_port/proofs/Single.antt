@@ -1,8 +1,6 @@
 -- What an allowed entry gives, and what the journal of a plan with one hart has.
-use Rattle.std.proofs.Common.{◌≡◌, ◌≢◌, ℕ, ◌+◌, ◌-◌, ◌*◌, ◌<◌, Bool, true, false, eqb, if◌then◌else◌, cond, List, [], ◌∷◌, ◌++◌, length, refl, sym, ap, ◌∙◌, arith, Ok, ne_eqb, add-zero}
-use Rattle.std.proofs.lemmas.List.{length_push}
-use Rattle.std.proofs.lemmas.List.Sums.{sum_by_push}
-use Rattle.transfer_table.specs.Plan.{Plan, IsPlan, IsHart, IsSite, site_count}
+use Rattle.std.proofs.Common.{◌≡◌, ◌≢◌, ℕ, ◌+◌, ◌-◌, Bool, true, false, eqb, if◌then◌else◌, cond, List, [], ◌∷◌, ◌++◌, refl, sym, ap, ◌∙◌, arith, Ok, ne_eqb, add-zero}
+use Rattle.transfer_table.specs.Plan.{Plan, IsPlan, IsHart, IsSite}
 use Rattle.transfer_table.specs.Table.{TableState, admit_of, effect_of, row}
 use Rattle.transfer_table.specs.Journal.{Reaches}
 use Rattle.transfer_table.specs.Entry.{site_of, count_of, registers, requested, is_register}
@@ -12,23 +10,14 @@ use Rattle.transfer_table.specs.declared.entry.Stage.TheVariants.{New}
 use Rattle.transfer_table.specs.declared.entry.Entry.{Entry}
 use Rattle.transfer_table.specs.declared.entry.Entry.TheVariants.{Register, Request, Enter, Yield, Unregister}
 use Rattle.transfer_table.proofs.Admits.{admits}
-use Rattle.transfer_table.proofs.Replays.{reaches-snoc}
 use Rattle.transfer_table.proofs.Positions.{legal_position, lasts}
-use Rattle.transfer_table.proofs.Bounds.{legal_length}
+use Rattle.transfer_table.proofs.Balance.{registers-snoc, requested-snoc}
 use Rattle.transfer_table.proofs.Effects.{at_site, row_after, allowed_site}
 use Rattle.transfer_table.proofs.Stages.{first_blank, live_home}
 
 -- an allowed entry is admitted
 pub admitted : (p : Plan) → IsPlan p → (es : List Entry) (t : TableState) (e : Entry) → Reaches p es t → IsAllowed p t e → admit_of p t e ≡ Ok (effect_of p t e)
 admitted p plan es t e leads a = admits p t e (legal_position p plan es t leads) a
-
--- and the journal with it leads to its effect
-pub grown : (p : Plan) → IsPlan p → (es : List Entry) (t : TableState) (e : Entry) → Reaches p es t → IsAllowed p t e → Reaches p (es ++ e ∷ []) (effect_of p t e)
-grown p plan es t e leads a = reaches-snoc p es e t (effect_of p t e) leads (admitted p plan es t e leads a)
-
--- and there was room for it
-pub has_room : (p : Plan) → IsPlan p → (es : List Entry) (t : TableState) (e : Entry) → Reaches p es t → IsAllowed p t e → length es < site_count p * (3 * p.harts - 1)
-has_room p plan es t e leads a = let few = legal_length p plan (es ++ e ∷ []) (effect_of p t e) (grown p plan es t e leads a) in let more = length_push es e in omega arith
 
 -- with one hart nobody is asked for
 no_count : (p : Plan) (t : TableState) (e : Entry) → p.harts ≡ 1 → IsAllowed p t e → count_of e ≡ 0
@@ -43,11 +32,11 @@ either true k none = none
 either false k none = refl
 
 requested-push : (s : ℕ) (es : List Entry) (e : Entry) → count_of e ≡ 0 → requested s es ≡ 0 → requested s (es ++ e ∷ []) ≡ 0
-requested-push s es e none before = let more = sum_by_push (λ (x : Entry). if eqb (site_of x) s then count_of x else 0) es e in let nothing = either (eqb (site_of e) s) (count_of e) none in omega arith
+requested-push s es e none before = let more = requested-snoc s es e in let nothing = either (eqb (site_of e) s) (count_of e) none in omega arith
 
 registers-push : (s : ℕ) (es : List Entry) (e : Entry) → s ≢ site_of e → registers s (es ++ e ∷ []) ≡ registers s es
 registers-push s es e n = let none : (if eqb (site_of e) s then is_register e else false) ≡ false = rw (ne_eqb (site_of e) s (λ z. n (sym z))) refl in
-    sum_by_push (λ (x : Entry). cond (if eqb (site_of x) s then is_register x else false) 1 0) es e ∙ ap (λ (b : Bool). registers s es + cond b 1 0) none ∙ add-zero (registers s es)
+    registers-snoc s es e ∙ ap (λ (b : Bool). registers s es + cond b 1 0) none ∙ add-zero (registers s es)
 
 wishes_after : (p : Plan) (t : TableState) (e : Entry) → p.harts ≡ 1 → IsAllowed p t e → (row t (site_of e)).wishes ≡ 0 → (row_after t e).wishes ≡ 0
 wishes_after p t (Register h s) one a z = refl

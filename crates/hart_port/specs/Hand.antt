@@ -1,7 +1,7 @@
 -- What contracts see of one hart's right to make transfers, and how each call changes it.
 use Rattle.std.specs.Prelude.{◌≡◌, ◌≢◌, ℕ, ◌+◌, ◌-◌, ◌≤◌, ◌&&◌, Bool, true, false, List, [], ◌∷◌, ◌++◌, length, map, slice_index_or, slice_set, if◌then◌else◌, Result, Ok, Err}
 use Rattle.transfer_table.specs.Plan.{Plan, IsPlan, IsHart, IsSite, parent, site_count}
-use Rattle.transfer_table.specs.Table.{TableState, row, is_live, is_home}
+use Rattle.transfer_table.specs.Table.{TableState, is_live, is_home}
 use Rattle.transfer_table.specs.Entry.{registers, requested}
 use Rattle.transfer_table.specs.declared.entry.Entry.{Entry}
 use Rattle.transfer_table.specs.declared.entry.Entry.TheVariants.{Register, Request, Enter, Yield, Unregister}
@@ -58,10 +58,6 @@ pub record IsHand (h : Hand) : Type 0 where
 -- a live site whose home is the hart
 abbrev pub is_home_of : ℕ → Row → Bool
 is_home_of h r = is_live r.stage && is_home r.home h
-
--- the site is live and its home is the hart
-abbrev pub lives_with : TableState → ℕ → ℕ → Bool
-lives_with t s h = is_home_of h (row t s)
 
 -- the live sites whose home is the hart
 abbrev pub homes_of : TableState → ℕ → List Bool

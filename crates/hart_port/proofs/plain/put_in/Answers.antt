@@ -1,12 +1,17 @@
 -- An allowed entry is admitted, and a legal list has fewer entries than there is room for.
 use Rattle.std.proofs.Common.{arith}
-use Rattle.hart_port.proofs.Single.{admitted, grown, has_room}
+use Rattle.transfer_table.specs.Table.{effect_of}
+use Rattle.transfer_table.proofs.Bounds.{legal_room}
+use Rattle.transfer_table.proofs.Positions.{reaches-allowed}
+use Rattle.hart_port.proofs.Single.{admitted}
 use Rattle.hart_port.proofs.plain.put_in.Goals as goal
 
 pub push_reserved-requires : goal.push_reserved-requires
 push_reserved-requires c =
     let p = c.args.board.now.plan in
-    let few = has_room p c.requires.plan c.args.mine.now.items c.args.board.now.state c.args.entry c.requires.legal c.requires.allowed in
+    let t = c.args.board.now.state in
+    let is = admitted p c.requires.plan c.args.mine.now.items t c.args.entry c.requires.legal c.requires.allowed in
+    let few = legal_room p c.requires.plan c.args.mine.now.items t (effect_of p t c.args.entry) c.args.entry c.requires.legal is in
     omega arith
 
 pub unreachable-requires : goal.unreachable-requires
@@ -23,7 +28,7 @@ returns-clause-state c =
 
 pub returns-clause-legal : goal.returns-clause-legal
 returns-clause-legal c =
-    let leads = grown c.args.board.now.plan c.requires.plan c.args.mine.now.items c.args.board.now.state c.args.entry c.requires.legal c.requires.allowed in
+    let leads = reaches-allowed c.args.board.now.plan c.requires.plan c.args.mine.now.items c.args.board.now.state c.args.entry c.requires.legal c.requires.allowed in
     let is = admitted c.args.board.now.plan c.requires.plan c.args.mine.now.items c.args.board.now.state c.args.entry c.requires.legal c.requires.allowed in
     let now = c.in-Ok.ensures.ok in
     let plan = c.in-Ok.ensures.plan in
