@@ -1,1 +1,3 @@
 pub mod OverlayLemmas
+pub mod ScopeLemmas
+pub mod TraceLemmas

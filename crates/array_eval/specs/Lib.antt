@@ -2,3 +2,4 @@ pub mod Views
 pub mod ArrayText
 pub mod Overlays
 pub mod Bindings
+pub mod Traces

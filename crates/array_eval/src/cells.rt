@@ -1,7 +1,7 @@
 //! Where arrays and indexes lead.
 ghost use Rattle.std.specs.Prelude.{◌≡◌, ◌≤◌, ◌<◌};
 ghost use Rattle.array_tree.specs.Trees.{declarations_of, declaration_of};
-ghost use Rattle.array_meaning.specs.Stores.{arrays_of, AreSized, base_of, length_of, cell_of, cells_of, at_cell, written};
+ghost use Rattle.array_meaning.specs.Stores.{arrays_of, AreSized, base_of, length_of, cell_of, cells_of, at_cell};
 
 use array_tree::{Arrays, Name};
 
@@ -62,13 +62,4 @@ pub(crate) fn read(cells: &[i64], cell: usize) -> i64
     ensures { result ≡ at_cell cells.now cell }
 {
     if cell < cells.len() { cells[cell] } else { 0 }
-}
-
-/// Writes a cell, if it is there.
-pub(crate) fn write(cells: &mut [i64], cell: usize, value: i64)
-    ensures { cells.new ≡ written cells.old cell value }
-{
-    if cell < cells.len() {
-        cells[cell] = value;
-    }
 }

@@ -2,11 +2,12 @@
 ghost use Rattle.std.specs.Prelude.{◌≡◌, IfOk, length};
 ghost use Rattle.array_tree.specs.Trees.{statement_of, sequence_of, sequences_of, declarations_of, program_of};
 ghost use Rattle.array_meaning.specs.Stores.{arrays_of, AreSized, cells_of};
-ghost use Rattle.array_meaning.specs.Steps.{exec};
 ghost use Rattle.array_meaning.specs.Work.{statement_work, sequence_work, branches_work, phases_work, loop, final_store};
+ghost use Rattle.array_eval.specs.Traces.{traced};
 ghost use Rattle.array_eval.specs.Views.{vars_of};
 
-use crate::cells::{cell, count_cells, write};
+use crate::cells::{cell, count_cells};
+use crate::marked_store::MarkedStore;
 use crate::scope::Scope;
 use crate::store::Store;
 use crate::value::{dynamic, value};
@@ -17,38 +18,39 @@ use std::alloc::{AllocError, Global};
 ///
 /// Each array must have a cell, and all at most 4,096. That the names are known and the indexes inside their arrays
 /// is not needed: a read behind the last cell gives 0, and a write there does nothing.
-#[tactic(auto, using(array_meaning::proofs::StepLemmas::length_final_store))]
+#[tactic(auto, using(array_meaning::proofs::StepLemmas::length_after, crate::proofs::TraceLemmas::cells_after))]
 pub fn run_one(alloc: Global, program: &Program) -> Result<Store, AllocError>
     requires { AreSized (arrays_of (declarations_of program.now.arrays)) }
     ensures meaning { IfOk result (λ store. store ≡ final_store (program_of program.now)) }
     ensures whole { IfOk result (λ store. length store ≡ cells_of (arrays_of (declarations_of program.now.arrays))) }
 {
-    let mut cells = vec![in alloc; 0; count_cells(&program.arrays)]?;
+    let zero = Store::of_cells(vec![in alloc; 0; count_cells(&program.arrays)]?);
+    let mut store = MarkedStore::new(alloc, &zero)?;
     run_block(
         &program.arrays,
         &program.body,
         &Scope::Outermost,
-        &mut cells,
+        &mut store,
     );
-    Ok(Store::of_cells(cells))
+    Ok(store.into_store())
 }
 
-// Runs a block.
+/// Runs a block.
 #[cycle(run)]
-fn run_block<'s>(arrays: &Arrays, block: &'s Block, scope: &'s Scope<'s>, cells: &mut [i64])
+pub fn run_block<'s>(arrays: &Arrays, block: &'s Block, scope: &'s Scope<'s>, store: &mut MarkedStore)
     requires { AreSized (arrays_of (declarations_of arrays.now)) }
-    ensures { cells.new ≡ exec (arrays_of (declarations_of arrays.now)) (sequence_work (sequence_of block.now) (vars_of scope.now)) cells.old }
+    ensures { store.new ≡ traced (arrays_of (declarations_of arrays.now)) (sequence_work (sequence_of block.now) (vars_of scope.now)) store.old }
 {
     for statement in &block.statements {
-        run_statement(arrays, statement, scope, cells);
+        run_statement(arrays, statement, scope, store);
     }
 }
 
 // Runs a statement.
 #[cycle(run)]
-fn run_statement<'s>(arrays: &Arrays, statement: &'s Stmt, scope: &'s Scope<'s>, cells: &mut [i64])
+fn run_statement<'s>(arrays: &Arrays, statement: &'s Stmt, scope: &'s Scope<'s>, store: &mut MarkedStore)
     requires { AreSized (arrays_of (declarations_of arrays.now)) }
-    ensures { cells.new ≡ exec (arrays_of (declarations_of arrays.now)) (statement_work (statement_of statement.now) (vars_of scope.now)) cells.old }
+    ensures { store.new ≡ traced (arrays_of (declarations_of arrays.now)) (statement_work (statement_of statement.now) (vars_of scope.now)) store.old }
 {
     match statement {
         Stmt::Assign {
@@ -57,9 +59,9 @@ fn run_statement<'s>(arrays: &Arrays, statement: &'s Stmt, scope: &'s Scope<'s>,
             value: right,
             ..
         } => {
-            let place = value(arrays, index, scope, cells);
-            let number = value(arrays, right, scope, cells);
-            write(cells, cell(arrays, array, dynamic(index), place), number);
+            let place = value(arrays, index, scope, store.cells());
+            let number = value(arrays, right, scope, store.cells());
+            store.write(cell(arrays, array, dynamic(index), place), number);
         }
         Stmt::For {
             var,
@@ -67,43 +69,43 @@ fn run_statement<'s>(arrays: &Arrays, statement: &'s Stmt, scope: &'s Scope<'s>,
             high,
             body,
             ..
-        } => run_loop(arrays, body, var, *low, *high, scope, cells),
+        } => run_loop(arrays, body, var, *low, *high, scope, store),
         Stmt::If {
             cond,
             then_block,
             else_block,
             ..
         } => {
-            if value(arrays, cond, scope, cells) != 0 {
-                run_block(arrays, then_block, scope, cells);
+            if value(arrays, cond, scope, store.cells()) != 0 {
+                run_block(arrays, then_block, scope, store);
             } else {
-                run_block(arrays, else_block, scope, cells);
+                run_block(arrays, else_block, scope, store);
             }
         }
-        Stmt::Par { branches, .. } => run_branches(arrays, branches, scope, cells),
+        Stmt::Par { branches, .. } => run_branches(arrays, branches, scope, store),
         Stmt::Team {
             var,
             low,
             high,
             phases,
             ..
-        } => run_phases(arrays, phases, var, *low, *high, scope, cells),
+        } => run_phases(arrays, phases, var, *low, *high, scope, store),
     }
 }
 
-// Runs a block once for each number from low to before high.
+/// Runs a block once for each number from `low` to before `high`, with that number as the variable.
 #[cycle(run)]
-fn run_loop<'s>(
+pub fn run_loop<'s>(
     arrays: &Arrays,
     body: &'s Block,
     var: &'s Name,
     low: i64,
     high: i64,
     scope: &'s Scope<'s>,
-    cells: &mut [i64],
+    store: &mut MarkedStore,
 )
     requires { AreSized (arrays_of (declarations_of arrays.now)) }
-    ensures { cells.new ≡ exec (arrays_of (declarations_of arrays.now)) (loop var.now low high (sequence_work (sequence_of body.now)) (vars_of scope.now)) cells.old }
+    ensures { store.new ≡ traced (arrays_of (declarations_of arrays.now)) (loop var.now low high (sequence_work (sequence_of body.now)) (vars_of scope.now)) store.old }
 {
     for number in low..high {
         let turn = Scope::Turn {
@@ -111,18 +113,18 @@ fn run_loop<'s>(
             value: number,
             outer: scope,
         };
-        run_block(arrays, body, &turn, cells);
+        run_block(arrays, body, &turn, store);
     }
 }
 
 // Runs the branches of a `par`, one after another.
 #[cycle(run)]
-fn run_branches<'s>(arrays: &Arrays, branches: &'s Blocks, scope: &'s Scope<'s>, cells: &mut [i64])
+fn run_branches<'s>(arrays: &Arrays, branches: &'s Blocks, scope: &'s Scope<'s>, store: &mut MarkedStore)
     requires { AreSized (arrays_of (declarations_of arrays.now)) }
-    ensures { cells.new ≡ exec (arrays_of (declarations_of arrays.now)) (branches_work (sequences_of branches.now) (vars_of scope.now)) cells.old }
+    ensures { store.new ≡ traced (arrays_of (declarations_of arrays.now)) (branches_work (sequences_of branches.now) (vars_of scope.now)) store.old }
 {
     for branch in &branches.blocks {
-        run_block(arrays, branch, scope, cells);
+        run_block(arrays, branch, scope, store);
     }
 }
 
@@ -135,12 +137,12 @@ fn run_phases<'s>(
     low: i64,
     high: i64,
     scope: &'s Scope<'s>,
-    cells: &mut [i64],
+    store: &mut MarkedStore,
 )
     requires { AreSized (arrays_of (declarations_of arrays.now)) }
-    ensures { cells.new ≡ exec (arrays_of (declarations_of arrays.now)) (phases_work (sequences_of phases.now) var.now low high (vars_of scope.now)) cells.old }
+    ensures { store.new ≡ traced (arrays_of (declarations_of arrays.now)) (phases_work (sequences_of phases.now) var.now low high (vars_of scope.now)) store.old }
 {
     for phase in &phases.blocks {
-        run_loop(arrays, phase, var, low, high, scope, cells);
+        run_loop(arrays, phase, var, low, high, scope, store);
     }
 }

@@ -89,11 +89,18 @@ impl Store {
         &self.cells
     }
 
-    /// The cells, to be written.
+    /// A store of these cells.
     pub(crate) fn of_cells(cells: Vec<i64>) -> Store
         ensures { result ≡ cells.items }
     {
         Store { cells }
+    }
+
+    /// The cells alone.
+    pub(crate) fn into_cells(self) -> Vec<i64>
+        ensures { result.items ≡ self }
+    {
+        self.cells
     }
 }
 

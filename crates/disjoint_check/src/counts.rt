@@ -1,6 +1,7 @@
 //! How many sites a program enters, and how many pieces they have.
 ghost use Rattle.std.specs.Prelude.{◌≡◌, ℕ, ◌+◌, ◌*◌};
 ghost use Rattle.array_tree.specs.Trees.{statement_of, sequence_of, sequences_of};
+ghost use Rattle.array_meaning.specs.Work.{span};
 ghost use Rattle.array_meaning.specs.Plans.{sites_in, statement_sites_in, branches_sites_in};
 ghost use Rattle.array_meaning.specs.Limits.{pieces_in, statement_pieces_in, branches_pieces_in};
 ghost use Rattle.disjoint_check.specs.LimitFault.{capped};
@@ -12,7 +13,7 @@ use array_tree::{Block, Blocks, Stmt};
 /// How many sites a block enters. Here and below the greatest number of 64 bits stands for all above it. What is
 /// never entered isn't looked into.
 #[cycle(sites)]
-pub(crate) fn sites_in_block(block: &Block) -> u64
+pub fn sites_in_block(block: &Block) -> u64
     ensures { result ≡ capped (sites_in (sequence_of block.now)) }
 {
     let mut sites: u64 = 0;
@@ -20,6 +21,19 @@ pub(crate) fn sites_in_block(block: &Block) -> u64
         sites = sites.saturating_add(sites_in_statement(statement));
     }
     sites
+}
+
+/// How many sites a loop enters that runs a block for each number from `low` to before `high`.
+#[cycle(sites)]
+pub fn sites_in_turns(low: i64, high: i64, body: &Block) -> u64
+    ensures { result ≡ capped (span low high * sites_in (sequence_of body.now)) }
+{
+    let turns = span(low, high);
+    if turns == 0 {
+        0
+    } else {
+        times(turns, sites_in_block(body))
+    }
 }
 
 #[cycle(sites)]
@@ -33,14 +47,7 @@ fn sites_in_statement(statement: &Stmt) -> u64
             high,
             body,
             ..
-        } => {
-            let turns = span(*low, *high);
-            if turns == 0 {
-                0
-            } else {
-                times(turns, sites_in_block(body))
-            }
-        }
+        } => sites_in_turns(*low, *high, body),
         Stmt::If {
             then_block,
             else_block,

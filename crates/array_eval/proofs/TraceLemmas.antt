@@ -1,0 +1,132 @@
+-- What is kept while a work runs is what its steps write.
+use Rattle.std.proofs.Common.{◌≡◌, ℕ, zero, suc, ◌+◌, ◌<◌, ◌≤◌, Bool, true, false, cond, List, [], ◌∷◌, ◌++◌, length, set, drop, get_or, drop-cons, add-one, ℤ, refl, sym, ap, ◌∙◌, arith, length-set}
+use Rattle.std.specs.Prelude.{All, nat_lt, nat_eq, replicate}
+use Rattle.std.proofs.lemmas.Bool.Decides.{nat_tests}
+use Rattle.std.proofs.lemmas.List.{length-replicate}
+use Rattle.array_meaning.specs.Stores.{Arrays, Store, Write, after}
+use Rattle.array_meaning.specs.Steps.{Steps, followed_by, writes_of}
+use Rattle.array_meaning.specs.Pieces.{lay, lays, last_writes, IsAbove}
+use Rattle.array_meaning.proofs.StepLemmas.{writes_followed_by}
+use Rattle.array_meaning.proofs.LastLemmas.{same_last, last_value_last}
+use Rattle.array_eval.specs.Traces.{Trace, fresh, noted, noted_all, traced, marked_from, marked}
+
+pub cells_after : (ws : List Write) (t : Trace) → (noted_all ws t).cells ≡ after ws t.cells
+cells_after [] t = refl
+cells_after (w ∷ ws) t = cells_after ws (noted w.0 w.1 t)
+
+noted_append : (a b : List Write) (t : Trace) → noted_all (a ++ b) t ≡ noted_all b (noted_all a t)
+noted_append [] b t = refl
+noted_append (w ∷ a) b t = noted_append a b (noted w.0 w.1 t)
+
+-- one and then the other
+pub traced_followed_by : (arrays : Arrays) (a b : Steps) (t : Trace) → traced arrays (followed_by a b) t ≡ traced arrays b (traced arrays a t)
+traced_followed_by arrays a b t =
+    ap (λ ws. noted_all ws t) (writes_followed_by arrays a b t.cells)
+    ∙ noted_append (writes_of arrays a t.cells) (writes_of arrays b (after (writes_of arrays a t.cells) t.cells)) t
+    ∙ ap (λ cells. noted_all (writes_of arrays b cells) (traced arrays a t)) (sym (cells_after (writes_of arrays a t.cells) t))
+
+-- ---- what is marked
+
+above_marked : (c i : ℕ) (cells : List ℤ) (marks : List Bool) → c < i → IsAbove c (marked_from i cells marks)
+above_marked c i [] marks h = tt
+above_marked c i (x ∷ cells) [] h = tt
+above_marked c i (x ∷ cells) (true ∷ marks) h = (h, above_marked c (suc i) cells marks (omega (arith, h)))
+above_marked c i (x ∷ cells) (false ∷ marks) h = above_marked c (suc i) cells marks (omega (arith, h))
+
+lay_front : (c : ℕ) (v : ℤ) (ws : List Write) → IsAbove c ws → lay c v ws ≡ (c, v) ∷ ws
+lay_front c v [] h = refl
+lay_front c v (w ∷ ws) h = let below = h.0 in let test : nat_lt c w.0 ≡ true = grind (arith, nat_tests) in rw test refl
+
+lay_behind : (i c : ℕ) (x v : ℤ) (ws : List Write) → i < c → lay c v ((i, x) ∷ ws) ≡ (i, x) ∷ lay c v ws
+lay_behind i c x v ws h =
+    let less : nat_lt c i ≡ false = grind (arith, nat_tests) in
+    let same : nat_eq c i ≡ false = grind (arith, nat_tests) in
+    rw (less, same) refl
+
+lay_same : (i : ℕ) (x v : ℤ) (ws : List Write) → lay i v ((i, x) ∷ ws) ≡ (i, v) ∷ ws
+lay_same i x v ws =
+    let less : nat_lt i i ≡ false = grind (arith, nat_tests) in
+    let same : nat_eq i i ≡ true = grind (arith, nat_tests) in
+    rw (less, same) refl
+
+-- one more write is laid over what is marked
+noted_from : (i c : ℕ) (v : ℤ) (cells : List ℤ) (marks : List Bool) → c < length cells → length cells ≡ length marks →
+    marked_from i (set cells c v) (set marks c true) ≡ lay (i + c) v (marked_from i cells marks)
+noted_from i c v [] marks h e = absurd (omega (arith, h))
+noted_from i c v (x ∷ cells) [] h e = absurd (omega (arith, e))
+noted_from i zero v (x ∷ cells) (true ∷ marks) h e =
+    let at : i + 0 ≡ i = omega arith in
+    sym (ap (λ n. lay n v ((i, x) ∷ marked_from (suc i) cells marks)) at ∙ lay_same i x v (marked_from (suc i) cells marks))
+noted_from i zero v (x ∷ cells) (false ∷ marks) h e =
+    let at : i + 0 ≡ i = omega arith in
+    sym (ap (λ n. lay n v (marked_from (suc i) cells marks)) at
+    ∙ lay_front i v (marked_from (suc i) cells marks) (above_marked i (suc i) cells marks (omega arith)))
+noted_from i (suc c) v (x ∷ cells) (true ∷ marks) h e =
+    let at : suc i + c ≡ i + suc c = omega arith in
+    ap (λ ws. (i, x) ∷ ws) (noted_from (suc i) c v cells marks (omega (arith, h)) (omega (arith, e))
+    ∙ ap (λ n. lay n v (marked_from (suc i) cells marks)) at)
+    ∙ sym (lay_behind i (i + suc c) x v (marked_from (suc i) cells marks) (omega arith))
+noted_from i (suc c) v (x ∷ cells) (false ∷ marks) h e =
+    let at : suc i + c ≡ i + suc c = omega arith in
+    noted_from (suc i) c v cells marks (omega (arith, h)) (omega (arith, e))
+    ∙ ap (λ n. lay n v (marked_from (suc i) cells marks)) at
+
+none_marked : (i : ℕ) (cells : List ℤ) (n : ℕ) → marked_from i cells (replicate n false) ≡ []
+none_marked i [] n = refl
+none_marked i (x ∷ cells) zero = refl
+none_marked i (x ∷ cells) (suc n) = none_marked (suc i) cells n
+
+-- Each write is to a cell below this one.
+abbrev AreBelow : ℕ → List Write → Type 0
+AreBelow n [] = Unit {0}
+AreBelow n (w ∷ ws) = (w.0 < n) × AreBelow n ws
+
+marked_after : (ws : List Write) (t : Trace) → AreBelow (length t.cells) ws → length t.cells ≡ length t.marks →
+    marked (noted_all ws t) ≡ lays ws (marked t)
+marked_after [] t h e = refl
+marked_after (w ∷ ws) t h e =
+    let cells = length-set t.cells w.0 w.1 in
+    let marks = length-set t.marks w.0 true in
+    let zero_more : 0 + w.0 ≡ w.0 = omega arith in
+    marked_after ws (noted w.0 w.1 t) (rw cells h.1) (cells ∙ e ∙ sym marks)
+    ∙ ap (lays ws) (noted_from 0 w.0 w.1 t.cells t.marks h.0 e ∙ ap (λ c. lay c w.1 (marked t)) zero_more)
+
+below_of : (n : ℕ) (ws : List Write) → All (λ w. w.0 < n) ws → AreBelow n ws
+below_of n [] all = tt
+below_of n (w ∷ ws) all = (all zero w (omega arith), below_of n ws (λ k d h. all (suc k) d (omega (arith, h))))
+
+-- what is marked in the end is what was written last to each cell
+pub marked_last : (ws : List Write) (store : Store) → All (λ w. w.0 < length store) ws →
+    last_writes (marked (noted_all ws (fresh store))) ≡ last_writes ws
+marked_last ws store h =
+    ap last_writes (marked_after ws (fresh store) (below_of (length store) ws h) (sym (length-replicate (length store) false)) ∙ ap (lays ws) (none_marked 0 store (length store)))
+    ∙ same_last (last_writes ws) ws (last_value_last ws)
+
+-- ---- an overlay of what is marked
+
+one_marked : (i : ℕ) (x : ℤ) (xs : List ℤ) (m : Bool) (ms : List Bool) (o : List Write) →
+    lays (marked_from i (x ∷ xs) (m ∷ ms)) o ≡ lays (marked_from (suc i) xs ms) (cond m (lay i x o) o)
+one_marked i x xs true ms o = refl
+one_marked i x xs false ms o = refl
+
+-- the marked cells from one on, laid over an overlay: that cell, and then the rest
+pub marked_next : (i : ℕ) (cells : List ℤ) (marks : List Bool) (d : ℤ) (m : Bool) (o : List Write) → i < length cells → length cells ≡ length marks →
+    lays (marked_from i (drop i cells) (drop i marks)) o
+    ≡ lays (marked_from (i + 1) (drop (i + 1) cells) (drop (i + 1) marks)) (cond (get_or marks i m) (lay i (get_or cells i d) o) o)
+marked_next i cells marks d m o h e =
+    let inside : i < length marks = omega (arith, h, e) in
+    ap (λ xs. lays (marked_from i xs (drop i marks)) o) (drop-cons cells i d h)
+    ∙ ap (λ ms. lays (marked_from i (get_or cells i d ∷ drop (suc i) cells) ms) o) (drop-cons marks i m inside)
+    ∙ one_marked i (get_or cells i d) (drop (suc i) cells) (get_or marks i m) (drop (suc i) marks) o
+    ∙ rw add-one refl
+
+marked_none : (n i : ℕ) (cells : List ℤ) (marks : List Bool) → length cells ≤ i → marked_from n (drop i cells) marks ≡ []
+marked_none n zero [] marks h = refl
+marked_none n (suc i) [] marks h = refl
+marked_none n zero (x ∷ cells) marks h = absurd (omega (arith, h))
+marked_none n (suc i) (x ∷ cells) marks h = marked_none n i cells marks (omega (arith, h))
+
+-- behind the last cell nothing is marked
+pub marked_end : (i : ℕ) (cells : List ℤ) (marks : List Bool) (o : List Write) → length cells ≤ i →
+    lays (marked_from i (drop i cells) (drop i marks)) o ≡ o
+marked_end i cells marks o h = ap (λ ws. lays ws o) (marked_none i i cells (drop i marks) h)

@@ -1,0 +1,37 @@
+-- A store that is written, and which of its cells were.
+use Rattle.std.specs.Prelude.{ℕ, suc, Bool, true, false, List, [], ◌∷◌, replicate, length, ℤ, slice_set}
+use Rattle.array_meaning.specs.Stores.{Arrays, Store, Write, written}
+use Rattle.array_meaning.specs.Steps.{Steps, writes_of}
+
+-- The cells, and for each whether it was written.
+pub record Trace : Type 0 where
+  pub cells : Store
+  pub marks : List Bool
+
+-- No cell of a store is written yet.
+abbrev pub fresh : Store → Trace
+fresh store = record { cells = store; marks = replicate (length store) false }
+
+-- One write.
+abbrev pub noted : ℕ → ℤ → Trace → Trace
+noted cell value trace = record { cells = written trace.cells cell value; marks = slice_set trace.marks cell true }
+
+-- Writes, one after another.
+abbrev pub noted_all : List Write → Trace → Trace
+noted_all [] trace = trace
+noted_all (w ∷ more) trace = noted_all more (noted w.0 w.1 trace)
+
+-- What steps leave.
+abbrev pub traced : Arrays → Steps → Trace → Trace
+traced arrays steps trace = noted_all (writes_of arrays steps trace.cells) trace
+
+-- The cells that are marked, from one on, each with its value.
+abbrev pub marked_from : ℕ → List ℤ → List Bool → List Write
+marked_from cell [] marks = []
+marked_from cell (value ∷ more) [] = []
+marked_from cell (value ∷ more) (true ∷ marks) = (cell, value) ∷ marked_from (suc cell) more marks
+marked_from cell (value ∷ more) (false ∷ marks) = marked_from (suc cell) more marks
+
+-- All cells that are marked, each with its value.
+abbrev pub marked : Trace → List Write
+marked trace = marked_from 0 trace.cells trace.marks

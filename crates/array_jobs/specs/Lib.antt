@@ -1,0 +1,4 @@
+pub mod Works
+pub mod Jobs
+pub mod PieceParts
+pub mod Sample

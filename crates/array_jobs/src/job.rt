@@ -1,0 +1,65 @@
+//! Jobs.
+ghost use Rattle.std.specs.Prelude.{◌≡◌, IfOk};
+
+use crate::work::Work;
+use array_eval::{Store, Vars};
+use array_tree::Arrays;
+use std::alloc::AllocError;
+use std::marker::Model;
+
+/// The work of one branch of a `par`, or of one member of a `team` in one phase, with all that it starts from.
+///
+/// Contracts see a job as its parts. Its type keeps that it is fit to be run.
+#[derive(Debug, Drop)]
+pub struct Job<'p> {
+    /// The arrays of the program.
+    pub arrays: &'p Arrays,
+    /// The number of the site that the job is a piece of.
+    pub site: u16,
+    /// The phase, from 0 to 7; 0 for a branch.
+    pub phase: u8,
+    /// The number of the branch or of the member, from 0 to 63.
+    pub place: u8,
+    /// The number that the next site inside the work gets. With the number of the sites that the work enters it is
+    /// at most 4,096.
+    pub first: u16,
+    /// What is run.
+    pub work: Work<'p>,
+    /// The loop variables around the work.
+    pub vars: Vars,
+    /// The store that the work starts from, with one value per cell of the arrays.
+    pub store: Store,
+}
+
+impl<'p> Model for Job<'p> {
+    ghost use Rattle.std.specs.Coded.{codes};
+    ghost use Rattle.array_tree.specs.contracts.tree.Arrays as arrays_type;
+    ghost use Rattle.array_tree.specs.contracts.tree.Block as block_type;
+    ghost use Rattle.array_jobs.specs.Jobs.{JobParts, IsFit, job_of};
+
+    ghost Value = { JobParts };
+
+    ghost coded = { Prim.hlevel (codes, arrays_type.the_row.coded, block_type.the_row.coded) };
+
+    ghost view = { λ job. record { arrays = job.arrays.now; site = job.site; phase = job.phase; place = job.place; first = job.first; work = job.work; vars = job.vars; store = job.store } };
+
+    ghost invariant = { λ job. IsFit (job_of record { arrays = job.arrays.now; site = job.site; phase = job.phase; place = job.place; first = job.first; work = job.work; vars = job.vars; store = job.store }) };
+}
+
+impl<'p> Job<'p> {
+    /// An equal job.
+    pub fn copy(&self) -> Result<Job<'p>, AllocError>
+        ensures { IfOk result (λ job. job ≡ self.now) }
+    {
+        Ok(Job {
+            arrays: self.arrays,
+            site: self.site,
+            phase: self.phase,
+            place: self.place,
+            first: self.first,
+            work: self.work,
+            vars: self.vars.copy()?,
+            store: self.store.copy()?,
+        })
+    }
+}
