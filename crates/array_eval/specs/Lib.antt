@@ -3,3 +3,5 @@ pub mod ArrayText
 pub mod Overlays
 pub mod Bindings
 pub mod Traces
+pub mod Equal
+pub mod EqualLaws

@@ -37,7 +37,12 @@ pub fn run_one(alloc: Global, program: &Program) -> Result<Store, AllocError>
 
 /// Runs a block.
 #[cycle(run)]
-pub fn run_block<'s>(arrays: &Arrays, block: &'s Block, scope: &'s Scope<'s>, store: &mut MarkedStore)
+pub fn run_block<'s>(
+    arrays: &Arrays,
+    block: &'s Block,
+    scope: &'s Scope<'s>,
+    store: &mut MarkedStore,
+)
     requires { AreSized (arrays_of (declarations_of arrays.now)) }
     ensures { store.new ≡ traced (arrays_of (declarations_of arrays.now)) (sequence_work (sequence_of block.now) (vars_of scope.now)) store.old }
 {
@@ -48,7 +53,12 @@ pub fn run_block<'s>(arrays: &Arrays, block: &'s Block, scope: &'s Scope<'s>, st
 
 // Runs a statement.
 #[cycle(run)]
-fn run_statement<'s>(arrays: &Arrays, statement: &'s Stmt, scope: &'s Scope<'s>, store: &mut MarkedStore)
+fn run_statement<'s>(
+    arrays: &Arrays,
+    statement: &'s Stmt,
+    scope: &'s Scope<'s>,
+    store: &mut MarkedStore,
+)
     requires { AreSized (arrays_of (declarations_of arrays.now)) }
     ensures { store.new ≡ traced (arrays_of (declarations_of arrays.now)) (statement_work (statement_of statement.now) (vars_of scope.now)) store.old }
 {
@@ -119,7 +129,12 @@ pub fn run_loop<'s>(
 
 // Runs the branches of a `par`, one after another.
 #[cycle(run)]
-fn run_branches<'s>(arrays: &Arrays, branches: &'s Blocks, scope: &'s Scope<'s>, store: &mut MarkedStore)
+fn run_branches<'s>(
+    arrays: &Arrays,
+    branches: &'s Blocks,
+    scope: &'s Scope<'s>,
+    store: &mut MarkedStore,
+)
     requires { AreSized (arrays_of (declarations_of arrays.now)) }
     ensures { store.new ≡ traced (arrays_of (declarations_of arrays.now)) (branches_work (sequences_of branches.now) (vars_of scope.now)) store.old }
 {

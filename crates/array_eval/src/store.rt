@@ -1,6 +1,7 @@
 //! Stores: the value of each cell.
-ghost use Rattle.std.specs.Prelude.{◌≡◌, ◌<◌, All, IfOk, OnOk, OnErr, length, replicate, pos};
+ghost use Rattle.std.specs.Prelude.{◌≡◌, ◌↔◌, ◌<◌, IsTrue, All, IfOk, OnOk, OnErr, length, replicate, pos};
 ghost use Rattle.array_meaning.specs.Stores.{after, at_cell, written};
+ghost use Rattle.array_eval.specs.Equal.{store_eq};
 
 use crate::overlay::Overlay;
 use std::alloc::{AllocError, Global};
@@ -101,6 +102,24 @@ impl Store {
         ensures { result.items ≡ self }
     {
         self.cells
+    }
+}
+
+impl PartialEq for Store {
+    ghost use Rattle.std.proofs.Common.{refl};
+    ghost use Rattle.array_tree.specs.EqualLaws.{equal_laws};
+    ghost use Rattle.array_eval.specs.Equal.{store_eq};
+    ghost use Rattle.array_eval.specs.EqualLaws.{store_decides};
+
+    ghost eq = { store_eq };
+
+    ghost laws = { equal_laws (λ store. store) store_eq (λ a b. (store_decides a b).0) (λ a. (store_decides a a).1 refl) };
+
+    fn eq(&self, other: &Store) -> bool
+        ensures tested { result ≡ store_eq self.now other.now }
+        ensures same { IsTrue result ↔ (self.now ≡ other.now) }
+    {
+        self.cells == other.cells
     }
 }
 

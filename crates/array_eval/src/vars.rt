@@ -1,7 +1,8 @@
 //! Loop variables that are kept.
-ghost use Rattle.std.specs.Prelude.{◌≡◌, ◌∷◌, ◌++◌, [], IfOk, OnOk};
+ghost use Rattle.std.specs.Prelude.{◌≡◌, ◌↔◌, IsTrue, ◌∷◌, ◌++◌, [], IfOk, OnOk};
 ghost use Rattle.array_eval.specs.Bindings.{pairs_of};
 ghost use Rattle.array_eval.specs.Overlays.{bound_to};
+ghost use Rattle.array_eval.specs.Equal.{vars_eq};
 
 use array_tree::Name;
 use std::alloc::{AllocError, Global};
@@ -81,6 +82,40 @@ impl Vars {
             alloc: self.alloc,
             bindings,
         })
+    }
+}
+
+impl PartialEq for Vars {
+    ghost use Rattle.std.proofs.Common.{refl};
+    ghost use Rattle.array_tree.specs.EqualLaws.{equal_laws};
+    ghost use Rattle.array_eval.specs.Equal.{vars_eq};
+    ghost use Rattle.array_eval.specs.EqualLaws.{vars_decides};
+
+    ghost eq = { vars_eq };
+
+    ghost laws = { equal_laws (λ vars. vars) vars_eq (λ a b. (vars_decides a b).0) (λ a. (vars_decides a a).1 refl) };
+
+    fn eq(&self, other: &Vars) -> bool
+        ensures tested { result ≡ vars_eq self.now other.now }
+        ensures same { IsTrue result ↔ (self.now ≡ other.now) }
+    {
+        self.bindings == other.bindings
+    }
+}
+
+impl PartialEq for Binding {
+    ghost use Rattle.std.proofs.Common.{refl};
+    ghost use Rattle.array_tree.specs.EqualLaws.{equal_laws};
+    ghost use Rattle.array_eval.specs.Bindings.{pair_of};
+    ghost use Rattle.array_eval.specs.Equal.{binding_eq};
+    ghost use Rattle.array_eval.specs.EqualLaws.{binding_decides};
+
+    ghost eq = { λ a b. binding_eq (pair_of a) (pair_of b) };
+
+    ghost laws = { equal_laws pair_of binding_eq (λ a b. (binding_decides a b).0) (λ a. (binding_decides a a).1 refl) };
+
+    fn eq(&self, other: &Binding) -> bool {
+        self.name == other.name && self.value == other.value
     }
 }
 

@@ -1,5 +1,7 @@
 //! Jobs.
-ghost use Rattle.std.specs.Prelude.{◌≡◌, IfOk};
+ghost use Rattle.std.specs.Prelude.{◌≡◌, ◌↔◌, IsTrue, IfOk};
+ghost use Rattle.array_jobs.specs.Jobs.{job_of};
+ghost use Rattle.array_jobs.specs.Equal.{job_eq};
 
 use crate::work::Work;
 use array_eval::{Store, Vars};
@@ -62,4 +64,36 @@ impl<'p> Job<'p> {
             store: self.store.copy()?,
         })
     }
+}
+
+impl PartialEq for Job<'_> {
+    ghost use Rattle.array_tree.specs.EqualLaws.{equal_laws};
+    ghost use Rattle.array_jobs.specs.Jobs.{job_of};
+    ghost use Rattle.array_jobs.specs.Equal.{job_eq};
+    ghost use Rattle.array_jobs.specs.EqualLaws.{job_same, job_refl};
+
+    ghost eq = { λ a b. job_eq (job_of a) (job_of b) };
+
+    ghost laws = { equal_laws job_of job_eq job_same job_refl };
+
+    fn eq(&self, other: &Job<'_>) -> bool
+        ensures tested { result ≡ job_eq (job_of self.now) (job_of other.now) }
+        ensures same { IsTrue result ↔ (job_of self.now ≡ job_of other.now) }
+    {
+        same_job(self, other)
+    }
+}
+
+// Equality itself, apart from the impl.
+fn same_job(a: &Job, b: &Job) -> bool
+    ensures { result ≡ job_eq (job_of a.now) (job_of b.now) }
+{
+    a.site == b.site
+        && a.phase == b.phase
+        && a.place == b.place
+        && a.first == b.first
+        && a.work == b.work
+        && a.vars == b.vars
+        && a.store == b.store
+        && *a.arrays == *b.arrays
 }

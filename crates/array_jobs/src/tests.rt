@@ -98,6 +98,7 @@ fn a_branch_writes_what_its_members_write(rt: HostRuntime) -> Result<(), Fail> {
     let store = Store::zero(alloc, 4)?;
     let job = first_branch(&arrays, &branch, Vars::empty(alloc), store);
     let copy = job.copy()?;
+    assert_eq!(rt; copy == job, true);
     let piece = piece_of(alloc, job)?;
     assert_eq!(rt; piece.written.pairs(), [(0, 5), (1, 6)].as_slice());
     assert_eq!(rt; sites_in(&copy.work), 1);

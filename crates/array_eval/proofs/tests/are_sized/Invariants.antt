@@ -1,4 +1,4 @@
-use Rattle.std.proofs.Common.{◌≡◌, ◌≤◌, ◌+◌, drop, map}
+use Rattle.std.proofs.Common.{◌≤◌, ◌+◌, drop, map}
 use Rattle.array_tree.specs.Trees.{declarations_of, declaration_of}
 use Rattle.array_meaning.specs.Stores.{arrays_of, cells_of, HaveCells, AreSized}
 use Rattle.array_eval.proofs.tests.are_sized.Given as goal

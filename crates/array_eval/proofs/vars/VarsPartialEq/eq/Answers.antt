@@ -1,0 +1,16 @@
+use Rattle.std.proofs.Common.{sym, ap, ◌∙◌}
+use Rattle.std.specs.Cmp.Derive.Mapped.{pointwise-map}
+use Rattle.std.proofs.lemmas.Bool.Decides.{Decides-at}
+use Rattle.array_eval.specs.Bindings.{pair_of, pairs_of}
+use Rattle.array_eval.specs.Equal.{binding_eq, vars_eq}
+use Rattle.array_eval.specs.EqualLaws.{vars_decides}
+use Rattle.array_eval.proofs.vars.VarsPartialEq.eq.Goals as goal
+
+pub returns-clause-tested : goal.returns-clause-tested
+returns-clause-tested c =
+    c.eq.ensures ∙ sym (pointwise-map pair_of binding_eq c.self.inside.bindings.items c.other.inside.bindings.items)
+    ∙ ap (λ a. vars_eq a (pairs_of c.other.inside.bindings.items)) c.self.view_is ∙ ap (vars_eq c.args.self.now) c.other.view_is
+
+pub returns-clause-same : goal.returns-clause-same
+returns-clause-same c =
+    Decides-at c.eq.result (vars_eq c.args.self.now c.args.other.now) (returns-clause-tested c) (vars_decides c.args.self.now c.args.other.now)
