@@ -42,4 +42,6 @@ fn main(rt: HostRuntime) -> ExitCode {
 }
 
 #[cfg(test)]
+mod syntax_tests;
+#[cfg(test)]
 mod tests;

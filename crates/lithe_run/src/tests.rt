@@ -10,8 +10,8 @@ use std::thread::Threads;
 /// The room of each sink, in bytes.
 const ROOM: usize = 4096;
 
-// Serves the words on the input, and tests the status and what the sinks took.
-fn serve<R: AllocGlobal + Abort + Threads + Wait + Sync>(
+/// Serves the words on the input, and tests the status and what the sinks took.
+pub(crate) fn serve<R: AllocGlobal + Abort + Threads + Wait + Sync>(
     rt: &R,
     words: &[&str],
     input: &[u8],
@@ -42,7 +42,7 @@ fn serve<R: AllocGlobal + Abort + Threads + Wait + Sync>(
     Ok(())
 }
 
-const RUN: &[&str] = &["run", "--harts", "1"];
+pub(crate) const RUN: &[&str] = &["run", "--harts", "1"];
 
 const SOLO: &[&str] = &["solo"];
 
