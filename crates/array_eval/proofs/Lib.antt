@@ -1,3 +1,4 @@
 pub mod OverlayLemmas
 pub mod ScopeLemmas
 pub mod TraceLemmas
+pub mod StartLemmas

@@ -8,13 +8,13 @@ use Rattle.array_meaning.specs.Steps.{Steps, followed_by, writes_of}
 use Rattle.array_meaning.specs.Pieces.{lay, lays, last_writes, IsAbove}
 use Rattle.array_meaning.proofs.StepLemmas.{writes_followed_by}
 use Rattle.array_meaning.proofs.LastLemmas.{same_last, last_value_last}
-use Rattle.array_eval.specs.Traces.{Trace, fresh, noted, noted_all, traced, marked_from, marked}
+use Rattle.array_eval.specs.Traces.{Trace, fresh, noted, noted_all, traced, marked_from, marked, marks_in}
 
 pub cells_after : (ws : List Write) (t : Trace) → (noted_all ws t).cells ≡ after ws t.cells
 cells_after [] t = refl
 cells_after (w ∷ ws) t = cells_after ws (noted w.0 w.1 t)
 
-noted_append : (a b : List Write) (t : Trace) → noted_all (a ++ b) t ≡ noted_all b (noted_all a t)
+pub noted_append : (a b : List Write) (t : Trace) → noted_all (a ++ b) t ≡ noted_all b (noted_all a t)
 noted_append [] b t = refl
 noted_append (w ∷ a) b t = noted_append a b (noted w.0 w.1 t)
 
@@ -71,17 +71,17 @@ noted_from i (suc c) v (x ∷ cells) (false ∷ marks) h e =
     noted_from (suc i) c v cells marks (omega (arith, h)) (omega (arith, e))
     ∙ ap (λ n. lay n v (marked_from (suc i) cells marks)) at
 
-none_marked : (i : ℕ) (cells : List ℤ) (n : ℕ) → marked_from i cells (replicate n false) ≡ []
+pub none_marked : (i : ℕ) (cells : List ℤ) (n : ℕ) → marked_from i cells (replicate n false) ≡ []
 none_marked i [] n = refl
 none_marked i (x ∷ cells) zero = refl
 none_marked i (x ∷ cells) (suc n) = none_marked (suc i) cells n
 
 -- Each write is to a cell below this one.
-abbrev AreBelow : ℕ → List Write → Type 0
+abbrev pub AreBelow : ℕ → List Write → Type 0
 AreBelow n [] = Unit {0}
 AreBelow n (w ∷ ws) = (w.0 < n) × AreBelow n ws
 
-marked_after : (ws : List Write) (t : Trace) → AreBelow (length t.cells) ws → length t.cells ≡ length t.marks →
+pub marked_after : (ws : List Write) (t : Trace) → AreBelow (length t.cells) ws → length t.cells ≡ length t.marks →
     marked (noted_all ws t) ≡ lays ws (marked t)
 marked_after [] t h e = refl
 marked_after (w ∷ ws) t h e =
@@ -91,7 +91,7 @@ marked_after (w ∷ ws) t h e =
     marked_after ws (noted w.0 w.1 t) (rw cells h.1) (cells ∙ e ∙ sym marks)
     ∙ ap (lays ws) (noted_from 0 w.0 w.1 t.cells t.marks h.0 e ∙ ap (λ c. lay c w.1 (marked t)) zero_more)
 
-below_of : (n : ℕ) (ws : List Write) → All (λ w. w.0 < n) ws → AreBelow n ws
+pub below_of : (n : ℕ) (ws : List Write) → All (λ w. w.0 < n) ws → AreBelow n ws
 below_of n [] all = tt
 below_of n (w ∷ ws) all = (all zero w (omega arith), below_of n ws (λ k d h. all (suc k) d (omega (arith, h))))
 
@@ -130,3 +130,30 @@ marked_none n (suc i) (x ∷ cells) marks h = marked_none n i cells marks (omega
 pub marked_end : (i : ℕ) (cells : List ℤ) (marks : List Bool) (o : List Write) → length cells ≤ i →
     lays (marked_from i (drop i cells) (drop i marks)) o ≡ o
 marked_end i cells marks o h = ap (λ ws. lays ws o) (marked_none i i cells (drop i marks) h)
+
+-- ---- how many are marked
+
+pub marks_small : (marks : List Bool) → marks_in marks ≤ length marks
+marks_small [] = omega arith
+marks_small (true ∷ marks) = let le = marks_small marks in omega (arith, le)
+marks_small (false ∷ marks) = let le = marks_small marks in omega (arith, le)
+
+one_mark : (m : Bool) (marks : List Bool) → marks_in (m ∷ marks) ≡ cond m 1 0 + marks_in marks
+one_mark true marks = omega arith
+one_mark false marks = omega arith
+
+-- the marks from one on: that one, and then the rest
+pub marks_next : (i : ℕ) (marks : List Bool) (m : Bool) → i < length marks →
+    marks_in (drop i marks) ≡ cond (get_or marks i m) 1 0 + marks_in (drop (i + 1) marks)
+marks_next i marks m h = ap marks_in (drop-cons marks i m h) ∙ one_mark (get_or marks i m) (drop (suc i) marks) ∙ rw add-one refl
+
+-- one more write is at most one more pair
+pub length_lay : (c : ℕ) (v : ℤ) (ws : List Write) → length (lay c v ws) ≤ 1 + length ws
+length_lay c v [] = omega arith
+length_lay c v (w ∷ ws) = cases (nat_lt c w.0) (nat_eq c w.0) (length_lay c v ws)
+  where
+    cases : (a b : Bool) → length (lay c v ws) ≤ 1 + length ws →
+        length (cond a ((c, v) ∷ w ∷ ws) (cond b ((c, v) ∷ ws) (w ∷ lay c v ws))) ≤ 1 + length (w ∷ ws)
+    cases true b ih = omega arith
+    cases false true ih = omega arith
+    cases false false ih = omega (arith, ih)

@@ -35,3 +35,9 @@ marked_from cell (value ∷ more) (false ∷ marks) = marked_from (suc cell) mor
 -- All cells that are marked, each with its value.
 abbrev pub marked : Trace → List Write
 marked trace = marked_from 0 trace.cells trace.marks
+
+-- How many are marked.
+abbrev pub marks_in : List Bool → ℕ
+marks_in [] = 0
+marks_in (true ∷ marks) = suc (marks_in marks)
+marks_in (false ∷ marks) = marks_in marks

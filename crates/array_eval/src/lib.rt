@@ -4,6 +4,7 @@
 mod array_text;
 mod cells;
 mod marked_store;
+mod members;
 mod overlay;
 mod run;
 mod scope;
@@ -14,11 +15,12 @@ mod vars;
 pub use array_text::write_arrays;
 pub use cells::count_cells;
 pub use marked_store::MarkedStore;
+pub use members::{span, start_of_member};
 pub use overlay::Overlay;
-pub use run::{run_block, run_loop, run_one};
-pub use scope::Scope;
+pub use run::{run_assign, run_block, run_loop, run_one};
+pub use scope::{LoopVar, Scope};
 pub use store::Store;
-pub use value::{dynamic as is_dynamic, value as evaluate};
+pub use value::{evaluate, is_dynamic};
 pub use vars::Vars;
 
 #[cfg(test)]

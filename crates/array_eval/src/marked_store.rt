@@ -1,7 +1,7 @@
 //! Stores that know which of their cells were written.
-ghost use Rattle.std.specs.Prelude.{◌≡◌, ◌≤◌, IfOk, length};
+ghost use Rattle.std.specs.Prelude.{◌≡◌, ◌<◌, ◌≤◌, IfOk, [], length};
 ghost use Rattle.array_meaning.specs.Pieces.{last_writes};
-ghost use Rattle.array_eval.specs.Traces.{fresh, noted, marked, marked_from};
+ghost use Rattle.array_eval.specs.Traces.{fresh, noted, noted_all, marked, marked_from, marks_in};
 
 use crate::overlay::Overlay;
 use crate::store::Store;
@@ -39,7 +39,7 @@ impl MarkedStore {
     }
 
     /// The value of each cell.
-    pub(crate) fn cells(&self) -> &[i64]
+    pub fn cells(&self) -> &[i64]
         ensures { result.now ≡ self.now.cells }
     {
         &self.cells
@@ -55,12 +55,42 @@ impl MarkedStore {
         }
     }
 
-    /// The cells that were written, each with its value. There must be at most 65,536 cells.
+    /// Writes an overlay's cells, those that are there.
+    pub fn merge(&mut self, written: &Overlay)
+        ensures { self.new ≡ noted_all written.now.pairs self.old }
+    {
+        for (cell, value) in written.pairs() {
+            self.write(usize::from(*cell), *value);
+        }
+    }
+
+    /// A store of these values.
+    pub fn to_store(&self, alloc: Global) -> Result<Store, AllocError>
+        ensures { IfOk result (λ store. store ≡ self.now.cells) }
+    {
+        Ok(Store::of_cells(self.cells.as_slice().to_vec(alloc)?))
+    }
+
+    /// The cells that were written, each with its value. There must be at most 65,535 cells.
     pub fn written(&self, alloc: Global) -> Result<Overlay, AllocError>
-        requires { length self.now.cells ≤ 65536 }
+        requires { length self.now.cells < 65536 }
         ensures { IfOk result (λ overlay. overlay.pairs ≡ last_writes (marked self.now)) }
     {
-        overlay_of(alloc, &self.cells, &self.marks)
+        let mut overlay = Overlay::roomy(alloc, count_marks(&self.marks))?;
+        lay_marked(&self.cells, &self.marks, &mut overlay);
+        Ok(overlay)
+    }
+
+    /// Lays the cells that were written, each with its value, into an overlay of no cell. It takes no memory.
+    ///
+    /// The overlay must have room for as many pairs as there are cells, and there must be at most 65,535 cells.
+    pub fn lay_written(&self, overlay: &mut Overlay)
+        requires small { length self.now.cells < 65536 }
+        requires none { overlay.old.pairs ≡ [] }
+        requires room { length self.now.cells ≤ overlay.old.room }
+        ensures { overlay.new.pairs ≡ last_writes (marked self.now) }
+    {
+        lay_marked(&self.cells, &self.marks, overlay);
     }
 
     /// The store alone.
@@ -71,17 +101,32 @@ impl MarkedStore {
     }
 }
 
-// The cells that are marked, each with its value.
-fn overlay_of(alloc: Global, cells: &[i64], marks: &[bool]) -> Result<Overlay, AllocError>
-    requires same { length cells.now ≡ length marks.now }
-    requires small { length cells.now ≤ 65536 }
-    ensures { IfOk result (λ overlay. overlay.pairs ≡ last_writes (marked_from 0 cells.now marks.now)) }
+// How many cells are marked.
+#[tactic(auto, using(crate::proofs::TraceLemmas::marks_small, crate::proofs::TraceLemmas::marks_next))]
+fn count_marks(marks: &[bool]) -> u16
+    requires { length marks.now < 65536 }
+    ensures { result ≡ marks_in marks.now }
 {
-    let mut overlay = Overlay::empty(alloc);
-    for (cell, value) in cells.iter().enumerate() {
-        if marks[cell] {
-            overlay.put(cell as u16, *value)?;
+    let mut count = 0;
+    for mark in marks {
+        if *mark {
+            count += 1;
         }
     }
-    Ok(overlay)
+    count
+}
+
+// Lays the cells that are marked, each with its value.
+fn lay_marked(cells: &[i64], marks: &[bool], overlay: &mut Overlay)
+    requires same { length cells.now ≡ length marks.now }
+    requires small { length cells.now < 65536 }
+    requires none { overlay.old.pairs ≡ [] }
+    requires room { marks_in marks.now ≤ overlay.old.room }
+    ensures { overlay.new.pairs ≡ last_writes (marked_from 0 cells.now marks.now) }
+{
+    for (cell, value) in cells.iter().enumerate() {
+        if marks[cell] {
+            overlay.lay(cell as u16, *value);
+        }
+    }
 }

@@ -1,17 +1,17 @@
 //! Running a program on one thread.
 ghost use Rattle.std.specs.Prelude.{◌≡◌, IfOk, length};
-ghost use Rattle.array_tree.specs.Trees.{statement_of, sequence_of, sequences_of, declarations_of, program_of};
-ghost use Rattle.array_meaning.specs.Stores.{arrays_of, AreSized, cells_of};
+ghost use Rattle.array_tree.specs.Trees.{expression_of, statement_of, sequence_of, sequences_of, declarations_of, program_of};
+ghost use Rattle.array_meaning.specs.Stores.{arrays_of, AreSized, cells_of, cell_of, is_dynamic, value_of};
 ghost use Rattle.array_meaning.specs.Work.{statement_work, sequence_work, branches_work, phases_work, loop, final_store};
-ghost use Rattle.array_eval.specs.Traces.{traced};
+ghost use Rattle.array_eval.specs.Traces.{noted, traced};
 ghost use Rattle.array_eval.specs.Views.{vars_of};
 
 use crate::cells::{cell, count_cells};
 use crate::marked_store::MarkedStore;
 use crate::scope::Scope;
 use crate::store::Store;
-use crate::value::{dynamic, value};
-use array_tree::{Arrays, Block, Blocks, Name, Program, Stmt};
+use crate::value::{evaluate, is_dynamic};
+use array_tree::{Arrays, Block, Blocks, Expr, Name, Program, Stmt};
 use std::alloc::{AllocError, Global};
 
 /// The store that a program ends with on one thread, branches from left to right and phases one after another.
@@ -51,6 +51,23 @@ pub fn run_block<'s>(
     }
 }
 
+/// Runs an assignment: index and value are computed, and then the cell is written.
+pub fn run_assign(
+    arrays: &Arrays,
+    array: &Name,
+    index: &Expr,
+    right: &Expr,
+    scope: &Scope,
+    store: &mut MarkedStore,
+)
+    requires { AreSized (arrays_of (declarations_of arrays.now)) }
+    ensures { store.new ≡ noted (cell_of (arrays_of (declarations_of arrays.now)) array.now (is_dynamic (expression_of index.now)) (value_of (arrays_of (declarations_of arrays.now)) (vars_of scope.now) (expression_of index.now) store.old.cells)) (value_of (arrays_of (declarations_of arrays.now)) (vars_of scope.now) (expression_of right.now) store.old.cells) store.old }
+{
+    let place = evaluate(arrays, index, scope, store.cells());
+    let number = evaluate(arrays, right, scope, store.cells());
+    store.write(cell(arrays, array, is_dynamic(index), place), number);
+}
+
 // Runs a statement.
 #[cycle(run)]
 fn run_statement<'s>(
@@ -68,11 +85,7 @@ fn run_statement<'s>(
             index,
             value: right,
             ..
-        } => {
-            let place = value(arrays, index, scope, store.cells());
-            let number = value(arrays, right, scope, store.cells());
-            store.write(cell(arrays, array, dynamic(index), place), number);
-        }
+        } => run_assign(arrays, array, index, right, scope, store),
         Stmt::For {
             var,
             low,
@@ -86,7 +99,7 @@ fn run_statement<'s>(
             else_block,
             ..
         } => {
-            if value(arrays, cond, scope, store.cells()) != 0 {
+            if evaluate(arrays, cond, scope, store.cells()) != 0 {
                 run_block(arrays, then_block, scope, store);
             } else {
                 run_block(arrays, else_block, scope, store);

@@ -10,7 +10,7 @@ use crate::scope::Scope;
 use array_tree::{Arrays, Expr, Op};
 
 /// The value of an expression.
-pub fn value(arrays: &Arrays, expr: &Expr, scope: &Scope, cells: &[i64]) -> i64
+pub fn evaluate(arrays: &Arrays, expr: &Expr, scope: &Scope, cells: &[i64]) -> i64
     requires { AreSized (arrays_of (declarations_of arrays.now)) }
     ensures { result ≡ value_of (arrays_of (declarations_of arrays.now)) (vars_of scope.now) (expression_of expr.now) cells.now }
 {
@@ -18,27 +18,27 @@ pub fn value(arrays: &Arrays, expr: &Expr, scope: &Scope, cells: &[i64]) -> i64
         Expr::Number(number) => *number,
         Expr::Var(name) => scope.get(name),
         Expr::Read(array, index) => {
-            let place = value(arrays, index, scope, cells);
-            read(cells, cell(arrays, array, dynamic(index), place))
+            let place = evaluate(arrays, index, scope, cells);
+            read(cells, cell(arrays, array, is_dynamic(index), place))
         }
-        Expr::Neg(operand) => negate(value(arrays, operand, scope, cells)),
+        Expr::Neg(operand) => negate(evaluate(arrays, operand, scope, cells)),
         Expr::Binary(op, left, right) => {
-            let a = value(arrays, left, scope, cells);
-            let b = value(arrays, right, scope, cells);
+            let a = evaluate(arrays, left, scope, cells);
+            let b = evaluate(arrays, right, scope, cells);
             apply(*op, a, b)
         }
     }
 }
 
 /// Whether an index holds an array read.
-pub fn dynamic(index: &Expr) -> bool
+pub fn is_dynamic(index: &Expr) -> bool
     ensures { result ≡ is_dynamic (expression_of index.now) }
 {
     match index {
         Expr::Number(_) | Expr::Var(_) => false,
         Expr::Read(_, _) => true,
-        Expr::Neg(operand) => dynamic(operand),
-        Expr::Binary(_, left, right) => dynamic(left) || dynamic(right),
+        Expr::Neg(operand) => is_dynamic(operand),
+        Expr::Binary(_, left, right) => is_dynamic(left) || is_dynamic(right),
     }
 }
 

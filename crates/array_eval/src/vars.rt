@@ -2,8 +2,10 @@
 ghost use Rattle.std.specs.Prelude.{◌≡◌, ◌↔◌, IsTrue, ◌∷◌, ◌++◌, [], IfOk, OnOk};
 ghost use Rattle.array_eval.specs.Bindings.{pairs_of};
 ghost use Rattle.array_eval.specs.Overlays.{bound_to};
+ghost use Rattle.array_eval.specs.Views.{stacked, vars_of};
 ghost use Rattle.array_eval.specs.Equal.{vars_eq};
 
+use crate::scope::{LoopVar, Scope};
 use array_tree::Name;
 use std::alloc::{AllocError, Global};
 use std::marker::Model;
@@ -44,15 +46,21 @@ impl Vars {
         }
     }
 
+    /// The variables of a scope.
+    pub fn of_scope(alloc: Global, scope: &Scope) -> Result<Vars, AllocError>
+        ensures { IfOk result (λ vars. vars ≡ vars_of scope.now) }
+    {
+        let mut bindings = Vec::new(alloc);
+        append_scope(&mut bindings, scope)?;
+        Ok(Vars { alloc, bindings })
+    }
+
     /// These variables with one more, the innermost.
     pub fn with(&self, name: &Name, value: i64) -> Result<Vars, AllocError>
         ensures { IfOk result (λ vars. vars ≡ (name.now, value) ∷ self.now) }
     {
         let mut bindings = Vec::with_capacity(self.alloc, self.bindings.len().saturating_add(1))?;
-        bindings.push(Binding {
-            name: name.copy()?,
-            value,
-        })?;
+        append_copy(&mut bindings, name, value)?;
         append(&mut bindings, &self.bindings)?;
         Ok(Vars {
             alloc: self.alloc,
@@ -119,15 +127,54 @@ impl PartialEq for Binding {
     }
 }
 
+// Appends copies of the variables of a scope.
+fn append_scope(bindings: &mut Vec<Binding>, scope: &Scope) -> Result<(), AllocError>
+    ensures { OnOk result (pairs_of bindings.new.items ≡ pairs_of bindings.old.items ++ vars_of scope.now) }
+{
+    match scope {
+        Scope::Outermost => Ok(()),
+        Scope::Kept(vars) => append(bindings, &vars.bindings),
+        Scope::Turn { name, value, outer } => {
+            append_copy(bindings, name, *value)?;
+            append_scope(bindings, outer)
+        }
+        Scope::Stack { vars, outer } => {
+            append_stack(bindings, vars)?;
+            append_scope(bindings, outer)
+        }
+    }
+}
+
+// Appends copies of variables that lie one after another, the innermost first.
+#[tactic(auto, using(crate::proofs::ScopeLemmas::stacked_more))]
+fn append_stack(bindings: &mut Vec<Binding>, vars: &[LoopVar]) -> Result<(), AllocError>
+    ensures { OnOk result (pairs_of bindings.new.items ≡ pairs_of bindings.old.items ++ stacked vars.now) }
+{
+    let mut left = vars.len();
+    while left > 0 {
+        left -= 1;
+        append_copy(bindings, vars[left].name, vars[left].value)?;
+    }
+    Ok(())
+}
+
+// Appends a variable with a copy of this name.
+fn append_copy(bindings: &mut Vec<Binding>, name: &Name, value: i64) -> Result<(), AllocError>
+    ensures { OnOk result (pairs_of bindings.new.items ≡ pairs_of bindings.old.items ++ (name.now, value) ∷ []) }
+{
+    bindings.push(Binding {
+        name: name.copy()?,
+        value,
+    })?;
+    Ok(())
+}
+
 // Appends copies of these variables.
 fn append(bindings: &mut Vec<Binding>, others: &[Binding]) -> Result<(), AllocError>
     ensures { OnOk result (pairs_of bindings.new.items ≡ pairs_of bindings.old.items ++ pairs_of others.now) }
 {
     for binding in others {
-        bindings.push(Binding {
-            name: binding.name.copy()?,
-            value: binding.value,
-        })?;
+        append_copy(bindings, &binding.name, binding.value)?;
     }
     Ok(())
 }

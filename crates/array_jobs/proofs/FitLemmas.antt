@@ -16,7 +16,7 @@ use Rattle.array_jobs.specs.PieceParts.{piece_of_job}
 use Rattle.array_eval.specs.Traces.{fresh, traced, marked}
 use Rattle.array_eval.proofs.TraceLemmas.{cells_after, marked_last}
 
-both : (a b : Bool) → (a && b) ≡ true → (a ≡ true) × (b ≡ true)
+pub both : (a b : Bool) → (a && b) ≡ true → (a ≡ true) × (b ≡ true)
 both true b e = (refl, e)
 both false b e = absurd (false≢true e)
 
@@ -25,14 +25,14 @@ pub sized : (job : JobTree) → IsFit job → AreSized (arrays_of job.arrays)
 sized job fit = sized_in_range (program_in job) fit.ranges
 
 -- the walk visits known arrays alone
-known : (arrays : _) (names around : _) (work : WorkTree) (vars : _) → has_known_names (statements_of work) names around ≡ true →
+pub known : (arrays : _) (names around : _) (work : WorkTree) (vars : _) → has_known_names (statements_of work) names around ≡ true →
     are_known names (walk arrays (steps_of work vars)) ≡ true
 known arrays names around (branch_of body) vars h = sequence_known arrays names body around vars h
 known arrays names around (member_of var low high body) vars h =
     loop_known arrays names body var low high around vars (both (has_known_names body names (var ∷ around)) true h).0
 
 -- so what is written lies inside the arrays
-inside : (job : JobTree) → IsFit job →
+pub inside : (job : JobTree) → IsFit job →
     All (λ w. w.0 < length job.store) (writes_of (arrays_of job.arrays) (steps_of job.work job.vars) job.store)
 inside job fit =
     let arrays = arrays_of job.arrays in

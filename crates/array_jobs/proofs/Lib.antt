@@ -1,2 +1,2 @@
-mod FitLemmas
-mod SampleLemmas
+pub mod FitLemmas
+pub mod SampleLemmas

@@ -7,7 +7,7 @@ ghost use Rattle.array_meaning.specs.Limits.{pieces_in, statement_pieces_in, bra
 ghost use Rattle.disjoint_check.specs.LimitFault.{capped};
 
 use crate::ranges::count_of;
-use crate::units::span;
+use array_eval::span;
 use array_tree::{Block, Blocks, Stmt};
 
 /// How many sites a block enters. Here and below the greatest number of 64 bits stands for all above it. What is
@@ -36,8 +36,9 @@ pub fn sites_in_turns(low: i64, high: i64, body: &Block) -> u64
     }
 }
 
+/// How many sites a statement enters.
 #[cycle(sites)]
-fn sites_in_statement(statement: &Stmt) -> u64
+pub fn sites_in_statement(statement: &Stmt) -> u64
     ensures { result ≡ capped (statement_sites_in (statement_of statement.now)) }
 {
     match statement {

@@ -5,6 +5,7 @@ ghost use Rattle.array_meaning.specs.Work.{span};
 ghost use Rattle.array_meaning.specs.Limits.{expression_units_of, units_of, statement_units_of, branches_units_of, phases_units_of};
 ghost use Rattle.disjoint_check.specs.LimitFault.{capped};
 
+use array_eval::span;
 use array_tree::{Block, Blocks, Expr, Stmt};
 
 /// The units of a block. Here and below the greatest number of 64 bits stands for all above it.
@@ -101,11 +102,4 @@ fn units_of_expr(expr: &Expr) -> u64
                 .saturating_add(1)
         }
     }
-}
-
-/// How many numbers lie from `low` to before `high`.
-pub(crate) fn span(low: i64, high: i64) -> u64
-    ensures { result ≡ span low high }
-{
-    if low < high { high.abs_diff(low) } else { 0 }
 }

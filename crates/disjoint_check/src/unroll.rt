@@ -5,7 +5,7 @@ ghost use Rattle.disjoint_check.specs.Unrolled.{with_statement, with_sequence, w
 
 use crate::counts::sites_in_block;
 use crate::ranges::count_of;
-use crate::units::span;
+use array_eval::span;
 use array_tree::{Block, Blocks, Program, Stmt};
 use std::alloc::{AllocError, Global};
 

@@ -7,5 +7,4 @@ pub mod NumberLemmas
 pub mod ClashLemmas
 pub mod PieceLemmas
 pub mod SiteLemmas
-pub mod StartLemmas
 pub mod ApartLemmas

@@ -2,8 +2,8 @@
 ghost use Rattle.std.specs.Prelude.{◌≡◌, ◌<◌, ◌≤◌, ◌+◌, cond, Some, None, IfSome};
 ghost use Rattle.array_tree.specs.Trees.{sequence_of, sequences_of, declarations_of};
 ghost use Rattle.array_meaning.specs.Stores.{arrays_of, AreSized, cells_of};
-ghost use Rattle.array_meaning.specs.Work.{sequence_work, span};
-ghost use Rattle.array_meaning.specs.Members.{team_works, first_of, start_of};
+ghost use Rattle.array_meaning.specs.Work.{sequence_work};
+ghost use Rattle.array_meaning.specs.Members.{team_works};
 ghost use Rattle.array_meaning.specs.Overlap.{first_from, overlap};
 ghost use Rattle.array_meaning.specs.Sites.{branch_works};
 ghost use Rattle.array_eval.specs.Views.{vars_of};
@@ -13,7 +13,7 @@ ghost use Rattle.site_walk.specs.Marks.{with_pieces, done_at, HasPlaces, cleared
 use crate::mark::{mark_block, mark_loop};
 use crate::places::number_at;
 use crate::table::Table;
-use array_eval::{Scope, count_cells};
+use array_eval::{Scope, count_cells, start_of_member};
 use array_tree::{Arrays, Block, Blocks, Name};
 
 // Whether the pieces of a round clash on a cell.
@@ -80,34 +80,6 @@ pub(crate) fn overlap_of_branches<'s>(
     table.clear();
     mark_pieces(arrays, branches, scope, table);
     least_overlap(arrays, table)
-}
-
-// How many numbers lie from low to before high.
-fn span_of(low: i64, high: i64) -> u64
-    ensures { result ≡ span low high }
-{
-    if low < high { low.abs_diff(high) } else { 0 }
-}
-
-// The first iteration of a member, counted from the first of the team; there is none behind the last.
-#[tactic(auto, using(crate::proofs::StartLemmas::first_within))]
-fn first_iteration(iterations: u64, members: u64, member: u64) -> u64
-    requires some { 0 < members }
-    requires inside { member ≤ members }
-    ensures first { result ≡ first_of iterations members member }
-    ensures within { result ≤ iterations }
-{
-    (u128::from(iterations) * u128::from(member) / u128::from(members)) as u64
-}
-
-// The number with which the iterations of a member begin, and those of the member before it end.
-fn start_of_member(low: i64, high: i64, members: u64, member: u64) -> i64
-    requires some { 0 < members }
-    requires inside { member ≤ members }
-    ensures { result ≡ start_of low high members member }
-{
-    let first = first_iteration(span_of(low, high), members, member);
-    (i128::from(low) + i128::from(first)) as i64
 }
 
 // Marks what the members of a `team` do in one phase, each as a piece.

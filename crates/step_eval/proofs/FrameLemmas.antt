@@ -1,0 +1,102 @@
+-- Works that are put on top and taken off.
+use Rattle.std.proofs.Common.{◌≡◌, ℕ, zero, suc, ◌+◌, List, [], ◌∷◌, ◌++◌, map, drop, length, reverse, ℤ, pos, ◌+ℤ◌, ◌<ℤ◌, Result, Ok, Err, true, refl, sym, ap, ◌∙◌, arith}
+use Rattle.std.specs.Prelude.{int_lt, IfErr}
+use Rattle.std.proofs.lemmas.Bool.{false≢true}
+use Rattle.std.proofs.lemmas.Int.{ints}
+use Rattle.std.proofs.lemmas.List.{reverse-append, length-reverse, length-map, length-append}
+use Rattle.array_eval.specs.declared.scope.LoopVar.{LoopVar}
+use Rattle.array_eval.specs.Views.{loop_var, stacked}
+use Rattle.array_eval.specs.Traces.{Trace}
+use Rattle.array_eval.proofs.ScopeLemmas.{stacked_push}
+use Rattle.step_eval.specs.declared.frames.Frames.{Frames}
+use Rattle.std.specs.Borrow.{Bor}
+use Rattle.array_tree.specs.declared.tree.Block.{Block}
+use Rattle.step_eval.specs.declared.frames.Frame.{Frame}
+use Rattle.step_eval.specs.declared.frames.Frame.TheVariants.{Statements, Turns}
+use Rattle.std.specs.Prelude.{IsSome}
+use Rattle.array_tree.specs.declared.tree.Stmt.{Stmt}
+use Rattle.array_tree.specs.Trees.{Statement, Assign, For, If, Par, Team, Sequence, followed, sequence, statement_of, sequence_of}
+use Rattle.array_meaning.specs.Stores.{Arrays, Vars, Store}
+use Rattle.array_jobs.specs.Works.{branch_of, member_of}
+use Rattle.step_eval.specs.Rest.{WorkAt, at}
+use Rattle.step_eval.specs.Moves.{moved}
+use Rattle.step_eval.specs.Machines.{construct_of}
+use Rattle.step_eval.specs.Frames.{IsMore, IsStacked, loops_in, statements_from, works_in, works_of, vars_in, HasBegun, HasTurned}
+
+pub loops_block : (fs : List Frame) (block : Bor Block) (from : ℕ) → loops_in (fs ++ Statements block from ∷ []) ≡ loops_in fs
+loops_block [] block from = refl
+loops_block (Statements b f ∷ fs) block from = loops_block fs block from
+loops_block (Turns b n h ∷ fs) block from = ap suc (loops_block fs block from)
+
+pub loops_loop : (fs : List Frame) (body : Bor Block) (next high : ℤ) → loops_in (fs ++ Turns body next high ∷ []) ≡ suc (loops_in fs)
+loops_loop [] body next high = refl
+loops_loop (Statements b f ∷ fs) body next high = loops_loop fs body next high
+loops_loop (Turns b n h ∷ fs) body next high = ap suc (loops_loop fs body next high)
+
+-- a construct leaves the statements behind it
+past_first : (arrays : Arrays) (store : Store) (first : Statement) (rest : Sequence) (vars : Vars) → IsSome (construct_of (branch_of (followed first rest))) →
+    moved arrays store (branch_of (followed first rest)) vars ≡ at (branch_of rest) vars ∷ []
+past_first arrays store (Assign line array index value) rest vars h = absurd (false≢true h)
+past_first arrays store (For line var low high body) rest vars h = absurd (false≢true h)
+past_first arrays store (If line cond then_block else_block) rest vars h = absurd (false≢true h)
+past_first arrays store (Par line branches) rest vars h = refl
+past_first arrays store (Team line var low high members phases) rest vars h = refl
+
+drop_next : {A : Type 0} (xs ys : List A) (n : ℕ) (y : A) → drop n xs ≡ y ∷ ys → drop (n + 1) xs ≡ ys
+drop_next [] ys zero y e = cc
+drop_next [] ys (suc n) y e = cc
+drop_next (x ∷ xs) ys zero y e = cc
+drop_next (x ∷ xs) ys (suc n) y e = let one : suc n + 1 ≡ suc (n + 1) = omega arith in rw one (drop_next xs ys n y e)
+
+pub passed : (arrays : Arrays) (store : Store) (block : Block) (from : ℕ) (vars : Vars) → IsSome (construct_of (branch_of (statements_from block from))) →
+    moved arrays store (branch_of (statements_from block from)) vars ≡ at (branch_of (statements_from block (from + 1))) vars ∷ []
+passed arrays store block from vars h = cases (drop from block.statements.items) refl h
+  where
+    cases : (ss : List Stmt) → drop from block.statements.items ≡ ss → IsSome (construct_of (branch_of (sequence (map statement_of ss)))) →
+        moved arrays store (branch_of (sequence (map statement_of ss))) vars ≡ at (branch_of (statements_from block (from + 1))) vars ∷ []
+    cases [] e h = absurd (false≢true h)
+    cases (s ∷ ss) e h =
+        past_first arrays store (statement_of s) (sequence (map statement_of ss)) vars h
+        ∙ ap (λ q. at (branch_of (sequence (map statement_of q))) vars ∷ []) (sym (drop_next block.statements.items ss from s e))
+
+-- the variables around, with the innermost loop's first
+vars_push : (frames : Frames) (vs : List LoopVar) (v : LoopVar) (around : Vars) → frames.vars.items ≡ vs ++ v ∷ [] →
+    vars_in frames around ≡ loop_var v ∷ (stacked vs ++ around)
+vars_push frames vs v around e = ap (λ q. stacked q ++ around) e ∙ ap (λ q. q ++ around) (stacked_push vs v)
+
+-- the next turn has begun
+pub turned : (body : Bor Block) (next more high : ℤ) (before between after : Frames) (vs : List LoopVar) (v now : LoopVar) →
+    next <ℤ high → more ≡ next +ℤ pos 1 → before.vars.items ≡ vs ++ v ∷ [] → loop_var now ≡ (v.name.now, next) →
+    between.vars.items ≡ vs ++ now ∷ [] → between.stack.items ≡ before.stack.items ++ Turns body more high ∷ [] →
+    HasBegun (branch_of (sequence_of body.now)) between after → HasTurned body next high before after
+turned body next more high before between after vs v now less one was same vars stack begun arrays around store =
+    let outer = stacked vs ++ around in
+    let test : int_lt next high ≡ true = grind (arith, ints) in
+    let below = works_in (reverse before.stack.items) outer in
+    let loop : works_of between around ≡ at (member_of v.name.now (next +ℤ pos 1) high (sequence_of body.now)) outer ∷ below
+    = ap (works_in (reverse between.stack.items)) (vars_push between vs now around vars ∙ ap (λ q. q ∷ outer) same)
+    ∙ ap (λ fs. works_in fs ((v.name.now, next) ∷ outer)) (ap reverse stack ∙ reverse-append before.stack.items (Turns body more high ∷ []))
+    ∙ ap (λ n. at (member_of v.name.now n high (sequence_of body.now)) outer ∷ below) one in
+    let all : works_of after around ≡ at (branch_of (sequence_of body.now)) ((v.name.now, next) ∷ outer) ∷ at (member_of v.name.now (next +ℤ pos 1) high (sequence_of body.now)) outer ∷ below
+    = begun around ∙ ap (λ q. at (branch_of (sequence_of body.now)) q ∷ works_of between around) (vars_push between vs now around vars ∙ ap (λ q. q ∷ outer) same)
+    ∙ ap (λ q. at (branch_of (sequence_of body.now)) ((v.name.now, next) ∷ outer) ∷ q) loop in
+    rw (vars_push before vs v around was, test) (all, refl)
+
+-- a loop that has begun has a variable, so its turns are something to be run
+pub more_turns : (frames : Frames) (fs : List Frame) (body : Bor Block) (next high : ℤ) (around : Vars) → IsStacked frames →
+    frames.stack.items ≡ fs ++ Turns body next high ∷ [] → IsMore (works_in (Turns body next high ∷ reverse fs) (vars_in frames around))
+more_turns frames fs body next high around stacked_ones stack = cases (vars_in frames around) refl
+  where
+    cases : (vars : Vars) → vars_in frames around ≡ vars → IsMore (works_in (Turns body next high ∷ reverse fs) vars)
+    cases [] e =
+        let some : length frames.vars.items ≡ suc (loops_in fs) = stacked_ones ∙ ap loops_in stack ∙ loops_loop fs body next high in
+        let all : length (stacked frames.vars.items) ≡ length frames.vars.items
+        = length-reverse (map loop_var frames.vars.items) ∙ length-map frames.vars.items loop_var in
+        let none : length (stacked frames.vars.items) + length around ≡ 0 = sym (length-append (stacked frames.vars.items) around) ∙ ap length e in
+        absurd (omega (arith, some, all, none))
+    cases (v ∷ vars) e = tt
+
+-- what holds in any case holds where there is an error
+pub always_err : {A B P : Type 0} (result : Result A B) → P → IfErr result (λ x. P)
+always_err (Ok x) holds = tt
+always_err (Err e) holds = holds

@@ -1,0 +1,64 @@
+-- The number of steps that are left falls.
+use Rattle.std.proofs.Common.{◌≡◌, ℕ, ◌+◌, ◌-◌, ◌*◌, ◌<◌, Bool, true, false, cond, List, [], ◌∷◌, ◌++◌, Some, ℤ, pos, ◌+ℤ◌, ◌<ℤ◌, refl, arith}
+use Rattle.std.specs.Prelude.{int_lt}
+use Rattle.std.proofs.lemmas.Int.{ints}
+use Rattle.array_tree.specs.Trees.{Statement, Assign, For, If, Par, Team, ended, followed}
+use Rattle.array_meaning.specs.Values.{holds}
+use Rattle.array_meaning.specs.Stores.{Arrays, Vars, Store, value_of}
+use Rattle.array_meaning.specs.Work.{span}
+use Rattle.array_meaning.proofs.StepLemmas.{span_next}
+use Rattle.array_jobs.specs.Works.{WorkTree, branch_of, member_of}
+use Rattle.step_eval.specs.Rest.{WorkAt, at}
+use Rattle.step_eval.specs.Moves.{moved, sequence_left, work_left, rest_left}
+use Rattle.step_eval.specs.Machines.{construct_of}
+
+-- So much for each turn of a loop: that of the first turn, and then of the others.
+pub span_times : (low high : ℤ) (m : ℕ) → int_lt low high ≡ true → span low high * m ≡ m + span (low +ℤ pos 1) high * m
+span_times low high m h = let less : low <ℤ high = grind (arith, ints) in let one = span_next low high less in rw one (omega arith)
+
+-- a statement and a turn each take one step to begin and one to end what they leave
+work_moves : (arrays : Arrays) (store : Store) (w : WorkTree) (vars : Vars) (more : List WorkAt) →
+    rest_left (moved arrays store w vars ++ more) < rest_left (at w vars ∷ more)
+work_moves arrays store (branch_of ended) vars more = omega arith
+work_moves arrays store (branch_of (followed (Assign line array index value) rest)) vars more = omega arith
+work_moves arrays store (branch_of (followed (For line var low high body) rest)) vars more = omega arith
+work_moves arrays store (branch_of (followed (If line test left right) rest)) vars more = cases (holds (value_of arrays vars test store))
+  where
+    cases : (b : Bool) → rest_left (at (branch_of (cond b left right)) vars ∷ at (branch_of rest) vars ∷ more)
+        < rest_left (at (branch_of (followed (If line test left right) rest)) vars ∷ more)
+    cases true = omega arith
+    cases false = omega arith
+work_moves arrays store (branch_of (followed (Par line branches) rest)) vars more = omega arith
+work_moves arrays store (branch_of (followed (Team line var low high members phases) rest)) vars more = omega arith
+work_moves arrays store (member_of var low high body) vars more = cases (int_lt low high) refl
+  where
+    cases : (b : Bool) → int_lt low high ≡ b →
+        rest_left (cond b (at (branch_of body) ((var, low) ∷ vars) ∷ at (member_of var (low +ℤ pos 1) high body) vars ∷ []) [] ++ more)
+        < rest_left (at (member_of var low high body) vars ∷ more)
+    cases true e = let turn = span_times low high (2 + sequence_left body) e in omega (arith, turn)
+    cases false e = omega arith
+
+-- A step leaves fewer steps than before.
+pub left_moved : (arrays : Arrays) (store : Store) (w : WorkAt) (more : List WorkAt) →
+    rest_left (moved arrays store w.work w.vars ++ more) < rest_left (w ∷ more)
+left_moved arrays store w more = work_moves arrays store w.work w.vars more
+
+-- Something is left of a machine that has a work.
+pub left_positive : (w : WorkAt) (more : List WorkAt) → 0 < rest_left (w ∷ more)
+left_positive w more = by w.work
+  where
+    by : (work : WorkTree) → 0 < work_left work + rest_left more
+    by (branch_of body) = omega arith
+    by (member_of var low high body) = omega arith
+
+-- a construct leaves nothing but the statements after it
+work_passes : (arrays : Arrays) (store : Store) (w : WorkTree) (vars : Vars) (more : List WorkAt) (c : Statement) → construct_of w ≡ Some c →
+    rest_left (moved arrays store w vars ++ more) ≡ rest_left (at w vars ∷ more) - 1
+work_passes arrays store (branch_of (followed (Par line branches) rest)) vars more c e = omega arith
+work_passes arrays store (branch_of (followed (Team line var low high members phases) rest)) vars more c e = omega arith
+work_passes arrays store w vars more c e = cc
+
+-- A construct that is passed takes one step.
+pub left_passed : (arrays : Arrays) (store : Store) (w : WorkAt) (more : List WorkAt) (c : Statement) → construct_of w.work ≡ Some c →
+    rest_left (moved arrays store w.work w.vars ++ more) ≡ rest_left (w ∷ more) - 1
+left_passed arrays store w more c e = work_passes arrays store w.work w.vars more c e

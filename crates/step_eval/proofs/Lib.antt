@@ -1,0 +1,11 @@
+pub mod FrameLemmas
+pub mod LeftLemmas
+pub mod WriteLemmas
+pub mod FitParts
+pub mod FitMoves
+pub mod MoveLemmas
+pub mod PieceLemmas
+pub mod NestParts
+pub mod NestLemmas
+pub mod HandLemmas
+pub mod MachineLemmas

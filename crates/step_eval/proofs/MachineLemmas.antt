@@ -1,0 +1,211 @@
+-- What a machine's calls keep, and what they do.
+use Rattle.std.proofs.Common.{◌≡◌, ℕ, ◌+◌, ◌-◌, ◌<◌, ◌≤◌, List, [], ◌∷◌, ◌++◌, length, reverse, true, false, Option, Some, None, Result, Ok, Err, refl, sym, ap, subst, ◌∙◌, arith}
+use Rattle.std.specs.Prelude.{IsSome}
+use Rattle.std.specs.Borrow.{Bor}
+use Rattle.std.proofs.lemmas.Bool.{false≢true}
+use Rattle.contexts.specs.declared.machine.Step.{Step}
+use Rattle.contexts.specs.declared.machine.Step.TheVariants as step
+use Rattle.contexts.specs.Machine.{Work, Steps}
+use Rattle.array_tree.specs.declared.tree.Stmt.{Stmt}
+use Rattle.array_tree.specs.Trees.{Statement, statement_of, Assign, For, If, Par, Team, ended, followed, declarations_of}
+use Rattle.array_meaning.specs.Stores.{Arrays, Store, Write, after, arrays_of}
+use Rattle.array_meaning.specs.Steps.{writes_of}
+use Rattle.array_meaning.specs.Plans.{statement_sites_in}
+use Rattle.array_meaning.proofs.StepLemmas.{length_after}
+use Rattle.array_eval.specs.Traces.{Trace, fresh, noted_all}
+use Rattle.array_eval.proofs.TraceLemmas.{cells_after}
+use Rattle.array_eval.specs.Overlays.{Laid}
+use Rattle.array_jobs.specs.Works.{WorkTree, work_of, branch_of, member_of}
+use Rattle.array_jobs.specs.Jobs.{JobParts, IsFit, job_of}
+use Rattle.step_eval.specs.declared.stage.Stage.{Stage}
+use Rattle.step_eval.specs.declared.stage.Stage.TheVariants.{Going, Awaiting, Failed}
+use Rattle.step_eval.specs.declared.frames.Frames.{Frames}
+use Rattle.step_eval.specs.Rest.{WorkAt, at, rest_steps}
+use Rattle.step_eval.specs.Moves.{moved, moved_writes, moved_sites, rest_left}
+use Rattle.step_eval.specs.Nests.{NestedParts, NestedTree, nested_of}
+use Rattle.step_eval.specs.Machines.{Progress, IsRight, IsKept, construct_of, next_construct, next_nest, nest_in, handed_out, rest_writes, is_awaiting, left_of, HasMoved, Advances, AreAwaited, awaited_by}
+use Rattle.step_eval.specs.Frames.{works_of, vars_in, IsMore, IsStacked, AreAll, HaveMoved, HasPassed, IsPast, IsConstruct}
+use Rattle.step_eval.specs.Inside.{IsWhole, IsSound, while_going, Advanced, stage_by, sites_seen}
+use Rattle.step_eval.proofs.LeftLemmas.{left_moved, left_positive}
+use Rattle.step_eval.proofs.MoveLemmas.{right_fresh, right_moved, rest_moved}
+use Rattle.step_eval.proofs.HandLemmas.{at_construct, is_handed_out, no_construct, supply_writes, supply_sites}
+
+-- A machine that is made of a fit job is sound.
+pub sound_fresh : (inside job : JobParts) (frames : Frames) (store : Trace) (room : Laid) → inside ≡ job → IsFit (job_of inside) →
+    AreAll (work_of inside.work) frames → IsStacked frames → store ≡ fresh inside.store → room.pairs ≡ [] → room.room ≡ length store.cells →
+    IsSound Going job frames store room inside.first
+sound_fresh inside job frames store room same fit all stacked new none roomy =
+    subst (λ j. IsSound Going j frames store room inside.first) same record {
+      kept = rw (all inside.vars, new) (right_fresh (job_of inside) fit);
+      stacked = stacked;
+      none = none;
+      roomy = omega (arith, roomy);
+    }
+
+-- ---- a step
+
+-- Writes keep the number of cells.
+pub length_noted : (ws : List Write) (store : Trace) → length (noted_all ws store).cells ≡ length store.cells
+length_noted ws store = ap length (cells_after ws store) ∙ length_after ws store.cells
+
+-- Where no construct is next, no site is passed.
+pub no_sites_passed : (work : WorkTree) → construct_of work ≡ None → moved_sites work ≡ 0
+no_sites_passed (branch_of ended) none = refl
+no_sites_passed (branch_of (followed (Assign line array index value) rest)) none = refl
+no_sites_passed (branch_of (followed (For line var low high body) rest)) none = refl
+no_sites_passed (branch_of (followed (If line cond then_block else_block) rest)) none = refl
+no_sites_passed (branch_of (followed (Par line branches) rest)) none = cc
+no_sites_passed (branch_of (followed (Team line var low high members phases) rest)) none = cc
+no_sites_passed (member_of var low high body) none = refl
+
+-- What others see of a machine.
+abbrev work_seen : Progress → Work
+work_seen machine = record { rest = rest_writes machine; awaits = is_awaiting machine.stage; left = left_of machine.stage machine.rest }
+
+-- The machine after a step that found memory.
+abbrev pub after_step : JobParts → ℕ → Step NestedParts → List WorkAt → Trace → Progress
+after_step job next s rest store = record { job = job; rest = rest; store = store; next = next; stage = stage_by s }
+
+-- What a step does is what the machine tells.
+pub advances : (job : JobParts) (works rest : List WorkAt) (store store' : Trace) (next : ℕ) (s : Step NestedParts) →
+    Advanced (while_going job works store next) s rest store' → Advances (while_going job works store next) s (after_step job next s rest store')
+advances job [] rest store store' next step.More done = absurd done.1
+advances job (w ∷ more) rest store store' next step.More done =
+    let none = no_sites_passed w.work (no_construct (while_going job (w ∷ more) store next) w done.0) in
+    let same : next ≡ next + moved_sites w.work = omega (arith, none) in
+    (refl, done.0, (let after = done.1.0 in let now = done.1.1 in cc))
+advances job works rest store store' next (step.Nest nested) done = (refl, done.0, (let same = done.1 in let now = done.2 in cc))
+advances job works rest store store' next step.Finished done = (refl, done.0, rw (done.1, done.2) refl)
+advances job works rest store store' next step.NoMemory done = absurd done
+
+-- So it is a step of any machine.
+pub steps : (job : JobParts) (works rest : List WorkAt) (store store' : Trace) (next : ℕ) (s : Step NestedParts) →
+    Advanced (while_going job works store next) s rest store' →
+    Steps (work_seen (while_going job works store next)) s (work_seen (after_step job next s rest store'))
+steps job [] rest store store' next step.More done = absurd done.1
+steps job (w ∷ more) rest store store' next step.More done =
+    let arrays = arrays_of (declarations_of job.arrays) in
+    let ws = moved_writes arrays store.cells w.work w.vars in
+    let none = no_construct (while_going job (w ∷ more) store next) w done.0 in
+    let cells : store'.cells ≡ after ws store.cells = ap (λ t. t.cells) done.1.1 ∙ cells_after ws store in
+    let writes : rest_writes (while_going job (w ∷ more) store next) ≡ ws ++ writes_of arrays (rest_steps rest) store'.cells
+    = rest_moved arrays w more store.cells none ∙ rw (done.1.0, cells) refl in
+    let fewer : rest_left rest < rest_left (w ∷ more) = rw done.1.0 (left_moved arrays store.cells w more) in
+    ((ws, writes), refl, fewer)
+steps job [] rest store store' next (step.Nest nested) done = cc
+steps job (w ∷ more) rest store store' next (step.Nest nested) done =
+    let some = left_positive w more in
+    let left : rest_left rest - 1 < rest_left (w ∷ more) = rw done.1 (omega (arith, some)) in
+    (refl, left)
+steps job works rest store store' next step.Finished done =
+    let none = done.0 in let same = done.1 in let now = done.2 in
+    (rw none refl, rw none refl, rw (same, now) refl)
+steps job works rest store store' next step.NoMemory done = absurd done
+
+-- A machine of which something is to be run is not done.
+pub more_left : (works : List WorkAt) → IsMore works → 0 < rest_left works
+more_left [] more = absurd more
+more_left (w ∷ works) more = left_positive w works
+
+-- ---- and then
+
+abbrev IsKeptBy : Step NestedParts → JobParts → List WorkAt → Trace → Trace → ℕ → Type 0
+IsKeptBy s job rest store store' next = IsKept (stage_by s) (job_of job) rest store' next × (length store'.cells ≡ length store.cells)
+
+some_construct : (machine : Progress) (works : List WorkAt) (nested : NestedTree) → nest_in machine works ≡ Some nested → IsSome (next_construct works)
+some_construct machine [] nested e = cc
+some_construct machine (w ∷ more) nested e = cases (construct_of w.work) e
+  where
+    cases : (found : Option Statement) → handed_out machine w found ≡ Some nested → IsSome found
+    cases None e = cc
+    cases (Some construct) e = refl
+
+kept_by : (job : JobParts) (works rest : List WorkAt) (store store' : Trace) (next : ℕ) (s : Step NestedParts) → IsRight (job_of job) works store next →
+    Advanced (while_going job works store next) s rest store' → IsKeptBy s job rest store store' next
+kept_by job [] rest store store' next step.More right done = absurd done.1
+kept_by job (w ∷ more) rest store store' next step.More right done =
+    let arrays = arrays_of (declarations_of job.arrays) in
+    let ws = moved_writes arrays store.cells w.work w.vars in
+    let none = no_sites_passed w.work (no_construct (while_going job (w ∷ more) store next) w done.0) in
+    let same : next + moved_sites w.work ≡ next = omega (arith, none) in
+    let after : IsRight (job_of job) (moved arrays store.cells w.work w.vars ++ more) (noted_all ws store) next
+    = subst (IsRight (job_of job) (moved arrays store.cells w.work w.vars ++ more) (noted_all ws store)) same (right_moved (job_of job) w more store next right) in
+    (rw (done.1.0, done.1.1) after, rw done.1.1 (length_noted ws store))
+kept_by job works rest store store' next (step.Nest nested) right done =
+    (rw (done.1, done.2) (right, some_construct (while_going job works store next) works (nested_of nested) done.0), rw done.2 refl)
+kept_by job works rest store store' next step.Finished right done = (rw (done.1, done.2) right, rw done.2 refl)
+kept_by job works rest store store' next step.NoMemory right done = absurd done
+
+sound_of_whole : (stage : Stage) (job : JobParts) (frames : Frames) (store : Trace) (room : Laid) (next : ℕ) →
+    IsWhole stage job frames store room next → IsSound stage job frames store room next
+sound_of_whole Going job frames store room next whole = whole
+sound_of_whole Awaiting job frames store room next whole = whole
+sound_of_whole Failed job frames store room next whole = tt
+
+-- A step that found memory keeps a machine sound.
+pub sound_advanced : (job : JobParts) (before after : Frames) (store store' : Trace) (room : Laid) (next : ℕ) (s : Step NestedParts) →
+    IsSound Going job before store room next → Advanced (while_going job (works_of before job.vars) store next) s (works_of after job.vars) store' →
+    IsStacked after → IsSound (stage_by s) job after store' room next
+sound_advanced job before after store store' room next s sound done stacked =
+    let kept = kept_by job (works_of before job.vars) (works_of after job.vars) store store' next s sound.kept done in
+    let cells = kept.1 in
+    let roomy = sound.roomy in
+    sound_of_whole (stage_by s) job after store' room next record {
+      kept = kept.0;
+      stacked = stacked;
+      none = sound.none;
+      roomy = omega (arith, cells, roomy);
+    }
+
+-- ---- a supply
+
+-- A machine that took what the next construct wrote has moved past it, and is sound.
+pub record IsSupplied (job : JobParts) (before after : Frames) (store store' : Trace) (room : Laid) (next next' : ℕ) : Type 0 where
+  pub moved : HasMoved (works_of before job.vars) record { job = job; rest = works_of before job.vars; store = store; next = next; stage = Awaiting }
+      record { job = job; rest = works_of after job.vars; store = store'; next = next'; stage = Going }
+  pub sound : IsSound Going job after store' room next'
+  pub small : next' ≤ 4096
+
+pub supplied : (job : JobParts) (before after : Frames) (store : Trace) (room : Laid) (next : ℕ) (construct : Statement) (written : List Write) →
+    IsSound Awaiting job before store room next → next_construct (works_of before job.vars) ≡ Some construct → HasPassed before after → IsStacked after →
+    AreAwaited record { job = job; rest = works_of before job.vars; store = store; next = next; stage = Awaiting } written →
+    IsSupplied job before after store (noted_all written store) room next (next + statement_sites_in construct)
+supplied job before after store room next construct written sound found passed stacked awaited =
+    let vars = vars_in before job.vars in
+    let arrays = arrays_of (declarations_of job.arrays) in
+    let fs = reverse before.stack.items in
+    let machine : Progress = record { job = job; rest = works_of before job.vars; store = store; next = next; stage = Awaiting } in
+    let here = at_construct fs vars construct found in
+    let w = at (branch_of (followed construct here.rest)) vars in
+    let right : IsRight (job_of job) (w ∷ here.more) store next = subst (λ works. IsRight (job_of job) works store next) here.is sound.kept.0 in
+    let nest = is_handed_out machine fs vars construct found in
+    let is : written ≡ moved_writes arrays store.cells w.work w.vars
+    = subst (λ found. awaited_by found written) nest awaited ∙ sym (supply_writes arrays store.cells construct vars here.kind) in
+    let sites = supply_sites construct here.kind in
+    let next_is : next + moved_sites w.work ≡ next + statement_sites_in construct = ap (λ n. next + n) sites in
+    let rest : works_of after job.vars ≡ moved arrays store.cells w.work w.vars ++ here.more
+    = subst (λ works. IsPast arrays store works (works_of after job.vars)) here.is (passed arrays job.vars store) in
+    let cells = length_noted written store in
+    let roomy = sound.roomy in
+    let room_for = right.fit.0.sites in
+    let now : IsRight (job_of job) (moved arrays store.cells w.work w.vars ++ here.more) (noted_all written store) (next + statement_sites_in construct)
+    = rw is (subst (IsRight (job_of job) (moved arrays store.cells w.work w.vars ++ here.more) (noted_all (moved_writes arrays store.cells w.work w.vars) store)) next_is
+    (right_moved (job_of job) w here.more store next right)) in
+    record {
+      moved = rw (here.is, rest, is, sym next_is) refl;
+      sound = record { kept = rw rest now; stacked = stacked; none = sound.none; roomy = omega (arith, cells, roomy) };
+      small = omega (arith, room_for);
+    }
+
+-- So it is where the construct was looked for and its sites were counted.
+pub supply_done : (job : JobParts) (before after : Frames) (store : Trace) (room : Laid) (next sites : ℕ) (construct : Option (Bor Stmt)) (written : List Write) →
+    IsSound Awaiting job before store room next → IsConstruct construct before → sites ≡ sites_seen construct → HasPassed before after → IsStacked after →
+    AreAwaited record { job = job; rest = works_of before job.vars; store = store; next = next; stage = Awaiting } written →
+    IsSupplied job before after store (noted_all written store) room next (next + sites)
+supply_done job before after store room next sites None written sound found counted passed stacked awaited =
+    absurd (false≢true (subst IsSome (sym (found job.vars)) sound.kept.1))
+supply_done job before after store room next sites (Some construct) written sound found counted passed stacked awaited =
+    let done = supplied job before after store room next (statement_of construct.now) written sound (sym (found job.vars)) passed stacked awaited in
+    let small = done.small in
+    let exact : sites ≡ statement_sites_in (statement_of construct.now) = omega (arith, counted, small) in
+    rw exact done

@@ -1,0 +1,102 @@
+-- The works that are read off a machine's frames.
+use Rattle.std.specs.Prelude.{◌≡◌, ℕ, suc, List, [], ◌∷◌, ◌++◌, Bool, true, false, Option, Some, None, map, drop, reverse, length, ℤ}
+use Rattle.std.specs.Borrow.{Bor}
+use Rattle.array_tree.specs.declared.tree.Block.{Block}
+use Rattle.array_tree.specs.declared.tree.Stmt.{Stmt}
+use Rattle.array_tree.specs.Trees.{Statement, Sequence, sequence, statement_of, sequence_of}
+use Rattle.array_meaning.specs.Stores.{Arrays, Vars}
+use Rattle.array_eval.specs.Views.{stacked}
+use Rattle.array_eval.specs.Traces.{Trace, noted_all}
+use Rattle.array_jobs.specs.Works.{WorkTree, branch_of, member_of}
+use Rattle.step_eval.specs.declared.frames.Frame.{Frame}
+use Rattle.step_eval.specs.declared.frames.Frame.TheVariants.{Statements, Turns}
+use Rattle.step_eval.specs.declared.frames.Frames.{Frames}
+use Rattle.step_eval.specs.Rest.{WorkAt, at}
+use Rattle.step_eval.specs.Moves.{moved, moved_writes}
+use Rattle.step_eval.specs.Machines.{construct_of, next_construct}
+
+-- The statements of a block from one on.
+abbrev pub statements_from : Block → ℕ → Sequence
+statements_from block from = sequence (map statement_of (drop from block.statements.items))
+
+-- The works of frames, the next one first, with all loop variables around. A loop's own variable is the innermost of
+-- those around its turns.
+abbrev pub works_in : List Frame → Vars → List WorkAt
+works_in [] vars = []
+works_in (Statements block from ∷ below) vars = at (branch_of (statements_from block.now from)) vars ∷ works_in below vars
+works_in (Turns body next high ∷ below) [] = []
+works_in (Turns body next high ∷ below) (v ∷ outer) = at (member_of v.0 next high (sequence_of body.now)) outer ∷ works_in below outer
+
+-- All loop variables around the next work, given those around the whole.
+abbrev pub vars_in : Frames → Vars → Vars
+vars_in frames around = stacked frames.vars.items ++ around
+
+-- The works that are still to be run, given the loop variables around the whole.
+abbrev pub works_of : Frames → Vars → List WorkAt
+works_of frames around = works_in (reverse frames.stack.items) (vars_in frames around)
+
+-- Something is still to be run.
+abbrev pub IsMore : List WorkAt → Type 0
+IsMore [] = ⊥
+IsMore (w ∷ more) = Unit {0}
+
+-- How many loops have begun.
+abbrev pub loops_in : List Frame → ℕ
+loops_in [] = 0
+loops_in (Statements block from ∷ below) = loops_in below
+loops_in (Turns body next high ∷ below) = suc (loops_in below)
+
+-- Each loop that has begun has its variable on the stack.
+abbrev pub IsStacked : Frames → Type 0
+IsStacked frames = length frames.vars.items ≡ loops_in frames.stack.items
+
+-- So has one more, whose frame was taken off.
+abbrev pub IsOneMore : Frames → Type 0
+IsOneMore frames = length frames.vars.items ≡ suc (loops_in frames.stack.items)
+
+-- All of a work is still to be run, whatever is around it.
+abbrev pub AreAll : WorkTree → Frames → Type 0
+AreAll work frames = (around : Vars) → works_of frames around ≡ at work around ∷ []
+
+-- One more work has begun, with the variables around that were there.
+abbrev pub HasBegun : WorkTree → Frames → Frames → Type 0
+HasBegun work before after = (around : Vars) → works_of after around ≡ at work (vars_in before around) ∷ works_of before around
+
+-- The first of these works has moved, and others with it have stayed.
+abbrev pub HaveMoved : Arrays → List WorkAt → Trace → List WorkAt → Trace → Type 0
+HaveMoved arrays [] store after store_after = ⊥
+HaveMoved arrays (w ∷ more) store after store_after =
+    (after ≡ moved arrays store.cells w.work w.vars ++ more)
+    × (store_after ≡ noted_all (moved_writes arrays store.cells w.work w.vars) store)
+
+-- Whether a step was taken. If it was, the first work has moved; if not, there is none.
+abbrev pub Went : Arrays → Bool → List WorkAt → Trace → List WorkAt → Trace → Type 0
+Went arrays false works store after store_after = (works ≡ []) × (after ≡ works) × (store_after ≡ store)
+Went arrays true works store after store_after = HaveMoved arrays works store after store_after
+
+-- The loop whose frame was taken off has moved.
+abbrev pub HasTurned : Bor Block → ℤ → ℤ → Frames → Frames → Type 0
+HasTurned body next high before after =
+    (arrays : Arrays) (around : Vars) (store : Trace) →
+    HaveMoved arrays (works_in (Turns body next high ∷ reverse before.stack.items) (vars_in before around)) store (works_of after around) store
+
+-- The first work has moved past its construct, whatever that wrote.
+abbrev pub IsPast : Arrays → Trace → List WorkAt → List WorkAt → Type 0
+IsPast arrays store [] after = ⊥
+IsPast arrays store (w ∷ more) after = after ≡ moved arrays store.cells w.work w.vars ++ more
+
+-- The construct that is next was passed.
+abbrev pub HasPassed : Frames → Frames → Type 0
+HasPassed before after = (arrays : Arrays) (around : Vars) (store : Trace) → IsPast arrays store (works_of before around) (works_of after around)
+
+abbrev pub seen : Option (Bor Stmt) → Option Statement
+seen None = None
+seen (Some construct) = Some (statement_of construct.now)
+
+-- It is the construct that is to be run next, or there is none.
+abbrev pub IsConstruct : Option (Bor Stmt) → Frames → Type 0
+IsConstruct construct frames = (around : Vars) → seen construct ≡ next_construct (works_of frames around)
+
+-- It is the construct that stands there in the block, or there is none.
+abbrev pub IsConstructAt : Option (Bor Stmt) → Block → ℕ → Type 0
+IsConstructAt construct block place = seen construct ≡ construct_of (branch_of (statements_from block place))

@@ -1,0 +1,67 @@
+-- What a machine keeps inside, and what its parts do.
+use Rattle.std.specs.Prelude.{◌≡◌, ℕ, ◌≤◌, List, [], Option, Some, None, length}
+use Rattle.std.specs.Borrow.{Bor}
+use Rattle.contexts.specs.declared.machine.Step.{Step}
+use Rattle.contexts.specs.declared.machine.Step.TheVariants as step
+use Rattle.array_tree.specs.declared.tree.Stmt.{Stmt}
+use Rattle.array_tree.specs.Trees.{Statement, statement_of, declarations_of}
+use Rattle.array_meaning.specs.Stores.{arrays_of}
+use Rattle.array_meaning.specs.Plans.{statement_sites_in}
+use Rattle.array_eval.specs.Traces.{Trace}
+use Rattle.array_eval.specs.Overlays.{Laid}
+use Rattle.disjoint_check.specs.LimitFault.{capped}
+use Rattle.array_jobs.specs.Jobs.{JobParts, job_of}
+use Rattle.step_eval.specs.declared.stage.Stage.{Stage}
+use Rattle.step_eval.specs.declared.stage.Stage.TheVariants.{Going, Awaiting, Failed}
+use Rattle.step_eval.specs.declared.frames.Frames.{Frames}
+use Rattle.step_eval.specs.Rest.{WorkAt}
+use Rattle.step_eval.specs.Nests.{NestedParts, nested_of}
+use Rattle.step_eval.specs.Machines.{Progress, IsKept, next_construct, next_nest}
+use Rattle.step_eval.specs.Frames.{works_of, IsStacked, HaveMoved}
+
+-- What the parts of a machine keep that isn't failed: each loop that has begun has its variable, and there is room for
+-- a pair for each cell.
+pub record IsWhole (stage : Stage) (job : JobParts) (frames : Frames) (store : Trace) (room : Laid) (next : ℕ) : Type 0 where
+  pub kept : IsKept stage (job_of job) (works_of frames job.vars) store next
+  pub stacked : IsStacked frames
+  pub none : room.pairs ≡ []
+  pub roomy : length store.cells ≤ room.room
+
+-- What they keep.
+abbrev pub IsSound : Stage → JobParts → Frames → Trace → Laid → ℕ → Type 0
+IsSound Going job frames store room next = IsWhole Going job frames store room next
+IsSound Awaiting job frames store room next = IsWhole Awaiting job frames store room next
+IsSound Failed job frames store room next = Unit {0}
+
+-- A machine that goes on.
+abbrev pub while_going : JobParts → List WorkAt → Trace → ℕ → Progress
+while_going job rest store next = record { job = job; rest = rest; store = store; next = next; stage = Going }
+
+-- What a step that found memory does to the rest and to the store.
+abbrev pub Advanced : Progress → Step NestedParts → List WorkAt → Trace → Type 0
+Advanced before step.More rest store =
+    (next_nest before ≡ None) × HaveMoved (arrays_of (declarations_of before.job.arrays)) before.rest before.store rest store
+Advanced before (step.Nest nested) rest store =
+    (next_nest before ≡ Some (nested_of nested)) × (rest ≡ before.rest) × (store ≡ before.store)
+Advanced before step.Finished rest store = (before.rest ≡ []) × (rest ≡ before.rest) × (store ≡ before.store)
+Advanced before step.NoMemory rest store = ⊥
+
+-- The construct that is next is handed out.
+abbrev pub IsHandedOut : Progress → NestedParts → Type 0
+IsHandedOut machine nested = next_nest machine ≡ Some (nested_of nested)
+
+-- This construct is to be run next.
+abbrev pub IsConstructNext : Statement → List WorkAt → Type 0
+IsConstructNext construct rest = next_construct rest ≡ Some construct
+
+-- How a machine stands after a step that found memory.
+abbrev pub stage_by : Step NestedParts → Stage
+stage_by step.More = Going
+stage_by (step.Nest nested) = Awaiting
+stage_by step.Finished = Going
+stage_by step.NoMemory = Going
+
+-- How many sites a construct enters, where there is one.
+abbrev pub sites_seen : Option (Bor Stmt) → ℕ
+sites_seen None = 0
+sites_seen (Some construct) = capped (statement_sites_in (statement_of construct.now))

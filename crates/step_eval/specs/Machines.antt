@@ -1,0 +1,139 @@
+-- Machines, and what their calls do.
+use Rattle.std.specs.Prelude.{◌≡◌, ℕ, ◌+◌, ◌-◌, List, [], ◌∷◌, ◌++◌, Bool, true, false, Option, Some, None, IsSome, length}
+use Rattle.contexts.specs.declared.machine.Step.{Step}
+use Rattle.contexts.specs.declared.machine.Step.TheVariants as step
+use Rattle.array_tree.specs.Trees.{Statement, Assign, For, If, Par, Team, ended, followed, declarations_of}
+use Rattle.array_meaning.specs.Stores.{Arrays, Write, arrays_of}
+use Rattle.array_meaning.specs.Steps.{writes_of}
+use Rattle.array_meaning.specs.Pieces.{last_writes}
+use Rattle.array_eval.specs.Traces.{Trace, fresh, marked, noted_all}
+use Rattle.array_jobs.specs.Works.{WorkTree, branch_of, member_of, work_of, sites_of}
+use Rattle.array_jobs.specs.Jobs.{JobParts, JobTree, job_of}
+use Rattle.array_jobs.specs.PieceParts.{piece_of_job}
+use Rattle.step_eval.specs.declared.stage.Stage.{Stage}
+use Rattle.step_eval.specs.declared.stage.Stage.TheVariants.{Going, Awaiting, Failed}
+use Rattle.step_eval.specs.Rest.{WorkAt, at, rest_steps, rest_sites, AreFit}
+use Rattle.step_eval.specs.Moves.{moved, moved_writes, moved_sites, rest_left}
+use Rattle.step_eval.specs.Nests.{NestedParts, NestedTree, nested_of, nested_writes}
+
+-- What contracts see of a machine: its job, the works that are still to be run, the store as it now is with the cells
+-- that were written so far, the number of the next site, and its stage.
+pub record Progress : Type 0 where
+  pub job : JobParts
+  pub rest : List WorkAt
+  pub store : Trace
+  pub next : ℕ
+  pub stage : Stage
+
+-- A machine is right: the last values of its writes so far, followed by the writes of the rest from the store as it
+-- now is, are its job's piece; the next site's number is the job's first plus the sites that were entered so far; and
+-- each work of the rest is fit to be run.
+pub record IsRight (job : JobTree) (rest : List WorkAt) (store : Trace) (next : ℕ) : Type 0 where
+  pub writes : last_writes (marked store ++ writes_of (arrays_of job.arrays) (rest_steps rest) store.cells) ≡ piece_of_job job
+  pub sites : next + rest_sites rest ≡ job.first + sites_of job.work
+  pub fit : AreFit job next rest
+  pub cells : length store.cells ≡ length job.store
+  pub marks : length store.marks ≡ length job.store
+
+-- The construct that is the first statement of a work.
+abbrev pub construct_of : WorkTree → Option Statement
+construct_of (branch_of ended) = None
+construct_of (branch_of (followed (Assign line array index value) rest)) = None
+construct_of (branch_of (followed (For line var low high body) rest)) = None
+construct_of (branch_of (followed (If line cond then_block else_block) rest)) = None
+construct_of (branch_of (followed (Par line branches) rest)) = Some (Par line branches)
+construct_of (branch_of (followed (Team line var low high members phases) rest)) = Some (Team line var low high members phases)
+construct_of (member_of var low high body) = None
+
+-- The construct that is to be run next.
+abbrev pub next_construct : List WorkAt → Option Statement
+next_construct [] = None
+next_construct (w ∷ more) = construct_of w.work
+
+-- What a machine's type keeps: unless it is failed it is right, and what it awaits is the next construct.
+abbrev pub IsKept : Stage → JobTree → List WorkAt → Trace → ℕ → Type 0
+IsKept Going job rest store next = IsRight job rest store next
+IsKept Awaiting job rest store next = IsRight job rest store next × IsSome (next_construct rest)
+IsKept Failed job rest store next = Unit {0}
+
+-- A machine that is made of a job has all of it to run.
+abbrev pub fresh_machine : JobParts → Progress
+fresh_machine job = record {
+  job = job;
+  rest = at (work_of job.work) job.vars ∷ [];
+  store = fresh job.store;
+  next = job.first;
+  stage = Going;
+}
+
+-- What is still to be written.
+abbrev pub rest_writes : Progress → List Write
+rest_writes machine = writes_of (arrays_of (declarations_of machine.job.arrays)) (rest_steps machine.rest) machine.store.cells
+
+-- Whether a machine awaits what a construct writes.
+abbrev pub is_awaiting : Stage → Bool
+is_awaiting Going = false
+is_awaiting Awaiting = true
+is_awaiting Failed = false
+
+-- How many steps are left at most: the construct that is awaited takes none. A machine that is failed is never done.
+abbrev pub left_of : Stage → List WorkAt → ℕ
+left_of Going rest = rest_left rest
+left_of Awaiting rest = rest_left rest - 1
+left_of Failed rest = 1
+
+-- A construct, handed out at this place of a machine.
+abbrev pub handed_out : Progress → WorkAt → Option Statement → Option NestedTree
+handed_out machine w None = None
+handed_out machine w (Some construct) = Some record {
+  arrays = declarations_of machine.job.arrays;
+  site = machine.next;
+  construct = construct;
+  vars = w.vars;
+  store = machine.store.cells;
+}
+
+abbrev pub nest_in : Progress → List WorkAt → Option NestedTree
+nest_in machine [] = None
+nest_in machine (w ∷ more) = handed_out machine w (construct_of w.work)
+
+-- The construct that is to be run next, handed out.
+abbrev pub next_nest : Progress → Option NestedTree
+next_nest machine = nest_in machine machine.rest
+
+-- A machine that goes on has moved by one step: its first work has.
+abbrev pub HasMoved : List WorkAt → Progress → Progress → Type 0
+HasMoved [] before after = ⊥
+HasMoved (w ∷ more) before after =
+    let arrays = arrays_of (declarations_of before.job.arrays) in
+    after ≡ record {
+      job = before.job;
+      rest = moved arrays before.store.cells w.work w.vars ++ more;
+      store = noted_all (moved_writes arrays before.store.cells w.work w.vars) before.store;
+      next = before.next + moved_sites w.work;
+      stage = Going;
+    }
+
+-- What a step does, by its answer. More: no construct is next, and the first work has moved. Nest: the construct that
+-- is next is handed out, with its site's number, the variables and the store at this place, and the machine awaits
+-- what it writes. Finished: nothing is left. NoMemory: the machine is failed.
+abbrev pub Advances : Progress → Step NestedParts → Progress → Type 0
+Advances before step.More after = (before.stage ≡ Going) × (next_nest before ≡ None) × HasMoved before.rest before after
+Advances before (step.Nest nested) after =
+    (before.stage ≡ Going) × (next_nest before ≡ Some (nested_of nested))
+    × (after ≡ record { job = before.job; rest = before.rest; store = before.store; next = before.next; stage = Awaiting })
+Advances before step.Finished after = (before.stage ≡ Going) × (before.rest ≡ []) × (after ≡ before)
+Advances before step.NoMemory after = after.stage ≡ Failed
+
+abbrev pub awaited_by : Option NestedTree → List Write → Type 0
+awaited_by None written = ⊥
+awaited_by (Some nested) written = written ≡ nested_writes nested
+
+-- These are what the awaited construct writes.
+abbrev pub AreAwaited : Progress → List Write → Type 0
+AreAwaited machine written = awaited_by (next_nest machine) written
+
+-- The last step of a machine was Finished: it goes on, and nothing is left.
+pub record IsFinished (machine : Progress) : Type 0 where
+  pub stage : machine.stage ≡ Going
+  pub rest : machine.rest ≡ []

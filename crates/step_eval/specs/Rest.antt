@@ -1,0 +1,42 @@
+-- What is still to be run: works, the next one first.
+use Rattle.std.specs.Prelude.{ℕ, ◌+◌, List, [], ◌∷◌}
+use Rattle.array_meaning.specs.Stores.{Vars}
+use Rattle.array_meaning.specs.Steps.{Steps, Done, followed_by}
+use Rattle.array_jobs.specs.Works.{WorkTree, steps_of, sites_of}
+use Rattle.array_jobs.specs.Jobs.{JobTree, IsFit}
+
+-- A work with the loop variables around it, the innermost first.
+pub record WorkAt : Type 0 where
+  pub work : WorkTree
+  pub vars : Vars
+
+abbrev pub at : WorkTree → Vars → WorkAt
+at work vars = record { work = work; vars = vars }
+
+-- The steps of all works, one after another.
+abbrev pub rest_steps : List WorkAt → Steps
+rest_steps [] = Done
+rest_steps (w ∷ more) = followed_by (steps_of w.work w.vars) (rest_steps more)
+
+-- How many sites they enter.
+abbrev pub rest_sites : List WorkAt → ℕ
+rest_sites [] = 0
+rest_sites (w ∷ more) = sites_of w.work + rest_sites more
+
+-- The job that has this work in the place of its own, and this number for the next site.
+abbrev pub instead : JobTree → ℕ → WorkAt → JobTree
+instead job next w = record {
+  arrays = job.arrays;
+  site = job.site;
+  phase = job.phase;
+  place = job.place;
+  first = next;
+  work = w.work;
+  vars = w.vars;
+  store = job.store;
+}
+
+-- Each work is fit to be run in the place of the job's own, and so are the sites' numbers, one after another.
+abbrev pub AreFit : JobTree → ℕ → List WorkAt → Type 0
+AreFit job next [] = Unit {0}
+AreFit job next (w ∷ more) = IsFit (instead job next w) × AreFit job (next + sites_of w.work) more

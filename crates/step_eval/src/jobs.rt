@@ -1,0 +1,181 @@
+//! The jobs of the pieces of a construct that is handed out.
+ghost use Rattle.std.specs.Prelude.{◌≡◌, ◌+◌, ◌*◌, ◌<◌, ◌≤◌, IfOk, map, length, ◌∷◌, []};
+ghost use Rattle.array_tree.specs.Trees.{statement_of, sequence_of, sequences_of};
+ghost use Rattle.array_meaning.specs.Work.{span};
+ghost use Rattle.array_meaning.specs.Limits.{count_of};
+ghost use Rattle.disjoint_check.specs.LimitFault.{capped};
+ghost use Rattle.array_jobs.specs.Works.{work_of};
+ghost use Rattle.array_jobs.specs.Jobs.{job_of};
+ghost use Rattle.step_eval.specs.Nests.{nested_of, phases_of, branch_trees, member_trees, piece_trees, sites_before, earlier_sites, numbered, jobs_in, AreFitJobs};
+
+use crate::nested::Nested;
+use array_eval::{Store, start_of_member};
+use array_jobs::{Job, Work, sites_in};
+use array_tree::{Block, Blocks, Name, Stmt};
+use disjoint_check::sites_in_turns;
+use std::alloc::{AllocError, Global};
+
+/// The jobs of the pieces of a phase, counted from 0, in the order of their places: one for each branch or member.
+///
+/// They start from this store, which has as many cells as the one before the construct. A `par` has one phase.
+pub fn jobs_of<'p>(
+    alloc: Global,
+    nested: &Nested<'p>,
+    phase: u8,
+    store: &Store,
+) -> Result<Vec<Job<'p>>, AllocError>
+    requires phase { phase < phases_of (statement_of nested.now.construct) }
+    requires cells { length store.now ≡ length nested.now.store }
+    ensures { IfOk result (λ jobs. map job_of jobs.items ≡ jobs_in (nested_of nested.now) phase store.now) }
+{
+    let works = works_of(alloc, nested.construct, phase)?;
+    jobs_of_works(
+        alloc,
+        nested,
+        phase,
+        store,
+        first_site(nested, phase),
+        &works,
+    )
+}
+
+// The number of the first site inside the pieces of a phase.
+fn first_site(nested: &Nested, phase: u8) -> u16
+    requires { phase < phases_of (statement_of nested.now.construct) }
+    ensures { result ≡ nested.now.site + 1 + earlier_sites (statement_of nested.now.construct) phase }
+{
+    nested.site + 1 + earlier_sites(nested.construct, phase) as u16
+}
+
+// How many sites the phases before this one enter.
+fn earlier_sites(construct: &Stmt, phase: u8) -> u64
+    requires { phase < phases_of (statement_of construct.now) }
+    ensures { result ≡ capped (earlier_sites (statement_of construct.now) phase) }
+{
+    match construct {
+        Stmt::Team {
+            low,
+            high,
+            phases,
+            ..
+        } => sites_before(phases, *low, *high, phase),
+        _ => 0,
+    }
+}
+
+// How many sites so many of the first phases enter, each in all its iterations.
+fn sites_before(phases: &Blocks, low: i64, high: i64, phase: u8) -> u64
+    requires { phase ≤ count_of (sequences_of phases.now) }
+    ensures { result ≡ capped (span low high * sites_before (sequences_of phases.now) phase) }
+{
+    let mut sites: u64 = 0;
+    for body in &phases.blocks[..usize::from(phase)] {
+        sites = sites.saturating_add(sites_in_turns(low, high, body));
+    }
+    sites
+}
+
+// What the pieces of a phase run.
+fn works_of<'p>(alloc: Global, construct: &'p Stmt, phase: u8) -> Result<Vec<Work<'p>>, AllocError>
+    requires { phase < phases_of (statement_of construct.now) }
+    ensures { IfOk result (λ works. map work_of works.items ≡ piece_trees (statement_of construct.now) phase) }
+{
+    match construct {
+        Stmt::Par { branches, .. } => branch_works(alloc, branches),
+        Stmt::Team {
+            var,
+            low,
+            high,
+            members,
+            phases,
+            ..
+        } => member_works(
+            alloc,
+            var,
+            *low,
+            *high,
+            members.unsigned_abs(),
+            &phases.blocks[usize::from(phase)],
+        ),
+        _ => Ok(Vec::new(alloc)),
+    }
+}
+
+// What the branches of a `par` run.
+fn branch_works<'p>(alloc: Global, branches: &'p Blocks) -> Result<Vec<Work<'p>>, AllocError>
+    ensures { IfOk result (λ works. map work_of works.items ≡ branch_trees (sequences_of branches.now)) }
+{
+    let mut works = Vec::new(alloc);
+    for branch in &branches.blocks {
+        works.push(Work::Branch(branch))?;
+    }
+    Ok(works)
+}
+
+// What the members of a `team` run in the phase with this body.
+fn member_works<'p>(
+    alloc: Global,
+    var: &'p Name,
+    low: i64,
+    high: i64,
+    members: u64,
+    body: &'p Block,
+) -> Result<Vec<Work<'p>>, AllocError>
+    ensures { IfOk result (λ works. map work_of works.items ≡ member_trees var.now low high members (sequence_of body.now) 0 members) }
+{
+    let mut works = Vec::new(alloc);
+    for member in 0..members {
+        works.push(Work::Member {
+            var,
+            low: start_of_member(low, high, members, member),
+            high: start_of_member(low, high, members, member + 1),
+            body,
+        })?;
+    }
+    Ok(works)
+}
+
+// The jobs of works in a phase, from place 0 on. The next site gets this number.
+fn jobs_of_works<'p>(
+    alloc: Global,
+    nested: &Nested<'p>,
+    phase: u8,
+    store: &Store,
+    next: u16,
+    works: &[Work<'p>],
+) -> Result<Vec<Job<'p>>, AllocError>
+    requires { AreFitJobs (numbered (nested_of nested.now) phase store.now 0 next (map work_of works.now)) }
+    ensures { IfOk result (λ jobs. map job_of jobs.items ≡ numbered (nested_of nested.now) phase store.now 0 next (map work_of works.now)) }
+{
+    let mut jobs = Vec::new(alloc);
+    let mut first = next;
+    for (place, work) in works.iter().enumerate() {
+        jobs.push(job_of_work(nested, phase, store, place as u8, first, *work)?)?;
+        first += sites_in(work) as u16;
+    }
+    Ok(jobs)
+}
+
+// The job of one work.
+fn job_of_work<'p>(
+    nested: &Nested<'p>,
+    phase: u8,
+    store: &Store,
+    place: u8,
+    first: u16,
+    work: Work<'p>,
+) -> Result<Job<'p>, AllocError>
+    requires { AreFitJobs (numbered (nested_of nested.now) phase store.now place first (work_of work ∷ [])) }
+    ensures { IfOk result (λ job. job_of job ∷ [] ≡ numbered (nested_of nested.now) phase store.now place first (work_of work.entry ∷ [])) }
+{
+    Ok(Job {
+        arrays: nested.arrays,
+        site: nested.site,
+        phase,
+        place,
+        first,
+        work,
+        vars: nested.vars.copy()?,
+        store: store.copy()?,
+    })
+}

@@ -1,0 +1,222 @@
+//! Machines that run a job a step at a time.
+ghost use Rattle.std.specs.Prelude.{◌≡◌, ◌<◌, false, IfOk, IfErr, OnOk, OnErr};
+ghost use Rattle.contexts.specs.Machine.{Steps};
+ghost use Rattle.array_tree.specs.Trees.{statement_of, declarations_of};
+ghost use Rattle.array_jobs.specs.Jobs.{job_of};
+ghost use Rattle.step_eval.specs.declared.stage.Stage.TheVariants.{Awaiting, Failed};
+ghost use Rattle.step_eval.specs.Machines.{Progress, IsRight, fresh_machine, rest_writes, is_awaiting, left_of, Advances, HasMoved, AreAwaited, IsFinished};
+ghost use Rattle.step_eval.specs.Frames.{works_of, IsStacked, IsMore};
+ghost use Rattle.step_eval.specs.Inside.{while_going, Advanced, IsHandedOut, IsConstructNext, stage_by, sites_seen};
+
+use crate::frames::Frames;
+use crate::nested::Nested;
+use crate::stage::Stage;
+use array_eval::{MarkedStore, Overlay};
+use array_jobs::{Job, Piece};
+use array_tree::Stmt;
+use contexts::{Machine, Step};
+use disjoint_check::sites_in_statement;
+use std::alloc::{AllocError, Global};
+use std::marker::Model;
+
+/// A job that is run a step at a time. It can be put down after any step and handed on.
+///
+/// Contracts see a machine as its job, the works that are still to be run, the store as it now is with the cells that
+/// were written, the number of the next site, and its stage. Its type keeps that what was written so far, followed by
+/// what is left to write, is what the job writes.
+#[derive(Debug, Drop)]
+pub struct StepMachine<'p> {
+    alloc: Global,
+    job: Job<'p>,
+    frames: Frames<'p>,
+    store: MarkedStore,
+    // Room for all that the job may write, so that its piece takes no memory.
+    room: Overlay,
+    next: u16,
+    stage: Stage,
+}
+
+impl<'p> Model for StepMachine<'p> {
+    ghost use Rattle.std.specs.Coded.{codes};
+    ghost use Rattle.array_tree.specs.contracts.tree.Arrays as arrays_type;
+    ghost use Rattle.array_tree.specs.contracts.tree.Block as block_type;
+    ghost use Rattle.step_eval.specs.contracts.stage.Stage as stage_type;
+    ghost use Rattle.step_eval.specs.Codes.{coded_sequence};
+    ghost use Rattle.step_eval.specs.Machines.{Progress};
+    ghost use Rattle.step_eval.specs.Frames.{works_of};
+    ghost use Rattle.step_eval.specs.Inside.{IsSound};
+
+    ghost Value = { Progress };
+
+    ghost coded = { Prim.hlevel (codes, arrays_type.the_row.coded, block_type.the_row.coded, stage_type.the_row.coded, coded_sequence) };
+
+    ghost view = { λ machine. record { job = machine.job; rest = works_of machine.frames machine.job.vars; store = machine.store; next = machine.next; stage = machine.stage } };
+
+    ghost invariant = { λ machine. IsSound machine.stage machine.job machine.frames machine.store machine.room machine.next };
+}
+
+impl<'p> StepMachine<'p> {
+    /// A machine that has all of a job to run.
+    pub fn new(alloc: Global, job: Job<'p>) -> Result<StepMachine<'p>, AllocError>
+        ensures { IfOk result (λ machine. machine ≡ fresh_machine job.entry) }
+    {
+        let frames = Frames::new(alloc, job.work)?;
+        let store = MarkedStore::new(alloc, &job.store)?;
+        let room = Overlay::roomy(alloc, store.cells().len() as u16)?;
+        let next = job.first;
+        Ok(StepMachine {
+            alloc,
+            job,
+            frames,
+            store,
+            room,
+            next,
+            stage: Stage::Going,
+        })
+    }
+
+    /// Takes what the construct that is awaited wrote, after which the machine goes on behind it.
+    ///
+    /// The last step must have handed the construct out, and these must be its writes, each cell with its last value.
+    /// Where memory is wanting, the machine is failed.
+    pub fn supply(&mut self, written: &Overlay) -> Result<(), AllocError>
+        requires awaits { self.old.stage ≡ Awaiting }
+        requires written { AreAwaited self.old written.now.pairs }
+        ensures ok { OnOk result (HasMoved self.old.rest self.old self.new) }
+        ensures err { OnErr result (self.new.stage ≡ Failed) }
+    {
+        let sites = sites_in_construct(self.frames.construct());
+        self.stage = Stage::Failed;
+        self.frames.pass()?;
+        self.next += sites as u16;
+        self.store.merge(written);
+        self.stage = Stage::Going;
+        Ok(())
+    }
+
+    /// The job with what it wrote. The last step must have been Finished. It takes no memory.
+    pub fn into_piece(self) -> Piece<'p>
+        requires { IsFinished self }
+        ensures { result.job ≡ self.entry.job }
+    {
+        let StepMachine {
+            job,
+            store,
+            room,
+            ..
+        } = self;
+        let mut written = room;
+        store.lay_written(&mut written);
+        Piece::new(job, written)
+    }
+}
+
+impl<'p> Machine for StepMachine<'p> {
+    type Nested = Nested<'p>;
+
+    ghost rest = { rest_writes };
+
+    ghost awaits = { λ machine. is_awaiting machine.stage };
+
+    ghost left = { λ machine. left_of machine.stage machine.rest };
+
+    /// Begins or ends one statement or one turn of a loop, or hands out the construct that is next.
+    fn step(&mut self) -> Step<Nested<'p>>
+        requires { is_awaiting self.old.stage ≡ false }
+        ensures steps { Steps (record { rest = rest_writes self.old; awaits = is_awaiting self.old.stage; left = left_of self.old.stage self.old.rest }) result (record { rest = rest_writes self.new; awaits = is_awaiting self.new.stage; left = left_of self.new.stage self.new.rest }) }
+        ensures advances { Advances self.old result self.new }
+    {
+        match self.stage {
+            Stage::Going => match advance(
+                self.alloc,
+                &self.job,
+                &mut self.frames,
+                &mut self.store,
+                self.next,
+            ) {
+                Ok(step) => {
+                    self.stage = stage_after(&step);
+                    step
+                }
+                Err(AllocError) => {
+                    self.stage = Stage::Failed;
+                    Step::NoMemory
+                }
+            },
+            Stage::Failed => Step::NoMemory,
+            // No caller steps on while something is awaited.
+            Stage::Awaiting => Step::NoMemory,
+        }
+    }
+}
+
+// How a machine stands after a step that found memory.
+fn stage_after(step: &Step<Nested>) -> Stage
+    ensures { result ≡ stage_by step.now }
+{
+    match step {
+        Step::Nest(_) => Stage::Awaiting,
+        _ => Stage::Going,
+    }
+}
+
+// How many sites a construct enters.
+fn sites_in_construct(construct: Option<&Stmt>) -> u64
+    ensures { result ≡ sites_seen construct.entry }
+{
+    match construct {
+        Some(construct) => sites_in_statement(construct),
+        None => 0,
+    }
+}
+
+// Does one step of a machine that goes on.
+fn advance<'p>(
+    alloc: Global,
+    job: &Job<'p>,
+    frames: &mut Frames<'p>,
+    store: &mut MarkedStore,
+    next: u16,
+) -> Result<Step<Nested<'p>>, AllocError>
+    requires right { IsRight (job_of job.now) (works_of frames.old job.now.vars) store.old next }
+    requires stacked { IsStacked frames.old }
+    ensures advanced { IfOk result (λ step. Advanced (while_going job.now (works_of frames.old job.now.vars) store.old next) step (works_of frames.new job.now.vars) store.new) }
+    ensures stacked { IfOk result (λ _. IsStacked frames.new) }
+    ensures more { IfErr result (λ _. IsMore (works_of frames.old job.now.vars)) }
+{
+    match frames.construct() {
+        Some(construct) => {
+            let nested = hand_out(alloc, job, frames, store, next, construct)?;
+            Ok(Step::Nest(nested))
+        }
+        None => {
+            if frames.go_on(job.arrays, &job.vars, store)? {
+                Ok(Step::More)
+            } else {
+                Ok(Step::Finished)
+            }
+        }
+    }
+}
+
+// Hands out the construct that is next, with what its pieces start from.
+fn hand_out<'p>(
+    alloc: Global,
+    job: &Job<'p>,
+    frames: &Frames<'p>,
+    store: &MarkedStore,
+    next: u16,
+    construct: &'p Stmt,
+) -> Result<Nested<'p>, AllocError>
+    requires right { IsRight (job_of job.now) (works_of frames.now job.now.vars) store.now next }
+    requires construct { IsConstructNext (statement_of construct.now) (works_of frames.now job.now.vars) }
+    ensures { IfOk result (IsHandedOut (while_going job.now (works_of frames.now job.now.vars) store.now next)) }
+{
+    Ok(Nested {
+        arrays: job.arrays,
+        site: next,
+        construct,
+        vars: frames.vars_around(alloc, &job.vars)?,
+        store: store.to_store(alloc)?,
+    })
+}

@@ -1,0 +1,12 @@
+//! How a machine stands.
+
+/// How a machine stands.
+#[derive(Clone, Copy, Debug, PartialEq, Eq, Drop)]
+pub enum Stage {
+    /// It goes on, or is done.
+    Going,
+    /// It waits for what a construct writes.
+    Awaiting,
+    /// It found no memory, and is failed for good.
+    Failed,
+}
