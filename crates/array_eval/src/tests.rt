@@ -3,7 +3,10 @@ ghost use Rattle.std.specs.Prelude.{IsTrue};
 ghost use Rattle.array_tree.specs.Trees.{declarations_of};
 ghost use Rattle.array_meaning.specs.Stores.{arrays_of, AreSized};
 
-use crate::{Overlay, Store, Vars, run_one, write_arrays};
+use crate::{
+    LoopVar, MarkedStore, Overlay, Scope, Store, Vars, run_assign, run_one, start_of_member,
+    write_arrays,
+};
 use array_tree::{ArrayDecl, Arrays, Block, Blocks, Expr, Name, Op, Program, Stmt};
 use std::alloc::{AllocError, Global};
 use std::process::Abort;
@@ -232,5 +235,75 @@ fn the_innermost_variable_is_found_first(rt: HostRuntime) -> Result<(), Fail> {
     assert_eq!(rt; outer.get(&other), None);
     assert_eq!(rt; copy.get(&name), Some(3));
     assert_eq!(rt; copy.get(&other), Some(2));
+    Ok(())
+}
+
+#[test]
+fn a_stack_of_variables_is_kept(rt: HostRuntime) -> Result<(), Fail> {
+    let alloc = rt.alloc();
+    let i = Name::new(alloc, b"i")?;
+    let j = Name::new(alloc, b"j")?;
+    let k = Name::new(alloc, b"k")?;
+    let kept = Vars::empty(alloc).with(&k, 7)?;
+    let outer = Scope::Kept(&kept);
+    let vars = [
+        LoopVar { name: &i, value: 1 },
+        LoopVar { name: &j, value: 2 },
+        LoopVar { name: &i, value: 3 },
+    ];
+    let scope = Scope::Stack {
+        vars: &vars,
+        outer: &outer,
+    };
+    assert_eq!(rt; (scope.get(&i), scope.get(&j), scope.get(&k)), (3, 2, 7));
+    let expected = Vars::empty(alloc)
+        .with(&k, 7)?
+        .with(&i, 1)?
+        .with(&j, 2)?
+        .with(&i, 3)?;
+    assert_eq!(rt; Vars::of_scope(alloc, &scope)? == expected, true);
+    Ok(())
+}
+
+#[test]
+fn a_store_knows_what_was_written(rt: HostRuntime) -> Result<(), Fail> {
+    let alloc = rt.alloc();
+    let a = Name::new(alloc, b"a")?;
+    let arrays = Arrays {
+        declarations: vec![in alloc; array(alloc, "a", 4)?]?,
+    };
+    let mut store = MarkedStore::new(alloc, &Store::zero(alloc, 4)?)?;
+    let mut supply = Overlay::empty(alloc);
+    supply.put(2, 5)?;
+    supply.put(0, 0)?;
+    store.merge(&supply);
+    assert!(rt; are_sized(&arrays));
+    let value = read(alloc, "a", number(2))?;
+    run_assign(
+        &arrays,
+        &a,
+        &Expr::Number(3),
+        &value,
+        &Scope::Outermost,
+        &mut store,
+    );
+    assert_eq!(rt; store.to_store(alloc)?.get(3), 5);
+    let expected = [(0, 0), (2, 5), (3, 5)];
+    assert_eq!(rt; store.written(alloc)?.pairs(), expected.as_slice());
+    let mut room = Overlay::roomy(alloc, 4)?;
+    store.lay_written(&mut room);
+    assert_eq!(rt; room.pairs(), expected.as_slice());
+    Ok(())
+}
+
+#[test]
+fn a_team_deals_its_iterations(rt: HostRuntime) -> Result<(), Fail> {
+    let first = start_of_member(-1, 6, 3, 0);
+    let second = start_of_member(-1, 6, 3, 1);
+    let third = start_of_member(-1, 6, 3, 2);
+    assert_eq!(rt;
+        (first, second, third, start_of_member(-1, 6, 3, 3)),
+        (-1, 1, 3, 6)
+    );
     Ok(())
 }

@@ -26,7 +26,7 @@ use Rattle.step_eval.specs.Nests.{NestedParts, NestedTree, nested_of}
 use Rattle.step_eval.specs.Machines.{Progress, IsRight, IsKept, construct_of, next_construct, next_nest, nest_in, handed_out, rest_writes, is_awaiting, left_of, HasMoved, Advances, AreAwaited, awaited_by}
 use Rattle.step_eval.specs.Frames.{works_of, vars_in, IsMore, IsStacked, AreAll, HaveMoved, HasPassed, IsPast, IsConstruct}
 use Rattle.step_eval.specs.Inside.{IsWhole, IsSound, while_going, Advanced, stage_by, sites_seen}
-use Rattle.step_eval.proofs.LeftLemmas.{left_moved, left_positive}
+use Rattle.step_eval.proofs.LeftLemmas.{left_moved, left_passed, left_positive}
 use Rattle.step_eval.proofs.MoveLemmas.{right_fresh, right_moved, rest_moved}
 use Rattle.step_eval.proofs.HandLemmas.{at_construct, is_handed_out, no_construct, supply_writes, supply_sites}
 
@@ -164,6 +164,7 @@ pub record IsSupplied (job : JobParts) (before after : Frames) (store store' : T
   pub moved : HasMoved (works_of before job.vars) record { job = job; rest = works_of before job.vars; store = store; next = next; stage = Awaiting }
       record { job = job; rest = works_of after job.vars; store = store'; next = next'; stage = Going }
   pub sound : IsSound Going job after store' room next'
+  pub left : rest_left (works_of after job.vars) ≡ rest_left (works_of before job.vars) - 1
   pub small : next' ≤ 4096
 
 pub supplied : (job : JobParts) (before after : Frames) (store : Trace) (room : Laid) (next : ℕ) (construct : Statement) (written : List Write) →
@@ -194,6 +195,8 @@ supplied job before after store room next construct written sound found passed s
     record {
       moved = rw (here.is, rest, is, sym next_is) refl;
       sound = record { kept = rw rest now; stacked = stacked; none = sound.none; roomy = omega (arith, cells, roomy) };
+      left = ap rest_left rest ∙ left_passed arrays store.cells w here.more construct (subst (λ works. next_construct works ≡ Some construct) here.is found)
+        ∙ ap (λ works. rest_left works - 1) (sym here.is);
       small = omega (arith, room_for);
     }
 

@@ -83,6 +83,7 @@ impl<'p> StepMachine<'p> {
         requires awaits { self.old.stage ≡ Awaiting }
         requires written { AreAwaited self.old written.now.pairs }
         ensures ok { OnOk result (HasMoved self.old.rest self.old self.new) }
+        ensures left { OnOk result (left_of self.new.stage self.new.rest ≡ left_of self.old.stage self.old.rest) }
         ensures err { OnErr result (self.new.stage ≡ Failed) }
     {
         let sites = sites_in_construct(self.frames.construct());

@@ -1,4 +1,4 @@
-use Rattle.std.proofs.Common.{◌≡◌, false, arith, cond, ap, ◌∙◌, ◌+◌, drop, get_or}
+use Rattle.std.proofs.Common.{◌≡◌, false, arith, cond, ap, ◌∙◌, ◌+◌, drop}
 use Rattle.array_eval.specs.Traces.{marks_in}
 use Rattle.array_eval.proofs.TraceLemmas.{marks_small, marks_next}
 use Rattle.array_eval.proofs.marked_store.count_marks.Goals as goal

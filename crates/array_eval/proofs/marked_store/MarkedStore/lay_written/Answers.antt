@@ -1,5 +1,4 @@
-use Rattle.std.proofs.Common.{◌≡◌, ◌≤◌, length, ap, arith}
-use Rattle.array_eval.specs.Traces.{marks_in}
+use Rattle.std.proofs.Common.{length, ap, arith}
 use Rattle.array_eval.proofs.TraceLemmas.{marks_small}
 use Rattle.array_eval.proofs.marked_store.MarkedStore.lay_written.Goals as goal
 
