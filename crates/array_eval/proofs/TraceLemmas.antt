@@ -27,7 +27,8 @@ traced_followed_by arrays a b t =
 
 -- ---- what is marked
 
-above_marked : (c i : ℕ) (cells : List ℤ) (marks : List Bool) → c < i → IsAbove c (marked_from i cells marks)
+-- what is marked from a cell on lies above those before
+pub above_marked : (c i : ℕ) (cells : List ℤ) (marks : List Bool) → c < i → IsAbove c (marked_from i cells marks)
 above_marked c i [] marks h = tt
 above_marked c i (x ∷ cells) [] h = tt
 above_marked c i (x ∷ cells) (true ∷ marks) h = (h, above_marked c (suc i) cells marks (omega (arith, h)))

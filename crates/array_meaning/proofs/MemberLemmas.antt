@@ -21,14 +21,16 @@ turns_add body low (suc a) b =
     rw more (ap (followed_by (body low)) (turns_add body (low +ℤ pos 1) a b ∙ ap (λ x. followed_by (turns body (low +ℤ pos 1) a) (turns body x b)) same)
     ∙ sym (followed_by_assoc (body low) (turns body (low +ℤ pos 1) a) (turns body (low +ℤ pos (suc a)) b)))
 
-span_cut : (low : ℤ) (a b : ℕ) → a ≤ b → span (low +ℤ pos a) (low +ℤ pos b) ≡ b - a
+-- the numbers between two places
+pub span_cut : (low : ℤ) (a b : ℕ) → a ≤ b → span (low +ℤ pos a) (low +ℤ pos b) ≡ b - a
 span_cut low a b h = grind (arith, ints)
 
 div_mono : (a b m : ℕ) → a ≤ b → a / m ≤ b / m
 div_mono a b zero h = rw (div-zero a, div-zero b) (let le : 0 ≤ 0 = omega arith in le)
 div_mono a b (suc m) h = le-div (a / suc m) b (suc m) (omega arith) (let small = div-mul-le_self a (suc m) in omega arith)
 
-first_of_far : (n m j k : ℕ) → first_of n m j ≤ first_of n m (j + k)
+-- a later member begins no earlier
+pub first_of_far : (n m j k : ℕ) → first_of n m j ≤ first_of n m (j + k)
 first_of_far n m j k = div_mono (n * j) (n * (j + k)) m (mul-le-mul_left n (let le : j ≤ j + k = omega arith in le))
 
 join_members : (name : List ℕ) (low high : ℤ) (m : ℕ) (body : Work) (j k : ℕ) (vars : Vars) →

@@ -15,8 +15,9 @@ use Rattle.array_jobs.specs.Jobs.{JobTree, IsFit}
 use Rattle.array_jobs.proofs.FitLemmas.{both}
 use Rattle.step_eval.specs.Rest.{WorkAt, at, instead}
 use Rattle.step_eval.specs.Nests.{NestedTree, phases_of, branch_trees, member_trees, phase_at, sites_before, numbered, jobs_in, AreFitJobs, is_construct, IsFitNest}
+use Rattle.array_meaning.proofs.MemberLemmas.{span_cut}
 use Rattle.step_eval.proofs.FitParts.{WorkParts, parts_of, refit, sequence_parts}
-use Rattle.step_eval.proofs.NestParts.{AreFitBranches, par_parts, branch_parts, AreFitPhases, team_parts, LoopParts, phase_loop, span_cut, first_of_grows, first_of_none, first_of_all, member_loop}
+use Rattle.step_eval.proofs.NestParts.{AreFitBranches, par_parts, branch_parts, AreFitPhases, team_parts, LoopParts, phase_loop, first_of_grows, first_of_none, first_of_all, member_loop}
 
 -- ---- the pieces of a construct
 

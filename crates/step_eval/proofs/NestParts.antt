@@ -3,8 +3,7 @@
 use Rattle.std.proofs.Common.{◌≡◌, ℕ, zero, suc, ◌+◌, ◌-◌, ◌*◌, ◌/◌, ◌<◌, ◌≤◌, true, false, List, [], ◌∷◌, ◌++◌, ℤ, pos, ◌+ℤ◌, refl, sym, ap, subst, ◌∙◌, arith}
 use Rattle.std.specs.Prelude.{◌&&◌, not, int_le}
 use Rattle.std.proofs.lemmas.Int.{ints}
-use Rattle.std.proofs.lemmas.Nat.{le-div}
-use Rattle.std.proofs.Math.Nat.{mul-div_cancel, div-mul-le_self, div-zero, zero-div, mul-le-mul_left}
+use Rattle.std.proofs.Math.Nat.{mul-div_cancel, zero-div}
 use Rattle.array_tree.specs.Trees.{For, Par, Team, Sequence, ended, followed, Sequences, no_more, beside, Declaration}
 use Rattle.array_meaning.specs.Stores.{Arrays, Vars, arrays_of}
 use Rattle.array_meaning.specs.Steps.{Steps}
@@ -16,6 +15,7 @@ use Rattle.array_meaning.specs.Names.{is_among, has_new_variables, have_new_vari
 use Rattle.array_meaning.specs.Limits.{is_up_to, count_of, has_right_ranges, have_right_ranges, has_no_site_under_if, have_no_site_under_if}
 use Rattle.array_meaning.specs.Accepted.{are_inside}
 use Rattle.array_meaning.proofs.FrameLemmas.{walk_followed_by}
+use Rattle.array_meaning.proofs.MemberLemmas.{span_cut, first_of_far}
 use Rattle.array_jobs.specs.Jobs.{names_around}
 use Rattle.array_jobs.proofs.FitLemmas.{both}
 use Rattle.step_eval.specs.Nests.{phase_at}
@@ -207,10 +207,6 @@ apart_turns arrays body low n a k h whole =
     (λ x n one all. apart_append arrays (body x) (turn_sites body (x +ℤ pos 1) n) one all)
     low n a k h whole
 
--- From the a-th to before the b-th number there are as many as lie between.
-pub span_cut : (low : ℤ) (a b : ℕ) → a ≤ b → span (low +ℤ pos a) (low +ℤ pos b) ≡ b - a
-span_cut low a b h = grind (arith, ints)
-
 -- Their bounds are in order.
 bounds_cut : (low : ℤ) (a b : ℕ) → a ≤ b → int_le (low +ℤ pos a) (low +ℤ pos b) ≡ true
 bounds_cut low a b h = grind (arith, ints)
@@ -240,14 +236,9 @@ loop_parts arrays vars var low high body a b ordered within parts =
 
 -- ---- the iterations of a member
 
--- A larger number has no smaller quotient.
-quotient_grows : (a b m : ℕ) → a ≤ b → a / m ≤ b / m
-quotient_grows a b zero h = rw (div-zero a, div-zero b) (let le : 0 ≤ 0 = omega arith in le)
-quotient_grows a b (suc m) h = le-div (a / suc m) b (suc m) (omega arith) (let small = div-mul-le_self a (suc m) in omega arith)
-
 -- A later member begins no earlier.
 pub first_of_grows : (n m j k : ℕ) → j ≤ k → first_of n m j ≤ first_of n m k
-first_of_grows n m j k h = quotient_grows (n * j) (n * k) m (mul-le-mul_left n h)
+first_of_grows n m j k h = let far : j + (k - j) ≡ k = omega (arith, h) in rw (sym far) (first_of_far n m j (k - j))
 
 -- The first member begins with the first iteration.
 pub first_of_none : (n m : ℕ) → first_of n m 0 ≡ 0

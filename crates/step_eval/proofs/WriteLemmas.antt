@@ -16,19 +16,12 @@ use Rattle.array_jobs.specs.Works.{WorkTree, branch_of, member_of, steps_of}
 use Rattle.array_jobs.specs.Jobs.{JobTree, IsFit, names_around}
 use Rattle.array_jobs.proofs.FitLemmas.{sized, known}
 use Rattle.array_eval.specs.Traces.{Trace, noted, noted_all, marked_from, marked}
-use Rattle.array_eval.proofs.TraceLemmas.{AreBelow, below_of}
+use Rattle.array_eval.proofs.TraceLemmas.{AreBelow, below_of, above_marked}
 use Rattle.step_eval.specs.Moves.{begun_writes, moved_writes}
 
 -- ---- what is marked rises
 
--- what is marked from a cell on lies above those before
-above_marked : (c i : ℕ) (cells : List ℤ) (marks : List Bool) → c < i → IsAbove c (marked_from i cells marks)
-above_marked c i [] marks h = tt
-above_marked c i (x ∷ cells) [] h = tt
-above_marked c i (x ∷ cells) (true ∷ marks) h = (h, above_marked c (suc i) cells marks (omega (arith, h)))
-above_marked c i (x ∷ cells) (false ∷ marks) h = above_marked c (suc i) cells marks (omega (arith, h))
-
--- and it rises
+-- what is marked rises
 rising_from : (i : ℕ) (cells : List ℤ) (marks : List Bool) → IsRising (marked_from i cells marks)
 rising_from i [] marks = tt
 rising_from i (x ∷ cells) [] = tt
