@@ -20,18 +20,8 @@ use Rattle.array_meaning.specs.Stores.{Arrays, Vars, Store}
 use Rattle.array_jobs.specs.Works.{branch_of, member_of}
 use Rattle.step_eval.specs.Rest.{WorkAt, at}
 use Rattle.step_eval.specs.Moves.{moved}
-use Rattle.step_eval.specs.Machines.{construct_of}
-use Rattle.step_eval.specs.Frames.{IsMore, IsStacked, loops_in, statements_from, works_in, works_of, vars_in, HasBegun, HasTurned}
-
-pub loops_block : (fs : List Frame) (block : Bor Block) (from : ℕ) → loops_in (fs ++ Statements block from ∷ []) ≡ loops_in fs
-loops_block [] block from = refl
-loops_block (Statements b f ∷ fs) block from = loops_block fs block from
-loops_block (Turns b n h ∷ fs) block from = ap suc (loops_block fs block from)
-
-pub loops_loop : (fs : List Frame) (body : Bor Block) (next high : ℤ) → loops_in (fs ++ Turns body next high ∷ []) ≡ suc (loops_in fs)
-loops_loop [] body next high = refl
-loops_loop (Statements b f ∷ fs) body next high = loops_loop fs body next high
-loops_loop (Turns b n h ∷ fs) body next high = ap suc (loops_loop fs body next high)
+use Rattle.step_eval.specs.Machines.{construct_of, next_construct}
+use Rattle.step_eval.specs.Frames.{IsMore, IsStackedWith, statements_from, works_in, works_of, works_with, IsPast, IsBehind, vars_in, HasBegun, HasTurned}
 
 -- a construct leaves the statements behind it
 past_first : (arrays : Arrays) (store : Store) (first : Statement) (rest : Sequence) (vars : Vars) → IsSome (construct_of (branch_of (followed first rest))) →
@@ -67,34 +57,44 @@ vars_push frames vs v around e = ap (λ q. stacked q ++ around) e ∙ ap (λ q. 
 -- the next turn has begun
 pub turned : (body : Bor Block) (next more high : ℤ) (before between after : Frames) (vs : List LoopVar) (v now : LoopVar) →
     next <ℤ high → more ≡ next +ℤ pos 1 → before.vars.items ≡ vs ++ v ∷ [] → loop_var now ≡ (v.name.now, next) →
-    between.vars.items ≡ vs ++ now ∷ [] → between.stack.items ≡ before.stack.items ++ Turns body more high ∷ [] →
-    HasBegun (branch_of (sequence_of body.now)) between after → HasTurned body next high before after
-turned body next more high before between after vs v now less one was same vars stack begun arrays around store =
+    between.vars.items ≡ vs ++ now ∷ [] → between.below.items ≡ before.below.items →
+    HasBegun (branch_of (sequence_of body.now)) (Turns body more high) between after → HasTurned body next high before after
+turned body next more high before between after vs v now less one was same vars below begun arrays around store =
     let outer = stacked vs ++ around in
     let test : int_lt next high ≡ true = grind (arith, ints) in
-    let below = works_in (reverse before.stack.items) outer in
-    let loop : works_of between around ≡ at (member_of v.name.now (next +ℤ pos 1) high (sequence_of body.now)) outer ∷ below
-    = ap (works_in (reverse between.stack.items)) (vars_push between vs now around vars ∙ ap (λ q. q ∷ outer) same)
-    ∙ ap (λ fs. works_in fs ((v.name.now, next) ∷ outer)) (ap reverse stack ∙ reverse-append before.stack.items (Turns body more high ∷ []))
-    ∙ ap (λ n. at (member_of v.name.now n high (sequence_of body.now)) outer ∷ below) one in
-    let all : works_of after around ≡ at (branch_of (sequence_of body.now)) ((v.name.now, next) ∷ outer) ∷ at (member_of v.name.now (next +ℤ pos 1) high (sequence_of body.now)) outer ∷ below
-    = begun around ∙ ap (λ q. at (branch_of (sequence_of body.now)) q ∷ works_of between around) (vars_push between vs now around vars ∙ ap (λ q. q ∷ outer) same)
-    ∙ ap (λ q. at (branch_of (sequence_of body.now)) ((v.name.now, next) ∷ outer) ∷ q) loop in
+    let rest = works_in (reverse before.below.items) outer in
+    let others : works_with (Turns body more high) between around ≡ at (member_of v.name.now (next +ℤ pos 1) high (sequence_of body.now)) outer ∷ rest
+    = ap (λ fs. works_in (Turns body more high ∷ reverse fs) (vars_in between around)) below
+    ∙ ap (works_in (Turns body more high ∷ reverse before.below.items)) (vars_push between vs now around vars ∙ ap (λ q. q ∷ outer) same)
+    ∙ ap (λ n. at (member_of v.name.now n high (sequence_of body.now)) outer ∷ rest) one in
+    let all : works_of after around ≡ at (branch_of (sequence_of body.now)) ((v.name.now, next) ∷ outer) ∷ at (member_of v.name.now (next +ℤ pos 1) high (sequence_of body.now)) outer ∷ rest
+    = begun around ∙ ap (λ q. at (branch_of (sequence_of body.now)) q ∷ works_with (Turns body more high) between around) (vars_push between vs now around vars ∙ ap (λ q. q ∷ outer) same)
+    ∙ ap (λ q. at (branch_of (sequence_of body.now)) ((v.name.now, next) ∷ outer) ∷ q) others in
     rw (vars_push before vs v around was, test) (all, refl)
 
 -- a loop that has begun has a variable, so its turns are something to be run
-pub more_turns : (frames : Frames) (fs : List Frame) (body : Bor Block) (next high : ℤ) (around : Vars) → IsStacked frames →
-    frames.stack.items ≡ fs ++ Turns body next high ∷ [] → IsMore (works_in (Turns body next high ∷ reverse fs) (vars_in frames around))
-more_turns frames fs body next high around stacked_ones stack = cases (vars_in frames around) refl
+pub more_turns : (frames : Frames) (body : Bor Block) (next high : ℤ) (around : Vars) → IsStackedWith (Turns body next high) frames →
+    IsMore (works_with (Turns body next high) frames around)
+more_turns frames body next high around stacked_ones = cases (vars_in frames around) refl
   where
-    cases : (vars : Vars) → vars_in frames around ≡ vars → IsMore (works_in (Turns body next high ∷ reverse fs) vars)
+    cases : (vars : Vars) → vars_in frames around ≡ vars → IsMore (works_in (Turns body next high ∷ reverse frames.below.items) vars)
     cases [] e =
-        let some : length frames.vars.items ≡ suc (loops_in fs) = stacked_ones ∙ ap loops_in stack ∙ loops_loop fs body next high in
         let all : length (stacked frames.vars.items) ≡ length frames.vars.items
         = length-reverse (map loop_var frames.vars.items) ∙ length-map frames.vars.items loop_var in
         let none : length (stacked frames.vars.items) + length around ≡ 0 = sym (length-append (stacked frames.vars.items) around) ∙ ap length e in
-        absurd (omega (arith, some, all, none))
+        absurd (omega (arith, stacked_ones, all, none))
     cases (v ∷ vars) e = tt
+
+pub more_on_top : (frames : Frames) (top : Frame) (around : Vars) → IsStackedWith top frames → IsMore (works_with top frames around)
+more_on_top frames (Statements block from) around stacked_ones = tt
+more_on_top frames (Turns body next high) around stacked_ones = more_turns frames body next high around stacked_ones
+
+-- the frame behind a construct has what the construct leaves
+pub passed_on_top : (arrays : Arrays) (store : Trace) (top behind : Frame) (below : List Frame) (vars outer : Vars) →
+    IsSome (next_construct (works_in (top ∷ below) outer)) → IsBehind top behind → IsPast arrays store (works_in (top ∷ below) vars) (works_in (behind ∷ below) vars)
+passed_on_top arrays store (Statements block from) behind below vars outer some is =
+    rw is (sym (ap (λ ws. ws ++ works_in below vars) (passed arrays store.cells block.now from vars some)))
+passed_on_top arrays store (Turns body next high) behind below vars outer some is = absurd is
 
 -- what holds in any case holds where there is an error
 pub always_err : {A B P : Type 0} (result : Result A B) → P → IfErr result (λ x. P)

@@ -1,5 +1,5 @@
 -- The construct that is next: where it stands, that it may be handed out, and what its supply is.
-use Rattle.std.proofs.Common.{◌≡◌, ℕ, ◌+◌, ◌<◌, ◌≤◌, List, [], ◌∷◌, Option, Some, None, length, reverse, true, refl, sym, ap, subst, ◌∙◌, arith}
+use Rattle.std.proofs.Common.{◌≡◌, ℕ, ◌+◌, ◌<◌, ◌≤◌, List, [], ◌∷◌, Option, Some, None, length, true, refl, sym, ap, subst, ◌∙◌, arith}
 use Rattle.std.specs.Prelude.{IsTrue, IsSome}
 use Rattle.array_tree.specs.Trees.{Statement, Assign, For, If, Par, Team, Sequence, ended, followed, declarations_of}
 use Rattle.array_meaning.specs.Stores.{Arrays, Vars, Store, arrays_of}
@@ -16,7 +16,7 @@ use Rattle.step_eval.specs.Rest.{WorkAt, at}
 use Rattle.step_eval.specs.Moves.{begun_writes, begun_sites}
 use Rattle.step_eval.specs.Nests.{NestedTree, is_construct, IsFitNest}
 use Rattle.step_eval.specs.Machines.{Progress, IsRight, construct_of, next_construct, handed_out, nest_in}
-use Rattle.step_eval.specs.Frames.{works_in, works_of, vars_in, statements_from}
+use Rattle.step_eval.specs.Frames.{frames_in, works_in, works_of, vars_in, statements_from}
 use Rattle.step_eval.proofs.NestLemmas.{fit_nest}
 
 -- The construct is the first of the statements.
@@ -63,7 +63,7 @@ pub fit_handed_out : (job : JobParts) (frames : Frames) (store : Trace) (next : 
     next_construct (works_of frames job.vars) ≡ Some construct →
     IsFitNest record { arrays = declarations_of job.arrays; site = next; construct = construct; vars = vars_in frames job.vars; store = store.cells }
 fit_handed_out job frames store next construct right e =
-    let here = at_construct (reverse frames.stack.items) (vars_in frames job.vars) construct e in
+    let here = at_construct (frames_in frames) (vars_in frames job.vars) construct e in
     let whole = subst (λ works. IsRight (job_of job) works store next) here.is right in
     fit_nest (job_of job) next construct here.rest (vars_in frames job.vars) store.cells here.kind whole.fit.0 right.cells
 

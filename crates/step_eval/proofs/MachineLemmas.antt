@@ -1,5 +1,5 @@
 -- What a machine's calls keep, and what they do.
-use Rattle.std.proofs.Common.{◌≡◌, ℕ, ◌+◌, ◌-◌, ◌<◌, ◌≤◌, List, [], ◌∷◌, ◌++◌, length, reverse, true, false, Option, Some, None, Result, Ok, Err, refl, sym, ap, subst, ◌∙◌, arith}
+use Rattle.std.proofs.Common.{◌≡◌, ℕ, ◌+◌, ◌-◌, ◌<◌, ◌≤◌, List, [], ◌∷◌, ◌++◌, length, true, false, Option, Some, None, Result, Ok, Err, refl, sym, ap, subst, ◌∙◌, arith}
 use Rattle.std.specs.Prelude.{IsSome}
 use Rattle.std.specs.Borrow.{Bor}
 use Rattle.std.proofs.lemmas.Bool.{false≢true}
@@ -24,7 +24,7 @@ use Rattle.step_eval.specs.Rest.{WorkAt, at, rest_steps}
 use Rattle.step_eval.specs.Moves.{moved, moved_writes, moved_sites, rest_left}
 use Rattle.step_eval.specs.Nests.{NestedParts, NestedTree, nested_of}
 use Rattle.step_eval.specs.Machines.{Progress, IsRight, IsKept, construct_of, next_construct, next_nest, nest_in, handed_out, rest_writes, is_awaiting, left_of, HasMoved, Advances, AreAwaited, awaited_by}
-use Rattle.step_eval.specs.Frames.{works_of, vars_in, IsMore, IsStacked, AreAll, HaveMoved, HasPassed, IsPast, IsConstruct}
+use Rattle.step_eval.specs.Frames.{frames_in, works_of, vars_in, IsMore, IsStacked, AreAll, HaveMoved, HasPassed, IsPast, IsConstruct}
 use Rattle.step_eval.specs.Inside.{IsWhole, IsSound, while_going, Advanced, stage_by, sites_seen}
 use Rattle.step_eval.proofs.LeftLemmas.{left_moved, left_passed, left_positive}
 use Rattle.step_eval.proofs.MoveLemmas.{right_fresh, right_moved, rest_moved}
@@ -174,7 +174,7 @@ pub supplied : (job : JobParts) (before after : Frames) (store : Trace) (room : 
 supplied job before after store room next construct written sound found passed stacked awaited =
     let vars = vars_in before job.vars in
     let arrays = arrays_of (declarations_of job.arrays) in
-    let fs = reverse before.stack.items in
+    let fs = frames_in before in
     let machine : Progress = record { job = job; rest = works_of before job.vars; store = store; next = next; stage = Awaiting } in
     let here = at_construct fs vars construct found in
     let w = at (branch_of (followed construct here.rest)) vars in

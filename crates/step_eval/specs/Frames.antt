@@ -1,5 +1,5 @@
 -- The works that are read off a machine's frames.
-use Rattle.std.specs.Prelude.{◌≡◌, ℕ, suc, List, [], ◌∷◌, ◌++◌, Bool, true, false, Option, Some, None, map, drop, reverse, length, ℤ}
+use Rattle.std.specs.Prelude.{◌≡◌, ℕ, suc, ◌+◌, List, [], ◌∷◌, ◌++◌, Bool, true, false, Option, Some, None, map, drop, reverse, length, ℤ}
 use Rattle.std.specs.Borrow.{Bor}
 use Rattle.array_tree.specs.declared.tree.Block.{Block}
 use Rattle.array_tree.specs.declared.tree.Stmt.{Stmt}
@@ -31,9 +31,21 @@ works_in (Turns body next high ∷ below) (v ∷ outer) = at (member_of v.0 next
 abbrev pub vars_in : Frames → Vars → Vars
 vars_in frames around = stacked frames.vars.items ++ around
 
+-- All frames, the next one first.
+abbrev pub on_top : Option Frame → List Frame → List Frame
+on_top None below = []
+on_top (Some frame) below = frame ∷ below
+
+abbrev pub frames_in : Frames → List Frame
+frames_in frames = on_top frames.top (reverse frames.below.items)
+
 -- The works that are still to be run, given the loop variables around the whole.
 abbrev pub works_of : Frames → Vars → List WorkAt
-works_of frames around = works_in (reverse frames.stack.items) (vars_in frames around)
+works_of frames around = works_in (frames_in frames) (vars_in frames around)
+
+-- The works with this frame on top.
+abbrev pub works_with : Frame → Frames → Vars → List WorkAt
+works_with top frames around = works_in (top ∷ reverse frames.below.items) (vars_in frames around)
 
 -- Something is still to be run.
 abbrev pub IsMore : List WorkAt → Type 0
@@ -48,19 +60,23 @@ loops_in (Turns body next high ∷ below) = suc (loops_in below)
 
 -- Each loop that has begun has its variable on the stack.
 abbrev pub IsStacked : Frames → Type 0
-IsStacked frames = length frames.vars.items ≡ loops_in frames.stack.items
+IsStacked frames = length frames.vars.items ≡ loops_in (frames_in frames)
 
--- So has one more, whose frame was taken off.
-abbrev pub IsOneMore : Frames → Type 0
-IsOneMore frames = length frames.vars.items ≡ suc (loops_in frames.stack.items)
+-- So it is with this frame on top.
+abbrev pub IsStackedWith : Frame → Frames → Type 0
+IsStackedWith top frames = length frames.vars.items ≡ loops_in (top ∷ reverse frames.below.items)
 
 -- All of a work is still to be run, whatever is around it.
 abbrev pub AreAll : WorkTree → Frames → Type 0
 AreAll work frames = (around : Vars) → works_of frames around ≡ at work around ∷ []
 
--- One more work has begun, with the variables around that were there.
-abbrev pub HasBegun : WorkTree → Frames → Frames → Type 0
-HasBegun work before after = (around : Vars) → works_of after around ≡ at work (vars_in before around) ∷ works_of before around
+-- One more work has begun on top of this frame, with the variables around that were there.
+abbrev pub HasBegun : WorkTree → Frame → Frames → Frames → Type 0
+HasBegun work rest before after = (around : Vars) → works_of after around ≡ at work (vars_in before around) ∷ works_with rest before around
+
+-- The top was taken off.
+abbrev pub IsEnded : Frames → Frames → Type 0
+IsEnded before after = (frames_in after ≡ reverse before.below.items) × (after.vars.items ≡ before.vars.items)
 
 -- The first of these works has moved, and others with it have stayed.
 abbrev pub HaveMoved : Arrays → List WorkAt → Trace → List WorkAt → Trace → Type 0
@@ -74,16 +90,21 @@ abbrev pub Went : Arrays → Bool → List WorkAt → Trace → List WorkAt → 
 Went arrays false works store after store_after = (works ≡ []) × (after ≡ works) × (store_after ≡ store)
 Went arrays true works store after store_after = HaveMoved arrays works store after store_after
 
--- The loop whose frame was taken off has moved.
+-- The loop on top has moved.
 abbrev pub HasTurned : Bor Block → ℤ → ℤ → Frames → Frames → Type 0
 HasTurned body next high before after =
     (arrays : Arrays) (around : Vars) (store : Trace) →
-    HaveMoved arrays (works_in (Turns body next high ∷ reverse before.stack.items) (vars_in before around)) store (works_of after around) store
+    HaveMoved arrays (works_with (Turns body next high) before around) store (works_of after around) store
 
 -- The first work has moved past its construct, whatever that wrote.
 abbrev pub IsPast : Arrays → Trace → List WorkAt → List WorkAt → Type 0
 IsPast arrays store [] after = ⊥
 IsPast arrays store (w ∷ more) after = after ≡ moved arrays store.cells w.work w.vars ++ more
+
+-- This frame stands behind the construct of that one.
+abbrev pub IsBehind : Frame → Frame → Type 0
+IsBehind (Statements block from) after = after ≡ Statements block (from + 1)
+IsBehind (Turns body next high) after = ⊥
 
 -- The construct that is next was passed.
 abbrev pub HasPassed : Frames → Frames → Type 0

@@ -4,11 +4,11 @@ ghost use Rattle.array_tree.specs.Trees.{statement_of, sequence_of, declarations
 ghost use Rattle.array_meaning.specs.Stores.{arrays_of, AreSized};
 ghost use Rattle.array_eval.specs.Traces.{noted_all};
 ghost use Rattle.array_jobs.specs.Works.{branch_of, member_of, work_of};
-ghost use Rattle.step_eval.specs.Rest.{at};
+ghost use Rattle.step_eval.specs.declared.frames.Frame.TheVariants.{Statements, Turns};
 ghost use Rattle.step_eval.specs.Moves.{begun, begun_writes};
 ghost use Rattle.step_eval.specs.Nests.{is_construct};
 ghost use Rattle.step_eval.specs.Machines.{construct_of, next_construct};
-ghost use Rattle.step_eval.specs.Frames.{statements_from, works_of, vars_in, IsMore, IsStacked, IsOneMore, AreAll, HasBegun, HaveMoved, Went, HasTurned, HasPassed, IsConstruct, IsConstructAt};
+ghost use Rattle.step_eval.specs.Frames.{statements_from, works_in, works_of, works_with, vars_in, IsMore, IsStacked, IsStackedWith, IsEnded, AreAll, HasBegun, HaveMoved, Went, HasTurned, HasPassed, IsBehind, IsConstruct, IsConstructAt};
 
 use array_eval::{LoopVar, MarkedStore, Scope, Vars, evaluate, run_assign};
 use array_jobs::Work;
@@ -31,11 +31,14 @@ pub(crate) enum Frame<'p> {
     },
 }
 
-/// The works that are still to be run, the next one last; and the variables of the loops that have begun, the innermost
-/// last.
+/// The works that are still to be run: the next one, on top, and those below it, the last one first; and the variables
+/// of the loops that have begun, the innermost last.
+///
+/// The top stands apart, so that a step that goes on in it changes it in place.
 #[derive(Debug, Drop)]
 pub(crate) struct Frames<'p> {
-    stack: Vec<Frame<'p>>,
+    top: Option<Frame<'p>>,
+    below: Vec<Frame<'p>>,
     vars: Vec<LoopVar<'p>>,
 }
 
@@ -45,28 +48,39 @@ impl<'p> Frames<'p> {
         ensures all { IfOk result (AreAll (work_of work.entry)) }
         ensures stacked { IfOk result IsStacked }
     {
-        let mut frames = Frames {
-            stack: Vec::new(alloc),
-            vars: Vec::new(alloc),
-        };
-        match work {
-            Work::Branch(block) => frames.begin_block(block)?,
+        let mut vars = Vec::new(alloc);
+        let top = match work {
+            Work::Branch(block) => Frame::Statements { block, from: 0 },
             Work::Member {
                 var,
                 low,
                 high,
                 body,
-            } => frames.begin_loop(var, low, high, body)?,
-        }
-        Ok(frames)
+            } => {
+                vars.push(LoopVar {
+                    name: var,
+                    value: low,
+                })?;
+                Frame::Turns {
+                    body,
+                    next: low,
+                    high,
+                }
+            }
+        };
+        Ok(Frames {
+            top: Some(top),
+            below: Vec::new(alloc),
+            vars,
+        })
     }
 
     /// The construct that is to be run next, if one is.
     pub(crate) fn construct(&self) -> Option<&'p Stmt>
         ensures { IsConstruct result self.now }
     {
-        match self.stack.last() {
-            Some(Frame::Statements { block, from }) => construct_at(block, *from),
+        match self.top {
+            Some(Frame::Statements { block, from }) => construct_at(block, from),
             Some(Frame::Turns { .. }) | None => None,
         }
     }
@@ -84,7 +98,6 @@ impl<'p> Frames<'p> {
     }
 
     /// Begins or ends the next statement or turn, which must be no construct; false where nothing is left.
-    #[tactic(auto, using(crate::proofs::FrameLemmas::loops_block, crate::proofs::FrameLemmas::loops_loop))]
     pub(crate) fn go_on(
         &mut self,
         arrays: &Arrays,
@@ -98,37 +111,49 @@ impl<'p> Frames<'p> {
         ensures stacked { IfOk result (λ _. IsStacked self.new) }
         ensures more { IfErr result (λ _. IsMore (works_of self.old around.now)) }
     {
-        match self.stack.pop() {
+        match self.top {
             None => Ok(false),
-            Some(Frame::Statements { block, from }) => {
-                self.go_on_in_block(arrays, around, store, block, from)?;
-                Ok(true)
-            }
-            Some(Frame::Turns { body, next, high }) => {
-                self.go_on_in_loop(body, next, high)?;
+            Some(top) => {
+                self.go_on_in(arrays, around, store, top)?;
                 Ok(true)
             }
         }
     }
 
     /// Passes the construct that is next. It has been run by others.
-    #[tactic(auto, using(crate::proofs::FrameLemmas::loops_block, crate::proofs::FrameLemmas::loops_loop))]
-    pub(crate) fn pass(&mut self) -> Result<(), AllocError>
+    pub(crate) fn pass(&mut self)
         requires { IsSome (next_construct (works_of self.old [])) }
-        ensures passed { OnOk result (HasPassed self.old self.new) }
-        ensures stacked { OnOk result (IsStacked self.old → IsStacked self.new) }
+        ensures passed { HasPassed self.old self.new }
+        ensures stacked { IsStacked self.old → IsStacked self.new }
     {
-        if let Some(Frame::Statements { block, from }) = self.stack.pop() {
-            self.stack.push(Frame::Statements {
-                block,
-                from: from + 1,
-            })?;
+        if let Some(top) = self.top {
+            self.top = Some(past(top));
         }
-        Ok(())
     }
 
-    // Goes on in a block whose frame was taken off.
-    #[tactic(auto, using(crate::proofs::FrameLemmas::loops_block))]
+    // Goes on in the work on top.
+    fn go_on_in(
+        &mut self,
+        arrays: &Arrays,
+        around: &Vars,
+        store: &mut MarkedStore,
+        top: Frame<'p>,
+    ) -> Result<(), AllocError>
+        requires sized { AreSized (arrays_of (declarations_of arrays.now)) }
+        requires stacked { IsStackedWith top self.old }
+        requires simple { next_construct (works_with top self.old around.now) ≡ None }
+        ensures moved { OnOk result (HaveMoved (arrays_of (declarations_of arrays.now)) (works_with top.entry self.old around.now) store.old (works_of self.new around.now) store.new) }
+        ensures stacked { OnOk result (IsStacked self.new) }
+    {
+        match top {
+            Frame::Statements { block, from } => {
+                self.go_on_in_block(arrays, around, store, block, from)
+            }
+            Frame::Turns { body, next, high } => self.go_on_in_loop(body, next, high),
+        }
+    }
+
+    // Goes on in the block on top, from this statement on.
     fn go_on_in_block(
         &mut self,
         arrays: &Arrays,
@@ -138,25 +163,26 @@ impl<'p> Frames<'p> {
         from: usize,
     ) -> Result<(), AllocError>
         requires sized { AreSized (arrays_of (declarations_of arrays.now)) }
-        requires stacked { IsStacked self.old }
+        requires stacked { IsStackedWith (Statements block from) self.old }
         requires simple { construct_of (branch_of (statements_from block.now from)) ≡ None }
-        ensures moved { OnOk result (HaveMoved (arrays_of (declarations_of arrays.now)) (at (branch_of (statements_from block.now from)) (vars_in self.old around.now) ∷ works_of self.old around.now) store.old (works_of self.new around.now) store.new) }
+        ensures moved { OnOk result (HaveMoved (arrays_of (declarations_of arrays.now)) (works_with (Statements block.entry from) self.old around.now) store.old (works_of self.new around.now) store.new) }
         ensures stacked { OnOk result (IsStacked self.new) }
     {
         if from < block.statements.len() {
-            self.stack.push(Frame::Statements {
+            let rest = Frame::Statements {
                 block,
                 from: from + 1,
-            })?;
-            self.begin(arrays, around, store, &block.statements[from])?;
+            };
+            self.begin(arrays, around, store, &block.statements[from], rest)
+        } else {
+            self.end();
+            Ok(())
         }
-        Ok(())
     }
 
-    // Goes on in a loop whose frame was taken off, while its variable is still there.
-    #[tactic(auto, using(crate::proofs::FrameLemmas::loops_loop))]
+    // Goes on in the loop on top.
     fn go_on_in_loop(&mut self, body: &'p Block, next: i64, high: i64) -> Result<(), AllocError>
-        requires { IsOneMore self.old }
+        requires { IsStackedWith (Turns body next high) self.old }
         ensures moved { OnOk result (HasTurned body.entry next high self.old self.new) }
         ensures stacked { OnOk result (IsStacked self.new) }
     {
@@ -166,29 +192,32 @@ impl<'p> Frames<'p> {
                     name: var.name,
                     value: next,
                 })?;
-                self.stack.push(Frame::Turns {
+                let others = Frame::Turns {
                     body,
                     next: next + 1,
                     high,
-                })?;
-                self.begin_block(body)?;
+                };
+                self.begin_block(body, others)?;
+            } else {
+                self.end();
             }
         }
         Ok(())
     }
 
-    // Begins a statement that is no construct.
+    // Begins a statement that is no construct, with the rest of its block behind it.
     fn begin(
         &mut self,
         arrays: &Arrays,
         around: &Vars,
         store: &mut MarkedStore,
         statement: &'p Stmt,
+        rest: Frame<'p>,
     ) -> Result<(), AllocError>
         requires sized { AreSized (arrays_of (declarations_of arrays.now)) }
-        requires stacked { IsStacked self.old }
+        requires stacked { IsStackedWith rest self.old }
         requires simple { is_construct (statement_of statement.now) ≡ false }
-        ensures begun { OnOk result (works_of self.new around.now ≡ begun (arrays_of (declarations_of arrays.now)) store.old.cells (statement_of statement.now) (vars_in self.old around.now) ++ works_of self.old around.now) }
+        ensures begun { OnOk result (works_of self.new around.now ≡ begun (arrays_of (declarations_of arrays.now)) store.old.cells (statement_of statement.now) (vars_in self.old around.now) ++ works_with rest.entry self.old around.now) }
         ensures store { OnOk result (store.new ≡ noted_all (begun_writes (arrays_of (declarations_of arrays.now)) store.old.cells (statement_of statement.now) (vars_in self.old around.now)) store.old) }
         ensures stacked { OnOk result (IsStacked self.new) }
     {
@@ -205,6 +234,7 @@ impl<'p> Frames<'p> {
                 ..
             } => {
                 run_assign(arrays, array, index, value, &scope, store);
+                self.top = Some(rest);
                 Ok(())
             }
             Stmt::For {
@@ -213,7 +243,7 @@ impl<'p> Frames<'p> {
                 high,
                 body,
                 ..
-            } => self.begin_loop(var, *low, *high, body),
+            } => self.begin_loop(var, *low, *high, body, rest),
             Stmt::If {
                 cond,
                 then_block,
@@ -221,47 +251,72 @@ impl<'p> Frames<'p> {
                 ..
             } => {
                 if evaluate(arrays, cond, &scope, store.cells()) != 0 {
-                    self.begin_block(then_block)
+                    self.begin_block(then_block, rest)
                 } else {
-                    self.begin_block(else_block)
+                    self.begin_block(else_block, rest)
                 }
             }
-            Stmt::Par { .. } | Stmt::Team { .. } => Ok(()),
+            Stmt::Par { .. } | Stmt::Team { .. } => {
+                self.top = Some(rest);
+                Ok(())
+            }
         }
     }
 
-    // Puts a block on top.
-    #[tactic(auto, using(crate::proofs::FrameLemmas::loops_block))]
-    fn begin_block(&mut self, block: &'p Block) -> Result<(), AllocError>
-        ensures begun { OnOk result (HasBegun (branch_of (sequence_of block.now)) self.old self.new) }
-        ensures stacked { OnOk result (IsStacked self.old → IsStacked self.new) }
+    // Puts a block on top, and this below it in the place of what was on top.
+    fn begin_block(&mut self, block: &'p Block, rest: Frame<'p>) -> Result<(), AllocError>
+        ensures begun { OnOk result (HasBegun (branch_of (sequence_of block.now)) rest.entry self.old self.new) }
+        ensures stacked { OnOk result (IsStackedWith rest.entry self.old → IsStacked self.new) }
     {
-        self.stack.push(Frame::Statements { block, from: 0 })?;
+        self.below.push(rest)?;
+        self.top = Some(Frame::Statements { block, from: 0 });
         Ok(())
     }
 
-    // Puts a loop on top.
-    #[tactic(auto, using(crate::proofs::FrameLemmas::loops_loop))]
+    // Puts a loop on top, and this below it in the place of what was on top.
     fn begin_loop(
         &mut self,
         var: &'p Name,
         low: i64,
         high: i64,
         body: &'p Block,
+        rest: Frame<'p>,
     ) -> Result<(), AllocError>
-        ensures begun { OnOk result (HasBegun (member_of var.now low high (sequence_of body.now)) self.old self.new) }
-        ensures stacked { OnOk result (IsStacked self.old → IsStacked self.new) }
+        ensures begun { OnOk result (HasBegun (member_of var.now low high (sequence_of body.now)) rest.entry self.old self.new) }
+        ensures stacked { OnOk result (IsStackedWith rest.entry self.old → IsStacked self.new) }
     {
+        self.below.push(rest)?;
         self.vars.push(LoopVar {
             name: var,
             value: low,
         })?;
-        self.stack.push(Frame::Turns {
+        self.top = Some(Frame::Turns {
             body,
             next: low,
             high,
-        })?;
+        });
         Ok(())
+    }
+
+    // Takes the top off: nothing is left of it.
+    fn end(&mut self)
+        ensures { IsEnded self.old self.new }
+    {
+        self.top = self.below.pop();
+    }
+}
+
+// The frame of a construct's block, behind the construct.
+fn past(top: Frame) -> Frame
+    requires { IsSome (next_construct (works_in (top ∷ []) [])) }
+    ensures { IsBehind top.entry result }
+{
+    match top {
+        Frame::Statements { block, from } => Frame::Statements {
+            block,
+            from: from + 1,
+        },
+        Frame::Turns { .. } => top,
     }
 }
 

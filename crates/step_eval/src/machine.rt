@@ -87,8 +87,7 @@ impl<'p> StepMachine<'p> {
         ensures err { OnErr result (self.new.stage ≡ Failed) }
     {
         let sites = sites_in_construct(self.frames.construct());
-        self.stage = Stage::Failed;
-        self.frames.pass()?;
+        self.frames.pass();
         self.next += sites as u16;
         self.store.merge(written);
         self.stage = Stage::Going;

@@ -7,21 +7,21 @@ use Rattle.step_eval.specs.Inside.{IsSound}
 use Rattle.step_eval.proofs.MachineLemmas.{IsSupplied, supply_done}
 use Rattle.step_eval.proofs.machine.StepMachine.supply.Goals as goal
 
-awaiting : (c : goal.After-self-3-1) → c.self.inside.stage ≡ Awaiting
+awaiting : (c : goal.After-self-2-1) → c.self.inside.stage ≡ Awaiting
 awaiting c = ap (λ m. m.stage) c.self.view_is ∙ c.requires.awaits
 
 -- the machine has taken its supply
-taken : (c : goal.After-self-3-1) → IsSupplied c.self.inside.job c.self.inside.frames c.pass.new.self c.self.inside.store
+taken : (c : goal.After-self-2-1) → IsSupplied c.self.inside.job c.self.inside.frames c.pass.new.self c.self.inside.store
     (noted_all c.args.written.now.pairs c.self.inside.store) c.self.inside.room c.self.inside.next (c.self.inside.next + c.sites_in_construct-sites.result)
 taken c =
     let inside = c.self.inside in
     let sound = subst (λ stage. IsSound stage inside.job inside.frames inside.store inside.room inside.next) (awaiting c) c.self.invariant in
     let awaited = subst (λ m. AreAwaited m c.args.written.now.pairs) (sym c.self.view_is) c.requires.written in
     supply_done inside.job inside.frames c.pass.new.self inside.store inside.room inside.next c.sites_in_construct-sites.result c.construct.result
-    c.args.written.now.pairs sound c.construct.ensures c.sites_in_construct-sites.ensures c.in_ok-pass.ensures.passed (c.in_ok-pass.ensures.stacked sound.stacked) awaited
+    c.args.written.now.pairs sound c.construct.ensures c.sites_in_construct-sites.ensures c.pass.ensures.passed (c.pass.ensures.stacked sound.stacked) awaited
 
-pub invariant_of-self-2 : goal.invariant_of-self-2
-invariant_of-self-2 c = rw c.merge.ensures (taken c).sound
+pub invariant_of-self : goal.invariant_of-self
+invariant_of-self c = rw c.merge.ensures (taken c).sound
 
 pub returns-clause-ok : goal.returns-clause-ok
 returns-clause-ok c =
