@@ -9,6 +9,3 @@ mod work;
 pub use job::Job;
 pub use piece::{Piece, piece_of};
 pub use work::{Work, sites_in};
-
-#[cfg(test)]
-mod tests;

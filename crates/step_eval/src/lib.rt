@@ -11,3 +11,6 @@ pub use jobs::jobs_of;
 pub use machine::StepMachine;
 pub use nested::Nested;
 pub use stage::Stage;
+
+#[cfg(test)]
+mod tests;
