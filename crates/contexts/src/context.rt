@@ -170,6 +170,7 @@ impl<M> Running<M> {
 
 impl<M: Machine> Running<M> {
     /// The machine's own step. Nothing is awaited.
+    #[inline(always)]
     pub fn step(&mut self) -> Step<M::Nested>
         requires { M.awaits self.old ≡ false }
         ensures { Steps (record { rest = M.rest self.old; awaits = M.awaits self.old; left = M.left self.old }) result (record { rest = M.rest self.new; awaits = M.awaits self.new; left = M.left self.new }) }

@@ -1,13 +1,10 @@
 -- Works that are put on top and taken off.
-use Rattle.std.proofs.Common.{◌≡◌, ℕ, zero, suc, ◌+◌, List, [], ◌∷◌, ◌++◌, map, drop, length, reverse, ℤ, pos, ◌+ℤ◌, ◌<ℤ◌, Result, Ok, Err, true, refl, sym, ap, ◌∙◌, arith}
-use Rattle.std.specs.Prelude.{int_lt, IfErr}
+use Rattle.std.proofs.Common.{◌≡◌, ℕ, zero, suc, ◌+◌, List, [], ◌∷◌, ◌++◌, map, drop, length, reverse, ℤ, Result, Ok, Err, refl, sym, ap, ◌∙◌, arith}
+use Rattle.std.specs.Prelude.{IfErr}
 use Rattle.std.proofs.lemmas.Bool.{false≢true}
-use Rattle.std.proofs.lemmas.Int.{ints}
-use Rattle.std.proofs.lemmas.List.{reverse-append, length-reverse, length-map, length-append}
-use Rattle.array_eval.specs.declared.scope.LoopVar.{LoopVar}
+use Rattle.std.proofs.lemmas.List.{length-reverse, length-map, length-append}
 use Rattle.array_eval.specs.Views.{loop_var, stacked}
 use Rattle.array_eval.specs.Traces.{Trace}
-use Rattle.array_eval.proofs.ScopeLemmas.{stacked_push}
 use Rattle.step_eval.specs.declared.frames.Frames.{Frames}
 use Rattle.std.specs.Borrow.{Bor}
 use Rattle.array_tree.specs.declared.tree.Block.{Block}
@@ -15,13 +12,13 @@ use Rattle.step_eval.specs.declared.frames.Frame.{Frame}
 use Rattle.step_eval.specs.declared.frames.Frame.TheVariants.{Statements, Turns}
 use Rattle.std.specs.Prelude.{IsSome}
 use Rattle.array_tree.specs.declared.tree.Stmt.{Stmt}
-use Rattle.array_tree.specs.Trees.{Statement, Assign, For, If, Par, Team, Sequence, followed, sequence, statement_of, sequence_of}
+use Rattle.array_tree.specs.Trees.{Statement, Assign, For, If, Par, Team, Sequence, followed, sequence, statement_of}
 use Rattle.array_meaning.specs.Stores.{Arrays, Vars, Store}
-use Rattle.array_jobs.specs.Works.{branch_of, member_of}
-use Rattle.step_eval.specs.Rest.{WorkAt, at}
+use Rattle.array_jobs.specs.Works.{branch_of}
+use Rattle.step_eval.specs.Rest.{at}
 use Rattle.step_eval.specs.Moves.{moved}
 use Rattle.step_eval.specs.Machines.{construct_of, next_construct}
-use Rattle.step_eval.specs.Frames.{IsMore, IsStackedWith, statements_from, works_in, works_of, works_with, IsPast, IsBehind, vars_in, HasBegun, HasTurned}
+use Rattle.step_eval.specs.Frames.{IsMore, IsStackedWith, statements_from, works_in, works_with, IsPast, IsBehind, vars_in}
 
 -- a construct leaves the statements behind it
 past_first : (arrays : Arrays) (store : Store) (first : Statement) (rest : Sequence) (vars : Vars) → IsSome (construct_of (branch_of (followed first rest))) →
@@ -48,29 +45,6 @@ passed arrays store block from vars h = cases (drop from block.statements.items)
     cases (s ∷ ss) e h =
         past_first arrays store (statement_of s) (sequence (map statement_of ss)) vars h
         ∙ ap (λ q. at (branch_of (sequence (map statement_of q))) vars ∷ []) (sym (drop_next block.statements.items ss from s e))
-
--- the variables around, with the innermost loop's first
-vars_push : (frames : Frames) (vs : List LoopVar) (v : LoopVar) (around : Vars) → frames.vars.items ≡ vs ++ v ∷ [] →
-    vars_in frames around ≡ loop_var v ∷ (stacked vs ++ around)
-vars_push frames vs v around e = ap (λ q. stacked q ++ around) e ∙ ap (λ q. q ++ around) (stacked_push vs v)
-
--- the next turn has begun
-pub turned : (body : Bor Block) (next more high : ℤ) (before between after : Frames) (vs : List LoopVar) (v now : LoopVar) →
-    next <ℤ high → more ≡ next +ℤ pos 1 → before.vars.items ≡ vs ++ v ∷ [] → loop_var now ≡ (v.name.now, next) →
-    between.vars.items ≡ vs ++ now ∷ [] → between.below.items ≡ before.below.items →
-    HasBegun (branch_of (sequence_of body.now)) (Turns body more high) between after → HasTurned body next high before after
-turned body next more high before between after vs v now less one was same vars below begun arrays around store =
-    let outer = stacked vs ++ around in
-    let test : int_lt next high ≡ true = grind (arith, ints) in
-    let rest = works_in (reverse before.below.items) outer in
-    let others : works_with (Turns body more high) between around ≡ at (member_of v.name.now (next +ℤ pos 1) high (sequence_of body.now)) outer ∷ rest
-    = ap (λ fs. works_in (Turns body more high ∷ reverse fs) (vars_in between around)) below
-    ∙ ap (works_in (Turns body more high ∷ reverse before.below.items)) (vars_push between vs now around vars ∙ ap (λ q. q ∷ outer) same)
-    ∙ ap (λ n. at (member_of v.name.now n high (sequence_of body.now)) outer ∷ rest) one in
-    let all : works_of after around ≡ at (branch_of (sequence_of body.now)) ((v.name.now, next) ∷ outer) ∷ at (member_of v.name.now (next +ℤ pos 1) high (sequence_of body.now)) outer ∷ rest
-    = begun around ∙ ap (λ q. at (branch_of (sequence_of body.now)) q ∷ works_with (Turns body more high) between around) (vars_push between vs now around vars ∙ ap (λ q. q ∷ outer) same)
-    ∙ ap (λ q. at (branch_of (sequence_of body.now)) ((v.name.now, next) ∷ outer) ∷ q) others in
-    rw (vars_push before vs v around was, test) (all, refl)
 
 -- a loop that has begun has a variable, so its turns are something to be run
 pub more_turns : (frames : Frames) (body : Bor Block) (next high : ℤ) (around : Vars) → IsStackedWith (Turns body next high) frames →

@@ -1,20 +1,20 @@
 -- The construct that is next: where it stands, that it may be handed out, and what its supply is.
-use Rattle.std.proofs.Common.{◌≡◌, ℕ, ◌+◌, ◌<◌, ◌≤◌, List, [], ◌∷◌, Option, Some, None, length, true, refl, sym, ap, subst, ◌∙◌, arith}
-use Rattle.std.specs.Prelude.{IsTrue, IsSome}
+use Rattle.std.proofs.Common.{◌≡◌, ℕ, List, [], ◌∷◌, Option, Some, None, refl, ap, subst, ◌∙◌}
+use Rattle.std.specs.Prelude.{IsTrue}
 use Rattle.array_tree.specs.Trees.{Statement, Assign, For, If, Par, Team, Sequence, ended, followed, declarations_of}
-use Rattle.array_meaning.specs.Stores.{Arrays, Vars, Store, arrays_of}
+use Rattle.array_meaning.specs.Stores.{Arrays, Vars, Store}
 use Rattle.array_meaning.specs.Work.{statement_work}
 use Rattle.array_meaning.specs.Plans.{statement_sites_in}
 use Rattle.array_meaning.specs.Pieces.{piece_of}
 use Rattle.array_eval.specs.Traces.{Trace}
-use Rattle.array_jobs.specs.Works.{WorkTree, branch_of}
+use Rattle.array_jobs.specs.Works.{branch_of}
 use Rattle.array_jobs.specs.Jobs.{JobParts, job_of}
 use Rattle.step_eval.specs.declared.frames.Frame.{Frame}
 use Rattle.step_eval.specs.declared.frames.Frame.TheVariants.{Statements, Turns}
 use Rattle.step_eval.specs.declared.frames.Frames.{Frames}
 use Rattle.step_eval.specs.Rest.{WorkAt, at}
 use Rattle.step_eval.specs.Moves.{begun_writes, begun_sites}
-use Rattle.step_eval.specs.Nests.{NestedTree, is_construct, IsFitNest}
+use Rattle.step_eval.specs.Nests.{is_construct, IsFitNest}
 use Rattle.step_eval.specs.Machines.{Progress, IsRight, construct_of, next_construct, handed_out, nest_in}
 use Rattle.step_eval.specs.Frames.{frames_in, works_in, works_of, vars_in, statements_from}
 use Rattle.step_eval.proofs.NestLemmas.{fit_nest}

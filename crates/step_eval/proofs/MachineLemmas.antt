@@ -1,5 +1,5 @@
 -- What a machine's calls keep, and what they do.
-use Rattle.std.proofs.Common.{◌≡◌, ℕ, ◌+◌, ◌-◌, ◌<◌, ◌≤◌, List, [], ◌∷◌, ◌++◌, length, true, false, Option, Some, None, Result, Ok, Err, refl, sym, ap, subst, ◌∙◌, arith}
+use Rattle.std.proofs.Common.{◌≡◌, ℕ, ◌+◌, ◌-◌, ◌<◌, ◌≤◌, List, [], ◌∷◌, ◌++◌, length, Option, Some, None, refl, sym, ap, subst, ◌∙◌, arith}
 use Rattle.std.specs.Prelude.{IsSome}
 use Rattle.std.specs.Borrow.{Bor}
 use Rattle.std.proofs.lemmas.Bool.{false≢true}
@@ -8,7 +8,7 @@ use Rattle.contexts.specs.declared.machine.Step.TheVariants as step
 use Rattle.contexts.specs.Machine.{Work, Steps}
 use Rattle.array_tree.specs.declared.tree.Stmt.{Stmt}
 use Rattle.array_tree.specs.Trees.{Statement, statement_of, Assign, For, If, Par, Team, ended, followed, declarations_of}
-use Rattle.array_meaning.specs.Stores.{Arrays, Store, Write, after, arrays_of}
+use Rattle.array_meaning.specs.Stores.{Write, after, arrays_of}
 use Rattle.array_meaning.specs.Steps.{writes_of}
 use Rattle.array_meaning.specs.Plans.{statement_sites_in}
 use Rattle.array_meaning.proofs.StepLemmas.{length_after}
@@ -23,8 +23,8 @@ use Rattle.step_eval.specs.declared.frames.Frames.{Frames}
 use Rattle.step_eval.specs.Rest.{WorkAt, at, rest_steps}
 use Rattle.step_eval.specs.Moves.{moved, moved_writes, moved_sites, rest_left}
 use Rattle.step_eval.specs.Nests.{NestedParts, NestedTree, nested_of}
-use Rattle.step_eval.specs.Machines.{Progress, IsRight, IsKept, construct_of, next_construct, next_nest, nest_in, handed_out, rest_writes, is_awaiting, left_of, HasMoved, Advances, AreAwaited, awaited_by}
-use Rattle.step_eval.specs.Frames.{frames_in, works_of, vars_in, IsMore, IsStacked, AreAll, HaveMoved, HasPassed, IsPast, IsConstruct}
+use Rattle.step_eval.specs.Machines.{Progress, IsRight, IsKept, construct_of, next_construct, nest_in, handed_out, rest_writes, is_awaiting, left_of, HasMoved, Advances, AreAwaited, awaited_by}
+use Rattle.step_eval.specs.Frames.{frames_in, works_of, vars_in, IsMore, IsStacked, AreAll, HasPassed, IsPast, IsConstruct}
 use Rattle.step_eval.specs.Inside.{IsWhole, IsSound, while_going, Advanced, stage_by, sites_seen}
 use Rattle.step_eval.proofs.LeftLemmas.{left_moved, left_passed, left_positive}
 use Rattle.step_eval.proofs.MoveLemmas.{right_fresh, right_moved, rest_moved}
@@ -196,7 +196,7 @@ supplied job before after store room next construct written sound found passed s
       moved = rw (here.is, rest, is, sym next_is) refl;
       sound = record { kept = rw rest now; stacked = stacked; none = sound.none; roomy = omega (arith, cells, roomy) };
       left = ap rest_left rest ∙ left_passed arrays store.cells w here.more construct (subst (λ works. next_construct works ≡ Some construct) here.is found)
-        ∙ ap (λ works. rest_left works - 1) (sym here.is);
+          ∙ ap (λ works. rest_left works - 1) (sym here.is);
       small = omega (arith, room_for);
     }
 

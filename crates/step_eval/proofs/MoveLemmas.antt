@@ -1,16 +1,15 @@
 -- A step keeps a machine right.
 use Rattle.std.proofs.Common.{◌≡◌, ℕ, ◌+◌, ◌*◌, Bool, true, false, cond, List, [], ◌∷◌, ◌++◌, length, None, pos, ◌+ℤ◌, ◌<ℤ◌, refl, sym, ap, ◌∙◌, arith, append-nil}
 use Rattle.std.specs.Prelude.{◌&&◌, int_lt}
-use Rattle.std.proofs.lemmas.Bool.{false≢true}
 use Rattle.std.proofs.lemmas.Int.{ints}
 use Rattle.std.proofs.lemmas.List.{length-replicate}
-use Rattle.array_tree.specs.Trees.{Statement, Assign, For, If, Par, Team, Sequence, ended, followed}
+use Rattle.array_tree.specs.Trees.{Assign, For, If, Par, Team, ended, followed}
 use Rattle.array_meaning.specs.Values.{holds}
 use Rattle.array_meaning.specs.Stores.{Arrays, Vars, Store, Write, after, arrays_of, value_of}
 use Rattle.array_meaning.specs.Steps.{Steps, followed_by, writes_of}
 use Rattle.array_meaning.specs.Work.{span, loop, statement_work, sequence_work}
-use Rattle.array_meaning.specs.Plans.{sites_in, statement_sites_in}
-use Rattle.array_meaning.specs.Limits.{has_no_site_under_if, statement_has_no_site_under_if}
+use Rattle.array_meaning.specs.Plans.{sites_in}
+use Rattle.array_meaning.specs.Limits.{has_no_site_under_if}
 use Rattle.array_meaning.specs.Pieces.{lays, last_writes, piece_of, IsRising}
 use Rattle.array_meaning.proofs.StepLemmas.{followed_by_done, followed_by_assoc, writes_followed_by, loop_next, length_after}
 use Rattle.array_meaning.proofs.LastLemmas.{lays_append}
@@ -21,7 +20,7 @@ use Rattle.array_jobs.specs.PieceParts.{piece_of_job}
 use Rattle.array_jobs.proofs.FitLemmas.{both}
 use Rattle.array_eval.specs.Traces.{Trace, fresh, noted_all, marked}
 use Rattle.array_eval.proofs.TraceLemmas.{AreBelow, cells_after, marked_after, none_marked}
-use Rattle.step_eval.specs.Rest.{WorkAt, at, rest_steps, rest_sites, instead, AreFit}
+use Rattle.step_eval.specs.Rest.{WorkAt, at, rest_steps, rest_sites, instead}
 use Rattle.step_eval.specs.Moves.{moved, moved_writes, moved_sites}
 use Rattle.step_eval.specs.Machines.{IsRight, construct_of}
 use Rattle.step_eval.proofs.LeftLemmas.{span_times}

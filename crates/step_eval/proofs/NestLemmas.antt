@@ -1,5 +1,5 @@
 -- A construct that is next may be handed out: its pieces are fit jobs in each phase.
-use Rattle.std.proofs.Common.{◌≡◌, ℕ, zero, suc, ◌+◌, ◌-◌, ◌*◌, ◌<◌, ◌≤◌, true, List, [], ◌∷◌, ℤ, pos, negsuc, refl, ap, ◌∙◌, length, arith}
+use Rattle.std.proofs.Common.{◌≡◌, ℕ, zero, suc, ◌+◌, ◌-◌, ◌*◌, ◌<◌, ◌≤◌, true, List, ℤ, pos, negsuc, refl, ap, ◌∙◌, length, arith}
 use Rattle.std.specs.Prelude.{IsTrue, int_le, unsigned_abs}
 use Rattle.std.proofs.lemmas.Bool.{false≢true}
 use Rattle.std.proofs.lemmas.Bool.Decides.{nat_tests}
@@ -10,11 +10,11 @@ use Rattle.array_meaning.specs.Work.{span}
 use Rattle.array_meaning.specs.Members.{first_of, start_of}
 use Rattle.array_meaning.specs.Plans.{sites_in, branches_sites_in}
 use Rattle.array_meaning.specs.Limits.{is_up_to, count_of, statement_has_right_ranges}
-use Rattle.array_jobs.specs.Works.{WorkTree, branch_of, member_of, sites_of}
+use Rattle.array_jobs.specs.Works.{branch_of, member_of, sites_of}
 use Rattle.array_jobs.specs.Jobs.{JobTree, IsFit}
 use Rattle.array_jobs.proofs.FitLemmas.{both}
 use Rattle.step_eval.specs.Rest.{WorkAt, at, instead}
-use Rattle.step_eval.specs.Nests.{NestedTree, phases_of, branch_trees, member_trees, phase_at, sites_before, numbered, jobs_in, AreFitJobs, is_construct, IsFitNest}
+use Rattle.step_eval.specs.Nests.{NestedTree, branch_trees, member_trees, phase_at, sites_before, numbered, jobs_in, AreFitJobs, is_construct, IsFitNest}
 use Rattle.array_meaning.proofs.MemberLemmas.{span_cut}
 use Rattle.step_eval.proofs.FitParts.{WorkParts, parts_of, refit, sequence_parts}
 use Rattle.step_eval.proofs.NestParts.{AreFitBranches, par_parts, branch_parts, AreFitPhases, team_parts, LoopParts, phase_loop, first_of_grows, first_of_none, first_of_all, member_loop}

@@ -3,12 +3,12 @@ use Rattle.std.specs.Prelude.{◌≡◌, ℕ, ◌+◌, ◌-◌, List, [], ◌∷
 use Rattle.contexts.specs.declared.machine.Step.{Step}
 use Rattle.contexts.specs.declared.machine.Step.TheVariants as step
 use Rattle.array_tree.specs.Trees.{Statement, Assign, For, If, Par, Team, ended, followed, declarations_of}
-use Rattle.array_meaning.specs.Stores.{Arrays, Write, arrays_of}
+use Rattle.array_meaning.specs.Stores.{Write, arrays_of}
 use Rattle.array_meaning.specs.Steps.{writes_of}
 use Rattle.array_meaning.specs.Pieces.{last_writes}
 use Rattle.array_eval.specs.Traces.{Trace, fresh, marked, noted_all}
 use Rattle.array_jobs.specs.Works.{WorkTree, branch_of, member_of, work_of, sites_of}
-use Rattle.array_jobs.specs.Jobs.{JobParts, JobTree, job_of}
+use Rattle.array_jobs.specs.Jobs.{JobParts, JobTree}
 use Rattle.array_jobs.specs.PieceParts.{piece_of_job}
 use Rattle.step_eval.specs.declared.stage.Stage.{Stage}
 use Rattle.step_eval.specs.declared.stage.Stage.TheVariants.{Going, Awaiting, Failed}

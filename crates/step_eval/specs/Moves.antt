@@ -1,5 +1,5 @@
 -- What one step does: it begins or ends one statement or one turn of a loop.
-use Rattle.std.specs.Prelude.{ℕ, ◌+◌, ◌*◌, List, [], ◌∷◌, ◌++◌, ℤ, pos, ◌+ℤ◌, int_lt, if◌then◌else◌}
+use Rattle.std.specs.Prelude.{ℕ, ◌+◌, ◌*◌, List, [], ◌∷◌, ◌++◌, pos, ◌+ℤ◌, int_lt, if◌then◌else◌}
 use Rattle.array_tree.specs.Trees.{Statement, Assign, For, If, Par, Team, Sequence, ended, followed}
 use Rattle.array_meaning.specs.Values.{holds}
 use Rattle.array_meaning.specs.Stores.{Arrays, Vars, Store, Write, is_dynamic, cell_of, value_of}

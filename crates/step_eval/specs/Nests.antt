@@ -1,5 +1,5 @@
 -- Constructs that are handed out, and the jobs of their pieces.
-use Rattle.std.specs.Prelude.{◌≡◌, ℕ, zero, suc, ◌+◌, ◌*◌, ◌<◌, List, [], ◌∷◌, Bool, true, false, ◌&&◌, IsTrue, ℤ, unsigned_abs}
+use Rattle.std.specs.Prelude.{ℕ, zero, suc, ◌+◌, ◌*◌, ◌<◌, List, [], ◌∷◌, Bool, true, false, IsTrue, ℤ, unsigned_abs}
 use Rattle.array_tree.specs.declared.tree.Arrays.{Arrays}
 use Rattle.array_tree.specs.declared.tree.Stmt.{Stmt}
 use Rattle.array_tree.specs.Trees.{Statement, Assign, For, If, Par, Team, Sequence, ended, Sequences, no_more, beside, Declaration, declarations_of, statement_of}

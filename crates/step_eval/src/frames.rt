@@ -76,6 +76,7 @@ impl<'p> Frames<'p> {
     }
 
     /// The construct that is to be run next, if one is.
+    #[inline(always)]
     pub(crate) fn construct(&self) -> Option<&'p Stmt>
         ensures { IsConstruct result self.now }
     {
@@ -98,6 +99,7 @@ impl<'p> Frames<'p> {
     }
 
     /// Begins or ends the next statement or turn, which must be no construct; false where nothing is left.
+    #[inline(always)]
     pub(crate) fn go_on(
         &mut self,
         arrays: &Arrays,
@@ -132,6 +134,7 @@ impl<'p> Frames<'p> {
     }
 
     // Goes on in the work on top.
+    #[inline(always)]
     fn go_on_in(
         &mut self,
         arrays: &Arrays,
@@ -154,6 +157,7 @@ impl<'p> Frames<'p> {
     }
 
     // Goes on in the block on top, from this statement on.
+    #[inline(always)]
     fn go_on_in_block(
         &mut self,
         arrays: &Arrays,
@@ -181,6 +185,7 @@ impl<'p> Frames<'p> {
     }
 
     // Goes on in the loop on top.
+    #[inline(always)]
     fn go_on_in_loop(&mut self, body: &'p Block, next: i64, high: i64) -> Result<(), AllocError>
         requires { IsStackedWith (Turns body next high) self.old }
         ensures moved { OnOk result (HasTurned body.entry next high self.old self.new) }
@@ -206,6 +211,7 @@ impl<'p> Frames<'p> {
     }
 
     // Begins a statement that is no construct, with the rest of its block behind it.
+    #[inline(always)]
     fn begin(
         &mut self,
         arrays: &Arrays,
@@ -264,6 +270,7 @@ impl<'p> Frames<'p> {
     }
 
     // Puts a block on top, and this below it in the place of what was on top.
+    #[inline(always)]
     fn begin_block(&mut self, block: &'p Block, rest: Frame<'p>) -> Result<(), AllocError>
         ensures begun { OnOk result (HasBegun (branch_of (sequence_of block.now)) rest.entry self.old self.new) }
         ensures stacked { OnOk result (IsStackedWith rest.entry self.old → IsStacked self.new) }
@@ -274,6 +281,7 @@ impl<'p> Frames<'p> {
     }
 
     // Puts a loop on top, and this below it in the place of what was on top.
+    #[inline(always)]
     fn begin_loop(
         &mut self,
         var: &'p Name,
@@ -299,6 +307,7 @@ impl<'p> Frames<'p> {
     }
 
     // Takes the top off: nothing is left of it.
+    #[inline(always)]
     fn end(&mut self)
         ensures { IsEnded self.old self.new }
     {
@@ -321,6 +330,7 @@ fn past(top: Frame) -> Frame
 }
 
 // The construct at a place of a block, if one is there.
+#[inline(always)]
 fn construct_at<'p>(block: &'p Block, place: usize) -> Option<&'p Stmt>
     ensures { IsConstructAt result block.now place }
 {

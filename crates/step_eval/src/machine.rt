@@ -121,6 +121,8 @@ impl<'p> Machine for StepMachine<'p> {
     ghost left = { λ machine. left_of machine.stage machine.rest };
 
     /// Begins or ends one statement or one turn of a loop, or hands out the construct that is next.
+    // A step is laid into its caller, with all that it calls each time: a call would move the room of its large answer.
+    #[inline(always)]
     fn step(&mut self) -> Step<Nested<'p>>
         requires { is_awaiting self.old.stage ≡ false }
         ensures steps { Steps (record { rest = rest_writes self.old; awaits = is_awaiting self.old.stage; left = left_of self.old.stage self.old.rest }) result (record { rest = rest_writes self.new; awaits = is_awaiting self.new.stage; left = left_of self.new.stage self.new.rest }) }
@@ -171,6 +173,7 @@ fn sites_in_construct(construct: Option<&Stmt>) -> u64
 }
 
 // Does one step of a machine that goes on.
+#[inline(always)]
 fn advance<'p>(
     alloc: Global,
     job: &Job<'p>,
@@ -200,6 +203,7 @@ fn advance<'p>(
 }
 
 // Hands out the construct that is next, with what its pieces start from.
+#[inline(never)]
 fn hand_out<'p>(
     alloc: Global,
     job: &Job<'p>,

@@ -1,11 +1,16 @@
 //! Small jobs, run by machines.
 ghost use Rattle.std.specs.Prelude.{◌≡◌, false, IfOk, IfSome, pos, [], ◌∷◌};
+ghost use Rattle.array_tree.specs.Trees.{statement_of, sequence_of, declarations_of, ended, followed};
 ghost use Rattle.contexts.specs.Machine.{Steps};
-ghost use Rattle.step_eval.specs.Machines.{is_awaiting, fresh_machine, rest_writes, left_of, Advances};
+ghost use Rattle.array_jobs.specs.Jobs.{job_of};
+ghost use Rattle.sample_jobs.specs.Samples.{sample_array, sample_team, job_with};
+ghost use Rattle.step_eval.specs.declared.stage.Stage.TheVariants.{Awaiting};
+ghost use Rattle.step_eval.specs.Machines.{is_awaiting, fresh_machine, rest_writes, left_of, Advances, AreAwaited};
 
-use crate::{Nested, StepMachine};
+use crate::{Nested, StepMachine, jobs_of};
 use array_eval::Overlay;
 use array_jobs::{Job, Piece, piece_of};
+use array_tree::{Arrays, Block};
 use contexts::{
     Fresh, InitRefused, Machine, Running, Step, ctx_block, ctx_fini, ctx_init, ctx_pause,
     ctx_resume, ctx_run, ctx_unblock,
@@ -96,17 +101,64 @@ fn a_context_runs_the_first_branch(rt: HostRuntime) -> Result<(), Fail> {
     Ok(())
 }
 
+// A machine for the job of the small team.
+fn team_machine<'p>(
+    alloc: Global,
+    arrays: &'p Arrays,
+    branch: &'p Block,
+) -> Result<StepMachine<'p>, AllocError>
+    requires arrays { declarations_of arrays.now ≡ sample_array ∷ [] }
+    requires branch { sequence_of branch.now ≡ followed sample_team ended }
+    ensures fresh { IfOk result (λ machine. machine ≡ fresh_machine machine.job) }
+    ensures team { IfOk result (λ machine. job_of machine.job ≡ job_with sample_team) }
+{
+    StepMachine::new(alloc, team_job(alloc, arrays, branch)?)
+}
+
+// The team, as its machine hands it out by the first step.
+fn handed_out<'p>(machine: &mut StepMachine<'p>) -> Option<Nested<'p>>
+    requires fresh { machine.old ≡ fresh_machine machine.old.job }
+    requires team { job_of machine.old.job ≡ job_with sample_team }
+    ensures stage { IfSome result (λ _. machine.new.stage ≡ Awaiting) }
+    ensures awaited { IfSome result (λ _. AreAwaited machine.new ((0, pos 5) ∷ (1, pos 6) ∷ [])) }
+    ensures construct { IfSome result (λ nested. statement_of nested.construct ≡ sample_team) }
+{
+    match machine.step() {
+        Step::Nest(nested) => Some(nested),
+        Step::More | Step::Finished | Step::NoMemory => None,
+    }
+}
+
+// What the two members write.
+fn team_writes(alloc: Global) -> Result<Overlay, AllocError>
+    ensures { IfOk result (λ written. written.pairs ≡ (0, pos 5) ∷ (1, pos 6) ∷ []) }
+{
+    let mut written = Overlay::empty(alloc);
+    written.put(1, 6)?;
+    written.put(0, 5)?;
+    Ok(written)
+}
+
+// The places of the jobs of a team's first phase, and the numbers of their first sites.
+fn places_and_sites(alloc: Global, nested: &Nested) -> Result<Vec<(u8, u16)>, AllocError>
+    requires { statement_of nested.now.construct ≡ sample_team }
+{
+    let mut found = Vec::new(alloc);
+    for job in &jobs_of(alloc, nested, 0, &nested.store)? {
+        found.push((job.place, job.first))?;
+    }
+    Ok(found)
+}
+
 #[test]
 fn a_construct_is_handed_out_and_supplied(rt: HostRuntime) -> Result<(), Fail> {
     let alloc = rt.alloc();
     let arrays = array_of_four(alloc)?;
     let branch = branch(alloc, team(alloc)?)?;
-    let mut machine = StepMachine::new(alloc, team_job(alloc, &arrays, &branch)?)?;
-    let mut written = Overlay::empty(alloc);
-    written.put(1, 6)?;
-    written.put(0, 5)?;
-    match machine.step() {
-        Step::Nest(nested) => {
+    let written = team_writes(alloc)?;
+    let mut machine = team_machine(alloc, &arrays, &branch)?;
+    match handed_out(&mut machine) {
+        Some(nested) => {
             assert_eq!(rt; nested.site, 2);
             machine.supply(&written)?;
             match run_to_end(machine, 2) {
@@ -116,7 +168,24 @@ fn a_construct_is_handed_out_and_supplied(rt: HostRuntime) -> Result<(), Fail> {
                 None => assert!(rt; false),
             }
         }
-        _ => assert!(rt; false),
+        None => assert!(rt; false),
+    }
+    Ok(())
+}
+
+#[test]
+fn the_members_of_a_team_are_jobs(rt: HostRuntime) -> Result<(), Fail> {
+    let alloc = rt.alloc();
+    let arrays = array_of_four(alloc)?;
+    let branch = branch(alloc, team(alloc)?)?;
+    let mut machine = team_machine(alloc, &arrays, &branch)?;
+    match handed_out(&mut machine) {
+        Some(nested) => {
+            assert_eq!(rt; nested.copy()? == nested, true);
+            let found = places_and_sites(alloc, &nested)?;
+            assert_eq!(rt; found.as_slice(), [(0, 3), (1, 3)].as_slice());
+        }
+        None => assert!(rt; false),
     }
     Ok(())
 }

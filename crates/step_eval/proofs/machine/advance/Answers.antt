@@ -1,4 +1,3 @@
-use Rattle.std.proofs.Common.{◌≡◌}
 use Rattle.array_jobs.proofs.FitLemmas.{sized}
 use Rattle.step_eval.proofs.machine.advance.Goals as goal
 

@@ -1,4 +1,4 @@
-use Rattle.std.proofs.Common.{rules, ◌≡◌, subst, to_z, of_z, w64}
+use Rattle.std.proofs.Common.{rules, subst, to_z, of_z, w64}
 use mir.Val.{SFits}
 use Rattle.std.proofs.lemmas.Int.{to_z-of_z}
 use Rattle.std.proofs.lemmas.Result.{on_ok_weaker}
@@ -22,7 +22,7 @@ returns-in-Turns-clause-moved c =
     let high_fits : SFits w64 high = search rules in
     on_ok_weaker c.go_on_in_loop.result
     (λ moved. rw c.in-Turns.is
-      (subst (λ x. HaveMoved arrays (works_with (Turns body next x) before around) store after store) (to_z-of_z w64 high high_fits)
-      (subst (λ x. HaveMoved arrays (works_with (Turns body x (to_z w64 (of_z w64 high))) before around) store after store) (to_z-of_z w64 next next_fits)
-      (moved arrays around store))))
+    (subst (λ x. HaveMoved arrays (works_with (Turns body next x) before around) store after store) (to_z-of_z w64 high high_fits)
+    (subst (λ x. HaveMoved arrays (works_with (Turns body x (to_z w64 (of_z w64 high))) before around) store after store) (to_z-of_z w64 next next_fits)
+    (moved arrays around store))))
     c.go_on_in_loop.ensures.moved

@@ -1,4 +1,4 @@
-use Rattle.std.proofs.Common.{◌≡◌, [], reverse, subst}
+use Rattle.std.proofs.Common.{[], reverse, subst}
 use Rattle.std.specs.Prelude.{IsSome}
 use Rattle.step_eval.specs.Machines.{next_construct}
 use Rattle.step_eval.specs.Frames.{on_top, works_in, vars_in}

@@ -1,4 +1,4 @@
-use Rattle.std.proofs.Common.{◌≡◌, length, ap, ◌∙◌}
+use Rattle.std.proofs.Common.{length, ap, ◌∙◌}
 use Rattle.step_eval.proofs.MachineLemmas.{sound_fresh}
 use Rattle.step_eval.proofs.machine.StepMachine.new.Goals as goal
 
