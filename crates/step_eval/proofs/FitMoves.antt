@@ -1,31 +1,21 @@
 -- What a step leaves is fit to be run.
-use Rattle.std.proofs.Common.{◌≡◌, ℕ, ◌+◌, ◌*◌, Bool, true, false, List, [], ◌∷◌, ◌++◌, ℤ, pos, ◌+ℤ◌, refl, sym, ap, subst, ◌∙◌, arith}
+use Rattle.std.proofs.Common.{◌≡◌, ℕ, ◌+◌, ◌*◌, Bool, true, false, List, [], ◌∷◌, ◌++◌, ℤ, pos, ◌+ℤ◌, refl, ap, subst, ◌∙◌, arith}
 use Rattle.std.specs.Prelude.{int_lt, if◌then◌else◌}
 use Rattle.array_tree.specs.Trees.{Expression, Statement, Assign, For, If, Par, Team, Sequence, ended, followed}
 use Rattle.array_meaning.specs.Values.{holds}
 use Rattle.array_meaning.specs.Stores.{Vars, Store, arrays_of, value_of}
 use Rattle.array_meaning.specs.Work.{statement_work}
 use Rattle.array_meaning.specs.Plans.{statement_sites_in, sites_in}
-use Rattle.array_meaning.proofs.StepLemmas.{followed_by_done, span_next}
+use Rattle.array_meaning.proofs.StepLemmas.{span_next}
 use Rattle.array_jobs.specs.Works.{WorkTree, branch_of, member_of, sites_of}
 use Rattle.array_jobs.specs.Jobs.{JobTree, IsFit}
 use Rattle.step_eval.specs.Rest.{WorkAt, at, instead, AreFit}
 use Rattle.step_eval.specs.Moves.{begun, begun_sites, moved, moved_sites}
-use Rattle.step_eval.proofs.FitParts.{AreFitParts, parts_of, refit, sequence_parts, member_parts, turn_parts, side_parts, below_of_test}
+use Rattle.step_eval.proofs.FitParts.{parts_of, refit, sequence_parts, member_parts, turn_parts, side_parts, below_of_test}
 
 -- The next site may be numbered by an equal number.
 pub fit_renumbered : (job : JobTree) (n m : ℕ) (ws : List WorkAt) → n ≡ m → AreFit job n ws → AreFit job m ws
 fit_renumbered job n m ws same fit = subst (λ k. AreFit job k ws) same fit
-
--- The first statement of a fit sequence is fit by itself.
-pub fit_first : (job : JobTree) (next : ℕ) (first : Statement) (rest : Sequence) (vars : Vars) →
-    IsFit (instead job next (at (branch_of (followed first rest)) vars)) → IsFit (instead job next (at (branch_of (followed first ended)) vars))
-fit_first job next first rest vars fit =
-    let all = at (branch_of (followed first rest)) vars in
-    let parts = (sequence_parts job.arrays vars first rest (parts_of job next all fit)).0 in
-    let alone = subst (AreFitParts job.arrays vars (followed first ended)) (sym (followed_by_done (statement_work first vars))) parts in
-    let room = fit.sites in
-    refit job next all next (at (branch_of (followed first ended)) vars) fit alone (omega (arith, room))
 
 -- And so is its rest, whose sites come after those of the first statement.
 pub fit_rest : (job : JobTree) (next : ℕ) (first : Statement) (rest : Sequence) (vars : Vars) →

@@ -1,5 +1,5 @@
 -- A step keeps a machine right.
-use Rattle.std.proofs.Common.{◌≡◌, ℕ, ◌+◌, ◌*◌, Bool, true, false, cond, List, [], ◌∷◌, ◌++◌, length, None, pos, ◌+ℤ◌, ◌<ℤ◌, refl, sym, ap, ◌∙◌, arith, append-nil}
+use Rattle.std.proofs.Common.{◌≡◌, ℕ, ◌+◌, ◌*◌, Bool, true, false, cond, List, [], ◌∷◌, ◌++◌, length, None, pos, ◌+ℤ◌, ◌<ℤ◌, refl, sym, ap, ◌∙◌, arith}
 use Rattle.std.specs.Prelude.{◌&&◌, int_lt}
 use Rattle.std.proofs.lemmas.Int.{ints}
 use Rattle.std.proofs.lemmas.List.{length-replicate}
@@ -16,7 +16,6 @@ use Rattle.array_meaning.proofs.LastLemmas.{lays_append}
 use Rattle.array_meaning.proofs.MergeLemmas.{supplied}
 use Rattle.array_jobs.specs.Works.{WorkTree, branch_of, member_of, steps_of, statements_of, sites_of}
 use Rattle.array_jobs.specs.Jobs.{JobTree, IsFit}
-use Rattle.array_jobs.specs.PieceParts.{piece_of_job}
 use Rattle.array_jobs.proofs.FitLemmas.{both}
 use Rattle.array_eval.specs.Traces.{Trace, fresh, noted_all, marked}
 use Rattle.array_eval.proofs.TraceLemmas.{AreBelow, cells_after, marked_after, none_marked}
@@ -194,7 +193,3 @@ right_fresh job fit =
       cells = refl;
       marks = length-replicate (length job.store) false;
     }
-
--- What a machine with nothing left has marked is its job's piece.
-pub right_ended : (job : JobTree) (store : Trace) (next : ℕ) → IsRight job [] store next → last_writes (marked store) ≡ piece_of_job job
-right_ended job store next right = ap last_writes (sym (append-nil (marked store))) ∙ right.writes

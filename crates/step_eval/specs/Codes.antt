@@ -36,9 +36,6 @@ expression_inj (Binary o a b) (Binary q c d) p =
     let right = expression_inj b d (ap (λ g. tail (tail (tail g))) p) in cc
 expression_inj x y p = cc
 
-abbrev pub coded_expression : Coded Expression
-coded_expression = record { code = expression_code; inj = expression_inj }
-
 abbrev mutual
   pub statement_code : Statement → Gv
   statement_code (Assign line array index value) =
