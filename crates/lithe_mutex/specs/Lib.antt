@@ -1,0 +1,3 @@
+pub mod Mutex
+pub mod Order
+pub mod Shared
