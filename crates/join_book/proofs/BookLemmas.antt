@@ -1,0 +1,302 @@
+-- Books: their places, and what is merged of them.
+use Rattle.std.proofs.Common.{◌≡◌, ◌≢◌, ◌⊎◌, inl, inr, ℕ, suc, zero, ◌+◌, add-one, ◌<◌, ◌≤◌, List, [], ◌∷◌, ◌++◌, length, map, Some, None, slice_get, slice_set, get_or, nat_lt, true, refl, sym, ◌∙◌, ap, subst, arith, All, replicate, option_map}
+use borrow.Author.Tests.{ltb-true}
+use Rattle.std.proofs.Math.ListN.{drop}
+use Rattle.std.proofs.Math.Seq.{drop-cons}
+use Rattle.std.proofs.lemmas.Bool.{cases_eq}
+use Rattle.std.proofs.lemmas.List.{length-set, length-replicate, length-drop, drop-drop, map-set}
+use Rattle.std.proofs.lemmas.Option.{slice_get-map, slice_get_within, slice_get_cases, slice_get_read, get_or_from_slice_get}
+use Rattle.array_meaning.specs.Stores.{Write}
+use Rattle.array_meaning.specs.Pieces.{merged, lays, last_writes}
+use Rattle.array_meaning.proofs.LastLemmas.{lays_append}
+use Rattle.array_meaning.proofs.MergeLemmas.{lays_last}
+use Rattle.array_eval.specs.Traces.{Trace, marked, noted, noted_all}
+use Rattle.array_eval.proofs.TraceLemmas.{AreBelow, marked_after, below_of, cells_after}
+use Rattle.array_meaning.proofs.StepLemmas.{length_after}
+use Rattle.array_eval.specs.Overlays.{Laid}
+use Rattle.array_meaning.specs.Stores.{arrays_of, cells_of}
+use Rattle.array_meaning.specs.Touch.{walk}
+use Rattle.array_meaning.specs.Names.{names_of, are_known}
+use Rattle.array_meaning.proofs.InsideLemmas.{names_in, names_in_of}
+use Rattle.array_meaning.proofs.KnownLemmas.{piece_inside}
+use Rattle.array_jobs.specs.Works.{steps_of}
+use Rattle.array_jobs.proofs.FitLemmas.{sized, known}
+use Rattle.array_jobs.specs.Jobs.{JobParts, JobTree, job_of, IsFit, names_around}
+use Rattle.array_jobs.specs.PieceParts.{piece_of_job}
+use Rattle.join_book.specs.declared.place.Place.{Place}
+use Rattle.join_book.specs.declared.place.Place.TheVariants as place
+use Rattle.join_book.specs.Groups.{AreGroup}
+use Rattle.join_book.specs.Books.{BookParts, Mark, Open, Filled, Failed, mark_of, IsKept, HaveCells, IsPlaceOf, open_book, marked_book, filled_pieces}
+
+-- ---- an element of a list that was written
+
+pub at_other : {A : Type 0} → (xs : List A) (i k : ℕ) (x : A) → k ≢ i → slice_get (slice_set xs i x) k ≡ slice_get xs k
+at_other [] i k x h = refl
+at_other (y ∷ xs) zero zero x h = absurd (h refl)
+at_other (y ∷ xs) zero (suc k) x h = refl
+at_other (y ∷ xs) (suc i) zero x h = refl
+at_other (y ∷ xs) (suc i) (suc k) x h = at_other xs i k x (λ e. h (ap suc e))
+
+pub at_same : {A : Type 0} → (xs : List A) (i : ℕ) (x y : A) → slice_get (slice_set xs i x) i ≡ Some y → y ≡ x
+at_same [] i x y h = cc
+at_same (z ∷ xs) zero x y h = cc
+at_same (z ∷ xs) (suc i) x y h = at_same xs i x y h
+
+pub at_replicate : {A : Type 0} → (n i : ℕ) (x y : A) → slice_get (replicate n x) i ≡ Some y → y ≡ x
+at_replicate zero i x y h = cc
+at_replicate (suc n) zero x y h = cc
+at_replicate (suc n) (suc i) x y h = at_replicate n i x y h
+
+-- what `get` of a slice found
+pub got : {A : Type 0} → (xs known : List A) (i place : ℕ) (x : A) → true ≡ nat_lt i (length xs) → x ≡ get_or xs i x → xs ≡ known → i ≡ place →
+    slice_get known place ≡ Some x
+got xs known i place x inside is e f =
+    let at : slice_get xs i ≡ Some x = slice_get_read xs (length xs) i x refl (ltb-true i (length xs) (sym inside)) is in cc
+
+-- ---- places
+
+-- a book, as it is told of what it holds
+abbrev pub told_book : List JobParts → List Place → BookParts
+told_book jobs places = record { jobs = jobs; places = map mark_of places }
+
+-- a job's place is the one that it names
+pub own_place : (jobs : List JobParts) (places : List Mark) → AreGroup jobs → (i : ℕ) (job : JobParts) →
+    IsPlaceOf (record { jobs = jobs; places = places }) i job → i ≡ job.place
+own_place jobs places group i job is = sym (group.places i is.0 is.1) ∙ ap (λ tree. tree.place) is.2
+
+-- where a job's own place isn't its place, none is
+pub no_place : (book : BookParts) (jobs : List JobParts) (places : List Place) → told_book jobs places ≡ book → AreGroup jobs → (job : JobParts) →
+    (IsPlaceOf book job.place job → ⊥) → (i : ℕ) → IsPlaceOf book i job → ⊥
+no_place book jobs places e group job no_own i is =
+    let G : List JobParts → Type 0 = λ js. AreGroup js in
+    let at = own_place book.jobs book.places (subst G (ap (λ b. b.jobs) e) group) i job is in
+    let P : ℕ → Type 0 = λ n. slice_get book.jobs n ≡ Some is.0 in
+    no_own (is.0, subst P at is.1, is.2)
+
+-- no place of a new book is filled
+pub kept_open : (jobs : List JobParts) (places : List Place) → AreGroup jobs → ((i : ℕ) (job : JobParts) → slice_get jobs i ≡ Some job → IsFit (job_of job)) →
+    places ≡ replicate (length jobs) place.Open → IsKept jobs places
+kept_open jobs places group fit e = record {
+  group = group;
+  fit = fit;
+  each = ap length e ∙ length-replicate (length jobs) place.Open;
+  filled = λ i job written own is. let same = at_replicate (length jobs) i place.Open (place.Filled written) (subst (λ (ps : List Place). slice_get ps i ≡ Some (place.Filled written)) e is) in cc;
+}
+
+-- and so it is told
+pub told_open : (jobs : List JobParts) (places : List Place) → places ≡ replicate (length jobs) place.Open → told_book jobs places ≡ open_book jobs
+told_open jobs places e =
+    let f : List Mark → BookParts = λ ms. record { jobs = jobs; places = ms } in
+    ap f (ap (map mark_of) e ∙ map_replicate (length jobs) place.Open)
+  where
+    map_replicate : (n : ℕ) (p : Place) → map mark_of (replicate n p) ≡ replicate n (mark_of p)
+    map_replicate zero p = refl
+    map_replicate (suc n) p = ap (λ ms. mark_of p ∷ ms) (map_replicate n p)
+
+-- a piece of the place's own job is put there
+pub kept_filled : (jobs : List JobParts) (places : List Place) (i : ℕ) (written : Laid) → IsKept jobs places →
+    ((own : JobParts) → slice_get jobs i ≡ Some own → written.pairs ≡ piece_of_job (job_of own)) →
+    IsKept jobs (slice_set places i (place.Filled written))
+kept_filled jobs places i written kept right = record {
+  group = kept.group;
+  fit = kept.fit;
+  each = length-set places i (place.Filled written) ∙ kept.each;
+  filled = λ k job w own is. first_or_other (cases_eq k i) job w own is;
+}
+  where
+    first_or_other : {k : ℕ} → (k ≡ i) ⊎ (k ≢ i) → (job : JobParts) (w : Laid) → slice_get jobs k ≡ Some job →
+        slice_get (slice_set places i (place.Filled written)) k ≡ Some (place.Filled w) → w.pairs ≡ piece_of_job (job_of job)
+    first_or_other {k} (inl e) job w own is =
+        let P : ℕ → Type 0 = λ n. slice_get (slice_set places i (place.Filled written)) n ≡ Some (place.Filled w) in
+        let Q : ℕ → Type 0 = λ n. slice_get jobs n ≡ Some job in
+        let same = at_same places i (place.Filled written) (place.Filled w) (subst P e is) in
+        let is_right = right job (subst Q e own) in cc
+    first_or_other {k} (inr ne) job w own is = kept.filled k job w own (sym (at_other places i k (place.Filled written) ne) ∙ is)
+
+pub kept_failed : (jobs : List JobParts) (places : List Place) (i : ℕ) → IsKept jobs places → IsKept jobs (slice_set places i place.Failed)
+kept_failed jobs places i kept = record {
+  group = kept.group;
+  fit = kept.fit;
+  each = length-set places i place.Failed ∙ kept.each;
+  filled = λ k job w own is. first_or_other (cases_eq k i) job w own is;
+}
+  where
+    first_or_other : {k : ℕ} → (k ≡ i) ⊎ (k ≢ i) → (job : JobParts) (w : Laid) → slice_get jobs k ≡ Some job →
+        slice_get (slice_set places i place.Failed) k ≡ Some (place.Filled w) → w.pairs ≡ piece_of_job (job_of job)
+    first_or_other {k} (inl e) job w own is =
+        let P : ℕ → Type 0 = λ n. slice_get (slice_set places i place.Failed) n ≡ Some (place.Filled w) in
+        let same = at_same places i place.Failed (place.Filled w) (subst P e is) in cc
+    first_or_other {k} (inr ne) job w own is = kept.filled k job w own (sym (at_other places i k place.Failed ne) ∙ is)
+
+-- ---- what is told of places
+
+pub marked_at : (places : List Place) (i : ℕ) (p : Place) → slice_get places i ≡ Some p → slice_get (map mark_of places) i ≡ Some (mark_of p)
+marked_at places i p e = slice_get-map mark_of places i ∙ ap (option_map mark_of) e
+
+-- a place that is read, as a book tells it
+pub seen_mark : (places xs : List Place) (marks : List Mark) (i : ℕ) (p : Place) → map mark_of places ≡ marks → xs ≡ places → i < length xs →
+    p ≡ get_or xs i p → slice_get marks i ≡ Some (mark_of p)
+seen_mark places xs marks i p m e h is =
+    let at = marked_at xs i p (slice_get_read xs (length xs) i p refl h is) in
+    let same : map mark_of xs ≡ marks = ap (map mark_of) e ∙ m in
+    let P : List Mark → Type 0 = λ ms. slice_get ms i ≡ Some (mark_of p) in subst P same at
+
+-- a place that is written, as a book tells it
+pub marked_same : (jobs : List JobParts) (places : List Place) (book : BookParts) (i k : ℕ) (p : Place) →
+    told_book jobs places ≡ book → i ≡ k → told_book jobs (slice_set places i p) ≡ marked_book book k (mark_of p)
+marked_same jobs places book i k p e at =
+    let f : List Mark → BookParts = λ ms. record { jobs = jobs; places = ms } in
+    ap f (map-set mark_of places i p) ∙ ap (λ n. marked_book (told_book jobs places) n (mark_of p)) at ∙ ap (λ b. marked_book b k (mark_of p)) e
+
+-- ---- merging
+
+-- all of them, one after another
+abbrev joined : List (List Write) → List Write
+joined [] = []
+joined (piece ∷ more) = piece ++ joined more
+
+merged_joined : (pieces : List (List Write)) (laid : List Write) → merged pieces laid ≡ lays (joined pieces) laid
+merged_joined [] laid = refl
+merged_joined (piece ∷ more) laid = merged_joined more (lays piece laid) ∙ sym (lays_append piece (joined more) laid)
+
+-- each cell stands once in what is merged
+pub merged_last : (pieces : List (List Write)) → last_writes (merged pieces []) ≡ merged pieces []
+merged_last pieces = ap last_writes (merged_joined pieces []) ∙ lays_last (joined pieces) [] tt ∙ sym (merged_joined pieces [])
+
+-- what a job writes lies inside its store
+pub piece_below : (job : JobTree) → IsFit job → All (λ w. w.0 < length job.store) (piece_of_job job)
+piece_below job fit =
+    let arrays = arrays_of job.arrays in
+    let visited : are_known (names_in arrays) (walk arrays (steps_of job.work job.vars)) ≡ true
+    = rw (names_in_of job.arrays) (known arrays (names_of job.arrays) (names_around job.vars) job.work job.vars fit.known_names) in
+    rw fit.cells (piece_inside arrays (sized job fit).each (steps_of job.work job.vars) job.store visited fit.indices)
+
+-- what is still to be merged, from a place on
+abbrev pub pieces_from : ℕ → List JobParts → List Place → List (List Write)
+pieces_from i jobs places = filled_pieces (drop i jobs) (map mark_of (drop i places))
+
+-- a place that isn't filled adds nothing
+unfilled : (jobs : List JobParts) (p : Place) (places : List Place) → (mark_of p ≡ Filled → ⊥) → 1 ≤ length jobs →
+    filled_pieces jobs (map mark_of (p ∷ places)) ≡ filled_pieces (drop 1 jobs) (map mark_of places)
+unfilled [] p places other h = absurd (omega (arith, h))
+unfilled (job ∷ jobs) place.Open places other h = refl
+unfilled (job ∷ jobs) (place.Filled written) places other h = absurd (other refl)
+unfilled (job ∷ jobs) place.Failed places other h = refl
+
+pub next_unfilled : (jobs : List JobParts) (places : List Place) (i : ℕ) (p : Place) → length places ≡ length jobs → i < length places →
+    p ≡ get_or places i p → (mark_of p ≡ Filled → ⊥) → pieces_from i jobs places ≡ pieces_from (i + 1) jobs places
+next_unfilled jobs places i p e h is other =
+    ap (λ ps. filled_pieces (drop i jobs) (map mark_of ps)) (drop-cons places i p h ∙ ap (λ q. q ∷ drop (suc i) places) (sym is))
+    ∙ unfilled (drop i jobs) p (drop (suc i) places) other (simp length-drop (omega (arith, e, h)))
+    ∙ ap (λ js. filled_pieces js (map mark_of (drop (suc i) places))) (drop-drop 1 i jobs)
+    ∙ rw add-one refl
+
+-- a filled one adds what its job writes
+pub next_filled : (jobs : List JobParts) (places : List Place) (i : ℕ) (written : Laid) (job : JobParts) → IsKept jobs places → i < length places →
+    place.Filled written ≡ get_or places i (place.Filled written) → slice_get jobs i ≡ Some job →
+    pieces_from i jobs places ≡ written.pairs ∷ pieces_from (i + 1) jobs places
+next_filled jobs places i written job kept h is own =
+    let here : place.Filled written ∷ drop (suc i) places ≡ drop i places = sym (drop-cons places i (place.Filled written) h ∙ ap (λ q. q ∷ drop (suc i) places) (sym is)) in
+    let mine : job ∷ drop (suc i) jobs ≡ drop i jobs = sym (drop-cons jobs i job (slice_get_within jobs i job own) ∙ ap (λ q. q ∷ drop (suc i) jobs) (get_or_from_slice_get jobs i job job own)) in
+    let same = kept.filled i job written own (slice_get_read places (length places) i (place.Filled written) refl h is) in
+    rw (← here, ← mine, same, add-one) refl
+
+-- of a full book without a failed place, every piece is merged
+pub all_filled : (jobs : List JobParts) (marks : List Mark) → length marks ≡ length jobs →
+    ((i : ℕ) → slice_get marks i ≡ Some Open → ⊥) → ((i : ℕ) → slice_get marks i ≡ Some Failed → ⊥) →
+    filled_pieces jobs marks ≡ map (λ job. piece_of_job (job_of job)) jobs
+all_filled [] marks e full fine = refl
+all_filled (job ∷ jobs) [] e full fine = absurd (omega (arith, e))
+all_filled (job ∷ jobs) (Open ∷ marks) e full fine = absurd (full zero refl)
+all_filled (job ∷ jobs) (Filled ∷ marks) e full fine =
+    ap (λ more. piece_of_job (job_of job) ∷ more) (all_filled jobs marks (omega (arith, e)) (λ i. full (suc i)) (λ i. fine (suc i)))
+all_filled (job ∷ jobs) (Failed ∷ marks) e full fine = absurd (fine zero refl)
+
+-- ---- merging a place's piece into a store
+
+pub length_marks : (ws : List Write) (t : Trace) → length (noted_all ws t).marks ≡ length t.marks
+length_marks [] t = refl
+length_marks (w ∷ ws) t = length_marks ws (noted w.0 w.1 t) ∙ length-set t.marks w.0 true
+
+-- every filled place's writes lie inside a store of the jobs' size
+pub filled_below : (jobs : List JobParts) (places : List Place) (i : ℕ) (written : Laid) (job : JobParts) (n : ℕ) → IsKept jobs places →
+    slice_get jobs i ≡ Some job → slice_get places i ≡ Some (place.Filled written) → length job.store ≡ n → AreBelow n written.pairs
+filled_below jobs places i written job n kept own at cells =
+    let all = piece_below (job_of job) (kept.fit i job own) in
+    let below = below_of (length job.store) (piece_of_job (job_of job)) all in
+    let P : ℕ → Type 0 = λ m. AreBelow m written.pairs in
+    subst P cells (rw (kept.filled i job written own at) below)
+
+-- what is known of a store while a book is merged into it, with the places before this one done
+pub record IsMerging (book : BookParts) (places : List Place) (i : ℕ) (store first : Trace) : Type 0 where
+  pub cells : length store.cells ≡ length first.cells
+  pub marks : length store.marks ≡ length store.cells
+  pub rest : merged (pieces_from i book.jobs places) (marked store) ≡ merged (filled_pieces book.jobs book.places) (marked first)
+
+pub begins : (book : BookParts) (jobs : List JobParts) (places xs : List Place) (first : Trace) → told_book jobs places ≡ book → xs ≡ places →
+    length first.marks ≡ length first.cells → IsMerging book xs 0 first first
+begins book jobs places xs first e f marks = record {
+  cells = refl;
+  marks = marks;
+  rest = ap (λ ps. merged (filled_pieces book.jobs ps) (marked first)) (ap (map mark_of) f ∙ ap (λ b. b.places) e);
+}
+
+-- a filled place is merged
+pub merge_filled : (jobs : List JobParts) (places : List Place) (i : ℕ) (written : Laid) (before after first : Trace) → IsKept jobs places →
+    HaveCells (told_book jobs places) (length first.cells) → i < length places → place.Filled written ≡ get_or places i (place.Filled written) →
+    after ≡ noted_all written.pairs before →
+    IsMerging (told_book jobs places) places i before first → IsMerging (told_book jobs places) places (i + 1) after first
+merge_filled jobs places i written before after first kept have h is now merging = found (slice_get_cases jobs i).1
+  where
+    found : ((job : JobParts) × (i < length jobs) × (slice_get jobs i ≡ Some job) × (get_or jobs i job ≡ job)) ⊎ ((length jobs ≤ i) × (slice_get jobs i ≡ None)) →
+        IsMerging (told_book jobs places) places (i + 1) after first
+    found (inr past) = let out = past.0 in let each = kept.each in absurd (omega arith)
+    found (inl job) =
+        let at = slice_get_read places (length places) i (place.Filled written) refl h is in
+        let below = filled_below jobs places i written job.0 (length before.cells) kept job.2 at (have i job.0 job.2 ∙ sym merging.cells) in
+        let next = next_filled jobs places i written job.0 kept h is job.2 in
+        let lays_on : marked (noted_all written.pairs before) ≡ lays written.pairs (marked before) = marked_after written.pairs before below (sym merging.marks) in
+        let same_cells : length (noted_all written.pairs before).cells ≡ length before.cells = ap length (cells_after written.pairs before) ∙ length_after written.pairs before.cells in
+        rw now (record {
+          cells = same_cells ∙ merging.cells;
+          marks = length_marks written.pairs before ∙ merging.marks ∙ sym same_cells;
+          rest = rw lays_on (sym (ap (λ ps. merged ps (marked before)) next) ∙ merging.rest);
+        })
+
+-- a place that isn't filled leaves all as it is
+pub merge_unfilled : (jobs : List JobParts) (places : List Place) (i : ℕ) (p : Place) (before after first : Trace) → IsKept jobs places →
+    i < length places → p ≡ get_or places i p → ((written : Laid) → p ≡ place.Filled written → ⊥) → after ≡ before →
+    IsMerging (told_book jobs places) places i before first → IsMerging (told_book jobs places) places (i + 1) after first
+merge_unfilled jobs places i p before after first kept h is other now merging = rw now (record {
+  cells = merging.cells;
+  marks = merging.marks;
+  rest = ap (λ ps. merged ps (marked before)) (sym (next_unfilled jobs places i p kept.each h is (unmarked p other))) ∙ merging.rest;
+})
+  where
+    unmarked : (p : Place) → ((written : Laid) → p ≡ place.Filled written → ⊥) → mark_of p ≡ Filled → ⊥
+    unmarked place.Open other m = cc
+    unmarked (place.Filled written) other m = other written refl
+    unmarked place.Failed other m = cc
+
+-- at the end nothing is left
+pub ends : (book : BookParts) (xs : List Place) (i : ℕ) (store first : Trace) → length xs ≤ i → IsMerging book xs i store first →
+    marked store ≡ merged (filled_pieces book.jobs book.places) (marked first)
+ends book xs i store first h merging = sym (ap (λ ps. merged ps (marked store)) (none_left (drop i book.jobs) (drop i xs) (simp length-drop (omega (arith, h))))) ∙ merging.rest
+  where
+    none_left : (jobs : List JobParts) (places : List Place) → length places ≤ 0 → filled_pieces jobs (map mark_of places) ≡ []
+    none_left [] places h = refl
+    none_left (job ∷ jobs) [] h = refl
+    none_left (job ∷ jobs) (p ∷ places) h = absurd (omega (arith, h))
+
+-- what holds of a book and its places as they lie in memory holds of it as it is told
+pub carried : (jobs : List JobParts) (places : List Place) (book : BookParts) (xs : List Place) (P : BookParts → List Place → Type 0) →
+    told_book jobs places ≡ book → xs ≡ places → P (told_book jobs places) places → P book xs
+carried jobs places book xs P e f h = subst (λ (ps : List Place). P book ps) (sym f) (subst (λ (b : BookParts). P b places) e h)
+
+-- ---- all of a book
+
+-- the jobs' stores are of one size
+pub same_size : (jobs : List JobParts) → AreGroup jobs → ((i : ℕ) (job : JobParts) → slice_get jobs i ≡ Some job → IsFit (job_of job)) →
+    (i k : ℕ) (a b : JobParts) → slice_get jobs i ≡ Some a → slice_get jobs k ≡ Some b → length a.store ≡ length b.store
+same_size jobs group fit i k a b at there =
+    (fit i a at).cells ∙ ap (λ ds. cells_of (arrays_of ds)) (group.one_phase i k a b at there).arrays ∙ sym (fit k b there).cells

@@ -1,0 +1,6 @@
+use Rattle.std.proofs.Common.{◌≡◌, ℕ, ◌<◌, slice_get, Some}
+use Rattle.join_book.specs.Books.{Failed}
+use Rattle.join_book.proofs.book.Book.has_failed.Given as goal
+
+abbrev pub invariant-loop-place : goal.invariant-loop-place
+invariant-loop-place l = (i : ℕ) → i < l.place-index → slice_get l.self.places i ≡ Some Failed → ⊥

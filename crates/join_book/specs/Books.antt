@@ -1,0 +1,84 @@
+-- A book: jobs, and for each a place for its piece.
+use Rattle.std.specs.Prelude.{◌≡◌, ℕ, List, [], ◌∷◌, length, map, slice_get, slice_set, replicate, Some}
+use Rattle.array_meaning.specs.Stores.{Write}
+use Rattle.array_meaning.specs.Pieces.{merged}
+use Rattle.array_eval.specs.Overlays.{Laid}
+use Rattle.array_jobs.specs.Jobs.{JobParts, job_of, IsFit}
+use Rattle.array_jobs.specs.PieceParts.{PieceParts, piece_of_job}
+use Rattle.join_book.specs.declared.place.Place.{Place}
+use Rattle.join_book.specs.declared.place.Place.TheVariants as place
+use Rattle.join_book.specs.declared.book.Deposit.{Deposit}
+use Rattle.join_book.specs.declared.book.Deposit.TheVariants.{Kept, Double, Stranger}
+use Rattle.join_book.specs.Groups.{AreGroup}
+
+-- A place is open, or it has the piece of its own job, or its piece found no memory.
+pub data Mark : Type 0 where
+  Open : Mark
+  Filled : Mark
+  Failed : Mark
+
+pub record BookParts : Type 0 where
+  pub jobs : List JobParts
+  pub places : List Mark
+
+abbrev pub mark_of : Place → Mark
+mark_of place.Open = Open
+mark_of (place.Filled written) = Filled
+mark_of place.Failed = Failed
+
+-- What the type keeps: the jobs are a group of fit jobs, each has a place, and what a place is filled with is what its job writes.
+pub record IsKept (jobs : List JobParts) (places : List Place) : Type 0 where
+  pub group : AreGroup jobs
+  pub fit : (i : ℕ) (job : JobParts) → slice_get jobs i ≡ Some job → IsFit (job_of job)
+  pub each : length places ≡ length jobs
+  pub filled : (i : ℕ) (job : JobParts) (written : Laid) → slice_get jobs i ≡ Some job → slice_get places i ≡ Some (place.Filled written) →
+      written.pairs ≡ piece_of_job (job_of job)
+
+-- The book of jobs none of which is done.
+abbrev pub open_book : List JobParts → BookParts
+open_book jobs = record { jobs = jobs; places = replicate (length jobs) Open }
+
+-- The place is marked so.
+abbrev pub IsMarked : BookParts → ℕ → Mark → Type 0
+IsMarked book i mark = slice_get book.places i ≡ Some mark
+
+-- The place is the job's own.
+abbrev pub IsPlaceOf : BookParts → ℕ → JobParts → Type 0
+IsPlaceOf book i job = (own : JobParts) × (slice_get book.jobs i ≡ Some own) × (job_of own ≡ job_of job)
+
+abbrev pub marked_book : BookParts → ℕ → Mark → BookParts
+marked_book book i mark = record book { places = slice_set book.places i mark }
+
+-- Every place is filled or failed.
+abbrev pub IsFull : BookParts → Type 0
+IsFull book = (i : ℕ) → ¬ IsMarked book i Open
+
+-- The piece of some place found no memory.
+abbrev pub HasFailed : BookParts → Type 0
+HasFailed book = (i : ℕ) × IsMarked book i Failed
+
+-- What the jobs of the filled places write, in the order of their places.
+abbrev pub filled_pieces : List JobParts → List Mark → List (List Write)
+filled_pieces [] marks = []
+filled_pieces (job ∷ jobs) [] = []
+filled_pieces (job ∷ jobs) (Open ∷ marks) = filled_pieces jobs marks
+filled_pieces (job ∷ jobs) (Filled ∷ marks) = piece_of_job (job_of job) ∷ filled_pieces jobs marks
+filled_pieces (job ∷ jobs) (Failed ∷ marks) = filled_pieces jobs marks
+
+-- Each job starts from a store with as many cells.
+abbrev pub HaveCells : BookParts → ℕ → Type 0
+HaveCells book cells = (i : ℕ) (job : JobParts) → slice_get book.jobs i ≡ Some job → length job.store ≡ cells
+
+-- What all jobs write, merged in the order of their places.
+abbrev pub all_writes : BookParts → List Write
+all_writes book = merged (map (λ job. piece_of_job (job_of job)) book.jobs) []
+
+-- Of a book and a piece, the answer and the book afterwards. A piece goes to the place of its own job, if that is open.
+abbrev pub Deposits : BookParts → PieceParts → Deposit → BookParts → Type 0
+Deposits before piece Kept after =
+    IsPlaceOf before piece.job.place piece.job × IsMarked before piece.job.place Open
+    × (after ≡ marked_book before piece.job.place Filled)
+Deposits before piece (Double back) after =
+    IsPlaceOf before piece.job.place piece.job × (¬ IsMarked before piece.job.place Open) × (back ≡ piece) × (after ≡ before)
+Deposits before piece (Stranger back) after =
+    ((i : ℕ) → ¬ IsPlaceOf before i piece.job) × (back ≡ piece) × (after ≡ before)

@@ -1,0 +1,186 @@
+//! Books.
+ghost use Rattle.std.specs.Prelude.{◌≡◌, ◌↔◌, IsTrue, IfOk, IsErr, length, replicate, slice_get, Some, ℕ};
+ghost use Rattle.array_meaning.specs.Pieces.{merged};
+ghost use Rattle.array_eval.specs.Traces.{marked};
+ghost use Rattle.join_book.specs.Books.{Open, Failed, open_book, IsMarked, IsFull, HasFailed, HaveCells, IsPlaceOf, Deposits, marked_book, filled_pieces, all_writes};
+ghost use Rattle.array_jobs.specs.Jobs.{JobParts, IsFit, job_of};
+ghost use Rattle.join_book.specs.declared.place.Place.TheVariants as place;
+ghost use Rattle.join_book.specs.Groups.{AreGroup};
+
+use crate::place::Place;
+use array_eval::{MarkedStore, Overlay};
+use array_jobs::{Job, Piece};
+use std::alloc::{AllocError, Global};
+use std::marker::Model;
+
+/// What came of a deposit.
+#[derive(Debug, Drop)]
+pub enum Deposit<'p> {
+    /// The piece is kept at the place of its job.
+    Kept,
+    /// The place of the piece's job is filled, or it has failed. The piece is given back.
+    Double(Piece<'p>),
+    /// No place has the piece's job. The piece is given back.
+    Stranger(Piece<'p>),
+}
+
+/// The jobs of one phase of a construct, and for each a place for its piece.
+///
+/// Contracts see the jobs, and which places are open, filled or failed. The type keeps that a place is filled with
+/// what its own job writes.
+#[derive(Debug, Drop)]
+pub struct Book<'p> {
+    alloc: Global,
+    jobs: Vec<Job<'p>>,
+    places: Vec<Place>,
+}
+
+impl<'p> Model for Book<'p> {
+    ghost use Rattle.std.specs.Coded.{codes};
+    ghost use Rattle.std.specs.Prelude.{map};
+    ghost use Rattle.array_tree.specs.contracts.tree.Arrays as arrays_type;
+    ghost use Rattle.array_tree.specs.contracts.tree.Block as block_type;
+    ghost use Rattle.join_book.specs.Books.{BookParts, IsKept, mark_of};
+
+    ghost Value = { BookParts };
+
+    ghost coded = { Prim.hlevel (codes, arrays_type.the_row.coded, block_type.the_row.coded) };
+
+    ghost view = { λ book. record { jobs = book.jobs.items; places = map mark_of book.places.items } };
+
+    ghost invariant = { λ book. IsKept book.jobs.items book.places.items };
+}
+
+impl<'p> Book<'p> {
+    /// A book of these jobs, whose places are open. They are one to 64 jobs of one site and one phase, each at the
+    /// place that it names. Of the calls below only `take_all` takes memory.
+    pub fn new(alloc: Global, jobs: Vec<Job<'p>>) -> Result<Book<'p>, AllocError>
+        requires { AreGroup jobs.items }
+        ensures { IfOk result (λ book. book ≡ open_book jobs.entry.items) }
+    {
+        let places = open_places(alloc, &jobs)?;
+        Ok(Book {
+            alloc,
+            jobs,
+            places,
+        })
+    }
+
+    /// The jobs, in the order of their places.
+    pub fn jobs(&self) -> &[Job<'p>]
+        ensures { result.now ≡ self.now.jobs }
+    {
+        &self.jobs
+    }
+
+    /// Whether the place is there and its piece is still to come.
+    pub fn is_open(&self, place: u8) -> bool
+        ensures { IsTrue result ↔ IsMarked self.now place Open }
+    {
+        match self.places.get(usize::from(place)) {
+            Some(place) => place.is_open(),
+            None => false,
+        }
+    }
+
+    /// Keeps a piece at the place of its job.
+    pub fn deposit(&mut self, piece: Piece<'p>) -> Deposit<'p>
+        ensures { Deposits self.old piece.entry result self.new }
+    {
+        let place = piece.job.place;
+        if !self.is_place_of(place, &piece.job) {
+            return Deposit::Stranger(piece);
+        }
+        if !self.is_open(place) {
+            return Deposit::Double(piece);
+        }
+        let Piece { job: _, written } = piece;
+        self.places[usize::from(place)] = Place::Filled(written);
+        Deposit::Kept
+    }
+
+    /// Marks a place whose piece found no memory. The place must be open.
+    pub fn fail(&mut self, place: u8)
+        requires { IsMarked self.old place Open }
+        ensures { self.new ≡ marked_book self.old place Failed }
+    {
+        self.places[usize::from(place)] = Place::Failed;
+    }
+
+    /// Whether every place is filled or failed.
+    pub fn is_full(&self) -> bool
+        ensures { IsTrue result ↔ IsFull self.now }
+    {
+        for place in &self.places {
+            if place.is_open() {
+                return false;
+            }
+        }
+        true
+    }
+
+    /// Whether the piece of some place found no memory.
+    pub fn has_failed(&self) -> bool
+        ensures { IsTrue result ↔ HasFailed self.now }
+    {
+        for place in &self.places {
+            if place.is_failed() {
+                return true;
+            }
+        }
+        false
+    }
+
+    /// Merges the pieces of the filled places into a store, in the order of their places. The store must have as many
+    /// cells as those of the jobs. It takes no memory.
+    pub fn merge_into(&self, store: &mut MarkedStore)
+        requires cells { HaveCells self.now (length store.old.cells) }
+        requires marks { length store.old.marks ≡ length store.old.cells }
+        ensures marks { marked store.new ≡ merged (filled_pieces self.now.jobs self.now.places) (marked store.old) }
+        ensures cells { length store.new.cells ≡ length store.old.cells }
+    {
+        for place in &self.places {
+            if let Place::Filled(written) = place {
+                store.merge(written);
+            }
+        }
+    }
+
+    /// The writes of all pieces, merged in the order of their places. The book must be full; where a place has failed,
+    /// the answer is want of memory.
+    pub fn take_all(self) -> Result<Overlay, AllocError>
+        requires { IsFull self }
+        ensures failed { HasFailed self.entry → IsErr result }
+        ensures written { IfOk result (λ overlay. overlay.pairs ≡ all_writes self.entry) }
+    {
+        if self.has_failed() {
+            return Err(AllocError);
+        }
+        let mut store = MarkedStore::new(self.alloc, &self.jobs[0].store)?;
+        self.merge_into(&mut store);
+        store.written(self.alloc)
+    }
+
+    // Whether the place is that of the job.
+    fn is_place_of(&self, place: u8, job: &Job) -> bool
+        ensures { IsTrue result ↔ IsPlaceOf self.now place job.now }
+    {
+        match self.jobs.get(usize::from(place)) {
+            Some(own) => *own == *job,
+            None => false,
+        }
+    }
+}
+
+// An open place for each job. The jobs are read, since each one that is there is fit.
+fn open_places(alloc: Global, jobs: &[Job]) -> Result<Vec<Place>, AllocError>
+    ensures all_open { IfOk result (λ places. places.items ≡ replicate (length jobs.now) place.Open) }
+    ensures fit { IfOk result (λ _. (i : ℕ) → (job : JobParts) → slice_get jobs.now i ≡ Some job → IsFit (job_of job)) }
+{
+    let mut places = Vec::with_capacity(alloc, jobs.len())?;
+    for job in jobs {
+        let _place = job.place;
+        places.push(Place::Open)?;
+    }
+    Ok(places)
+}

@@ -1,0 +1,30 @@
+//! Places for pieces.
+ghost use Rattle.std.specs.Prelude.{◌≡◌, ◌↔◌, IsTrue};
+ghost use Rattle.join_book.specs.Books.{Open, Failed, mark_of};
+
+use array_eval::Overlay;
+
+// One place of a book.
+#[derive(Debug, Drop)]
+pub(crate) enum Place {
+    // Its piece hasn't come.
+    Open,
+    // What the place's job writes.
+    Filled(Overlay),
+    // Its piece found no memory.
+    Failed,
+}
+
+impl Place {
+    pub(crate) fn is_open(&self) -> bool
+        ensures { IsTrue result ↔ (mark_of self.now ≡ Open) }
+    {
+        matches!(self, Place::Open)
+    }
+
+    pub(crate) fn is_failed(&self) -> bool
+        ensures { IsTrue result ↔ (mark_of self.now ≡ Failed) }
+    {
+        matches!(self, Place::Failed)
+    }
+}
