@@ -22,6 +22,3 @@ pub use scope::{LoopVar, Scope};
 pub use store::Store;
 pub use value::{evaluate, is_dynamic};
 pub use vars::Vars;
-
-#[cfg(test)]
-mod tests;

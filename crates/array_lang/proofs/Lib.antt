@@ -6,3 +6,4 @@ pub mod Whole
 pub mod Nested
 pub mod Places
 pub mod OneProgram
+pub mod OneFault

@@ -63,7 +63,7 @@ first_prefix false (Some j) o' k e h =
     let s : j + 1 ≡ k = cc in
     ap later (h j (omega (arith, s)) refl) ∙ ap Some s
 
-scan_prefix : (r : Reach) (depth : ℕ) (ts : List Spot) (k : ℕ) (more : List Spot) → nested_at r depth ts ≡ Some k → nested_at r depth (take (suc k) ts ++ more) ≡ Some k
+pub scan_prefix : (r : Reach) (depth : ℕ) (ts : List Spot) (k : ℕ) (more : List Spot) → nested_at r depth ts ≡ Some k → nested_at r depth (take (suc k) ts ++ more) ≡ Some k
 scan_prefix r depth [] k more e = cc
 scan_prefix r depth (t ∷ ts) k more e =
     first_prefix (is_over (depth_after depth t.lexeme) (reach_after r t.lexeme)) (nested_at (reach_after r t.lexeme) (depth_after depth t.lexeme) ts) (nested_at (reach_after r t.lexeme) (depth_after depth t.lexeme) (take k ts ++ more)) k e

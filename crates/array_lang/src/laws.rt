@@ -1,11 +1,13 @@
 //! Laws of the language. They are proved, and do nothing where they are called.
 
-ghost use Rattle.std.specs.Prelude.{◌≡◌, ◌↔◌, ℕ, List, None, IsTrue};
+ghost use Rattle.std.specs.Prelude.{◌≡◌, ◌≢◌, ◌↔◌, ℕ, List, None, IsTrue};
 ghost use Rattle.array_tokens.specs.Lexemes.{Spot};
 ghost use Rattle.array_tree.specs.Trees.{ProgramTree};
 ghost use Rattle.array_lang.specs.Grammar.{SpellsProgram};
 ghost use Rattle.array_lang.specs.Nesting.{first_beyond, program_fits};
-ghost use Rattle.array_lang.specs.Spelled.{Spells};
+ghost use Rattle.array_lang.specs.Spelled.{Spells, HasFault};
+ghost use Rattle.array_lang.specs.declared.fault.SyntaxFault.{SyntaxFault};
+ghost use Rattle.array_lang.specs.declared.fault.SyntaxFault.TheVariants.{Memory};
 
 /// No text spells two programs.
 pub fn one_program()
@@ -16,4 +18,10 @@ pub fn one_program()
 pub fn bounds_are_kept()
     ensures { (tokens : List Spot) (p : ProgramTree) (d : SpellsProgram tokens p) →
         (first_beyond d ≡ None) ↔ IsTrue (program_fits d) }
+{}
+
+/// Besides want of memory, a text has at most one fault, and none where it spells a program.
+pub fn one_fault()
+    ensures one { (text : List ℕ) (f g : SyntaxFault) → HasFault text f → HasFault text g → f ≢ Memory → g ≢ Memory → f ≡ g }
+    ensures none { (text : List ℕ) (p : ProgramTree) (f : SyntaxFault) → Spells text p → HasFault text f → f ≡ Memory }
 {}

@@ -16,10 +16,8 @@ mod ranges;
 mod spelling;
 mod statements;
 mod stop;
-#[cfg(test)]
-mod tests;
 
 pub use array_tree::{ArrayDecl, Arrays, Block, Blocks, Expr, Name, Op, Program, Stmt};
 pub use fault::SyntaxFault;
-pub use laws::{bounds_are_kept, one_program};
+pub use laws::{bounds_are_kept, one_fault, one_program};
 pub use spelling::parse;

@@ -6,6 +6,7 @@ pub mod LastLemmas
 pub mod OrderLemmas
 pub mod MemberLemmas
 pub mod OverlapLemmas
+pub mod ClashCells
 pub mod MergeLemmas
 pub mod PlanLemmas
 pub mod CellLemmas

@@ -86,17 +86,17 @@ same_pieces ps qs k to from agree = cases (last_value (concat ps) k) (last_value
         let q = from_some qs k v f in
         ap (λ x. Some x) (agree p.0 q.0 p.1 (from q.0 q.1) u v p.2 q.2)
 
-member_map : {A B : Type 0} (f : A → B) (xs : List A) (y : B) → IsMember y (map f xs) → (x : A) × IsMember x xs × (f x ≡ y)
+pub member_map : {A B : Type 0} (f : A → B) (xs : List A) (y : B) → IsMember y (map f xs) → (x : A) × IsMember x xs × (f x ≡ y)
 member_map f [] y m = absurd m
 member_map f (x ∷ xs) y (inl e) = (x, inl refl, e)
 member_map f (x ∷ xs) y (inr m) = let r = member_map f xs y m in (r.0, inr r.1, r.2)
 
-map_member : {A B : Type 0} (f : A → B) (xs : List A) (x : A) → IsMember x xs → IsMember (f x) (map f xs)
+pub map_member : {A B : Type 0} (f : A → B) (xs : List A) (x : A) → IsMember x xs → IsMember (f x) (map f xs)
 map_member f [] x m = absurd m
 map_member f (y ∷ xs) x (inl e) = inl (ap f e)
 map_member f (y ∷ xs) x (inr m) = inr (map_member f xs x m)
 
-members_map : {A B : Type 0} (f : A → B) (xs ys : List A) → ((x : A) → IsMember x xs → IsMember x ys) → (y : B) → IsMember y (map f xs) → IsMember y (map f ys)
+pub members_map : {A B : Type 0} (f : A → B) (xs ys : List A) → ((x : A) → IsMember x xs → IsMember x ys) → (y : B) → IsMember y (map f xs) → IsMember y (map f ys)
 members_map f xs ys to y m =
     let r = member_map f xs y m in
     subst (λ z. IsMember z (map f ys)) r.2 (map_member f ys r.0 (to r.0 r.1))

@@ -8,23 +8,23 @@ use Rattle.array_meaning.specs.Steps.{Steps}
 use Rattle.array_meaning.specs.Touch.{Visit, walk, Covers, Touches, IsSeparateFrom, IsApart}
 use Rattle.array_meaning.specs.Overlap.{covers, changed, read, overlaps}
 
-or_left : (a b : Bool) → a ≡ true → (a || b) ≡ true
+pub or_left : (a b : Bool) → a ≡ true → (a || b) ≡ true
 or_left true b e = refl
 or_left false b e = absurd (false≢true e)
 
-or_right : (a b : Bool) → b ≡ true → (a || b) ≡ true
+pub or_right : (a b : Bool) → b ≡ true → (a || b) ≡ true
 or_right true b e = refl
 or_right false b e = e
 
-or_either : (a b : Bool) → (a || b) ≡ true → (a ≡ true) ⊎ (b ≡ true)
+pub or_either : (a b : Bool) → (a || b) ≡ true → (a ≡ true) ⊎ (b ≡ true)
 or_either true b e = inl refl
 or_either false b e = inr e
 
-or_none : (a b : Bool) → (a || b) ≡ false → (a ≡ false) × (b ≡ false)
+pub or_none : (a b : Bool) → (a || b) ≡ false → (a ≡ false) × (b ≡ false)
 or_none true b e = absurd (false≢true (sym e))
 or_none false b e = (refl, e)
 
-and_none : (a b : Bool) → (a && b) ≡ false → a ≡ true → b ≡ false
+pub and_none : (a b : Bool) → (a && b) ≡ false → a ≡ true → b ≡ false
 and_none true b e h = e
 and_none false b e h = absurd (false≢true h)
 
@@ -32,15 +32,15 @@ none_and : (a b : Bool) → (a ≡ true → b ≡ false) → (a && b) ≡ false
 none_and true b h = h refl
 none_and false b h = refl
 
-is_false : (a : Bool) → (a ≡ true → ⊥) → a ≡ false
+pub is_false : (a : Bool) → (a ≡ true → ⊥) → a ≡ false
 is_false true h = absurd (h refl)
 is_false false h = refl
 
-and_both : (a b : Bool) → (a && b) ≡ true → (a ≡ true) × (b ≡ true)
+pub and_both : (a b : Bool) → (a && b) ≡ true → (a ≡ true) × (b ≡ true)
 and_both true b e = (refl, e)
 and_both false b e = absurd (false≢true e)
 
-both_and : (a b : Bool) → a ≡ true → b ≡ true → (a && b) ≡ true
+pub both_and : (a b : Bool) → a ≡ true → b ≡ true → (a && b) ≡ true
 both_and true b e f = f
 both_and false b e f = absurd (false≢true e)
 
@@ -58,7 +58,7 @@ none_or : (a b : Bool) → a ≡ false → b ≡ false → (a || b) ≡ false
 none_or true b e f = absurd (false≢true (sym e))
 none_or false b e f = f
 
-fewer : (x y a a' b b' : Bool) → (x && ((b || b') || (a || a')) || y && (a || a')) ≡ false →
+pub fewer : (x y a a' b b' : Bool) → (x && ((b || b') || (a || a')) || y && (a || a')) ≡ false →
     ((x && (b || a) || y && a) ≡ false) × ((x && (b' || a') || y && a') ≡ false)
 fewer x y a a' b b' e =
     let parts = or_none (x && ((b || b') || (a || a'))) (y && (a || a')) e in
@@ -69,7 +69,7 @@ fewer x y a a' b b' e =
       none_or (x && (b' || a')) (y && a') (none_and x (b' || a') (λ h. none_or b' a' (bs h).1 (as' h).1)) (none_and y a' (λ h. (ys h).1)),
     )
 
-more : (x y a a' b b' : Bool) → (x && (b || a) || y && a) ≡ false → (x && (b' || a') || y && a') ≡ false →
+pub more : (x y a a' b b' : Bool) → (x && (b || a) || y && a) ≡ false → (x && (b' || a') || y && a') ≡ false →
     (x && ((b || b') || (a || a')) || y && (a || a')) ≡ false
 more x y a a' b b' e f =
     let p = or_none (x && (b || a)) (y && a) e in
@@ -90,26 +90,26 @@ module _ (arrays : Arrays) where
   covers_from name (Some i) c h = grind (arith, nat_tests)
   covers_from name None c h = range_in (base_of arrays name) (base_of arrays name + length_of arrays name) c h.0 h.1
 
-  changed_to : (vs : List Visit) (c : ℕ) → changed arrays vs c ≡ true → Touches arrays true vs c
+  pub changed_to : (vs : List Visit) (c : ℕ) → changed arrays vs c ≡ true → Touches arrays true vs c
   changed_to [] c e = absurd (false≢true e)
   changed_to (v ∷ vs) c e = ⊎_elim
       (λ h. let both = and_both v.writes (covers arrays v.array v.index c) h in inl (both.0, covers_to v.array v.index c both.1))
       (λ t. inr (changed_to vs c t))
       (or_either (v.writes && covers arrays v.array v.index c) (changed arrays vs c) e)
 
-  changed_from : (vs : List Visit) (c : ℕ) → Touches arrays true vs c → changed arrays vs c ≡ true
+  pub changed_from : (vs : List Visit) (c : ℕ) → Touches arrays true vs c → changed arrays vs c ≡ true
   changed_from [] c h = absurd h
   changed_from (v ∷ vs) c (inl h) = or_left (v.writes && covers arrays v.array v.index c) (changed arrays vs c) (both_and v.writes (covers arrays v.array v.index c) h.0 (covers_from v.array v.index c h.1))
   changed_from (v ∷ vs) c (inr h) = or_right (v.writes && covers arrays v.array v.index c) (changed arrays vs c) (changed_from vs c h)
 
-  read_to : (vs : List Visit) (c : ℕ) → read arrays vs c ≡ true → Touches arrays false vs c
+  pub read_to : (vs : List Visit) (c : ℕ) → read arrays vs c ≡ true → Touches arrays false vs c
   read_to [] c e = absurd (false≢true e)
   read_to (v ∷ vs) c e = ⊎_elim
       (λ h. let both = and_both (not v.writes) (covers arrays v.array v.index c) h in inl (not_true v.writes both.0, covers_to v.array v.index c both.1))
       (λ t. inr (read_to vs c t))
       (or_either (not v.writes && covers arrays v.array v.index c) (read arrays vs c) e)
 
-  read_from : (vs : List Visit) (c : ℕ) → Touches arrays false vs c → read arrays vs c ≡ true
+  pub read_from : (vs : List Visit) (c : ℕ) → Touches arrays false vs c → read arrays vs c ≡ true
   read_from [] c h = absurd h
   read_from (v ∷ vs) c (inl h) = or_left (not v.writes && covers arrays v.array v.index c) (read arrays vs c) (both_and (not v.writes) (covers arrays v.array v.index c) (ap not h.0) (covers_from v.array v.index c h.1))
   read_from (v ∷ vs) c (inr h) = or_right (not v.writes && covers arrays v.array v.index c) (read arrays vs c) (read_from vs c h)

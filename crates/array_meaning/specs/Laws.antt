@@ -1,11 +1,11 @@
 -- The laws of the meaning.
-use Rattle.std.specs.Prelude.{◌≡◌, ℕ, ◌<◌, false, List, [], map, length, ℤ}
+use Rattle.std.specs.Prelude.{◌≡◌, ◌↔◌, ℕ, ◌<◌, true, false, List, [], map, length, ℤ}
 use Rattle.array_tree.specs.Trees.{Par, Sequence, Sequences, ProgramTree}
 use Rattle.array_meaning.specs.Stores.{Arrays, Vars, Store, HaveCells, at_cell}
 use Rattle.array_meaning.specs.Steps.{Steps, join, writes_of}
 use Rattle.array_meaning.specs.Work.{Work, loop, statement_work}
 use Rattle.array_meaning.specs.Touch.{IsApart, reads_of}
-use Rattle.array_meaning.specs.Overlap.{overlaps}
+use Rattle.array_meaning.specs.Overlap.{overlaps, overlap, IsClash, IsLeastClash}
 use Rattle.array_meaning.specs.Members.{team_works}
 use Rattle.array_meaning.specs.Sites.{branch_works, sequence_sites}
 use Rattle.array_meaning.specs.Pieces.{merged, piece_of, last_writes, HaveSameMembers}
@@ -44,6 +44,14 @@ pub record IsApartByTest (arrays : Arrays) (pieces : List Steps) : Type 0 where
 
 abbrev pub ApartIsTested : Type 0
 ApartIsTested = (arrays : Arrays) (pieces : List Steps) → IsApartByTest arrays pieces
+
+-- A cell passes the test of an overlap exactly where two different pieces clash on it.
+abbrev pub ClashesAreTested : Type 0
+ClashesAreTested = (arrays : Arrays) (pieces : List Steps) (cell : ℕ) → (overlaps arrays false false pieces cell ≡ true) ↔ IsClash arrays pieces cell
+
+-- The cell that is told of an overlap is the least one on which two different pieces clash.
+abbrev pub LeastClashIsTold : Type 0
+LeastClashIsTold = (arrays : Arrays) (cells : ℕ) (pieces : List Steps) → IsLeastClash arrays cells pieces (overlap arrays cells pieces)
 
 -- In a plan the parent of a site comes before it, and there are as many sites as the program enters.
 pub record IsPlanOf (program : ProgramTree) (plan : List ℕ) : Type 0 where

@@ -1,8 +1,8 @@
 -- The least cell on which two pieces of a round overlap, by a test.
-use Rattle.std.specs.Prelude.{ℕ, zero, suc, ◌+◌, Bool, false, not, ◌&&◌, ◌||◌, List, [], ◌∷◌, Option, Some, None, ℤ, nat_eq, nat_lt, nat_le, if◌then◌else◌}
+use Rattle.std.specs.Prelude.{◌≡◌, ◌≢◌, ℕ, zero, suc, ◌+◌, ◌<◌, Bool, false, not, ◌&&◌, ◌||◌, List, [], ◌∷◌, Option, Some, None, ℤ, ◌⊎◌, nat_eq, nat_lt, nat_le, slice_get, if◌then◌else◌}
 use Rattle.array_meaning.specs.Stores.{Arrays, base_of, length_of, cell_of}
 use Rattle.array_meaning.specs.Steps.{Steps}
-use Rattle.array_meaning.specs.Touch.{Visit, walk}
+use Rattle.array_meaning.specs.Touch.{Visit, walk, reads_of, changes_of}
 
 -- Whether an index of an array touches the cell.
 abbrev pub covers : Arrays → List ℕ → Option ℤ → ℕ → Bool
@@ -34,3 +34,21 @@ first_from test i (suc k) = if test i then Some i else first_from test (i + 1) k
 -- The least of so many cells on which two pieces overlap.
 abbrev pub overlap : Arrays → ℕ → List Steps → Option ℕ
 overlap arrays cells pieces = first_from (overlaps arrays false false pieces) 0 cells
+
+-- Two different pieces clash on the cell: one changes it, and the other reads or changes it.
+pub record IsClash (arrays : Arrays) (pieces : List Steps) (cell : ℕ) : Type 0 where
+  pub i : ℕ
+  pub j : ℕ
+  pub one : Steps
+  pub other : Steps
+  pub different : i ≢ j
+  pub at_i : slice_get pieces i ≡ Some one
+  pub at_j : slice_get pieces j ≡ Some other
+  pub changes : changes_of arrays one cell
+  pub touches : reads_of arrays other cell ⊎ changes_of arrays other cell
+
+-- It is the least of so many cells on which two different pieces clash, or they clash on none.
+abbrev pub IsLeastClash : Arrays → ℕ → List Steps → Option ℕ → Type 0
+IsLeastClash arrays cells pieces None = (cell : ℕ) → cell < cells → ¬ IsClash arrays pieces cell
+IsLeastClash arrays cells pieces (Some told) =
+    (told < cells) × IsClash arrays pieces told × ((cell : ℕ) → cell < told → ¬ IsClash arrays pieces cell)

@@ -3,7 +3,7 @@
 //! The crate holds definitions and laws. No code here runs: each function's contract is a law, and its body is empty.
 #![tactic(auto)]
 
-ghost use Rattle.array_meaning.specs.Laws.{WritesDependOnReads, ArePiecesIndependent, AreBranchesIndependent, AreMembersIndependent, ApartIsTested, PlansAreRight, SitesArePlanned};
+ghost use Rattle.array_meaning.specs.Laws.{WritesDependOnReads, ArePiecesIndependent, AreBranchesIndependent, AreMembersIndependent, ApartIsTested, ClashesAreTested, LeastClashIsTold, PlansAreRight, SitesArePlanned};
 
 /// What steps write depends only on what they read.
 pub fn writes_depend_on_reads()
@@ -28,6 +28,16 @@ pub fn members_are_independent()
 /// Pieces are apart exactly where no cell passes the test of an overlap.
 pub fn apart_is_tested()
     ensures { ApartIsTested }
+{}
+
+/// A cell passes the test of an overlap exactly where one piece changes it and another reads or changes it.
+pub fn clashes_are_tested()
+    ensures { ClashesAreTested }
+{}
+
+/// The cell that is told of an overlap is the least one on which two different pieces clash.
+pub fn least_clash_is_told()
+    ensures { LeastClashIsTold }
 {}
 
 /// In the plan of a program each parent comes before its site, and each site that the program enters has one.

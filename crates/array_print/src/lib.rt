@@ -5,8 +5,6 @@ mod expressions;
 mod laws;
 mod program;
 mod statements;
-#[cfg(test)]
-mod tests;
 
 pub use laws::printed_text_spells;
 pub use program::print;

@@ -3,8 +3,6 @@
 
 mod equal;
 mod name;
-#[cfg(test)]
-mod tests;
 mod tree;
 
 pub use name::Name;

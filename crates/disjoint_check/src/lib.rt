@@ -21,6 +21,3 @@ pub use checker::check;
 pub use counts::{sites_in_block, sites_in_statement, sites_in_turns};
 pub use fault::{CheckFault, Limit};
 pub use laws::{conditions_are_checked, conditions_are_tested};
-
-#[cfg(test)]
-mod tests;

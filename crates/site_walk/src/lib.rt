@@ -16,6 +16,3 @@ mod walk;
 pub use fault::WalkFault;
 pub use laws::{outsides_are_found, overlaps_are_found};
 pub use walk::walk_program;
-
-#[cfg(test)]
-mod tests;

@@ -1,0 +1,23 @@
+//! Tests of the language's crates, through their public calls alone.
+//!
+//! They stand apart since a crate is proved a second time with its tests.
+#![tactic(auto)]
+
+#[cfg(test)]
+mod checking;
+#[cfg(test)]
+mod cutting;
+#[cfg(test)]
+mod evaluating;
+#[cfg(test)]
+mod parsing;
+#[cfg(test)]
+mod printing;
+#[cfg(test)]
+mod programs;
+#[cfg(test)]
+mod stores;
+#[cfg(test)]
+mod trees;
+#[cfg(test)]
+mod walking;

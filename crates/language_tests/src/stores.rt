@@ -1,0 +1,119 @@
+//! Stores, overlays and variables.
+
+use crate::programs::{are_sized, parsed};
+use array_eval::{LoopVar, MarkedStore, Overlay, Scope, Store, Vars, run_assign, start_of_member};
+use array_tree::{Expr, Name};
+use std::test::Fail;
+
+#[test]
+fn a_store_is_written_and_copied(rt: HostRuntime) -> Result<(), Fail> {
+    let mut store = Store::zero(rt.alloc(), 3)?;
+    store.put(1, -7)?;
+    let copy = store.copy()?;
+    store.put(1, 8)?;
+    assert_eq!(rt; store.get(1), 8);
+    assert_eq!(rt; copy.get(1), -7);
+    assert_eq!(rt; copy.get(2), 0);
+    Ok(())
+}
+
+#[test]
+fn an_overlay_keeps_last_values_in_rising_order(rt: HostRuntime) -> Result<(), Fail> {
+    let mut overlay = Overlay::empty(rt.alloc());
+    overlay.put(5, 50)?;
+    overlay.put(2, 20)?;
+    overlay.put(5, 51)?;
+    assert_eq!(rt; overlay.pairs(), [(2, 20), (5, 51)].as_slice());
+    assert_eq!(rt; overlay.get(5), Some(51));
+    assert_eq!(rt; overlay.get(3), None);
+    Ok(())
+}
+
+#[test]
+fn a_roomy_overlay_is_merged(rt: HostRuntime) -> Result<(), Fail> {
+    let mut overlay = Overlay::roomy(rt.alloc(), 1)?;
+    overlay.lay(1, 7);
+    overlay.lay(1, 8);
+    let mut store = Store::zero(rt.alloc(), 3)?;
+    let other = store.with(&overlay)?;
+    assert_eq!(rt; store.get(1), 0);
+    assert_eq!(rt; other.get(1), 8);
+    store.merge(&overlay)?;
+    assert_eq!(rt; store.get(1), 8);
+    Ok(())
+}
+
+#[test]
+fn the_innermost_variable_is_found_first(rt: HostRuntime) -> Result<(), Fail> {
+    let name = Name::new(rt.alloc(), "i".as_bytes())?;
+    let other = Name::new(rt.alloc(), "j".as_bytes())?;
+    let outer = Vars::empty(rt.alloc()).with(&name, 1)?;
+    let inner = outer.with(&other, 2)?.with(&name, 3)?;
+    let copy = inner.copy()?;
+    assert_eq!(rt; outer.get(&other), None);
+    assert_eq!(rt; copy.get(&name), Some(3));
+    assert_eq!(rt; copy.get(&other), Some(2));
+    Ok(())
+}
+
+#[test]
+fn a_stack_of_variables_is_kept(rt: HostRuntime) -> Result<(), Fail> {
+    let alloc = rt.alloc();
+    let i = Name::new(alloc, b"i")?;
+    let j = Name::new(alloc, b"j")?;
+    let k = Name::new(alloc, b"k")?;
+    let kept = Vars::empty(alloc).with(&k, 7)?;
+    let outer = Scope::Kept(&kept);
+    let vars = [
+        LoopVar { name: &i, value: 1 },
+        LoopVar { name: &j, value: 2 },
+        LoopVar { name: &i, value: 3 },
+    ];
+    let scope = Scope::Stack {
+        vars: &vars,
+        outer: &outer,
+    };
+    assert_eq!(rt; (scope.get(&i), scope.get(&j), scope.get(&k)), (3, 2, 7));
+    let expected = Vars::empty(alloc)
+        .with(&k, 7)?
+        .with(&i, 1)?
+        .with(&j, 2)?
+        .with(&i, 3)?;
+    assert_eq!(rt; Vars::of_scope(alloc, &scope)? == expected, true);
+    Ok(())
+}
+
+#[test]
+fn a_store_knows_what_was_written(rt: HostRuntime) -> Result<(), Fail> {
+    let alloc = rt.alloc();
+    let arrays = parsed(alloc, "array a[4];")?.arrays;
+    let mut store = MarkedStore::new(alloc, &Store::zero(alloc, 4)?)?;
+    let mut supply = Overlay::empty(alloc);
+    supply.put(2, 5)?;
+    supply.put(0, 0)?;
+    store.merge(&supply);
+    assert!(rt; are_sized(&arrays));
+    let a = Name::new(alloc, b"a")?;
+    let value = Expr::Read(Name::new(alloc, b"a")?, Box::new(alloc, Expr::Number(2))?);
+    let scope = Scope::Outermost;
+    run_assign(&arrays, &a, &Expr::Number(3), &value, &scope, &mut store);
+    assert_eq!(rt; store.to_store(alloc)?.get(3), 5);
+    let expected = [(0, 0), (2, 5), (3, 5)];
+    assert_eq!(rt; store.written(alloc)?.pairs(), expected.as_slice());
+    let mut room = Overlay::roomy(alloc, 4)?;
+    store.lay_written(&mut room);
+    assert_eq!(rt; room.pairs(), expected.as_slice());
+    Ok(())
+}
+
+#[test]
+fn a_team_deals_its_iterations(rt: HostRuntime) -> Result<(), Fail> {
+    let first = start_of_member(-1, 6, 3, 0);
+    let second = start_of_member(-1, 6, 3, 1);
+    let third = start_of_member(-1, 6, 3, 2);
+    assert_eq!(rt;
+        (first, second, third, start_of_member(-1, 6, 3, 3)),
+        (-1, 1, 3, 6)
+    );
+    Ok(())
+}
