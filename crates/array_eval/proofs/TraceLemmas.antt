@@ -18,6 +18,11 @@ pub noted_append : (a b : List Write) (t : Trace) → noted_all (a ++ b) t ≡ n
 noted_append [] b t = refl
 noted_append (w ∷ a) b t = noted_append a b (noted w.0 w.1 t)
 
+-- no mark is lost or gained
+pub length_marks : (ws : List Write) (t : Trace) → length (noted_all ws t).marks ≡ length t.marks
+length_marks [] t = refl
+length_marks (w ∷ ws) t = length_marks ws (noted w.0 w.1 t) ∙ length-set t.marks w.0 true
+
 -- one and then the other
 pub traced_followed_by : (arrays : Arrays) (a b : Steps) (t : Trace) → traced arrays (followed_by a b) t ≡ traced arrays b (traced arrays a t)
 traced_followed_by arrays a b t =

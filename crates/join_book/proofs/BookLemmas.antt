@@ -10,8 +10,8 @@ use Rattle.array_meaning.specs.Stores.{Write}
 use Rattle.array_meaning.specs.Pieces.{merged, lays, last_writes}
 use Rattle.array_meaning.proofs.LastLemmas.{lays_append}
 use Rattle.array_meaning.proofs.MergeLemmas.{lays_last}
-use Rattle.array_eval.specs.Traces.{Trace, marked, noted, noted_all}
-use Rattle.array_eval.proofs.TraceLemmas.{AreBelow, marked_after, below_of, cells_after}
+use Rattle.array_eval.specs.Traces.{Trace, marked, noted_all}
+use Rattle.array_eval.proofs.TraceLemmas.{AreBelow, length_marks, marked_after, below_of, cells_after}
 use Rattle.array_meaning.proofs.StepLemmas.{length_after}
 use Rattle.array_eval.specs.Overlays.{Laid}
 use Rattle.array_meaning.specs.Stores.{arrays_of, cells_of}
@@ -213,10 +213,6 @@ all_filled (job ∷ jobs) (Filled ∷ marks) e full fine =
 all_filled (job ∷ jobs) (Failed ∷ marks) e full fine = absurd (fine zero refl)
 
 -- ---- merging a place's piece into a store
-
-pub length_marks : (ws : List Write) (t : Trace) → length (noted_all ws t).marks ≡ length t.marks
-length_marks [] t = refl
-length_marks (w ∷ ws) t = length_marks ws (noted w.0 w.1 t) ∙ length-set t.marks w.0 true
 
 -- every filled place's writes lie inside a store of the jobs' size
 pub filled_below : (jobs : List JobParts) (places : List Place) (i : ℕ) (written : Laid) (job : JobParts) (n : ℕ) → IsKept jobs places →
