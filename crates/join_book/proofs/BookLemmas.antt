@@ -284,6 +284,11 @@ ends book xs i store first h merging = sym (ap (λ ps. merged ps (marked store))
     none_left (job ∷ jobs) [] h = refl
     none_left (job ∷ jobs) (p ∷ places) h = absurd (omega (arith, h))
 
+-- from a store with no mark, it is what is merged
+pub merged_from : (book : BookParts) (store first : Trace) → marked first ≡ [] → marked store ≡ merged (filled_pieces book.jobs book.places) (marked first) →
+    marked store ≡ merged (filled_pieces book.jobs book.places) []
+merged_from book store first none e = e ∙ ap (merged (filled_pieces book.jobs book.places)) none
+
 -- what holds of a book and its places as they lie in memory holds of it as it is told
 pub carried : (jobs : List JobParts) (places : List Place) (book : BookParts) (xs : List Place) (P : BookParts → List Place → Type 0) →
     told_book jobs places ≡ book → xs ≡ places → P (told_book jobs places) places → P book xs

@@ -1,8 +1,9 @@
 -- A book: jobs, and for each a place for its piece.
-use Rattle.std.specs.Prelude.{◌≡◌, ℕ, List, [], ◌∷◌, length, map, slice_get, slice_set, replicate, Some}
+use Rattle.std.specs.Prelude.{◌≡◌, ℕ, ◌<◌, List, [], ◌∷◌, length, map, slice_get, slice_set, replicate, Some}
 use Rattle.array_meaning.specs.Stores.{Write}
 use Rattle.array_meaning.specs.Pieces.{merged}
 use Rattle.array_eval.specs.Overlays.{Laid}
+use Rattle.array_eval.specs.Traces.{Trace, marked}
 use Rattle.array_jobs.specs.Jobs.{JobParts, job_of, IsFit}
 use Rattle.array_jobs.specs.PieceParts.{PieceParts, piece_of_job}
 use Rattle.join_book.specs.declared.place.Place.{Place}
@@ -68,6 +69,13 @@ filled_pieces (job ∷ jobs) (Failed ∷ marks) = filled_pieces jobs marks
 -- Each job starts from a store with as many cells.
 abbrev pub HaveCells : BookParts → ℕ → Type 0
 HaveCells book cells = (i : ℕ) (job : JobParts) → slice_get book.jobs i ≡ Some job → length job.store ≡ cells
+
+-- A store of the jobs' cells, of which none is marked.
+pub record IsBlank (book : BookParts) (store : Trace) : Type 0 where
+  pub cells : HaveCells book (length store.cells)
+  pub few : length store.cells < 65536
+  pub marks : length store.marks ≡ length store.cells
+  pub unmarked : marked store ≡ []
 
 -- What all jobs write, merged in the order of their places.
 abbrev pub all_writes : BookParts → List Write

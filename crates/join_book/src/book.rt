@@ -1,8 +1,8 @@
 //! Books.
-ghost use Rattle.std.specs.Prelude.{◌≡◌, ◌↔◌, IsTrue, IfOk, IsErr, length, replicate, slice_get, Some, ℕ};
-ghost use Rattle.array_meaning.specs.Pieces.{merged};
+ghost use Rattle.std.specs.Prelude.{◌≡◌, ◌↔◌, IsTrue, IfOk, IsErr, length, replicate, slice_get, Some, ℕ, []};
+ghost use Rattle.array_meaning.specs.Pieces.{merged, last_writes};
 ghost use Rattle.array_eval.specs.Traces.{marked};
-ghost use Rattle.join_book.specs.Books.{Open, Failed, open_book, IsMarked, IsFull, HasFailed, HaveCells, IsPlaceOf, Deposits, marked_book, filled_pieces, all_writes};
+ghost use Rattle.join_book.specs.Books.{Open, Failed, open_book, IsMarked, IsFull, HasFailed, IsBlank, IsPlaceOf, Deposits, marked_book, filled_pieces, all_writes};
 ghost use Rattle.array_jobs.specs.Jobs.{JobParts, IsFit, job_of};
 ghost use Rattle.join_book.specs.declared.place.Place.TheVariants as place;
 ghost use Rattle.join_book.specs.Groups.{AreGroup};
@@ -131,12 +131,18 @@ impl<'p> Book<'p> {
         false
     }
 
-    /// Merges the pieces of the filled places into a store, in the order of their places. The store must have as many
-    /// cells as those of the jobs. It takes no memory.
+    /// A store of the jobs' cells, of which none is marked, for the pieces to be merged into.
+    pub fn blank_store(&self) -> Result<MarkedStore, AllocError>
+        ensures { IfOk result (λ store. IsBlank self.now store) }
+    {
+        MarkedStore::new(self.alloc, &self.jobs[0].store)
+    }
+
+    /// Merges the pieces of the filled places into a blank store, in the order of their places. It takes no memory.
     pub fn merge_into(&self, store: &mut MarkedStore)
-        requires cells { HaveCells self.now (length store.old.cells) }
-        requires marks { length store.old.marks ≡ length store.old.cells }
-        ensures marks { marked store.new ≡ merged (filled_pieces self.now.jobs self.now.places) (marked store.old) }
+        requires { IsBlank self.now store.old }
+        ensures filled { marked store.new ≡ merged (filled_pieces self.now.jobs self.now.places) [] }
+        ensures all { IsFull self.now → (¬ HasFailed self.now) → last_writes (marked store.new) ≡ all_writes self.now }
         ensures cells { length store.new.cells ≡ length store.old.cells }
     {
         for place in &self.places {
@@ -156,7 +162,7 @@ impl<'p> Book<'p> {
         if self.has_failed() {
             return Err(AllocError);
         }
-        let mut store = MarkedStore::new(self.alloc, &self.jobs[0].store)?;
+        let mut store = self.blank_store()?;
         self.merge_into(&mut store);
         store.written(self.alloc)
     }

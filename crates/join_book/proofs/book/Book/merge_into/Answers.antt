@@ -1,8 +1,10 @@
-use Rattle.std.proofs.Common.{◌≡◌, ◌+◌, ◌<◌, ◌∙◌, subst, length, List, get_or, arith}
+use Rattle.std.proofs.Common.{ap, sym, [], ◌≡◌, ◌+◌, ◌<◌, ◌∙◌, subst, length, List, get_or, arith}
+use Rattle.std.proofs.lemmas.List.{length-map}
+use Rattle.array_meaning.specs.Pieces.{last_writes, merged}
 use Rattle.join_book.specs.declared.place.Place.{Place}
 use Rattle.join_book.specs.declared.place.Place.TheVariants as variant
-use Rattle.join_book.specs.Books.{BookParts, HaveCells}
-use Rattle.join_book.proofs.BookLemmas.{IsMerging, begins, merge_filled, merge_unfilled, ends, carried}
+use Rattle.join_book.specs.Books.{BookParts, HaveCells, mark_of, filled_pieces}
+use Rattle.join_book.proofs.BookLemmas.{IsMerging, begins, merge_filled, merge_unfilled, ends, merged_from, all_filled, merged_last, carried}
 use Rattle.join_book.proofs.book.Book.merge_into.Goals as goal
 use Rattle.join_book.proofs.book.Book.merge_into.Goals.{in-Filled, in_default}
 
@@ -34,5 +36,13 @@ loop-place-preserved c =
           c.loop-place-test.true c.place-item.is c.loop-place.invariant
     ]
 
-pub returns-clause-marks : goal.returns-clause-marks
-returns-clause-marks c = ends c.args.self.now c.deref-place-items.result.now c.loop-place.place-index c.loop-place.store c.args.store.now (let end = c.loop-place-test.false in omega arith) c.loop-place.invariant
+pub returns-clause-filled : goal.returns-clause-filled
+returns-clause-filled c = merged_from c.args.self.now c.loop-place.store c.args.store.now c.requires.unmarked (ends c.args.self.now c.deref-place-items.result.now c.loop-place.place-index c.loop-place.store c.args.store.now (let end = c.loop-place-test.false in omega arith) c.loop-place.invariant)
+
+pub returns-clause-all : goal.returns-clause-all
+returns-clause-all c = λ full fine.
+    let each : length c.args.self.now.places ≡ length c.args.self.now.jobs = sym (ap (λ b. length b.places) c.self.view_is) ∙ length-map c.self.inside.places.items mark_of ∙ c.self.invariant.each ∙ ap (λ b. length b.jobs) c.self.view_is in
+    let filled = all_filled c.args.self.now.jobs c.args.self.now.places each full (λ i at. fine (i, at)) in
+    let pieces = filled_pieces c.args.self.now.jobs c.args.self.now.places in
+    let whole = merged_from c.args.self.now c.loop-place.store c.args.store.now c.requires.unmarked (ends c.args.self.now c.deref-place-items.result.now c.loop-place.place-index c.loop-place.store c.args.store.now (let end = c.loop-place-test.false in omega arith) c.loop-place.invariant) in
+    ap last_writes whole ∙ merged_last pieces ∙ ap (λ ps. merged ps []) filled

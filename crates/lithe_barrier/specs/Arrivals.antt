@@ -1,0 +1,42 @@
+-- A barrier: a book of one phase, in which no place fails, that opens once.
+use Rattle.std.specs.Prelude.{◌≡◌, ℕ, ◌≤◌, [], length, Option, IsSome}
+use Rattle.std.specs.Option.{ForSome}
+use Rattle.array_jobs.specs.PieceParts.{PieceParts}
+use Rattle.join_book.specs.Groups.{AreGroup}
+use Rattle.join_book.specs.Books.{BookParts, Open, Filled, IsMarked, IsPlaceOf, IsFull, HasFailed, IsBlank, marked_book, all_writes}
+use Rattle.lithe_barrier.specs.declared.state.Arrival.{Arrival}
+use Rattle.lithe_barrier.specs.declared.state.Arrival.TheVariants.{Kept, Opened, Stranger}
+use Rattle.lithe_barrier.specs.declared.state.Room.{Room}
+
+-- The piece's own place is free, and is filled.
+pub record Fills (before : BookParts) (piece : PieceParts) (after : BookParts) : Type 0 where
+  pub own : IsPlaceOf before piece.job.place piece.job
+  pub free : IsMarked before piece.job.place Open
+  pub filled : after ≡ marked_book before piece.job.place Filled
+
+-- Of a barrier and a piece, the answer and the barrier afterwards. It opens with the last piece that it waited for.
+abbrev pub Arrives : BookParts → PieceParts → Arrival → BookParts → Type 0
+Arrives before piece Kept after = Fills before piece after × (¬ IsFull after)
+Arrives before piece (Opened written) after = Fills before piece after × IsFull after × (written.pairs ≡ all_writes before)
+Arrives before piece (Stranger back) after =
+    ((i : ℕ) → IsPlaceOf before i piece.job → ¬ IsMarked before i Open) × (back ≡ piece) × (after ≡ before)
+
+-- Room for the writes of the jobs: a blank store of their size, and an empty overlay with room for each cell.
+pub record IsRoomFor (book : BookParts) (room : Room) : Type 0 where
+  pub blank : IsBlank book room.store
+  pub none : room.overlay.pairs ≡ []
+  pub enough : length room.store.cells ≤ room.overlay.room
+
+-- What the type keeps: the jobs are a group, no place has failed, and as long as one is free there is room for all that will be written.
+pub record IsWaiting (book : BookParts) (room : Option Room) : Type 0 where
+  pub group : AreGroup book.jobs
+  pub none_failed : ¬ HasFailed book
+  pub ready : (i : ℕ) → IsMarked book i Open → IsSome room
+  pub right : ForSome room (λ r. IsRoomFor book r)
+
+-- What is known of an arrival without what the lock holds: the piece is kept, is part of what is handed out, or is given
+-- back.
+abbrev pub GivesBack : PieceParts → Arrival → Type 0
+GivesBack piece Kept = Unit {0}
+GivesBack piece (Opened written) = Unit {0}
+GivesBack piece (Stranger back) = back ≡ piece

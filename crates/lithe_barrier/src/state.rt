@@ -1,0 +1,120 @@
+//! The barrier as one owner has it.
+ghost use Rattle.std.specs.Prelude.{◌≡◌, ◌↔◌, IsTrue, IfOk};
+ghost use Rattle.join_book.specs.Groups.{AreGroup};
+ghost use Rattle.join_book.specs.Books.{Open, open_book, IsMarked, IsFull, HasFailed, all_writes};
+ghost use Rattle.lithe_barrier.specs.Arrivals.{Arrives, IsRoomFor};
+
+use array_eval::{MarkedStore, Overlay};
+use array_jobs::{Job, Piece};
+use join_book::{Book, Deposit};
+use std::alloc::{AllocError, Global};
+use std::marker::Model;
+
+/// What came of an arrival.
+#[derive(Debug, Drop)]
+pub enum Arrival<'p> {
+    /// The piece is kept. Others are still to come.
+    Kept,
+    /// It was the last one: what all members wrote in this phase, merged in the order of their places.
+    Opened(Overlay),
+    /// The piece's job isn't that of a place that is free. The piece is given back.
+    Stranger(Piece<'p>),
+}
+
+// Room for what the jobs write, made before the first piece comes.
+#[derive(Debug, Drop)]
+pub(crate) struct Room {
+    store: MarkedStore,
+    overlay: Overlay,
+}
+
+/// A barrier that waits for the pieces of one phase: one place for each member's job.
+///
+/// Contracts see it as a book, of which places are open, that is free, or filled. After it has opened no place is free.
+#[derive(Debug, Drop)]
+pub struct BarrierState<'p> {
+    book: Book<'p>,
+    room: Option<Room>,
+}
+
+impl<'p> Model for BarrierState<'p> {
+    ghost use Rattle.std.specs.Coded.{codes};
+    ghost use Rattle.array_tree.specs.contracts.tree.Arrays as arrays_type;
+    ghost use Rattle.array_tree.specs.contracts.tree.Block as block_type;
+    ghost use Rattle.join_book.specs.Books.{BookParts};
+    ghost use Rattle.lithe_barrier.specs.Arrivals.{IsWaiting};
+
+    ghost Value = { BookParts };
+
+    ghost coded = { Prim.hlevel (codes, arrays_type.the_row.coded, block_type.the_row.coded) };
+
+    ghost view = { λ barrier. barrier.book };
+
+    ghost invariant = { λ barrier. IsWaiting barrier.book barrier.room };
+}
+
+impl<'p> BarrierState<'p> {
+    /// A barrier that waits for the pieces of these jobs. They are one to 64 jobs of one site and one phase, each at the
+    /// place that it names. No other call takes memory.
+    pub fn new(alloc: Global, jobs: Vec<Job<'p>>) -> Result<BarrierState<'p>, AllocError>
+        requires { AreGroup jobs.items }
+        ensures { IfOk result (λ barrier. barrier ≡ open_book jobs.entry.items) }
+    {
+        let book = Book::new(alloc, jobs)?;
+        let room = room_for(alloc, &book)?;
+        Ok(BarrierState {
+            book,
+            room: Some(room),
+        })
+    }
+
+    /// Whether the place is there and its piece is still to come.
+    pub fn is_free(&self, place: u8) -> bool
+        ensures { IsTrue result ↔ IsMarked self.now place Open }
+    {
+        self.book.is_open(place)
+    }
+
+    /// Takes a piece to the place of its job.
+    pub fn arrive(&mut self, piece: Piece<'p>) -> Arrival<'p>
+        ensures { Arrives self.old piece.entry result self.new }
+    {
+        match self.book.deposit(piece) {
+            Deposit::Double(piece) => Arrival::Stranger(piece),
+            Deposit::Stranger(piece) => Arrival::Stranger(piece),
+            Deposit::Kept => {
+                if !self.book.is_full() {
+                    return Arrival::Kept;
+                }
+                match self.room.take() {
+                    Some(room) => Arrival::Opened(merged_writes(&self.book, room)),
+                    None => unreachable!(),
+                }
+            }
+        }
+    }
+}
+
+// Room for all that the book's jobs write.
+fn room_for(alloc: Global, book: &Book) -> Result<Room, AllocError>
+    ensures { IfOk result (λ room. IsRoomFor book.now room) }
+{
+    let store = book.blank_store()?;
+    let overlay = Overlay::roomy(alloc, store.cells().len() as u16)?;
+    Ok(Room { store, overlay })
+}
+
+// The writes of all pieces of a full book. It takes no memory.
+fn merged_writes(book: &Book, room: Room) -> Overlay
+    requires full { IsFull book.now }
+    requires none_failed { ¬ HasFailed book.now }
+    requires room { IsRoomFor book.now room }
+    ensures { result.pairs ≡ all_writes book.now }
+{
+    let Room { store, overlay } = room;
+    let mut store = store;
+    let mut written = overlay;
+    book.merge_into(&mut store);
+    store.lay_written(&mut written);
+    written
+}
