@@ -1,47 +1,48 @@
 //! Runs programs of the array language over Lithe.
 #![tactic(auto)]
 
-mod command;
-mod fault;
-mod lithe;
-mod reading;
-mod run;
-mod status;
-mod writing;
+ghost use Rattle.std.specs.Prelude.{◌≡◌, IsErrOf};
+ghost use Rattle.lithe_call.specs.Status.{constant_text};
+ghost use Rattle.lithe_call.specs.Telling.{Tells};
 
-use outside_io::{OpenGate, StdSink, StdSource};
+mod words;
+
+use crate::words::{NoWords, words_of};
+use lithe_call::{Status, lithe, no_memory_for_words};
+use outside_io::{OpenGate, Sink, Source, StdSink, StdSource};
+use std::alloc::Global;
 use std::process::ExitCode;
-use std::rt::Env;
-use std::{env, io};
+use std::sync::Wait;
+use std::thread::Threads;
 
-// The words of the command line, without the program's name.
-fn words_of<R: Env + AllocGlobal>(rt: &R) -> io::Result<Vec<String>> {
-    let mut words = Vec::new(rt.alloc());
-    for word in env::args(rt)?.skip(1) {
-        words.push(word)?;
+// Serves the words, where they could be had: want of memory is told as such, and what isn't text is no form.
+fn serve<R: Threads + Wait + Sync, A: Source, B: Sink, E: Sink>(
+    rt: &R,
+    alloc: Global,
+    words: Result<Vec<String>, NoWords>,
+    source: &mut A,
+    out: &mut B,
+    err: &mut E,
+) -> Status
+    ensures not_text { IsErrOf words NoWords.NotText → result ≡ Status.Usage }
+    ensures no_memory { IsErrOf words NoWords.NoMemory → result ≡ Status.NoMemory }
+    ensures told { IsErrOf words NoWords.NoMemory → Tells (E.taken err.old) (E.faults err.old)
+        (constant_text Status.NoMemory) (E.taken err.new) (E.faults err.new) }
+    ensures source_stays { IsErrOf words NoWords.NoMemory → source.new ≡ source.old }
+    ensures out_stays { IsErrOf words NoWords.NoMemory → out.new ≡ out.old }
+{
+    match words {
+        Ok(words) => lithe(rt, alloc, &words, source, out, err, &OpenGate),
+        Err(NoWords::NotText) => lithe(rt, alloc, &[], source, out, err, &OpenGate),
+        Err(NoWords::NoMemory) => no_memory_for_words(err),
     }
-    Ok(words)
 }
 
 fn main(rt: HostRuntime) -> ExitCode {
     let mut source = StdSource::new(rt.stdin());
     let mut out = StdSink::new(rt.stdout());
     let mut err = StdSink::new(rt.stderr());
-    // Words that can't be had as text are no form.
-    let words = words_of(&rt).unwrap_or(Vec::new(rt.alloc()));
-    let status = lithe::lithe(
-        &rt,
-        rt.alloc(),
-        &words,
-        &mut source,
-        &mut out,
-        &mut err,
-        &OpenGate,
-    );
+    let words = words_of(&rt);
+    let status = serve(&rt, rt.alloc(), words, &mut source, &mut out, &mut err);
     ExitCode::from(status.number())
 }
-
-#[cfg(test)]
-mod syntax_tests;
-#[cfg(test)]
-mod tests;

@@ -1,12 +1,12 @@
-//! The system's streams. Nothing is known of their bytes.
+//! Streams of the standard library, as those of the system.
 ghost use Rattle.std.specs.Prelude.{◌≡◌, None};
 
 use crate::{Fill, Put, Sink, Source};
 use std::io::{Read, Write};
 use std::marker::Model;
 
-/// A stream of the system to read from. An interrupted read is a fault like any other. Contracts see the count of
-/// faults alone.
+/// A stream to read from. An interrupted read is a fault like any other. Contracts see the stream and the count of
+/// faults; it tells the bytes that are left where the stream does. The system's streams don't.
 #[derive(Drop)]
 pub struct StdSource<I> {
     input: I,
@@ -16,24 +16,24 @@ pub struct StdSource<I> {
 impl<I> Model for StdSource<I> {
     ghost use Rattle.std.specs.Prelude.{ℕ};
 
-    ghost Value = { ℕ };
+    ghost Value = { I × ℕ };
 
-    ghost view = { λ source. source.faults };
+    ghost view = { λ source. (source.input, source.faults) };
 }
 
 impl<I: Read + Drop> StdSource<I> {
     /// A source over the stream, which hasn't failed yet.
     pub fn new(input: I) -> StdSource<I>
-        ensures { result ≡ 0 }
+        ensures { result ≡ (input, 0) }
     {
         StdSource { input, faults: 0 }
     }
 }
 
 impl<I: Read + Drop> Source for StdSource<I> {
-    ghost left = { λ _. None };
+    ghost left = { λ source. I.remaining source.0 };
 
-    ghost faults = { λ faults. faults };
+    ghost faults = { λ source. source.1 };
 
     fn read(&mut self, buf: &mut [u8]) -> Fill {
         match self.input.read(buf) {
@@ -47,8 +47,7 @@ impl<I: Read + Drop> Source for StdSource<I> {
     }
 }
 
-/// A stream of the system to write to. A write that takes nothing is a fault. Contracts see the count of faults
-/// alone.
+/// A stream to write to. A write that takes nothing is a fault. Contracts see the count of faults alone.
 #[derive(Drop)]
 pub struct StdSink<O> {
     output: O,

@@ -58,7 +58,6 @@ impl Source for SureSource {
     // It gives as many bytes as fit, and the end exactly where none is left.
     fn read(&mut self, buf: &mut [u8]) -> Fill
         requires { 0 < length buf.old }
-        ensures count { 0 ≤ 0 }
         ensures does { Reads (Some self.old) 0 buf.new result (Some self.new) 0 }
         ensures most { result ≡ sure_fill self.old (length buf.old) }
     {
@@ -120,7 +119,6 @@ impl Sink for SureSink {
     // It takes each piece whole.
     fn write(&mut self, piece: &[u8]) -> Put
         requires { 0 < length piece.now }
-        ensures count { 0 ≤ 0 }
         ensures does { Writes self.old.taken 0 piece.now result self.new.taken 0 }
         ensures whole { result ≡ Put.Took (length piece.now) }
         ensures kept { self.new ≡ laid_up self.old piece.now }

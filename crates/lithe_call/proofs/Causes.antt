@@ -1,0 +1,124 @@
+-- From the faults of the steps to those of the whole.
+use Rattle.std.proofs.Common.{◌≡◌, ◌≢◌, ◌⊎◌, ◌∙◌, ◌≤◌, ◌<◌, ◌+◌, ℕ, List, [], ◌++◌, length, length-append, Option, Some, None, Result, Ok, Err, IfOk, IfErr, sym, ap, subst, append-nil, arith, inl, inr, refl}
+use Rattle.outside_io.specs.Outside.{Gives, IsAtEnd, Rose}
+use Rattle.array_tree.specs.Trees.{ProgramTree}
+use Rattle.array_lang.specs.Spelled.{Spells, HasFault}
+use Rattle.array_lang.specs.declared.fault.SyntaxFault.{SyntaxFault}
+use Rattle.array_lang.specs.declared.fault.SyntaxFault.TheVariants as syntax
+use Rattle.array_meaning.specs.Accepted.{IsAccepted}
+use Rattle.disjoint_check.specs.FaultOf.{check_fault_of}
+use Rattle.disjoint_check.proofs.Accepting.{none_of_accepted}
+use Rattle.disjoint_check.specs.declared.fault.CheckFault.{CheckFault}
+use Rattle.disjoint_check.specs.declared.fault.CheckFault.TheVariants as check
+use Rattle.lithe_call.specs.Lines.{TellsSyntax, TellsRefusal}
+use Rattle.lithe_call.specs.Telling.{GivesAll, GivesMore, Tells}
+use Rattle.lithe_call.specs.Command.{form_of}
+use Rattle.lithe_call.specs.Faults.{SpellNothing, SpellRefused, IsCause, IsFault, IsNoRun}
+use Rattle.lithe_call.specs.Output.{IsOutputOf, SpellAccepted}
+use Rattle.lithe_call.specs.FaultOf.{status_of, line_of}
+use Rattle.lithe_call.specs.Served.{IsOutputFor, TellsStatus}
+use Rattle.lithe_call.specs.declared.command.Command.{Command}
+use Rattle.lithe_call.specs.declared.fault.Fault.{Fault}
+use Rattle.lithe_call.specs.declared.fault.Fault.TheVariants as fault
+use Rattle.lithe_call.specs.declared.status.Status.TheVariants as status
+
+-- what was read to the end is what a telling source had left
+pub given_bytes : (bytes read : List ℕ) (left left' : Option (List ℕ)) → left ≡ Some bytes → GivesAll left read left' → bytes ≡ read
+given_bytes bytes read None left' e all = cc
+given_bytes bytes read (Some b) None e all = absurd all.given
+given_bytes bytes read (Some b) (Some rest) e all =
+    let same : b ≡ bytes = cc in
+    sym same ∙ all.given ∙ ap (λ r. read ++ r) all.ended ∙ append-nil read
+
+-- why the program of what was read has no output is why that of the source has none
+pub no_run_is_fault : (words : List (List ℕ)) (why : Fault) (read : List ℕ) (left left' : Option (List ℕ)) (faults faults' : ℕ) → form_of words ≢ None →
+    GivesAll left read left' → IsNoRun read why → IsFault words why left left' faults faults'
+no_run_is_fault words fault.Usage read left left' faults faults' form all h = absurd h
+no_run_is_fault words fault.TooLong read left left' faults faults' form all h = absurd h
+no_run_is_fault words fault.ReadFault read left left' faults faults' form all h = absurd h
+no_run_is_fault words (fault.Syntax line) read left left' faults faults' form all h = (form, (read, all, h))
+no_run_is_fault words (fault.Refused line) read left left' faults faults' form all h = (form, (read, all, h))
+no_run_is_fault words fault.Memory read left left' faults faults' form all h = (form, tt)
+
+pub fault_of_no_run : {X : Type 0} (words : List (List ℕ)) (result : Result X Fault) (read : List ℕ) (left left' : Option (List ℕ)) (faults faults' : ℕ) →
+    form_of words ≢ None → GivesAll left read left' → IfErr result (IsNoRun read) → IfErr result (λ why. IsFault words why left left' faults faults')
+fault_of_no_run words (Ok x) read left left' faults faults' form all h = tt
+fault_of_no_run words (Err why) read left left' faults faults' form all h = no_run_is_fault words why read left left' faults faults' form all h
+
+pub output_of_given : {X : Type 0} (text : X → List ℕ) (command : Command) (words : List (List ℕ)) (result : Result X Fault) (read : List ℕ) (left left' : Option (List ℕ)) →
+    Some command ≡ form_of words → GivesAll left read left' → IfOk result (λ x. IsOutputOf command read (text x)) →
+    IfOk result (λ x. IsOutputFor words left left' (text x))
+output_of_given text command words (Ok x) read left left' form all h =
+    record { command = command; form = sym form; bytes = read; given = all; output = h }
+output_of_given text command words (Err why) read left left' form all h = tt
+
+-- what a fault's line tells is the status's text
+pub fault_told : (words : List (List ℕ)) (why : Fault) (left left' taken : Option (List ℕ)) (faults faults' told : ℕ) (taken' : Option (List ℕ)) (told' : ℕ) →
+    IsFault words why left left' faults faults' → Tells taken told (line_of why) taken' told' → TellsStatus (status_of why) left left' taken told taken' told'
+fault_told words fault.Usage left left' taken faults faults' told taken' told' h tells = record { text = line_of fault.Usage; right = refl; tells = tells }
+fault_told words fault.TooLong left left' taken faults faults' told taken' told' h tells = record { text = line_of fault.TooLong; right = refl; tells = tells }
+fault_told words fault.ReadFault left left' taken faults faults' told taken' told' h tells = record { text = line_of fault.ReadFault; right = refl; tells = tells }
+fault_told words (fault.Syntax line) left left' taken faults faults' told taken' told' h tells = record { text = line.items; right = h.1; tells = tells }
+fault_told words (fault.Refused line) left left' taken faults faults' told taken' told' h tells = record { text = line.items; right = h.1; tells = tells }
+fault_told words fault.Memory left left' taken faults faults' told taken' told' h tells = record { text = line_of fault.Memory; right = refl; tells = tells }
+
+-- more bytes than a limit were given only of more than the limit
+pub more_of_left : (left left' : Option (List ℕ)) (limit : ℕ) → GivesMore left limit left' → (bytes : List ℕ) → left ≡ Some bytes → limit < length bytes
+more_of_left None left' limit more bytes e = cc
+more_of_left (Some b) None limit more bytes e = absurd more.given
+more_of_left (Some b) (Some rest) limit more bytes e =
+    let same : b ≡ bytes = cc in
+    let whole : length b ≡ length more.bytes + length rest = ap length more.given ∙ length-append more.bytes rest in
+    subst (λ (l : List ℕ). limit < length l) same (omega (arith, whole, more.longer))
+
+-- an accepted program has no fault but want of memory, while the source doesn't fail
+pub only_memory : (one_program : (text : List ℕ) (p q : ProgramTree) → Spells text p → Spells text q → p ≡ q) (words : List (List ℕ)) (why : Fault) (left left' : Option (List ℕ)) (faults faults' : ℕ) →
+    IsFault words why left left' faults faults' → form_of words ≢ None → (bytes : List ℕ) → left ≡ Some bytes → (program : ProgramTree) → SpellAccepted bytes program →
+    (Rose faults faults' → ⊥) → status_of why ≡ status.NoMemory
+only_memory one words fault.Usage left left' faults faults' h form bytes e program is calm = absurd (form h)
+only_memory one words fault.TooLong left left' faults faults' h form bytes e program is calm =
+    let long = more_of_left left left' 65536 h.1 bytes e in absurd (omega (arith, is.short, long))
+only_memory one words fault.ReadFault left left' faults faults' h form bytes e program is calm = absurd (calm h.1)
+only_memory one words (fault.Syntax line) left left' faults faults' h form bytes e program is calm =
+    let g = h.1 in
+    let same = given_bytes bytes g.0 left left' e g.1 in
+    absurd (g.2.nothing program (subst (λ b. Spells b program) same is.spelled))
+only_memory one words (fault.Refused line) left left' faults faults' h form bytes e program is calm =
+    let g = h.1 in
+    let same = given_bytes bytes g.0 left left' e g.1 in
+    let one_tree = one g.0 program g.2.program (subst (λ b. Spells b program) same is.spelled) g.2.spelled in
+    absurd (g.2.refused (subst IsAccepted one_tree is.accepted))
+only_memory one words fault.Memory left left' faults faults' h form bytes e program is calm = refl
+
+-- a program that isn't accepted has no output
+pub refused_line : (bytes : List ℕ) (program : ProgramTree) (cause : CheckFault) (why : Fault) → length bytes ≤ 65536 → Spells bytes program → TellsRefusal program cause why →
+    (cause ≡ check.Memory) ⊎ (check_fault_of program ≡ Some cause) → IsNoRun bytes why
+refused_line bytes program cause fault.Usage short spelled tells first = absurd tells
+refused_line bytes program cause fault.TooLong short spelled tells first = absurd tells
+refused_line bytes program cause fault.ReadFault short spelled tells first = absurd tells
+refused_line bytes program cause (fault.Syntax line) short spelled tells first = absurd tells
+refused_line bytes program cause (fault.Refused line) short spelled tells first = elim first [
+  | inl memory ↦ absurd (tells.0 memory)
+  | inr is ↦ record {
+    short = short;
+    program = program;
+    spelled = spelled;
+    fault = cause;
+    first = is;
+    real = tells.0;
+    told = tells.1;
+    refused = λ accepted. let none = none_of_accepted program accepted in cc;
+  }
+]
+refused_line bytes program cause fault.Memory short spelled tells first = tt
+
+-- a text that spells no program has no output
+pub syntax_line_told : (bytes : List ℕ) (cause : SyntaxFault) (why : Fault) → length bytes ≤ 65536 → TellsSyntax cause why →
+    ((program : ProgramTree) → Spells bytes program → cause ≡ syntax.Memory) → HasFault bytes cause → IsNoRun bytes why
+syntax_line_told bytes cause fault.Usage short tells only first = absurd tells
+syntax_line_told bytes cause fault.TooLong short tells only first = absurd tells
+syntax_line_told bytes cause fault.ReadFault short tells only first = absurd tells
+syntax_line_told bytes cause (fault.Syntax line) short tells only first =
+    record { short = short; nothing = λ program spelled. tells.0 (only program spelled); fault = cause; first = first; real = tells.0; told = tells.1 }
+syntax_line_told bytes cause (fault.Refused line) short tells only first = absurd tells
+syntax_line_told bytes cause fault.Memory short tells only first = tt

@@ -1,0 +1,23 @@
+-- The faults that carry a line, from what the line tells.
+use Rattle.std.specs.Prelude.{◌≡◌, ◌≢◌}
+use Rattle.array_tree.specs.Trees.{ProgramTree}
+use Rattle.array_lang.specs.declared.fault.SyntaxFault.{SyntaxFault}
+use Rattle.array_lang.specs.declared.fault.SyntaxFault.TheVariants as syntax
+use Rattle.disjoint_check.specs.declared.fault.CheckFault.{CheckFault}
+use Rattle.disjoint_check.specs.declared.fault.CheckFault.TheVariants as check
+use Rattle.error_text.specs.SyntaxText.{syntax_text}
+use Rattle.error_text.specs.RefusalText.{refusal_text}
+use Rattle.lithe_call.specs.declared.fault.Fault.{Fault}
+use Rattle.lithe_call.specs.declared.fault.Fault.TheVariants as fault
+
+-- the fault tells that of the text, or memory ran out
+abbrev pub TellsSyntax : SyntaxFault → Fault → Type 0
+TellsSyntax cause (fault.Syntax line) = (cause ≢ syntax.Memory) × (line.items ≡ syntax_text cause)
+TellsSyntax cause fault.Memory = Unit {0}
+TellsSyntax cause why = ⊥
+
+-- the fault tells why the program isn't accepted, or memory ran out
+abbrev pub TellsRefusal : ProgramTree → CheckFault → Fault → Type 0
+TellsRefusal program cause (fault.Refused line) = (cause ≢ check.Memory) × (line.items ≡ refusal_text program cause)
+TellsRefusal program cause fault.Memory = Unit {0}
+TellsRefusal program cause why = ⊥

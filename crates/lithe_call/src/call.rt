@@ -1,0 +1,124 @@
+//! The top call: from the words and the input to the output and the status.
+ghost use Rattle.std.specs.Prelude.{◌≡◌, ◌≢◌, ◌⊎◌, ◌↔◌, ℕ, List, map, string_bytes, Some, None, IfOk, IfErr};
+ghost use Rattle.outside_io.specs.Outside.{Rose};
+ghost use Rattle.array_tree.specs.Trees.{ProgramTree};
+ghost use Rattle.lithe_call.specs.Telling.{GivesMore, Tells};
+ghost use Rattle.lithe_call.specs.Command.{form_of};
+ghost use Rattle.lithe_call.specs.Output.{SpellAccepted, input_limit};
+ghost use Rattle.lithe_call.specs.Faults.{IsFault};
+ghost use Rattle.lithe_call.specs.FaultOf.{status_of, line_of};
+ghost use Rattle.lithe_call.specs.Status.{constant_text};
+ghost use Rattle.lithe_call.specs.Served.{IsOutputFor, WritesOutput, WritesPrefix, TellsStatus};
+
+use crate::command::command_of;
+use crate::fault::Fault;
+use crate::reading::read_all;
+use crate::run::answer;
+use crate::status::{Status, constant_text};
+use crate::writing::write_all;
+use outside_io::{Gate, Sink, Source};
+use std::alloc::Global;
+use std::sync::Wait;
+use std::thread::Threads;
+
+/// The greatest length of an input, in bytes.
+const LIMIT: usize = 65536;
+
+/// Serves the words: reads the input, runs its program and writes the output, or tells on `err` why not.
+///
+/// `run --harts 1` writes the program's arrays and the journal of its transfers, and `solo` the arrays alone. The
+/// whole output is built before its first byte is written. Whatever the status, its text was told on `err`, and a
+/// failure of `err` changes no status.
+pub fn lithe<R: Threads + Wait + Sync, A: Source, B: Sink, E: Sink, G: Gate>(
+    _rt: &R,
+    alloc: Global,
+    words: &[String],
+    source: &mut A,
+    out: &mut B,
+    err: &mut E,
+    _gate: &G,
+) -> Status
+    // The arrays are those of the one-thread meaning of the program that the source gave to its end, and the transfers are
+    // a complete legal run of the program's table.
+    ensures done { result ≡ Status.Done → WritesOutput (map string_bytes words.now)
+        (A.left source.old) (A.left source.new) (B.taken out.old) (B.taken out.new) }
+
+    // An accepted program is served, unless memory runs out or the outside fails.
+    ensures complete { (form : form_of (map string_bytes words.now) ≢ None)
+        → (bytes : List ℕ) → (told : A.left source.old ≡ Some bytes)
+        → (program : ProgramTree) → (accepted : SpellAccepted bytes program)
+        → (source_is_calm : Rose (A.faults source.old) (A.faults source.new) → ⊥)
+        → (out_is_calm : Rose (B.faults out.old) (B.faults out.new) → ⊥)
+        → (result ≡ Status.Done) ⊎ (result ≡ Status.NoMemory) }
+
+    // When each other status comes. What is told of Syntax and Refused has their causes.
+    ensures usage { (result ≡ Status.Usage) ↔ (form_of (map string_bytes words.now) ≡ None) }
+    ensures too_long { result ≡ Status.TooLong → GivesMore (A.left source.old) input_limit (A.left source.new) }
+    ensures read_fault { result ≡ Status.ReadFault → Rose (A.faults source.old) (A.faults source.new) }
+    ensures write_fault { result ≡ Status.WriteFault → Rose (B.faults out.old) (B.faults out.new) }
+    ensures never_illegal { result ≢ Status.Illegal }
+    ensures told { result ≢ Status.Done → TellsStatus result (A.left source.old) (A.left source.new)
+        (E.taken err.old) (E.faults err.old) (E.taken err.new) (E.faults err.new) }
+
+    // What the source gave and what `out` and `err` took otherwise.
+    ensures prefix { result ≡ Status.WriteFault → WritesPrefix (map string_bytes words.now)
+        (A.left source.old) (A.left source.new) (B.taken out.old) (B.taken out.new) }
+    ensures source_stays { result ≡ Status.Usage → source.new ≡ source.old }
+    ensures out_stays { result ≢ Status.Done → result ≢ Status.WriteFault → out.new ≡ out.old }
+    ensures err_stays { result ≡ Status.Done → err.new ≡ err.old }
+{
+    match output_of(alloc, words, source) {
+        Err(fault) => tell_fault(err, &fault),
+        Ok(output) => {
+            if write_all(out, &output) {
+                Status::Done
+            } else {
+                tell(err, Status::WriteFault)
+            }
+        }
+    }
+}
+
+/// Ends a run that found no memory for its words: tells so on `err`, as `lithe` does of want of memory.
+pub fn no_memory_for_words<E: Sink>(err: &mut E) -> Status
+    ensures same { result ≡ Status.NoMemory }
+    ensures told { Tells (E.taken err.old) (E.faults err.old) (constant_text Status.NoMemory)
+        (E.taken err.new) (E.faults err.new) }
+{
+    tell(err, Status::NoMemory)
+}
+
+// Writes the line that tells the fault, and answers its status.
+fn tell_fault<E: Sink>(err: &mut E, fault: &Fault) -> Status
+    ensures same { result ≡ status_of fault.now }
+    ensures told { Tells (E.taken err.old) (E.faults err.old) (line_of fault.now)
+        (E.taken err.new) (E.faults err.new) }
+{
+    let _ = write_all(err, fault.line());
+    fault.status()
+}
+
+// Writes the status's text, where that is always the same, and answers the status.
+fn tell<E: Sink>(err: &mut E, status: Status) -> Status
+    ensures same { result ≡ status }
+    ensures told { Tells (E.taken err.old) (E.faults err.old) (constant_text status)
+        (E.taken err.new) (E.faults err.new) }
+{
+    let _ = write_all(err, constant_text(status));
+    status
+}
+
+// The whole output of the command that the words give.
+fn output_of<A: Source>(alloc: Global, words: &[String], source: &mut A) -> Result<Vec<u8>, Fault>
+    ensures output { IfOk result (λ output. IsOutputFor (map string_bytes words.now)
+        (A.left source.old) (A.left source.new) output.items) }
+    ensures fault { IfErr result (λ fault. IsFault (map string_bytes words.now) fault
+        (A.left source.old) (A.left source.new) (A.faults source.old) (A.faults source.new)) }
+    ensures stays { form_of (map string_bytes words.now) ≡ None → source.new ≡ source.old }
+{
+    let Some(command) = command_of(words) else {
+        return Err(Fault::Usage);
+    };
+    let bytes = read_all(alloc, source, LIMIT)?;
+    answer(alloc, command, &bytes)
+}

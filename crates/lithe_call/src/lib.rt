@@ -1,0 +1,19 @@
+//! The top call: words and a program in, its arrays and its journal out.
+//!
+//! `lithe` is the call, and its contract is what is claimed of the whole. `specs/Output.antt` says what a command writes,
+//! `specs/Served.antt` what a call has read, written and told, and `src/laws.rt` what follows where the source tells its
+//! bytes.
+#![tactic(auto)]
+
+mod call;
+mod command;
+mod fault;
+mod laws;
+mod reading;
+mod run;
+mod status;
+mod writing;
+
+pub use call::{lithe, no_memory_for_words};
+pub use laws::told_bytes_are_served;
+pub use status::Status;

@@ -1,0 +1,52 @@
+//! How a run ends.
+ghost use Rattle.std.specs.Prelude.{◌≡◌};
+ghost use Rattle.lithe_call.specs.Status.{constant_text, number_of};
+
+/// How a run ended. Its number is the process's exit status.
+#[derive(Clone, Copy, Debug, PartialEq, Eq)]
+pub enum Status {
+    /// The input was read to its end, and the whole output was written.
+    Done = 0,
+    /// An output that was audited isn't the program's; the line that says so was written.
+    Illegal = 1,
+    /// The words are no form of the command line.
+    Usage = 2,
+    /// The input spells no program.
+    Syntax = 3,
+    /// The program isn't accepted.
+    Refused = 4,
+    /// The input is longer than its limit.
+    TooLong = 5,
+    /// The source failed.
+    ReadFault = 6,
+    /// The sink failed; it took a prefix of the output.
+    WriteFault = 7,
+    /// Want of memory.
+    NoMemory = 8,
+}
+
+impl Status {
+    /// The exit status, from 0 to 8.
+    pub fn number(self) -> u8
+        ensures { result ≡ number_of self }
+    {
+        self as u8
+    }
+}
+
+const USAGE: &[u8] =
+    b"usage: lithe_run run --harts N\n       lithe_run solo\n       lithe_run audit --harts N\n       lithe_run make --seed X --size K --harts N\n";
+
+/// The text that the status writes to the stream of errors, where it is always the same.
+pub fn constant_text(status: Status) -> &'static [u8]
+    ensures { result.now ≡ constant_text status }
+{
+    match status {
+        Status::Usage => USAGE,
+        Status::TooLong => b"too long\n",
+        Status::ReadFault => b"read fault\n",
+        Status::WriteFault => b"write fault\n",
+        Status::NoMemory => b"no memory\n",
+        Status::Done | Status::Illegal | Status::Syntax | Status::Refused => b"",
+    }
+}

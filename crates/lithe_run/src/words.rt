@@ -1,0 +1,51 @@
+//! The words of the command line.
+use std::alloc::AllocFailed;
+use std::env;
+use std::io::{Error, ErrorKind};
+use std::rt::Env;
+
+/// Why the words can't be had.
+#[derive(Clone, Copy, Debug, PartialEq, Eq, Drop)]
+pub enum NoWords {
+    /// A word isn't UTF-8, so the words are no form.
+    NotText,
+    /// Want of memory.
+    NoMemory,
+}
+
+impl From<Error> for NoWords {
+    ghost use Rattle.std.specs.Prelude.{◌≡◌, ◌↔◌};
+    ghost use Rattle.std.specs.IoError.{error_kind};
+    ghost use Rattle.std.specs.declared.io.ErrorKind.TheVariants.{OutOfMemory};
+    ghost use Rattle.lithe_run.specs.declared.words.NoWords.TheVariants.{NoMemory};
+
+    ghost from_gives = { λ error why. (why ≡ NoMemory) ↔ (error_kind error ≡ OutOfMemory) };
+
+    fn from(error: Error) -> NoWords {
+        if error.kind() == ErrorKind::OutOfMemory {
+            NoWords::NoMemory
+        } else {
+            NoWords::NotText
+        }
+    }
+}
+
+impl<T: Drop> From<AllocFailed<T>> for NoWords {
+    ghost use Rattle.std.specs.Prelude.{◌≡◌};
+    ghost use Rattle.lithe_run.specs.declared.words.NoWords.TheVariants.{NoMemory};
+
+    ghost from_gives = { λ _ why. why ≡ NoMemory };
+
+    fn from(_: AllocFailed<T>) -> NoWords {
+        NoWords::NoMemory
+    }
+}
+
+/// The words of the command line, without the program's name.
+pub fn words_of<R: Env + AllocGlobal>(rt: &R) -> Result<Vec<String>, NoWords> {
+    let mut words = Vec::new(rt.alloc());
+    for word in env::args(rt)?.skip(1) {
+        words.push(word)?;
+    }
+    Ok(words)
+}

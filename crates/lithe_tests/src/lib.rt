@@ -1,0 +1,11 @@
+//! Tests of the top call and of the streams outside, by public calls alone.
+#![tactic(auto)]
+
+#[cfg(test)]
+mod runs;
+#[cfg(test)]
+mod serving;
+#[cfg(test)]
+mod streams;
+#[cfg(test)]
+mod syntax;
