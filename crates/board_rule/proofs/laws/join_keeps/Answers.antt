@@ -1,0 +1,5 @@
+use Rattle.board_rule.proofs.Joins.{join_keeps}
+use Rattle.board_rule.proofs.laws.join_keeps.Goals as goal
+
+pub returns : goal.returns
+returns c = join_keeps

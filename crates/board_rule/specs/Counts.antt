@@ -1,0 +1,79 @@
+-- Sums over the views of all seats: what they do at a site, and what they have drawn.
+use Rattle.std.specs.Prelude.{ℕ, ◌+◌, ◌==◌, Bool, true, false, if◌then◌else◌, List, [], ◌∷◌, Option, Some, None}
+use Rattle.board_rule.specs.declared.view.View.{View}
+use Rattle.board_rule.specs.declared.view.Drawn.{Drawn}
+use Rattle.board_rule.specs.declared.view.Ended.{Ended}
+use Rattle.board_rule.specs.declared.view.Doing.{Doing}
+use Rattle.board_rule.specs.declared.view.Doing.TheVariants.{Idle, Claiming, Crediting, Reserved, Landing, Sealing}
+
+abbrev pub total : {V : Type 0} → (V → ℕ) → List V → ℕ
+total f [] = 0
+total f (v ∷ vs) = f v + total f vs
+
+abbrev pub one_if : Bool → ℕ
+one_if true = 1
+one_if false = 0
+
+abbrev pub draws_in : Option Drawn → ℕ → ℕ
+draws_in None i = 0
+draws_in (Some d) i = one_if (d.place == i)
+
+-- 1 for a view that has drawn the place and hasn't written its entry
+abbrev pub draws : ℕ → View → ℕ
+draws i v = draws_in v.drawn i
+
+-- 1 for the view of the hart
+abbrev pub numbered : ℕ → View → ℕ
+numbered h v = one_if (v.hart == h)
+
+-- 1 where the hart is the one that was joined away
+abbrev pub ended_as : ℕ → Ended → ℕ
+ended_as h e = one_if (e.hart == h)
+
+-- what seats do at one site: how many are claiming it, sealing it, reserved to it and landing on it, and for how many harts
+-- they are crediting it
+pub record Load : Type 0 where
+  pub claims : ℕ
+  pub seals : ℕ
+  pub reserves : ℕ
+  pub lands : ℕ
+  pub credits : ℕ
+
+abbrev pub no_load : Load
+no_load = record { claims = 0; seals = 0; reserves = 0; lands = 0; credits = 0 }
+
+-- what a seat does at the site where it is busy
+abbrev pub weight : Doing → Load
+weight Idle = no_load
+weight (Claiming x) = record { claims = 1; seals = 0; reserves = 0; lands = 0; credits = 0 }
+weight (Crediting x k) = record { claims = 0; seals = 0; reserves = 0; lands = 0; credits = k }
+weight (Reserved x) = record { claims = 0; seals = 0; reserves = 1; lands = 0; credits = 0 }
+weight (Landing x) = record { claims = 0; seals = 0; reserves = 0; lands = 1; credits = 0 }
+weight (Sealing x) = record { claims = 0; seals = 1; reserves = 0; lands = 0; credits = 0 }
+
+-- the site where a seat is busy; 0 for none
+abbrev pub busy_at : Doing → ℕ
+busy_at Idle = 0
+busy_at (Claiming x) = x
+busy_at (Crediting x k) = x
+busy_at (Reserved x) = x
+busy_at (Landing x) = x
+busy_at (Sealing x) = x
+
+-- what a seat does at the site
+abbrev pub part : Doing → ℕ → Load
+part d x = if busy_at d == x then weight d else no_load
+
+-- what all seats do at the site
+abbrev pub load : ℕ → List View → Load
+load x vs = record {
+  claims = total (λ v. (part v.doing x).claims) vs;
+  seals = total (λ v. (part v.doing x).seals) vs;
+  reserves = total (λ v. (part v.doing x).reserves) vs;
+  lands = total (λ v. (part v.doing x).lands) vs;
+  credits = total (λ v. (part v.doing x).credits) vs;
+}
+
+-- how many harts are on their way into the site
+abbrev pub flight : List View → ℕ → ℕ
+flight vs x = (load x vs).reserves + (load x vs).lands

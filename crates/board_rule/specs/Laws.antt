@@ -1,0 +1,23 @@
+-- What a step does to the rule and to the journal.
+use Rattle.std.specs.Prelude.{◌≡◌, ℕ, [], ◌∷◌, ◌++◌, slice_set, Ok}
+use Rattle.atomic_table.specs.Table.{State}
+use Rattle.transfer_table.specs.Plan.{Plan}
+use Rattle.transfer_table.specs.Table.{admit_of}
+use Rattle.transfer_table.specs.declared.entry.Entry.{Entry}
+use Rattle.board_rule.specs.declared.view.View.{View}
+use Rattle.board_rule.specs.Rule.{Stands}
+
+abbrev pub St : Type 0
+St = State (Unit {0}) View
+
+-- the word i has become n, and the seat has the view w
+abbrev pub after_step : St → ℕ → ℕ → ℕ → View → St
+after_step s i n id w = record { words = slice_set s.words i n; homes = s.homes; views = slice_set s.views id w }
+
+-- the rule holds on, with the same journal and the same state of the table
+abbrev pub Keeps : (p : Plan) (s : St) → Stands p s → St → Type 0
+Keeps p s k s' = (k' : Stands p s') × (k'.journal ≡ k.journal) × (k'.table ≡ k.table)
+
+-- the rule holds on, the journal has one entry more, and the table admits it
+abbrev pub Appends : (p : Plan) (s : St) → Stands p s → Entry → St → Type 0
+Appends p s k e s' = (k' : Stands p s') × (k'.journal ≡ k.journal ++ e ∷ []) × (admit_of p k.table e ≡ Ok k'.table)
