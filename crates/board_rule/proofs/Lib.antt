@@ -19,3 +19,4 @@ pub mod Joins
 pub mod Follows
 pub mod Tells
 pub mod Ends
+pub mod Bounds

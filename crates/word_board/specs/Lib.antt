@@ -1,0 +1,4 @@
+pub mod Plays
+pub mod Of
+pub mod Calls
+pub mod Seats

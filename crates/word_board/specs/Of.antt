@@ -1,0 +1,18 @@
+-- A seat of a board.
+use Rattle.std.specs.Prelude.{◌≡◌}
+use Rattle.atomic_table.specs.Seated.{TableId}
+use Rattle.board_rule.specs.declared.view.View.{View}
+use Rattle.board_rule.specs.Rule.{IsSeat}
+use Rattle.word_board.specs.declared.seat.HartSeat.{HartSeat}
+use Rattle.word_board.specs.declared.board.WordBoard.{WordBoard}
+
+-- it belongs to the board's words, and has the board's plan
+pub record IsOf (b : WordBoard) (q : HartSeat) : Type 0 where
+  pub board : q.seat.table_id ≡ b.table.shared.table_id
+  pub plan : q.seat.me.0.plan ≡ b.plan
+
+-- the same between the steps of a call, of a seat of the words z with the view v
+pub record IsOn (b : WordBoard) (z : TableId) (v : View) : Type 0 where
+  pub board : z ≡ b.table.shared.table_id
+  pub plan : v.plan ≡ b.plan
+  pub seat : IsSeat v
