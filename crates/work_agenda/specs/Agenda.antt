@@ -1,0 +1,46 @@
+-- What a scheduler has for harts: contexts that are ready, those that are not begun, and the wishes of its children.
+use Rattle.std.specs.Prelude.{◌≡◌, ◌⊎◌, ℕ, ◌<◌, ◌≤◌, List, [], ◌∷◌, ◌++◌, length, Result, Ok, Err}
+use Rattle.sched_api.specs.Wishes.{WishList}
+use Rattle.sched_api.specs.declared.scheduler.Next.{Next}
+use Rattle.sched_api.specs.declared.scheduler.Next.TheVariants.{Run, Lend, Nothing}
+
+-- At most `room` contexts are ready at a time.
+pub record AgendaParts (C : Type 0) : Type 0 where
+  pub ready : List C
+  pub room : ℕ
+  pub unbegun : List C
+  pub wishes : WishList
+
+-- The first that is ready runs; where none is, the first that isn't begun.
+pub record TakesReady {C : Type 0} (before : AgendaParts C) (c : C) (after : AgendaParts C) : Type 0 where
+  pub first : before.ready ≡ c ∷ after.ready
+  pub rest : after ≡ record before { ready = after.ready }
+
+pub record TakesUnbegun {C : Type 0} (before : AgendaParts C) (c : C) (after : AgendaParts C) : Type 0 where
+  pub none_ready : before.ready ≡ []
+  pub first : before.unbegun ≡ c ∷ after.unbegun
+  pub rest : after ≡ record before { unbegun = after.unbegun }
+
+-- Where there is neither, the hart is lent to the child of the oldest wish.
+pub record TakesWish {C : Type 0} (before : AgendaParts C) (site : ℕ) (after : AgendaParts C) : Type 0 where
+  pub none_ready : before.ready ≡ []
+  pub all_begun : before.unbegun ≡ []
+  pub oldest : before.wishes.sites ≡ site ∷ after.wishes.sites
+  pub rest : after ≡ record before { wishes = record before.wishes { sites = after.wishes.sites } }
+
+pub record IsIdle {C : Type 0} (agenda : AgendaParts C) : Type 0 where
+  pub none_ready : agenda.ready ≡ []
+  pub all_begun : agenda.unbegun ≡ []
+  pub no_wish : agenda.wishes.sites ≡ []
+
+-- Of an agenda, what a hart does next, and the agenda afterwards.
+abbrev pub TakesNext : {C : Type 0} → AgendaParts C → Next C → AgendaParts C → Type 0
+TakesNext before (Run c) after = TakesReady before c after ⊎ TakesUnbegun before c after
+TakesNext before (Lend site) after = TakesWish before site after
+TakesNext before Nothing after = IsIdle before × (after ≡ before)
+
+-- Of an agenda and a context that is ready, the answer, and the agenda afterwards: it is put last, or given back exactly where
+-- the room is filled.
+abbrev pub PutsReady : {C : Type 0} → AgendaParts C → C → Result (Unit {0}) C → AgendaParts C → Type 0
+PutsReady before c (Ok done) after = (length before.ready < before.room) × (after ≡ record before { ready = before.ready ++ c ∷ [] })
+PutsReady before c (Err back) after = (before.room ≤ length before.ready) × (back ≡ c) × (after ≡ before)

@@ -1,0 +1,101 @@
+//! Agendas.
+ghost use Rattle.std.specs.Prelude.{◌≡◌, ◌*◌, [], IfOk};
+ghost use Rattle.std.specs.VecDeque.{deque_len};
+ghost use Rattle.sched_api.specs.Wishes.{with_wishes, without_child};
+ghost use Rattle.work_agenda.specs.Agenda.{TakesNext, PutsReady};
+
+use sched_api::{Next, Wishes};
+use std::alloc::{AllocError, Global};
+use std::collections::VecDeque;
+use std::marker::Model;
+
+/// What a scheduler has for the harts that come to it: contexts that are ready to go on, contexts that are not begun,
+/// and the wishes of its children. They are handed out in this order, of each list the oldest first.
+#[derive(Drop)]
+pub struct Agenda<C> {
+    ready: VecDeque<C>,
+    room: usize,
+    unbegun: VecDeque<C>,
+    wishes: Wishes,
+}
+
+impl<C> Model for Agenda<C> {
+    ghost use Rattle.std.specs.Prelude.{◌≤◌};
+    ghost use Rattle.std.specs.VecDeque.{deque_len, deque_capacity};
+    ghost use Rattle.work_agenda.specs.Agenda.{AgendaParts};
+
+    ghost Value = { AgendaParts C };
+
+    ghost view = { λ a. record { ready = a.ready.items; room = a.room; unbegun = a.unbegun.items; wishes = a.wishes } };
+
+    ghost invariant = { λ a. (deque_len a.ready ≤ a.room) × (a.room ≤ deque_capacity a.ready) };
+}
+
+impl<C: Drop> Agenda<C> {
+    /// An agenda of contexts that are not begun, with memory for `room` ready contexts and for `wishes` wishes. No other
+    /// call takes memory.
+    pub fn new(
+        alloc: Global,
+        room: usize,
+        wishes: usize,
+        unbegun: VecDeque<C>,
+    ) -> Result<Agenda<C>, AllocError>
+        ensures { IfOk result (λ a. a ≡ record { ready = []; room = room; unbegun = unbegun.items; wishes = record { sites = []; room = wishes } }) }
+    {
+        Ok(Agenda {
+            ready: VecDeque::with_capacity(alloc, room)?,
+            room,
+            unbegun,
+            wishes: Wishes::new(alloc, wishes)?,
+        })
+    }
+
+    /// What a hart does next, which is taken off.
+    pub fn take_next(&mut self) -> Next<C>
+        ensures { TakesNext self.old result self.new }
+    {
+        if let Some(c) = self.ready.pop_front() {
+            return Next::Run(c);
+        }
+        if let Some(c) = self.unbegun.pop_front() {
+            return Next::Run(c);
+        }
+        match self.wishes.take_oldest() {
+            Some(site) => Next::Lend(site),
+            None => Next::Nothing,
+        }
+    }
+
+    /// Puts a context last among those that are ready. Where they fill their room, it is given back.
+    pub fn put_ready(&mut self, c: C) -> Result<(), C>
+        ensures { PutsReady self.old c result self.new }
+    {
+        if self.ready.len() < self.room {
+            self.ready.push_back_reserved(c);
+            Ok(())
+        } else {
+            Err(c)
+        }
+    }
+
+    /// Hands out these contexts as those that are not begun, in place of any that are left.
+    pub fn begin(&mut self, unbegun: VecDeque<C>)
+        ensures { self.new ≡ record self.old { unbegun = unbegun.items } }
+    {
+        self.unbegun = unbegun;
+    }
+
+    /// Notes the wish of a child for `count` harts, as far as there is room.
+    pub fn add_wishes(&mut self, child: u16, count: u8)
+        ensures { self.new ≡ record self.old { wishes = with_wishes self.old.wishes child count } }
+    {
+        self.wishes.add(child, count);
+    }
+
+    /// Takes all wishes of a child off.
+    pub fn remove_wishes(&mut self, child: u16)
+        ensures { self.new ≡ record self.old { wishes = without_child self.old.wishes child } }
+    {
+        self.wishes.remove(child);
+    }
+}

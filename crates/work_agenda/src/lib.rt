@@ -1,0 +1,9 @@
+//! What a scheduler has for the harts that come to it, in the order in which it is handed out.
+#![tactic(auto)]
+
+mod agenda;
+
+pub use agenda::Agenda;
+
+#[cfg(test)]
+mod tests;
