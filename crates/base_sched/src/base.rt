@@ -3,7 +3,7 @@ ghost use Rattle.std.specs.Prelude.{◌≡◌, ◌*◌, [], IsOk, IfOk, true, fa
 ghost use Rattle.sched_api.specs.declared.hearing.Told.{Told};
 ghost use Rattle.sched_api.specs.Calls.{registered_told, unregistered_told, requested_told, yielded_told, blocked_told};
 ghost use Rattle.sched_api.specs.Wishes.{with_wishes, without_child};
-ghost use Rattle.base_sched.specs.Oldest.{BaseState, shut_base, LendsOldest};
+ghost use Rattle.base_sched.specs.Oldest.{BaseState, shut_base, LendsOldest, HearsOf};
 
 use sched_api::{Call, Hearing, Next, Scheduler, Told, Wishes};
 use std::alloc::{AllocError, Global};
@@ -95,6 +95,10 @@ impl Scheduler for Base {
     ghost site_of = { λ _. 0 };
 
     ghost answers = { λ before next after. LendsOldest before next after };
+
+    ghost hears = { λ before told after. HearsOf before told after };
+
+    ghost takes = { λ before _ answer after. IsOk answer × (after ≡ before) };
 
     fn site(&self) -> u16 {
         0

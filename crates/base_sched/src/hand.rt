@@ -1,5 +1,5 @@
 //! The base behind a lock.
-ghost use Rattle.std.specs.Prelude.{◌≡◌};
+ghost use Rattle.std.specs.Prelude.{◌≡◌, IsOk};
 
 use crate::base::{Base, BaseHeard};
 use sched_api::{Next, Scheduler};
@@ -20,15 +20,17 @@ impl<'a, R> Drop for BaseHand<'a, R> {
     }
 }
 
-impl<'a, R: Threads + Wait + Sync + 'a> BaseHand<'a, R> {
-    /// A hand on the base behind the lock.
+impl<'a, R> BaseHand<'a, R> {
+    /// A hand on the base behind the lock. It doesn't wait.
     pub fn new(lock: &'a Mutex<Base>) -> BaseHand<'a, R> {
         BaseHand {
             lock,
             of: PhantomData,
         }
     }
+}
 
+impl<'a, R: Threads + Wait + Sync + 'a> BaseHand<'a, R> {
     /// Takes all wishes of the base off for good.
     pub fn shut(&self, rt: &R) {
         self.lock.lock(rt).shut();
@@ -51,6 +53,10 @@ impl<'a, R: Threads + Wait + Sync + 'a> Scheduler for BaseHand<'a, R> {
 
     // Nothing is known of what the lock holds, so any answer may come.
     ghost answers = { λ _ _ _. Unit {0} };
+
+    ghost hears = { λ _ _ _. Unit {0} };
+
+    ghost takes = { λ _ _ answer _. IsOk answer };
 
     fn site(&self) -> u16 {
         0

@@ -172,8 +172,9 @@ impl<M: Machine> Running<M> {
     /// The machine's own step. Nothing is awaited.
     #[inline(always)]
     pub fn step(&mut self) -> Step<M::Nested>
-        requires { M.awaits self.old ≡ false }
-        ensures { Steps (record { rest = M.rest self.old; awaits = M.awaits self.old; left = M.left self.old }) result (record { rest = M.rest self.new; awaits = M.awaits self.new; left = M.left self.new }) }
+        requires { (M.work self.old).awaits ≡ false }
+        ensures exact { M.steps self.old result self.new }
+        ensures work { Steps (M.work self.old) result (M.work self.new) }
     {
         self.machine.step()
     }

@@ -16,11 +16,9 @@ struct Countdown {
 impl Machine for Countdown {
     type Nested = u8;
 
-    ghost rest = { λ _. [] };
+    ghost work = { λ m. record { rest = []; awaits = m.waits; left = m.count } };
 
-    ghost awaits = { λ m. m.waits };
-
-    ghost left = { λ m. m.count };
+    ghost steps = { λ _ _ _. Unit {0} };
 
     fn step(&mut self) -> Step<u8> {
         if self.count == 0 {

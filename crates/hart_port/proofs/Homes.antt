@@ -7,7 +7,7 @@ use Rattle.transfer_table.specs.Plan.{Plan, site_count}
 use Rattle.transfer_table.specs.Table.{TableState, effect_of, first_state, blank, lives_with}
 use Rattle.transfer_table.specs.declared.entry.Row.{Row}
 use Rattle.transfer_table.specs.declared.entry.Entry.TheVariants.{Register, Request, Unregister}
-use Rattle.hart_port.specs.Hand.{is_in, with_site, without, is_home_of, homes_of}
+use Rattle.hart_port.specs.PortView.{is_in, with_site, without, is_home_of, homes_of}
 
 pub length-homes_of : (t : TableState) (h : ℕ) → length (homes_of t h) ≡ length t.rows + 1
 length-homes_of t h = let e = length-map t.rows (is_home_of h) in omega arith

@@ -1,4 +1,5 @@
 pub mod Words
 pub mod Homes
 pub mod Single
-pub mod Hands
+pub mod Views
+pub mod Ledgers

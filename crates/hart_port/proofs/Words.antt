@@ -3,7 +3,7 @@ use Rattle.std.proofs.Common.{◌≡◌, ◌≢◌, ℕ, ◌+◌, ◌*◌, ◌%�
 use Rattle.transfer_table.specs.declared.entry.Row.{Row}
 use Rattle.transfer_table.specs.declared.entry.Stage.{Stage}
 use Rattle.transfer_table.specs.declared.entry.Stage.TheVariants.{New, Live, Gone}
-use Rattle.hart_port.specs.SiteWord.{is_claimed, is_wanted, stage_bits, closing_bit, site_word}
+use Rattle.hart_port.specs.Words.{is_claimed, is_wanted, stage_bits, closing_bit, site_word}
 
 claimed : (g : Stage) (b : Bool) (w : ℕ) → g ≢ New → (stage_bits g + closing_bit b + 256 * w) % 2 ≡ 1
 claimed New b w n = absurd (n refl)

@@ -1,6 +1,19 @@
--- Counts that rise up to the last value of their type.
-use Rattle.std.specs.Prelude.{◌≡◌, ℕ, ◌<◌, ◌-◌, ◌^◌, ◌⊎◌}
+-- Counts of refusals, which rise up to the last value of their type.
+use Rattle.std.specs.Prelude.{◌≡◌, ℕ, ◌<◌, ◌-◌, ◌^◌, ◌⊎◌, Result, Ok, Err}
+use Rattle.hart_port.specs.declared.port.Entered.{Entered}
+use Rattle.hart_port.specs.declared.port.Entered.TheVariants.{Inside, NotWanted, Moved}
 
 -- a count has risen, or stands at its last value
 abbrev pub Rose : ℕ → ℕ → Type 0
 Rose before after = (before < after) ⊎ ((before ≡ 2 ^ 64 - 1) × (after ≡ before))
+
+-- of a call that may be refused: its count of refusals rose where it was, and is as it was where it wasn't
+abbrev pub RoseIfErr : {A E : Type 0} → Result A E → ℕ → ℕ → Type 0
+RoseIfErr (Ok done) before after = after ≡ before
+RoseIfErr (Err why) before after = Rose before after
+
+-- likewise of a try to enter, which is refused unless the hart is inside
+abbrev pub RoseUnlessInside : Entered → ℕ → ℕ → Type 0
+RoseUnlessInside Inside before after = after ≡ before
+RoseUnlessInside (NotWanted shown) before after = Rose before after
+RoseUnlessInside (Moved read found) before after = Rose before after

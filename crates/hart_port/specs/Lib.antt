@@ -1,4 +1,5 @@
 pub mod Count
-pub mod SiteWord
-pub mod Hand
+pub mod Words
+pub mod PortView
+pub mod Ledger
 pub mod Plain

@@ -1,25 +1,24 @@
 -- The port of a single hart that shares nothing.
-use Rattle.std.specs.Prelude.{◌≡◌, ℕ, ◌+◌, ◌-◌, ◌*◌, ◌≤◌, ◌||◌, Bool, true, false, List, [], length, replicate}
-use Rattle.transfer_table.specs.Plan.{Plan, IsPlan, IsSite, site_count}
-use Rattle.transfer_table.specs.Table.{TableState, row, is_gone}
+use Rattle.std.specs.Prelude.{◌≡◌, ℕ, ◌+◌, Bool, true, List, [], length}
+use Rattle.transfer_table.specs.Plan.{Plan, IsSite, site_count}
+use Rattle.transfer_table.specs.Table.{TableState, row, owner}
 use Rattle.transfer_table.specs.Journal.{Reaches}
-use Rattle.transfer_table.specs.declared.entry.Entry.{Entry}
 use Rattle.transfer_table.specs.declared.entry.Stage.TheVariants.{Gone}
-use Rattle.hart_port.specs.Hand.{Hand, is_in}
-use Rattle.hart_port.specs.SiteWord.{site_word}
+use Rattle.hart_port.specs.PortView.{PortView, homes_of, is_in}
+use Rattle.hart_port.specs.Words.{site_word}
+use Rattle.hart_port.specs.Ledger.{LedgerState, IsLedger, no_site}
 
--- what contracts see of the port: the hand, and the state that its journal leads to
+-- what contracts see of the port: the view, the state that its journal leads to, the sites that it ever closed, and how often
+-- it was refused
 pub record Plain : Type 0 where
-  pub hand : Hand
+  pub view : PortView
   pub state : TableState
+  pub closing : List Bool
+  pub refused : ℕ
 
--- no site is in the set
-abbrev pub no_site : Plan → List Bool
-no_site p = replicate (site_count p + 1) false
-
--- the hand of the plan's first hart before it made a transfer
-abbrev pub first_hand : Plan → Hand
-first_hand p = record {
+-- the view of the plan's first hart before it made a transfer
+abbrev pub first_view : Plan → PortView
+first_view p = record {
   plan = p;
   hart = 0;
   owner = 0;
@@ -28,26 +27,36 @@ first_hand p = record {
   closed = no_site p;
   empty = no_site p;
   gone = no_site p;
-  refused = 0;
+  alone = true;
 }
 
--- the word that the port shows of a site; a gone site was closed before
+-- the view of the only hart of the ledger
+abbrev pub view_of : LedgerState → List Bool → List Bool → List Bool → PortView
+view_of l closed empty gone = record {
+  plan = l.plan;
+  hart = 0;
+  owner = owner l.state 0;
+  mine = l.entries;
+  homes = homes_of l.state 0;
+  closed = closed;
+  empty = empty;
+  gone = gone;
+  alone = true;
+}
+
+-- the word that the port shows of a site: it is closing where it was ever closed
 abbrev pub shown_word : Plain → ℕ → ℕ
-shown_word p s = site_word (row p.state s) (is_in p.hand.closed s || is_gone (row p.state s).stage)
+shown_word p s = site_word (row p.state s) (is_in p.closing s)
 
 -- the port's entries lead to its state, so they are legal
 abbrev pub IsReached : Plain → Type 0
-IsReached p = Reaches p.hand.plan p.hand.mine p.state
+IsReached p = Reaches p.view.plan p.view.mine p.state
 
--- what the port keeps: its plan is the board's and has one hart, the entries lead to the board's state, there is room for all
--- entries of the plan, each set has its flags, and what was seen gone is gone
-pub record IsPlain (p q : Plan) (t : TableState) (mine : List Entry) (capacity : ℕ) (closed empty gone : List Bool) : Type 0 where
-  pub same : p ≡ q
-  pub is_plan : IsPlan p
-  pub one : p.harts ≡ 1
-  pub legal : Reaches p mine t
-  pub room : site_count p * (3 * p.harts - 1) ≤ capacity
-  pub closed_size : length closed ≡ site_count p + 1
-  pub empty_size : length empty ≡ site_count p + 1
-  pub gone_size : length gone ≡ site_count p + 1
-  pub seen_gone : (s : ℕ) → IsSite p s → is_in gone s ≡ true → (row t s).stage ≡ Gone
+-- what the port keeps: its ledger is one and has one hart, each set has its flags, and what was seen gone is gone
+pub record IsPlain (l : LedgerState) (closed empty gone : List Bool) : Type 0 where
+  pub ledger : IsLedger l
+  pub one : l.plan.harts ≡ 1
+  pub closed_size : length closed ≡ site_count l.plan + 1
+  pub empty_size : length empty ≡ site_count l.plan + 1
+  pub gone_size : length gone ≡ site_count l.plan + 1
+  pub seen_gone : (s : ℕ) → IsSite l.plan s → is_in gone s ≡ true → (row l.state s).stage ≡ Gone

@@ -1,24 +1,25 @@
 //! The port of a single hart.
-ghost use Rattle.std.specs.Prelude.{◌≡◌, ◌≢◌, ◌<◌, ◌≤◌, ◌*◌, true, false, ◌-◌, ◌++◌, ◌∷◌, [], ◌↔◌, vec_capacity, IsTrue, IsErr, IfOk, IfErr};
-ghost use Rattle.transfer_table.specs.Plan.{IsPlan, IsSite, parent, site_count};
-ghost use Rattle.transfer_table.specs.Table.{first_state, effect_of, row};
-ghost use Rattle.transfer_table.specs.Journal.{Reaches};
+ghost use Rattle.std.specs.Prelude.{◌≡◌, ◌≢◌, ◌<◌, ◌≤◌, true, false, ◌↔◌, IsTrue, IsErr, IfOk, IfErr};
+ghost use Rattle.transfer_table.specs.Plan.{IsSite, parent};
+ghost use Rattle.transfer_table.specs.Table.{first_state, row};
+ghost use Rattle.transfer_table.specs.Entry.{unregisters};
 ghost use Rattle.transfer_table.specs.Allowed.{IsAllowed};
-ghost use Rattle.hart_port.specs.Hand.{IsHand, is_in, Registers, MayRequest, requested_by, Enters, yielded, closes, sees_gone, Sees, MayUnregister, unregistered};
-ghost use Rattle.hart_port.specs.Plain.{first_hand, shown_word, IsReached};
+ghost use Rattle.hart_port.specs.Count.{RoseIfErr, RoseUnlessInside};
+ghost use Rattle.hart_port.specs.PortView.{IsPortView, is_in, with_site, Registers, MayRequest, requested_by, Enters, yielded, closes, sees_gone, Sees, MayUnregister, unregistered};
+ghost use Rattle.hart_port.specs.Ledger.{IsLedger, no_site, with_entry};
+ghost use Rattle.hart_port.specs.Plain.{first_view, shown_word, IsReached};
 
+use crate::ledger::Ledger;
 use crate::port::{Entered, Port, Seen, Taken};
-use crate::word::{raise, site_word};
+use crate::word::raise;
 use std::alloc::{AllocError, Global};
 use std::marker::Model;
-use transfer_table::{Board, Entries, Entry, Plan, Stage};
+use transfer_table::{Entries, Entry, Plan, Stage};
 
 /// The port of a single hart that shares nothing. Its entries are the whole journal.
 #[derive(Drop)]
 pub struct PlainPort {
-    plan: Plan,
-    board: Board,
-    mine: Vec<Entry>,
+    ledger: Ledger,
     // A flag for the base and for each site.
     closed: Vec<bool>,
     empty: Vec<bool>,
@@ -27,42 +28,32 @@ pub struct PlainPort {
 }
 
 impl Model for PlainPort {
-    ghost use Rattle.std.specs.Prelude.{vec_capacity};
+    ghost use Rattle.std.specs.Prelude.{true};
     ghost use Rattle.transfer_table.specs.Table.{owner};
-    ghost use Rattle.hart_port.specs.Hand.{homes_of};
-    ghost use Rattle.hart_port.specs.Plain.{Plain, IsPlain};
+    ghost use Rattle.hart_port.specs.PortView.{homes_of};
+    ghost use Rattle.hart_port.specs.Plain.{Plain, view_of, IsPlain};
 
     ghost Value = { Plain };
 
     ghost view = { λ p. record {
-      hand = record {
-        plan = p.board.plan;
-        hart = 0;
-        owner = owner p.board.state 0;
-        mine = p.mine.items;
-        homes = homes_of p.board.state 0;
-        closed = p.closed.items;
-        empty = p.empty.items;
-        gone = p.gone.items;
-        refused = p.refused;
-      };
-      state = p.board.state;
+      view = view_of p.ledger p.closed.items p.empty.items p.gone.items;
+      state = p.ledger.state;
+      closing = p.ledger.closing;
+      refused = p.refused;
     } };
 
-    ghost invariant = { λ p. IsPlain p.board.plan p.plan p.board.state p.mine.items (vec_capacity p.mine) p.closed.items p.empty.items p.gone.items };
+    ghost invariant = { λ p. IsPlain p.ledger p.closed.items p.empty.items p.gone.items };
 }
 
 impl PlainPort {
     /// The port of the plan's one hart, with room for all entries that the plan allows.
     pub fn new(alloc: Global, plan: &Plan) -> Result<PlainPort, AllocError>
         requires { plan.now.harts ≡ 1 }
-        ensures { IfOk result (λ p. p ≡ record { hand = first_hand plan.now; state = first_state plan.now }) }
+        ensures { IfOk result (λ p. p ≡ record { view = first_view plan.now; state = first_state plan.now; closing = no_site plan.now; refused = 0 }) }
     {
         let flags = plan.sites() as usize + 1;
         Ok(PlainPort {
-            plan: plan.copy(alloc)?,
-            board: Board::new(alloc, plan)?,
-            mine: Vec::with_capacity(alloc, 2 * plan.sites() as usize)?,
+            ledger: Ledger::new(alloc, plan)?,
             closed: vec![in alloc; false; flags]?,
             empty: vec![in alloc; false; flags]?,
             gone: vec![in alloc; false; flags]?,
@@ -72,52 +63,36 @@ impl PlainPort {
 
     /// The entries that the port made. They are legal. It takes no memory.
     pub fn finish(self) -> Entries
-        ensures entries { result ≡ self.hand.mine }
+        ensures entries { result ≡ self.view.mine }
         ensures legal { IsReached self }
     {
         let PlainPort {
-            plan: _,
-            board: _,
-            mine,
+            ledger,
             closed: _,
             empty: _,
             gone: _,
             refused: _,
         } = self;
-        Entries::new(mine)
-    }
-
-    // The word of a site of the plan.
-    fn word(&self, site: u16) -> u64
-        requires { IsSite self.now.hand.plan site }
-        ensures { result ≡ shown_word self.now site }
-    {
-        let closing = self.closed[site as usize] || self.is_gone(site);
-        site_word(&self.board, site, closing)
+        ledger.into_entries()
     }
 
     fn is_gone(&self, site: u16) -> bool
-        requires { IsSite self.now.hand.plan site }
+        requires { IsSite self.now.view.plan site }
         ensures { IsTrue result ↔ ((row self.now.state site).stage ≡ Stage.Gone) }
     {
-        matches!(self.board.stage(site), Stage::Gone)
+        matches!(self.ledger.stage(site), Stage::Gone)
     }
 }
 
 // Puts an entry in that the table allows.
-fn put_in(board: &mut Board, mine: &mut Vec<Entry>, entry: Entry)
-    requires plan { IsPlan board.old.plan }
-    requires allowed { IsAllowed board.old.plan board.old.state entry }
-    requires legal { Reaches board.old.plan mine.old.items board.old.state }
-    requires room { site_count board.old.plan * (3 * board.old.plan.harts - 1) ≤ vec_capacity mine.old }
-    ensures plan { board.new.plan ≡ board.old.plan }
-    ensures state { board.new.state ≡ effect_of board.old.plan board.old.state entry }
-    ensures mine { mine.new.items ≡ mine.old.items ++ entry ∷ [] }
-    ensures legal { Reaches board.new.plan mine.new.items board.new.state }
-    ensures capacity { vec_capacity mine.new ≡ vec_capacity mine.old }
+fn put_in(ledger: &mut Ledger, entry: Entry)
+    requires ledger { IsLedger ledger.old }
+    requires allowed { IsAllowed ledger.old.plan ledger.old.state entry }
+    ensures does { ledger.new ≡ with_entry ledger.old entry }
+    ensures kept { IsLedger ledger.new }
 {
-    match board.admit(entry) {
-        Ok(()) => mine.push_reserved(entry),
+    match ledger.admit(entry) {
+        Ok(()) => {}
         Err(_) => unreachable!(),
     }
 }
@@ -125,34 +100,47 @@ fn put_in(board: &mut Board, mine: &mut Vec<Entry>, entry: Entry)
 impl Port for PlainPort {
     type Hold = ();
 
-    ghost seen = { λ p. p.hand };
+    ghost seen = { λ p. p.view };
+
+    ghost refused = { λ p. p.refused };
 
     fn hart(&self) -> u8 {
-        let _ = &self.plan;
+        let _ = &self.ledger;
         0
     }
 
-    fn owner(&self) -> u16 {
-        self.board.owner(0)
+    fn owner(&self) -> u16
+        ensures same { result ≡ self.now.view.owner }
+        ensures alone { self.now.view.alone ≡ true }
+        ensures kept { IsPortView self.now.view }
+        ensures reached { IsReached self.now }
+    {
+        self.ledger.owner(0)
+    }
+
+    fn is_alone(&self) -> bool {
+        let _ = &self.ledger;
+        true
     }
 
     /// Makes Register of the site, exactly where it is new.
     fn register(&mut self, _hold: (), site: u16) -> Result<(), Taken>
-        requires known { IsSite self.old.hand.plan site }
-        requires child { self.old.hand.owner ≡ parent self.old.hand.plan site }
-        ensures does { Registers self.old.hand site result self.new.hand }
-        ensures kept { IsHand self.new.hand }
+        requires known { IsSite self.old.view.plan site }
+        requires child { self.old.view.owner ≡ parent self.old.view.plan site }
+        ensures does { Registers self.old.view site result self.new.view }
+        ensures count { RoseIfErr result self.old.refused self.new.refused }
+        ensures kept { IsPortView self.new.view }
         ensures taken { IsErr result ↔ ((row self.old.state site).stage ≢ Stage.New) }
         ensures shown { IfErr result (λ taken. taken.shown ≡ shown_word self.old site) }
+        ensures closing { self.new.closing ≡ self.old.closing }
         ensures reached { IsReached self.new }
     {
-        if !matches!(self.board.stage(site), Stage::New) {
-            let shown = self.word(site);
+        if !matches!(self.ledger.stage(site), Stage::New) {
+            let shown = self.ledger.site_word(site);
             raise(&mut self.refused);
             return Err(Taken { shown });
         }
-        let entry = Entry::Register { hart: 0, site };
-        put_in(&mut self.board, &mut self.mine, entry);
+        put_in(&mut self.ledger, Entry::Register { hart: 0, site });
         self.closed[site as usize] = false;
         self.empty[site as usize] = false;
         Ok(())
@@ -160,10 +148,12 @@ impl Port for PlainPort {
 
     /// No call meets the condition, since a single hart has no other to ask for.
     fn request(&mut self, _hold: (), site: u16, count: u8)
-        requires known { IsSite self.old.hand.plan site }
-        requires may { MayRequest self.old.hand site count }
-        ensures does { self.new.hand ≡ requested_by self.old.hand site count }
-        ensures kept { IsHand self.new.hand }
+        requires known { IsSite self.old.view.plan site }
+        requires may { MayRequest self.old.view site count }
+        ensures does { self.new.view ≡ requested_by self.old.view site count }
+        ensures count { self.new.refused ≡ self.old.refused }
+        ensures kept { IsPortView self.new.view }
+        ensures closing { self.new.closing ≡ self.old.closing }
         ensures reached { IsReached self.new }
     {
         let entry = Entry::Request {
@@ -171,57 +161,63 @@ impl Port for PlainPort {
             site,
             count,
         };
-        put_in(&mut self.board, &mut self.mine, entry);
+        put_in(&mut self.ledger, entry);
     }
 
     /// A single hart is never wanted elsewhere.
     fn try_enter(&mut self, _hold: (), site: u16) -> Entered
-        requires known { IsSite self.old.hand.plan site }
-        requires child { self.old.hand.owner ≡ parent self.old.hand.plan site }
-        ensures does { Enters self.old.hand site result self.new.hand }
-        ensures kept { IsHand self.new.hand }
+        requires known { IsSite self.old.view.plan site }
+        requires child { self.old.view.owner ≡ parent self.old.view.plan site }
+        ensures does { Enters self.old.view site result self.new.view }
+        ensures count { RoseUnlessInside result self.old.refused self.new.refused }
+        ensures kept { IsPortView self.new.view }
         ensures not_wanted { result ≡ Entered.NotWanted (shown_word self.old site) }
+        ensures closing { self.new.closing ≡ self.old.closing }
         ensures state { self.new.state ≡ self.old.state }
     {
-        let shown = self.word(site);
+        let shown = self.ledger.site_word(site);
         raise(&mut self.refused);
         Entered::NotWanted { shown }
     }
 
     /// No call meets the condition, since a single hart is the home of each site that it is in.
     fn yield_hart(&mut self, _hold: ())
-        requires inside { 0 < self.old.hand.owner }
-        requires guest { is_in self.old.hand.homes self.old.hand.owner ≡ false }
-        ensures does { self.new.hand ≡ yielded self.old.hand }
-        ensures kept { IsHand self.new.hand }
+        requires inside { 0 < self.old.view.owner }
+        requires guest { is_in self.old.view.homes self.old.view.owner ≡ false }
+        ensures does { self.new.view ≡ yielded self.old.view }
+        ensures count { self.new.refused ≡ self.old.refused }
+        ensures kept { IsPortView self.new.view }
+        ensures closing { self.new.closing ≡ self.old.closing }
         ensures reached { IsReached self.new }
     {
-        let site = self.board.owner(0);
-        put_in(
-            &mut self.board,
-            &mut self.mine,
-            Entry::Yield { hart: 0, site },
-        );
+        let site = self.ledger.owner(0);
+        put_in(&mut self.ledger, Entry::Yield { hart: 0, site });
     }
 
     fn close_site(&mut self, _hold: ())
-        requires home { is_in self.old.hand.homes self.old.hand.owner ≡ true }
-        requires open_yet { is_in self.old.hand.closed self.old.hand.owner ≡ false }
-        ensures does { self.new.hand ≡ closes self.old.hand }
-        ensures kept { IsHand self.new.hand }
+        requires home { is_in self.old.view.homes self.old.view.owner ≡ true }
+        requires open_yet { is_in self.old.view.closed self.old.view.owner ≡ false }
+        ensures does { self.new.view ≡ closes self.old.view }
+        ensures count { self.new.refused ≡ self.old.refused }
+        ensures kept { IsPortView self.new.view }
+        ensures closing { self.new.closing ≡ with_site self.old.closing self.old.view.owner }
         ensures state { self.new.state ≡ self.old.state }
     {
-        let site = self.board.owner(0);
+        let site = self.ledger.owner(0);
+        self.ledger.mark(site);
         self.closed[site as usize] = true;
     }
 
     /// Whether the site is gone, exactly.
     fn see_gone(&mut self, _hold: (), site: u16) -> bool
-        requires { IsSite self.old.hand.plan site }
-        ensures gone { result ≡ true → self.new.hand ≡ sees_gone self.old.hand site }
-        ensures not_yet { result ≡ false → self.new.hand ≡ self.old.hand }
-        ensures kept { IsHand self.new.hand }
+        requires { IsSite self.old.view.plan site }
+        ensures gone { result ≡ true → self.new.view ≡ sees_gone self.old.view site }
+        ensures not_yet { result ≡ false → self.new.view ≡ self.old.view }
+        ensures alone { self.old.view.alone ≡ true → 1 ≤ unregisters site self.old.view.mine → result ≡ true }
+        ensures count { self.new.refused ≡ self.old.refused }
+        ensures kept { IsPortView self.new.view }
         ensures exact { IsTrue result ↔ ((row self.old.state site).stage ≡ Stage.Gone) }
+        ensures closing { self.new.closing ≡ self.old.closing }
         ensures state { self.new.state ≡ self.old.state }
     {
         if !self.is_gone(site) {
@@ -229,7 +225,7 @@ impl Port for PlainPort {
         }
         if !self.gone[site as usize] {
             self.gone[site as usize] = true;
-            let parent = self.plan.parent(site);
+            let parent = self.ledger.plan().parent(site);
             self.empty[parent as usize] = false;
         }
         true
@@ -237,27 +233,30 @@ impl Port for PlainPort {
 
     /// A single hart sees its site empty.
     fn see_empty(&mut self, _hold: ()) -> Seen
-        requires home { is_in self.old.hand.homes self.old.hand.owner ≡ true }
-        requires closed { is_in self.old.hand.closed self.old.hand.owner ≡ true }
-        ensures does { Sees self.old.hand result self.new.hand }
-        ensures kept { IsHand self.new.hand }
+        requires home { is_in self.old.view.homes self.old.view.owner ≡ true }
+        requires closed { is_in self.old.view.closed self.old.view.owner ≡ true }
+        ensures does { Sees self.old.view result self.new.view }
+        ensures count { self.new.refused ≡ self.old.refused }
+        ensures kept { IsPortView self.new.view }
         ensures exact { result ≡ Seen.Empty }
+        ensures closing { self.new.closing ≡ self.old.closing }
         ensures state { self.new.state ≡ self.old.state }
     {
-        let site = self.board.owner(0);
+        let site = self.ledger.owner(0);
         self.empty[site as usize] = true;
         Seen::Empty
     }
 
     fn unregister(&mut self, _hold: ())
-        requires { MayUnregister self.old.hand }
-        ensures does { self.new.hand ≡ unregistered self.old.hand }
-        ensures kept { IsHand self.new.hand }
+        requires { MayUnregister self.old.view }
+        ensures does { self.new.view ≡ unregistered self.old.view }
+        ensures count { self.new.refused ≡ self.old.refused }
+        ensures kept { IsPortView self.new.view }
+        ensures closing { self.new.closing ≡ self.old.closing }
         ensures reached { IsReached self.new }
     {
-        let site = self.board.owner(0);
-        let entry = Entry::Unregister { hart: 0, site };
-        put_in(&mut self.board, &mut self.mine, entry);
+        let site = self.ledger.owner(0);
+        put_in(&mut self.ledger, Entry::Unregister { hart: 0, site });
         self.closed[site as usize] = false;
         self.empty[site as usize] = false;
     }

@@ -1,7 +1,9 @@
 //! What one hart may do at the table.
-ghost use Rattle.std.specs.Prelude.{◌≡◌, ◌<◌, true, false};
+ghost use Rattle.std.specs.Prelude.{◌≡◌, ◌<◌, ◌≤◌, ℕ, true, false};
 ghost use Rattle.transfer_table.specs.Plan.{IsSite, parent};
-ghost use Rattle.hart_port.specs.Hand.{Hand, IsHand, is_in, Registers, MayRequest, requested_by, Enters, yielded, closes, sees_gone, Sees, MayUnregister, unregistered};
+ghost use Rattle.transfer_table.specs.Entry.{unregisters};
+ghost use Rattle.hart_port.specs.Count.{RoseIfErr, RoseUnlessInside};
+ghost use Rattle.hart_port.specs.PortView.{PortView, IsPortView, is_in, Registers, MayRequest, requested_by, Enters, yielded, closes, sees_gone, Sees, MayUnregister, unregistered};
 
 /// A site was claimed before. The site word that the call read is shown.
 #[derive(Clone, Copy, Debug, PartialEq, Eq)]
@@ -37,72 +39,90 @@ pub trait Port {
     type Hold: Copy;
 
     /// The plan, the hart and its owner, the entries that it made, the sets of sites that it knows
-    /// of, and how often it was refused.
-    ghost seen: { Self → Hand };
+    /// of, and whether it shares the table with no other hart.
+    ghost seen: { Self → PortView };
+
+    /// How often a call was refused, up to the last value of `u64`.
+    ghost refused: { Self → ℕ };
 
     /// The hart's number.
     fn hart(&self) -> u8
         ensures same { result ≡ (seen self.now).hart }
-        ensures kept { IsHand (seen self.now) };
+        ensures kept { IsPortView (seen self.now) };
 
     /// The site that holds the hart; 0 is the base.
     fn owner(&self) -> u16
         ensures same { result ≡ (seen self.now).owner }
-        ensures kept { IsHand (seen self.now) };
+        ensures kept { IsPortView (seen self.now) };
+
+    /// Whether no other hart shares the table.
+    fn is_alone(&self) -> bool
+        ensures same { result ≡ (seen self.now).alone }
+        ensures kept { IsPortView (seen self.now) };
 
     /// Makes Register of the site, a child of the owner, whose home the hart then is.
     fn register(&mut self, hold: Self::Hold, site: u16) -> Result<(), Taken>
         requires known { IsSite (seen self.old).plan site }
         requires child { (seen self.old).owner ≡ parent (seen self.old).plan site }
         ensures does { Registers (seen self.old) site result (seen self.new) }
-        ensures kept { IsHand (seen self.new) };
+        ensures count { RoseIfErr result (refused self.old) (refused self.new) }
+        ensures kept { IsPortView (seen self.new) };
 
     /// Makes Request of the site that the hart is in and the home of, for `count` more harts.
     fn request(&mut self, hold: Self::Hold, site: u16, count: u8)
         requires known { IsSite (seen self.old).plan site }
         requires may { MayRequest (seen self.old) site count }
         ensures does { seen self.new ≡ requested_by (seen self.old) site count }
-        ensures kept { IsHand (seen self.new) };
+        ensures count { refused self.new ≡ refused self.old }
+        ensures kept { IsPortView (seen self.new) };
 
     /// Tries to make Enter of the site, a child of the owner.
     fn try_enter(&mut self, hold: Self::Hold, site: u16) -> Entered
         requires known { IsSite (seen self.old).plan site }
         requires child { (seen self.old).owner ≡ parent (seen self.old).plan site }
         ensures does { Enters (seen self.old) site result (seen self.new) }
-        ensures kept { IsHand (seen self.new) };
+        ensures count { RoseUnlessInside result (refused self.old) (refused self.new) }
+        ensures kept { IsPortView (seen self.new) };
 
     /// Makes Yield of the owner, whose home the hart isn't.
     fn yield_hart(&mut self, hold: Self::Hold)
         requires inside { 0 < (seen self.old).owner }
         requires guest { is_in (seen self.old).homes (seen self.old).owner ≡ false }
         ensures does { seen self.new ≡ yielded (seen self.old) }
-        ensures kept { IsHand (seen self.new) };
+        ensures count { refused self.new ≡ refused self.old }
+        ensures kept { IsPortView (seen self.new) };
 
     /// Closes the owner, whose home the hart is: no further hart is let in.
     fn close_site(&mut self, hold: Self::Hold)
         requires home { is_in (seen self.old).homes (seen self.old).owner ≡ true }
         requires open_yet { is_in (seen self.old).closed (seen self.old).owner ≡ false }
         ensures does { seen self.new ≡ closes (seen self.old) }
-        ensures kept { IsHand (seen self.new) };
+        ensures count { refused self.new ≡ refused self.old }
+        ensures kept { IsPortView (seen self.new) };
 
-    /// Whether the site is gone: whether the site word that the call read is closed.
+    /// Whether the site is gone: whether the site word that the call read is closed. A hart that shares
+    /// the table with no other one sees each site gone that it unregistered.
     fn see_gone(&mut self, hold: Self::Hold, site: u16) -> bool
         requires { IsSite (seen self.old).plan site }
         ensures gone { result ≡ true → seen self.new ≡ sees_gone (seen self.old) site }
         ensures not_yet { result ≡ false → seen self.new ≡ seen self.old }
-        ensures kept { IsHand (seen self.new) };
+        ensures alone { (seen self.old).alone ≡ true → 1 ≤ unregisters site (seen self.old).mine → result ≡ true }
+        ensures count { refused self.new ≡ refused self.old }
+        ensures kept { IsPortView (seen self.new) };
 
     /// Looks whether another hart is in the owner, which the hart has closed, or on its way in.
     fn see_empty(&mut self, hold: Self::Hold) -> Seen
         requires home { is_in (seen self.old).homes (seen self.old).owner ≡ true }
         requires closed { is_in (seen self.old).closed (seen self.old).owner ≡ true }
         ensures does { Sees (seen self.old) result (seen self.new) }
-        ensures kept { IsHand (seen self.new) };
+        ensures count { refused self.new ≡ refused self.old }
+        ensures kept { IsPortView (seen self.new) };
 
     /// Makes Unregister of the owner, which the hart has closed and has seen empty since it last
     /// saw a child gone. It has seen every child gone.
     fn unregister(&mut self, hold: Self::Hold)
         requires { MayUnregister (seen self.old) }
         ensures does { seen self.new ≡ unregistered (seen self.old) }
-        ensures kept { IsHand (seen self.new) };
+        ensures count { refused self.new ≡ refused self.old }
+        ensures kept { IsPortView (seen self.new) };
 }

@@ -3,7 +3,7 @@ ghost use Rattle.std.specs.Prelude.{◌≡◌};
 ghost use Rattle.transfer_table.specs.Plan.{IsSite};
 ghost use Rattle.transfer_table.specs.Table.{row};
 ghost use Rattle.hart_port.specs.Count.{Rose};
-ghost use Rattle.hart_port.specs.SiteWord.{site_word, stage_bits, closing_bit};
+ghost use Rattle.hart_port.specs.Words.{site_word, stage_bits, closing_bit};
 
 use transfer_table::{Board, Stage};
 

@@ -1,8 +1,9 @@
 //! The calls that move a hart. Each makes the port's transfer and the callback that belongs to it.
 ghost use Rattle.std.specs.Prelude.{◌≡◌, ◌<◌, false};
 ghost use Rattle.transfer_table.specs.Plan.{IsSite, parent as parent_of};
-ghost use Rattle.hart_port.specs.Hand.{IsHand, is_in, MayRequest, requested_by, yielded, MayUnregister, unregistered};
-ghost use Rattle.sched_api.specs.Calls.{IsHeard, Lends, requested_told, yielded_told, unregistered_told};
+ghost use Rattle.hart_port.specs.Count.{RoseIfErr};
+ghost use Rattle.hart_port.specs.PortView.{IsPortView, is_in, MayRequest, requested_by, yielded, MayUnregister, unregistered};
+ghost use Rattle.sched_api.specs.Calls.{IsHeard, Lends, RoseUnlessLent, requested_told, yielded_told, unregistered_told};
 
 use crate::scheduler::{Lent, Next, Scheduler};
 use hart_port::{Entered, Port, Taken};
@@ -17,9 +18,10 @@ pub fn sched_register<P: Port, S: Scheduler>(
 ) -> Result<S::Heard, Taken>
     requires known { IsSite (P.seen port.old).plan site }
     requires child { (P.seen port.old).owner ≡ parent_of (P.seen port.old).plan site }
-    ensures does { IsHeard S.Heard.heard site (P.seen port.old) parent.old result (P.seen port.new) parent.new }
+    ensures does { IsHeard S.Heard.heard S.hears site (P.seen port.old) parent.old result (P.seen port.new) parent.new }
+    ensures count { RoseIfErr result (P.refused port.old) (P.refused port.new) }
     ensures site { S.site_of parent.new ≡ S.site_of parent.old }
-    ensures kept { IsHand (P.seen port.new) }
+    ensures kept { IsPortView (P.seen port.new) }
 {
     port.register(ph, site)?;
     Ok(parent.register(sh, site))
@@ -37,9 +39,11 @@ pub fn sched_request<P: Port, S: Scheduler>(
     requires known { IsSite (P.seen port.old).plan site }
     requires may { MayRequest (P.seen port.old) site count }
     ensures does { P.seen port.new ≡ requested_by (P.seen port.old) site count }
+    ensures count { P.refused port.new ≡ P.refused port.old }
     ensures told { S.Heard.heard result ≡ requested_told site count }
+    ensures hears { S.hears parent.old (requested_told site count) parent.new }
     ensures site { S.site_of parent.new ≡ S.site_of parent.old }
-    ensures kept { IsHand (P.seen port.new) }
+    ensures kept { IsPortView (P.seen port.new) }
 {
     port.request(ph, site, count);
     parent.request(sh, site, count)
@@ -54,9 +58,11 @@ pub fn sched_unregister<P: Port, S: Scheduler>(
 ) -> S::Heard
     requires { MayUnregister (P.seen port.old) }
     ensures does { P.seen port.new ≡ unregistered (P.seen port.old) }
+    ensures count { P.refused port.new ≡ P.refused port.old }
     ensures told { S.Heard.heard result ≡ unregistered_told (P.seen port.old).owner }
+    ensures hears { S.hears parent.old (unregistered_told (P.seen port.old).owner) parent.new }
     ensures site { S.site_of parent.new ≡ S.site_of parent.old }
-    ensures kept { IsHand (P.seen port.new) }
+    ensures kept { IsPortView (P.seen port.new) }
 {
     let child = port.owner();
     port.unregister(ph);
@@ -73,9 +79,11 @@ pub fn sched_yield<P: Port, S: Scheduler>(
     requires inside { 0 < (P.seen port.old).owner }
     requires guest { is_in (P.seen port.old).homes (P.seen port.old).owner ≡ false }
     ensures does { P.seen port.new ≡ yielded (P.seen port.old) }
+    ensures count { P.refused port.new ≡ P.refused port.old }
     ensures told { S.Heard.heard result ≡ yielded_told (P.seen port.old).owner }
+    ensures hears { S.hears parent.old (yielded_told (P.seen port.old).owner) parent.new }
     ensures site { S.site_of parent.new ≡ S.site_of parent.old }
-    ensures kept { IsHand (P.seen port.new) }
+    ensures kept { IsPortView (P.seen port.new) }
 {
     let child = port.owner();
     port.yield_hart(ph);
@@ -93,8 +101,9 @@ pub fn sched_enter<P: Port, S: Scheduler>(
     requires known { IsSite (P.seen port.old).plan (S.site_of child.old) }
     requires child { (P.seen port.old).owner ≡ parent_of (P.seen port.old).plan (S.site_of child.old) }
     ensures does { Lends S.answers (S.site_of child.old) (P.seen port.old) child.old result (P.seen port.new) child.new }
+    ensures count { RoseUnlessLent result (P.refused port.old) (P.refused port.new) }
     ensures site { S.site_of child.new ≡ S.site_of child.old }
-    ensures kept { IsHand (P.seen port.new) }
+    ensures kept { IsPortView (P.seen port.new) }
 {
     match port.try_enter(ph, child.site()) {
         Entered::Inside => Lent::Inside(child.enter(sh)),

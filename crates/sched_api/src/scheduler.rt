@@ -1,5 +1,6 @@
 //! Schedulers, as a hart finds them.
-ghost use Rattle.std.specs.Prelude.{◌≡◌, ℕ};
+ghost use Rattle.std.specs.Prelude.{◌≡◌, ℕ, Result, IfErr};
+ghost use Rattle.sched_api.specs.declared.hearing.Told.{Told};
 ghost use Rattle.sched_api.specs.declared.scheduler.Next.{Next};
 ghost use Rattle.sched_api.specs.Calls.{registered_told, unregistered_told, requested_told, yielded_told, blocked_told};
 
@@ -44,6 +45,12 @@ pub trait Scheduler {
     /// Of a scheduler, what `enter` answers there, and the scheduler afterwards.
     ghost answers: { Self → Next Self.Ctx → Self → Type 0 };
 
+    /// Of a scheduler, what it is told, and the scheduler afterwards.
+    ghost hears: { Self → Told → Self → Type 0 };
+
+    /// Of a scheduler, a context that waits no longer, the answer, and the scheduler afterwards.
+    ghost takes: { Self → Self.Ctx → Result (Unit {0}) Self.Ctx → Self → Type 0 };
+
     /// The scheduler's site; 0 is the base.
     fn site(&self) -> u16
         ensures { result ≡ site_of self.now };
@@ -51,21 +58,25 @@ pub trait Scheduler {
     /// A child has registered.
     fn register(&mut self, hold: Self::Hold, child: u16) -> Self::Heard
         ensures told { Self.Heard.heard result ≡ registered_told child }
+        ensures hears { hears self.old (registered_told child) self.new }
         ensures site { site_of self.new ≡ site_of self.old };
 
     /// A child has unregistered. Its wishes are met no more.
     fn unregister(&mut self, hold: Self::Hold, child: u16) -> Self::Heard
         ensures told { Self.Heard.heard result ≡ unregistered_told child }
+        ensures hears { hears self.old (unregistered_told child) self.new }
         ensures site { site_of self.new ≡ site_of self.old };
 
     /// A child asks for `count` harts. A wish may stay unmet.
     fn request(&mut self, hold: Self::Hold, child: u16, count: u8) -> Self::Heard
         ensures told { Self.Heard.heard result ≡ requested_told child count }
+        ensures hears { hears self.old (requested_told child count) self.new }
         ensures site { site_of self.new ≡ site_of self.old };
 
     /// A hart came back from a child.
     fn yielded(&mut self, hold: Self::Hold, child: u16) -> Self::Heard
         ensures told { Self.Heard.heard result ≡ yielded_told child }
+        ensures hears { hears self.old (yielded_told child) self.new }
         ensures site { site_of self.new ≡ site_of self.old };
 
     /// What a hart that comes to the scheduler does next.
@@ -76,10 +87,13 @@ pub trait Scheduler {
     /// A context waits at a mutex, which keeps it.
     fn block(&mut self, hold: Self::Hold) -> Self::Heard
         ensures told { Self.Heard.heard result ≡ blocked_told }
+        ensures hears { hears self.old (blocked_told) self.new }
         ensures site { site_of self.new ≡ site_of self.old };
 
     /// A context waits no longer, and is put last on the ready list. Where the list fills its room,
     /// the context is handed back.
     fn unblock(&mut self, hold: Self::Hold, c: Self::Ctx) -> Result<(), Self::Ctx>
-        ensures { site_of self.new ≡ site_of self.old };
+        ensures back { IfErr result (λ back. back ≡ c) }
+        ensures takes { takes self.old c result self.new }
+        ensures site { site_of self.new ≡ site_of self.old };
 }

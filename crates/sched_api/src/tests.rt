@@ -46,6 +46,10 @@ impl Scheduler for Idle {
 
     ghost answers = { λ _ next _. next ≡ Nothing };
 
+    ghost hears = { λ before _ after. after ≡ before };
+
+    ghost takes = { λ before _ _ after. after ≡ before };
+
     fn site(&self) -> u16 {
         self.site
     }

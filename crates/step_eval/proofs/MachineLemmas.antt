@@ -5,7 +5,7 @@ use Rattle.std.specs.Borrow.{Bor}
 use Rattle.std.proofs.lemmas.Bool.{false≢true}
 use Rattle.contexts.specs.declared.machine.Step.{Step}
 use Rattle.contexts.specs.declared.machine.Step.TheVariants as step
-use Rattle.contexts.specs.Machine.{Work, Steps}
+use Rattle.contexts.specs.Machine.{Steps}
 use Rattle.array_tree.specs.declared.tree.Stmt.{Stmt}
 use Rattle.array_tree.specs.Trees.{Statement, statement_of, Assign, For, If, Par, Team, ended, followed, declarations_of}
 use Rattle.array_meaning.specs.Stores.{Write, after, arrays_of}
@@ -23,7 +23,7 @@ use Rattle.step_eval.specs.declared.frames.Frames.{Frames}
 use Rattle.step_eval.specs.Rest.{WorkAt, at, rest_steps}
 use Rattle.step_eval.specs.Moves.{moved, moved_writes, moved_sites, rest_left}
 use Rattle.step_eval.specs.Nests.{NestedParts, NestedTree, nested_of}
-use Rattle.step_eval.specs.Machines.{Progress, IsRight, IsKept, construct_of, next_construct, nest_in, handed_out, rest_writes, is_awaiting, left_of, HasMoved, Advances, AreAwaited, awaited_by}
+use Rattle.step_eval.specs.Machines.{Progress, IsRight, IsKept, construct_of, next_construct, nest_in, handed_out, rest_writes, to_do, HasMoved, Advances, AreAwaited, awaited_by}
 use Rattle.step_eval.specs.Frames.{frames_in, works_of, vars_in, IsMore, IsStacked, AreAll, HasPassed, IsPast, IsConstruct}
 use Rattle.step_eval.specs.Inside.{IsWhole, IsSound, while_going, Advanced, stage_by, sites_seen}
 use Rattle.step_eval.proofs.LeftLemmas.{left_moved, left_passed, left_positive}
@@ -58,10 +58,6 @@ no_sites_passed (branch_of (followed (Par line branches) rest)) none = cc
 no_sites_passed (branch_of (followed (Team line var low high members phases) rest)) none = cc
 no_sites_passed (member_of var low high body) none = refl
 
--- What others see of a machine.
-abbrev work_seen : Progress → Work
-work_seen machine = record { rest = rest_writes machine; awaits = is_awaiting machine.stage; left = left_of machine.stage machine.rest }
-
 -- The machine after a step that found memory.
 abbrev pub after_step : JobParts → ℕ → Step NestedParts → List WorkAt → Trace → Progress
 after_step job next s rest store = record { job = job; rest = rest; store = store; next = next; stage = stage_by s }
@@ -81,7 +77,7 @@ advances job works rest store store' next step.NoMemory done = absurd done
 -- So it is a step of any machine.
 pub steps : (job : JobParts) (works rest : List WorkAt) (store store' : Trace) (next : ℕ) (s : Step NestedParts) →
     Advanced (while_going job works store next) s rest store' →
-    Steps (work_seen (while_going job works store next)) s (work_seen (after_step job next s rest store'))
+    Steps (to_do (while_going job works store next)) s (to_do (after_step job next s rest store'))
 steps job [] rest store store' next step.More done = absurd done.1
 steps job (w ∷ more) rest store store' next step.More done =
     let arrays = arrays_of (declarations_of job.arrays) in
@@ -96,7 +92,7 @@ steps job [] rest store store' next (step.Nest nested) done = cc
 steps job (w ∷ more) rest store store' next (step.Nest nested) done =
     let some = left_positive w more in
     let left : rest_left rest - 1 < rest_left (w ∷ more) = rw done.1 (omega (arith, some)) in
-    (refl, left)
+    (rw (done.1, done.2) refl, left)
 steps job works rest store store' next step.Finished done =
     let none = done.0 in let same = done.1 in let now = done.2 in
     (rw none refl, rw none refl, rw (same, now) refl)

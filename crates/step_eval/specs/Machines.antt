@@ -1,5 +1,6 @@
 -- Machines, and what their calls do.
 use Rattle.std.specs.Prelude.{◌≡◌, ℕ, ◌+◌, ◌-◌, List, [], ◌∷◌, ◌++◌, Bool, true, false, Option, Some, None, IsSome, length}
+use Rattle.contexts.specs.Machine.{Work}
 use Rattle.contexts.specs.declared.machine.Step.{Step}
 use Rattle.contexts.specs.declared.machine.Step.TheVariants as step
 use Rattle.array_tree.specs.Trees.{Statement, Assign, For, If, Par, Team, ended, followed, declarations_of}
@@ -81,6 +82,10 @@ abbrev pub left_of : Stage → List WorkAt → ℕ
 left_of Going rest = rest_left rest
 left_of Awaiting rest = rest_left rest - 1
 left_of Failed rest = 1
+
+-- What a machine has still to do, as any machine tells it.
+abbrev pub to_do : Progress → Work
+to_do machine = record { rest = rest_writes machine; awaits = is_awaiting machine.stage; left = left_of machine.stage machine.rest }
 
 -- A construct, handed out at this place of a machine.
 abbrev pub handed_out : Progress → WorkAt → Option Statement → Option NestedTree

@@ -11,6 +11,3 @@ pub use jobs::jobs_of;
 pub use machine::StepMachine;
 pub use nested::Nested;
 pub use stage::Stage;
-
-#[cfg(test)]
-mod tests;

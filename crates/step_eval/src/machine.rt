@@ -4,7 +4,7 @@ ghost use Rattle.contexts.specs.Machine.{Steps};
 ghost use Rattle.array_tree.specs.Trees.{statement_of, declarations_of};
 ghost use Rattle.array_jobs.specs.Jobs.{job_of};
 ghost use Rattle.step_eval.specs.declared.stage.Stage.TheVariants.{Awaiting, Failed};
-ghost use Rattle.step_eval.specs.Machines.{Progress, IsRight, fresh_machine, rest_writes, is_awaiting, left_of, Advances, HasMoved, AreAwaited, IsFinished};
+ghost use Rattle.step_eval.specs.Machines.{Progress, IsRight, fresh_machine, is_awaiting, to_do, left_of, Advances, HasMoved, AreAwaited, IsFinished};
 ghost use Rattle.step_eval.specs.Frames.{works_of, IsStacked, IsMore};
 ghost use Rattle.step_eval.specs.Inside.{while_going, Advanced, IsHandedOut, IsConstructNext, stage_by, sites_seen};
 
@@ -114,19 +114,17 @@ impl<'p> StepMachine<'p> {
 impl<'p> Machine for StepMachine<'p> {
     type Nested = Nested<'p>;
 
-    ghost rest = { rest_writes };
+    ghost work = { to_do };
 
-    ghost awaits = { λ machine. is_awaiting machine.stage };
-
-    ghost left = { λ machine. left_of machine.stage machine.rest };
+    ghost steps = { Advances };
 
     /// Begins or ends one statement or one turn of a loop, or hands out the construct that is next.
     // A step is laid into its caller, with all that it calls each time: a call would move the room of its large answer.
     #[inline(always)]
     fn step(&mut self) -> Step<Nested<'p>>
         requires { is_awaiting self.old.stage ≡ false }
-        ensures steps { Steps (record { rest = rest_writes self.old; awaits = is_awaiting self.old.stage; left = left_of self.old.stage self.old.rest }) result (record { rest = rest_writes self.new; awaits = is_awaiting self.new.stage; left = left_of self.new.stage self.new.rest }) }
-        ensures advances { Advances self.old result self.new }
+        ensures exact { Advances self.old result self.new }
+        ensures work { Steps (to_do self.old) result (to_do self.new) }
     {
         match self.stage {
             Stage::Going => match advance(

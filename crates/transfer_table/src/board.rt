@@ -53,6 +53,14 @@ impl Board {
         })
     }
 
+    /// The plan whose table it is.
+    pub fn plan(&self) -> &Plan
+        ensures same { result.now ≡ self.now.plan }
+        ensures kept { IsPlan self.now.plan }
+    {
+        &self.plan
+    }
+
     /// The site that holds the hart; 0 is the base. The hart is one of the plan's.
     pub fn owner(&self, hart: u8) -> u16
         requires { IsHart self.now.plan hart }

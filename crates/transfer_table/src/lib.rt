@@ -17,6 +17,3 @@ pub use entries::Entries;
 pub use entry::{Entry, NotAdmitted, Row, Stage};
 pub use fault::{Fault, Why, first_fault};
 pub use plan::{Plan, PlanFault};
-
-#[cfg(test)]
-mod tests;

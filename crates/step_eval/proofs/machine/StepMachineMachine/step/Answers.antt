@@ -14,8 +14,8 @@ invariant_of-self c =
     (sound_advanced inside.job inside.frames c.advance.new.frames inside.store c.advance.new.store inside.room inside.next c.in-Ok.step sound
     c.in-Ok.ensures.advanced c.in-Ok.ensures.stacked)
 
-pub returns-in-Ok-clause-steps : goal.returns-in-Ok-clause-steps
-returns-in-Ok-clause-steps c =
+pub returns-in-Ok-clause-work : goal.returns-in-Ok-clause-work
+returns-in-Ok-clause-work c =
     let inside = c.self.inside in
     let works = works_of inside.frames inside.job.vars in
     let seen : c.args.self.now ≡ while_going inside.job works inside.store inside.next
@@ -23,8 +23,8 @@ returns-in-Ok-clause-steps c =
     rw (seen, c.stage_after-self-inside.ensures)
     (steps inside.job works (works_of c.advance.new.frames inside.job.vars) inside.store c.advance.new.store inside.next c.in-Ok.step c.in-Ok.ensures.advanced)
 
-pub returns-in-Ok-clause-advances : goal.returns-in-Ok-clause-advances
-returns-in-Ok-clause-advances c =
+pub returns-in-Ok-clause-exact : goal.returns-in-Ok-clause-exact
+returns-in-Ok-clause-exact c =
     let inside = c.self.inside in
     let works = works_of inside.frames inside.job.vars in
     let seen : c.args.self.now ≡ while_going inside.job works inside.store inside.next

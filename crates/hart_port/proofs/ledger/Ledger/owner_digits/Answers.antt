@@ -1,0 +1,52 @@
+-- The owners from a hart on have less than 2^48, so a further digit fits.
+use Rattle.std.proofs.Common.{◌≡◌, ◌∙◌, ap, sym, subst, arith, rules, ℕ, refl, drop, []}
+use Rattle.std.proofs.lemmas.List.{drop_all}
+use Rattle.std.proofs.lemmas.Grind.{common_steps}
+use Rattle.transfer_table.proofs.Positions.{legal_position}
+use Rattle.transfer_table.specs.Plan.{Plan}
+use Rattle.hart_port.specs.Words.{owner_digits}
+use Rattle.hart_port.specs.Ledger.{LedgerState}
+use Rattle.hart_port.proofs.Ledgers.{digits_small, digits_before}
+use Rattle.hart_port.proofs.ledger.Ledger.owner_digits.Goals as goal
+
+pub loop-hart-init : goal.loop-hart-init
+loop-hart-init c =
+    let b = c.self.inside.board in
+    let is = c.self.invariant.ledger in
+    let fits = legal_position b.plan is.plan c.self.inside.entries.items b.state is.reached in
+    let size = fits.owners in
+    let harts = c.harts-hart.ensures.same ∙ ap (λ (p : Plan). p.harts) c.plan.ensures.same in
+    let none : drop c.harts-hart.result b.state.owners ≡ [] = drop_all c.harts-hart.result b.state.owners (omega arith) in
+    record { same = sym (ap owner_digits none); most = omega arith }
+
+pub overflow_mul-digits : goal.overflow_mul-digits
+overflow_mul-digits c =
+    let small = digits_small _ c.self.invariant.ledger c.loop-hart.hart in
+    let same = c.loop-hart.invariant.same in
+    omega arith
+
+pub overflow_add-digits : goal.overflow_add-digits
+overflow_add-digits c =
+    let small = digits_small _ c.self.invariant.ledger c.loop-hart.hart in
+    let same = c.loop-hart.invariant.same in
+    omega arith
+
+pub loop-hart-preserved : goal.loop-hart-preserved
+loop-hart-preserved c =
+    let before = digits_before c.self.inside.board.state.owners c.loop-hart.hart c.loop-hart-test.true c.loop-hart.invariant.most in
+    let same = c.loop-hart.invariant.same in
+    let most = c.loop-hart.invariant.most in
+    let owner = c.owner.ensures.same in
+    record { same = omega arith; most = omega arith }
+
+pub returns-clause-same : goal.returns-clause-same
+returns-clause-same c =
+    let owners = c.self.inside.board.state.owners in
+    let last : c.loop-hart.hart ≡ 0 = omega arith in
+    c.loop-hart.invariant.same ∙ ap (λ (h : ℕ). owner_digits (drop h owners)) last ∙ ap (λ (l : LedgerState). owner_digits l.state.owners) c.self.view_is
+
+pub returns-clause-below : goal.returns-clause-below
+returns-clause-below c =
+    let small = digits_small _ c.self.invariant.ledger c.loop-hart.hart in
+    let same = c.loop-hart.invariant.same in
+    omega arith
