@@ -3,3 +3,4 @@ pub mod Words
 pub mod PortView
 pub mod Ledger
 pub mod Plain
+pub mod Locked

@@ -1,5 +1,5 @@
 -- The words that a port shows: one for each site, and one for the board.
-use Rattle.std.specs.Prelude.{ℕ, ◌+◌, ◌*◌, ◌/◌, ◌%◌, ◌^◌, ◌==◌, Bool, true, false, not, ◌&&◌, List, [], ◌∷◌}
+use Rattle.std.specs.Prelude.{◌≢◌, ◌<◌, ℕ, ◌+◌, ◌*◌, ◌/◌, ◌%◌, ◌^◌, ◌==◌, Bool, true, false, not, ◌&&◌, List, [], ◌∷◌}
 use Rattle.transfer_table.specs.Table.{TableState}
 use Rattle.transfer_table.specs.declared.entry.Row.{Row}
 use Rattle.transfer_table.specs.declared.entry.Stage.{Stage}
@@ -55,3 +55,7 @@ owner_digits (o ∷ os) = o + 4096 * owner_digits os
 -- the board word: the length of the journal from bit 48 on, and below it the owner of each hart
 abbrev pub board_word : TableState → ℕ → ℕ
 board_word t size = size * 2 ^ 48 + owner_digits t.owners
+
+-- another one of so many harts
+abbrev pub IsOther : ℕ → ℕ → ℕ → Type 0
+IsOther harts h g = (g < harts) × (g ≢ h)

@@ -7,10 +7,12 @@
 #![tactic(auto)]
 
 mod ledger;
+mod locked;
 mod plain;
 mod port;
 mod word;
 
 pub use ledger::Ledger;
+pub use locked::LockedPort;
 pub use plain::PlainPort;
 pub use port::{Entered, Port, Seen, Taken};

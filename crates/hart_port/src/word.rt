@@ -1,9 +1,9 @@
 //! The words that a port shows.
-ghost use Rattle.std.specs.Prelude.{◌≡◌};
+ghost use Rattle.std.specs.Prelude.{◌≡◌, ◌≢◌, ℕ, IfSome, IfNone};
 ghost use Rattle.transfer_table.specs.Plan.{IsSite};
 ghost use Rattle.transfer_table.specs.Table.{row};
 ghost use Rattle.hart_port.specs.Count.{Rose};
-ghost use Rattle.hart_port.specs.Words.{site_word, stage_bits, closing_bit};
+ghost use Rattle.hart_port.specs.Words.{site_word, stage_bits, closing_bit, is_claimed, is_closed, is_wanted, owner_field, IsOther};
 
 use transfer_table::{Board, Stage};
 
@@ -38,4 +38,40 @@ pub(crate) fn raise(count: &mut u64)
     ensures { Rose count.old count.new }
 {
     *count = count.saturating_add(1);
+}
+
+// Whether the site of the word is claimed.
+pub(crate) fn is_claimed(word: u64) -> bool
+    ensures { result ≡ is_claimed word }
+{
+    word % 2 == 1
+}
+
+// Whether the site of the word is gone.
+pub(crate) fn is_closed(word: u64) -> bool
+    ensures { result ≡ is_closed word }
+{
+    word / 4 % 2 == 1
+}
+
+// Whether a hart may enter the site of the word.
+pub(crate) fn is_wanted(word: u64) -> bool
+    ensures { result ≡ is_wanted word }
+{
+    is_claimed(word) && word / 2 % 2 != 1 && !is_closed(word) && word / 256 % 256 != 0
+}
+
+// The least other hart whose owner is the site, by the board word.
+pub(crate) fn other_hart(word: u64, harts: u8, hart: u8, site: u16) -> Option<u8>
+    ensures some { IfSome result (λ g. IsOther harts hart g × (owner_field word g ≡ site)) }
+    ensures none { IfNone result ((g : ℕ) → IsOther harts hart g → owner_field word g ≢ site) }
+{
+    let mut rest = word;
+    for other in 0..harts {
+        if other != hart && rest % 4096 == site as u64 {
+            return Some(other);
+        }
+        rest /= 4096;
+    }
+    None
 }
