@@ -58,8 +58,8 @@ pub fn piece_of<'p>(alloc: Global, job: Job<'p>) -> Result<Piece<'p>, AllocError
     Ok(Piece { job, written })
 }
 
-// What a job writes.
-fn written_by(alloc: Global, job: &Job) -> Result<Overlay, AllocError>
+/// What a job writes, by running its work on a copy of its store: each cell with its last value.
+pub fn written_by(alloc: Global, job: &Job) -> Result<Overlay, AllocError>
     ensures { IfOk result (λ overlay. overlay.pairs ≡ piece_of_job (job_of job.now)) }
 {
     let mut store = MarkedStore::new(alloc, &job.store)?;

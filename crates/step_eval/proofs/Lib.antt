@@ -9,3 +9,6 @@ pub mod NestParts
 pub mod NestLemmas
 pub mod HandLemmas
 pub mod MachineLemmas
+pub mod ShapeLemmas
+pub mod PhaseLemmas
+pub mod ComputeLemmas

@@ -107,7 +107,7 @@ sites_before_phase (beside first rest) (suc phase) small = let more = sites_befo
 -- ---- the construct
 
 -- What the test allows is no larger than its limit.
-up_to_number : (most : ℕ) (n : ℤ) → is_up_to (pos most) n ≡ true → unsigned_abs n ≤ most
+pub up_to_number : (most : ℕ) (n : ℤ) → is_up_to (pos most) n ≡ true → unsigned_abs n ≤ most
 up_to_number most (pos n) h = let high = (both (int_le (pos 1) (pos n)) (int_le (pos n) (pos most)) h).1 in grind (arith, nat_tests)
 up_to_number most (negsuc n) h = absurd (false≢true h)
 

@@ -128,7 +128,7 @@ pub count_trees : (var : List ℕ) (low high : ℤ) (m : ℕ) (body : Sequence) 
 count_trees var low high m body j zero = refl
 count_trees var low high m body j (suc k) = ap suc (count_trees var low high m body (j + 1) k)
 
-some_members : (members : ℤ) → is_up_to (pos 64) members ≡ true → 0 < unsigned_abs members
+pub some_members : (members : ℤ) → is_up_to (pos 64) members ≡ true → 0 < unsigned_abs members
 some_members (pos zero) e = absurd (false≢true e)
 some_members (pos (suc n)) e = omega arith
 some_members (negsuc n) e = absurd (false≢true e)

@@ -71,7 +71,7 @@ below_lay n cell v (w ∷ ws) lt h = cases (nat_lt cell w.0) (nat_eq cell w.0) (
     cases false false rest = (h.0, rest)
 
 -- and several
-below_lays : (n : ℕ) (ws laid : List Write) → AreBelow n ws → AreBelow n laid → AreBelow n (lays ws laid)
+pub below_lays : (n : ℕ) (ws laid : List Write) → AreBelow n ws → AreBelow n laid → AreBelow n (lays ws laid)
 below_lays n [] laid h k = k
 below_lays n (w ∷ ws) laid h k = below_lays n ws (lay w.0 w.1 laid) h.1 (below_lay n w.0 w.1 laid h.0 k)
 

@@ -1,13 +1,21 @@
 //! Jobs that are run a step at a time, by machines that any hart can put down and hand on.
 #![tactic(auto)]
 
+mod computing;
 mod frames;
 mod jobs;
+mod laws;
 mod machine;
 mod nested;
+mod shape;
 mod stage;
 
+pub use computing::compute;
 pub use jobs::jobs_of;
+pub use laws::{
+    jobs_are_counted, jobs_are_groups, jobs_are_rounds, phases_are_constructs, phases_are_merged,
+};
 pub use machine::StepMachine;
 pub use nested::Nested;
+pub use shape::Kind;
 pub use stage::Stage;

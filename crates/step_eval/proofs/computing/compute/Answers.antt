@@ -1,0 +1,31 @@
+use Rattle.std.proofs.Common.{◌≡◌, ap, sym, subst, ◌∙◌, arith}
+use Rattle.std.proofs.lemmas.Result.{IfOk-weaker}
+use Rattle.array_tree.specs.Trees.{statement_of}
+use Rattle.array_eval.specs.Traces.{fresh}
+use Rattle.step_eval.specs.Nests.{NestedParts, nested_of, phases_of, IsFitNest}
+use Rattle.step_eval.specs.Computed.{HasReached}
+use Rattle.step_eval.proofs.ComputeLemmas.{reached_none, reached_all, small_store}
+use Rattle.step_eval.proofs.computing.compute.Goals as goal
+
+pub loop-phase-init : goal.loop-phase-init
+loop-phase-init c =
+    let nested = c.args.nested.now in
+    subst (λ s. HasReached (nested_of nested) 0 s) (sym (c.in_ok-store.ensures ∙ ap (λ (n : NestedParts). fresh n.store) c.nested.view_is))
+    (reached_none (nested_of nested))
+
+pub run_phase-requires-clause-fit : goal.run_phase-requires-clause-fit
+run_phase-requires-clause-fit c = subst (λ (n : NestedParts). IsFitNest (nested_of n)) c.nested.view_is c.nested.invariant
+
+pub written-requires : goal.written-requires
+written-requires c =
+    let fit : IsFitNest (nested_of c.args.nested.now) = subst (λ (n : NestedParts). IsFitNest (nested_of n)) c.nested.view_is c.nested.invariant in
+    let small = small_store (nested_of c.args.nested.now) fit in
+    let same = c.loop-phase.invariant.same in
+    omega (arith, small, same)
+
+pub returns : goal.returns
+returns c =
+    let nested = c.args.nested.now in
+    let fit : IsFitNest (nested_of nested) = subst (λ (n : NestedParts). IsFitNest (nested_of n)) c.nested.view_is c.nested.invariant in
+    let end : c.loop-phase.phase ≡ phases_of (statement_of nested.construct) = omega (arith, c.phases-phase-end.ensures.same) in
+    IfOk-weaker c.written.result _ _ (λ overlay e. e ∙ reached_all (nested_of nested) fit c.loop-phase.phase c.loop-phase.store end c.loop-phase.invariant) c.written.ensures

@@ -1,0 +1,80 @@
+//! The shapes of constructs that are handed out.
+ghost use Rattle.std.specs.Prelude.{◌≡◌, ◌<◌, ◌≤◌, IsTrue, Some};
+ghost use Rattle.array_tree.specs.Trees.{statement_of};
+ghost use Rattle.array_meaning.specs.Limits.{statement_has_right_ranges};
+ghost use Rattle.step_eval.specs.Nests.{is_construct, phases_of};
+ghost use Rattle.step_eval.specs.Shapes.{kind_of, members_of};
+
+use crate::nested::Nested;
+use array_tree::Stmt;
+
+/// Which of the two constructs it is.
+#[derive(Clone, Copy, Debug, PartialEq, Eq, Drop)]
+pub enum Kind {
+    /// A `par`.
+    Par,
+    /// A `team`.
+    Team,
+}
+
+impl<'p> Nested<'p> {
+    /// Whether it is a `par` or a `team`.
+    pub fn kind(&self) -> Kind
+        ensures { kind_of (statement_of self.now.construct) ≡ Some result }
+    {
+        kind_of(self.construct)
+    }
+
+    /// How many phases it has: 1 if it is a `par`, and 1 to 8 if it is a `team`.
+    pub fn phases(&self) -> u8
+        ensures same { result ≡ phases_of (statement_of self.now.construct) }
+        ensures some { 0 < result }
+        ensures few { result ≤ 8 }
+    {
+        phases_of(self.construct)
+    }
+
+    /// How many pieces each phase has, 1 to 64: the branches of a `par`, and the members of a `team`.
+    pub fn members(&self) -> u8
+        ensures same { result ≡ members_of (statement_of self.now.construct) }
+        ensures some { 0 < result }
+        ensures few { result ≤ 64 }
+    {
+        members_of(self.construct)
+    }
+}
+
+// The kind of a construct.
+fn kind_of(construct: &Stmt) -> Kind
+    requires { IsTrue (is_construct (statement_of construct.now)) }
+    ensures { kind_of (statement_of construct.now) ≡ Some result }
+{
+    match construct {
+        Stmt::Team { .. } => Kind::Team,
+        _ => Kind::Par,
+    }
+}
+
+// How many phases a construct in its limits has.
+fn phases_of(construct: &Stmt) -> u8
+    requires { IsTrue (statement_has_right_ranges (statement_of construct.now)) }
+    ensures { result ≡ phases_of (statement_of construct.now) }
+{
+    match construct {
+        Stmt::Par { .. } => 1,
+        Stmt::Team { phases, .. } => phases.blocks.len() as u8,
+        _ => 0,
+    }
+}
+
+// How many pieces each phase of a construct in its limits has.
+fn members_of(construct: &Stmt) -> u8
+    requires { IsTrue (statement_has_right_ranges (statement_of construct.now)) }
+    ensures { result ≡ members_of (statement_of construct.now) }
+{
+    match construct {
+        Stmt::Par { branches, .. } => branches.blocks.len() as u8,
+        Stmt::Team { members, .. } => members.unsigned_abs() as u8,
+        _ => 0,
+    }
+}
