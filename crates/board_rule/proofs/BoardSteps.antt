@@ -21,7 +21,7 @@ use Rattle.transfer_table.proofs.Positions.{Fits, legal_position, reaches-allowe
 use Rattle.transfer_table.proofs.Effects.{owner_after, row_after, allowed_site, owner-effect_same, owner-effect_other, row-effect_same, row-effect_other, at_site}
 use Rattle.transfer_table.proofs.Stages.{legal_blank, gone_lasts}
 use Rattle.transfer_table.proofs.Makers.{made_by-own, made_by-other}
-use Rattle.hart_port.specs.Hand.{is_in}
+use Rattle.hart_port.specs.PortView.{is_in}
 use Rattle.board_rule.specs.declared.view.View.{View}
 use Rattle.board_rule.specs.declared.view.Marks.{Marks}
 use Rattle.board_rule.specs.declared.view.Drawn.{Drawn}

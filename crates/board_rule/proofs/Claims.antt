@@ -10,7 +10,7 @@ use Rattle.transfer_table.specs.Plan.{Plan}
 use Rattle.transfer_table.specs.Table.{row}
 use Rattle.transfer_table.specs.declared.entry.Row.{Row}
 use Rattle.transfer_table.proofs.Stages.{legal_blank}
-use Rattle.hart_port.specs.SiteWord.{is_wanted, want_of}
+use Rattle.hart_port.specs.Words.{is_wanted, want_of}
 use Rattle.board_rule.specs.declared.view.View.{View}
 use Rattle.board_rule.specs.declared.view.LookKind.TheVariants as look
 use Rattle.board_rule.specs.declared.view.Doing.{Doing}

@@ -5,7 +5,7 @@ use lib.ListN.{get_elem?}
 use Rattle.transfer_table.specs.Plan.{Plan, IsSite}
 use Rattle.transfer_table.specs.Table.{TableState, row, is_live, is_home}
 use Rattle.transfer_table.specs.declared.entry.Stage.TheVariants.{Live}
-use Rattle.hart_port.specs.Hand.{is_in, with_site}
+use Rattle.hart_port.specs.PortView.{is_in, with_site}
 use Rattle.board_rule.specs.declared.view.View.{View}
 use Rattle.board_rule.specs.declared.view.Marks.{Marks}
 use Rattle.board_rule.specs.declared.view.Doing.{Doing}

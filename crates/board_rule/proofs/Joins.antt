@@ -7,8 +7,8 @@ use Rattle.atomic_table.proofs.Lists.{at_set, at_snoc, set_else}
 use Rattle.transfer_table.specs.Plan.{Plan, site_count}
 use Rattle.transfer_table.specs.Table.{TableState}
 use Rattle.transfer_table.specs.Entry.{made_by}
-use Rattle.hart_port.specs.Hand.{is_in}
-use Rattle.hart_port.specs.Plain.{no_site}
+use Rattle.hart_port.specs.PortView.{is_in}
+use Rattle.hart_port.specs.Ledger.{no_site}
 use Rattle.board_rule.specs.declared.view.View.{View}
 use Rattle.board_rule.specs.declared.view.Marks.{Marks}
 use Rattle.board_rule.specs.declared.view.Drawn.{Drawn}

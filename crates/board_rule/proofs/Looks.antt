@@ -12,8 +12,8 @@ use Rattle.transfer_table.specs.Table.{TableState, owner, row}
 use Rattle.transfer_table.specs.declared.entry.Stage.TheVariants.{Gone}
 use Rattle.transfer_table.proofs.Positions.{legal_position}
 use Rattle.transfer_table.proofs.Balance.{legal_wishes}
-use Rattle.hart_port.specs.Hand.{is_in, with_site, without}
-use Rattle.hart_port.specs.SiteWord.{is_closed, flight_of, owner_field}
+use Rattle.hart_port.specs.PortView.{is_in, with_site, without}
+use Rattle.hart_port.specs.Words.{is_closed, flight_of, owner_field}
 use Rattle.board_rule.specs.declared.view.View.{View}
 use Rattle.board_rule.specs.declared.view.Marks.{Marks}
 use Rattle.board_rule.specs.declared.view.Look.{Look}

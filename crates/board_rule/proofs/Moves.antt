@@ -15,7 +15,7 @@ use Rattle.transfer_table.proofs.Positions.{Fits, legal_position}
 use Rattle.transfer_table.proofs.Effects.{owner-effect_other, row-effect_same, row-effect_other}
 use Rattle.transfer_table.proofs.Bounds.{legal_owner}
 use Rattle.transfer_table.proofs.Stages.{gone_lasts}
-use Rattle.hart_port.specs.Hand.{is_in, without}
+use Rattle.hart_port.specs.PortView.{is_in, without}
 use Rattle.board_rule.specs.declared.view.View.{View}
 use Rattle.board_rule.specs.declared.view.Marks.{Marks}
 use Rattle.board_rule.specs.declared.view.Doing.{Doing}

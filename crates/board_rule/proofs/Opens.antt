@@ -12,8 +12,8 @@ use Rattle.transfer_table.specs.declared.entry.Row.{Row}
 use Rattle.transfer_table.proofs.Lists.{replicate_at}
 use Rattle.transfer_table.proofs.Stages.{first_blank}
 use Rattle.transfer_table.proofs.Makers.{legal_idle, legal_idle-lives_with}
-use Rattle.hart_port.specs.Hand.{is_in}
-use Rattle.hart_port.specs.Plain.{no_site}
+use Rattle.hart_port.specs.PortView.{is_in}
+use Rattle.hart_port.specs.Ledger.{no_site}
 use Rattle.board_rule.specs.declared.view.View.{View}
 use Rattle.board_rule.specs.declared.view.Doing.{Doing}
 use Rattle.board_rule.specs.declared.view.Doing.TheVariants.{Idle}

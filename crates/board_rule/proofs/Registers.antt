@@ -14,7 +14,7 @@ use Rattle.transfer_table.specs.declared.entry.Entry.TheVariants.{Register, Requ
 use Rattle.transfer_table.proofs.Positions.{Fits, legal_position}
 use Rattle.transfer_table.proofs.Effects.{row_after, owner-effect_other, row-effect_same, row-effect_other, at_site}
 use Rattle.transfer_table.proofs.Stages.{legal_blank, gone_lasts}
-use Rattle.hart_port.specs.Hand.{is_in, with_site}
+use Rattle.hart_port.specs.PortView.{is_in, with_site}
 use Rattle.board_rule.specs.declared.view.View.{View}
 use Rattle.board_rule.specs.declared.view.Marks.{Marks}
 use Rattle.board_rule.specs.declared.view.Doing.{Doing}

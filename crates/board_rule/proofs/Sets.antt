@@ -4,8 +4,8 @@ use mathlib.Core.Logic.{dite}
 use native.Mathlib.Decide.{ℕ_discrete}
 use Rattle.transfer_table.specs.Plan.{Plan, site_count}
 use Rattle.transfer_table.proofs.Lists.{replicate_at}
-use Rattle.hart_port.specs.Hand.{is_in, with_site, without}
-use Rattle.hart_port.specs.Plain.{no_site}
+use Rattle.hart_port.specs.PortView.{is_in, with_site, without}
+use Rattle.hart_port.specs.Ledger.{no_site}
 use Rattle.board_rule.specs.Views.{union}
 
 pub with_site-same : (f : List Bool) (x : ℕ) → x < length f → is_in (with_site f x) x ≡ true

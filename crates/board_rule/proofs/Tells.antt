@@ -6,7 +6,7 @@ use Rattle.atomic_table.specs.Table.{Allows, Me, keeps}
 use Rattle.atomic_table.proofs.Lists.{set_here}
 use Rattle.transfer_table.specs.Plan.{Plan, site_count}
 use Rattle.transfer_table.proofs.Bounds.{legal_owner}
-use Rattle.hart_port.specs.Hand.{is_in}
+use Rattle.hart_port.specs.PortView.{is_in}
 use Rattle.board_rule.specs.declared.view.View.{View}
 use Rattle.board_rule.specs.Rule.{Stands, IsSeat, FitsPlan}
 use Rattle.board_rule.specs.Laws.{St, after_step}

@@ -9,7 +9,7 @@ use Rattle.transfer_table.specs.Entry.{made_by}
 use Rattle.transfer_table.specs.Laws.{IsEntryOf}
 use Rattle.transfer_table.specs.declared.entry.Stage.TheVariants.{Gone}
 use Rattle.transfer_table.specs.declared.entry.Entry.{Entry}
-use Rattle.hart_port.specs.Hand.{is_in}
+use Rattle.hart_port.specs.PortView.{is_in}
 use Rattle.board_rule.specs.declared.view.View.{View}
 use Rattle.board_rule.specs.declared.view.Ended.{Ended}
 use Rattle.board_rule.specs.Words.{entries_in, room, journal_word, spelled}

@@ -2,8 +2,8 @@
 use Rattle.std.specs.Prelude.{◌≡◌, ◌≢◌, ℕ, ◌+◌, ◌-◌, ◌≤◌, true, false, None}
 use Rattle.transfer_table.specs.Plan.{Plan, IsSite, parent}
 use Rattle.transfer_table.specs.Entry.{requested}
-use Rattle.hart_port.specs.SiteWord.{is_wanted}
-use Rattle.hart_port.specs.Hand.{is_in}
+use Rattle.hart_port.specs.Words.{is_wanted}
+use Rattle.hart_port.specs.PortView.{is_in}
 use Rattle.board_rule.specs.declared.view.View.{View}
 use Rattle.board_rule.specs.declared.view.Doing.TheVariants.{Idle}
 use Rattle.board_rule.specs.Rule.{SawChildren}

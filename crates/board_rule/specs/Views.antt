@@ -3,9 +3,9 @@ use Rattle.std.specs.Prelude.{ℕ, ◌+◌, ◌==◌, Bool, ◌||◌, if◌then�
 use Rattle.transfer_table.specs.Plan.{Plan, parent}
 use Rattle.transfer_table.specs.declared.entry.Entry.{Entry}
 use Rattle.transfer_table.specs.declared.entry.Entry.TheVariants.{Register, Request, Enter, Yield, Unregister}
-use Rattle.hart_port.specs.SiteWord.{is_claimed, is_closed, flight_of}
-use Rattle.hart_port.specs.Hand.{is_in, with_site, without}
-use Rattle.hart_port.specs.Plain.{no_site}
+use Rattle.hart_port.specs.Words.{is_claimed, is_closed, flight_of}
+use Rattle.hart_port.specs.PortView.{is_in, with_site, without}
+use Rattle.hart_port.specs.Ledger.{no_site}
 use Rattle.board_rule.specs.Words.{others_at}
 use Rattle.board_rule.specs.Counts.{busy_at}
 use Rattle.board_rule.specs.declared.view.View.{View}

@@ -3,7 +3,7 @@ use Rattle.std.specs.Prelude.{ℕ, ◌+◌, ◌-◌, ◌*◌, ◌/◌, ◌==◌,
 use Rattle.transfer_table.specs.Plan.{Plan, site_count}
 use Rattle.transfer_table.specs.declared.entry.Entry.{Entry}
 use Rattle.transfer_table.specs.declared.entry.Entry.TheVariants.{Register, Request, Enter, Yield, Unregister}
-use Rattle.hart_port.specs.SiteWord.{owner_field}
+use Rattle.hart_port.specs.Words.{owner_field}
 
 -- by how much the board word grows with each entry: 2^48
 abbrev pub length_unit : ℕ

@@ -4,7 +4,7 @@ use borrow.Author.Tests.{ltb-true}
 use Rattle.std.proofs.Math.ListN.{drop}
 use Rattle.std.proofs.Math.Seq.{drop-cons}
 use Rattle.std.proofs.lemmas.Bool.{cases_eq}
-use Rattle.std.proofs.lemmas.List.{length-set, length-replicate, length-drop, drop-drop, map-set}
+use Rattle.std.proofs.lemmas.List.{length-map, length-set, length-replicate, length-drop, drop-drop, map-set}
 use Rattle.std.proofs.lemmas.Option.{slice_get-map, slice_get_within, slice_get_cases, slice_get_read, get_or_from_slice_get}
 use Rattle.array_meaning.specs.Stores.{Write}
 use Rattle.array_meaning.specs.Pieces.{merged, lays, last_writes}
@@ -25,7 +25,7 @@ use Rattle.array_jobs.specs.Jobs.{JobParts, JobTree, job_of, IsFit, names_around
 use Rattle.array_jobs.specs.PieceParts.{piece_of_job}
 use Rattle.join_book.specs.declared.place.Place.{Place}
 use Rattle.join_book.specs.declared.place.Place.TheVariants as place
-use Rattle.join_book.specs.Groups.{AreGroup}
+use Rattle.array_jobs.specs.Groups.{IsGroup, AreAlike}
 use Rattle.join_book.specs.Books.{BookParts, Mark, Open, Filled, Failed, mark_of, IsKept, HaveCells, IsPlaceOf, open_book, marked_book, filled_pieces}
 
 -- ---- an element of a list that was written
@@ -55,26 +55,40 @@ got xs known i place x inside is e f =
 
 -- ---- places
 
+-- the jobs of a group, as they lie in memory
+told_job : (jobs : List JobParts) (i : ℕ) (job : JobParts) → slice_get jobs i ≡ Some job → slice_get (map job_of jobs) i ≡ Some (job_of job)
+told_job jobs i job at = slice_get-map job_of jobs i ∙ ap (option_map job_of) at
+
+group_alike : (jobs : List JobParts) → IsGroup (map job_of jobs) → (i k : ℕ) (a b : JobParts) → slice_get jobs i ≡ Some a → slice_get jobs k ≡ Some b →
+    AreAlike (job_of a) (job_of b)
+group_alike jobs group i k a b at there = group.alike i k (job_of a) (job_of b) (told_job jobs i a at) (told_job jobs k b there)
+
+group_place : (jobs : List JobParts) → IsGroup (map job_of jobs) → (i : ℕ) (job : JobParts) → slice_get jobs i ≡ Some job → job.place ≡ i
+group_place jobs group i job at = group.places i (job_of job) (told_job jobs i job at)
+
+pub group_some : (jobs : List JobParts) → IsGroup (map job_of jobs) → 0 < length jobs
+group_some jobs group = let some_job = group.some in let same = length-map jobs job_of in omega arith
+
 -- a book, as it is told of what it holds
 abbrev pub told_book : List JobParts → List Place → BookParts
 told_book jobs places = record { jobs = jobs; places = map mark_of places }
 
 -- a job's place is the one that it names
-pub own_place : (jobs : List JobParts) (places : List Mark) → AreGroup jobs → (i : ℕ) (job : JobParts) →
+pub own_place : (jobs : List JobParts) (places : List Mark) → IsGroup (map job_of jobs) → (i : ℕ) (job : JobParts) →
     IsPlaceOf (record { jobs = jobs; places = places }) i job → i ≡ job.place
-own_place jobs places group i job is = sym (group.places i is.0 is.1) ∙ ap (λ tree. tree.place) is.2
+own_place jobs places group i job is = sym (group_place jobs group i is.0 is.1) ∙ ap (λ tree. tree.place) is.2
 
 -- where a job's own place isn't its place, none is
-pub no_place : (book : BookParts) (jobs : List JobParts) (places : List Place) → told_book jobs places ≡ book → AreGroup jobs → (job : JobParts) →
+pub no_place : (book : BookParts) (jobs : List JobParts) (places : List Place) → told_book jobs places ≡ book → IsGroup (map job_of jobs) → (job : JobParts) →
     (IsPlaceOf book job.place job → ⊥) → (i : ℕ) → IsPlaceOf book i job → ⊥
 no_place book jobs places e group job no_own i is =
-    let G : List JobParts → Type 0 = λ js. AreGroup js in
+    let G : List JobParts → Type 0 = λ js. IsGroup (map job_of js) in
     let at = own_place book.jobs book.places (subst G (ap (λ b. b.jobs) e) group) i job is in
     let P : ℕ → Type 0 = λ n. slice_get book.jobs n ≡ Some is.0 in
     no_own (is.0, subst P at is.1, is.2)
 
 -- no place of a new book is filled
-pub kept_open : (jobs : List JobParts) (places : List Place) → AreGroup jobs → ((i : ℕ) (job : JobParts) → slice_get jobs i ≡ Some job → IsFit (job_of job)) →
+pub kept_open : (jobs : List JobParts) (places : List Place) → IsGroup (map job_of jobs) → ((i : ℕ) (job : JobParts) → slice_get jobs i ≡ Some job → IsFit (job_of job)) →
     places ≡ replicate (length jobs) place.Open → IsKept jobs places
 kept_open jobs places group fit e = record {
   group = group;
@@ -297,7 +311,7 @@ carried jobs places book xs P e f h = subst (λ (ps : List Place). P book ps) (s
 -- ---- all of a book
 
 -- the jobs' stores are of one size
-pub same_size : (jobs : List JobParts) → AreGroup jobs → ((i : ℕ) (job : JobParts) → slice_get jobs i ≡ Some job → IsFit (job_of job)) →
+pub same_size : (jobs : List JobParts) → IsGroup (map job_of jobs) → ((i : ℕ) (job : JobParts) → slice_get jobs i ≡ Some job → IsFit (job_of job)) →
     (i k : ℕ) (a b : JobParts) → slice_get jobs i ≡ Some a → slice_get jobs k ≡ Some b → length a.store ≡ length b.store
 same_size jobs group fit i k a b at there =
-    (fit i a at).cells ∙ ap (λ ds. cells_of (arrays_of ds)) (group.one_phase i k a b at there).arrays ∙ sym (fit k b there).cells
+    (fit i a at).cells ∙ ap (λ ds. cells_of (arrays_of ds)) (group_alike jobs group i k a b at there).arrays ∙ sym (fit k b there).cells

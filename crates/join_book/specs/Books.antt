@@ -5,12 +5,12 @@ use Rattle.array_meaning.specs.Pieces.{merged}
 use Rattle.array_eval.specs.Overlays.{Laid}
 use Rattle.array_eval.specs.Traces.{Trace, marked}
 use Rattle.array_jobs.specs.Jobs.{JobParts, job_of, IsFit}
+use Rattle.array_jobs.specs.Groups.{IsGroup}
 use Rattle.array_jobs.specs.PieceParts.{PieceParts, piece_of_job}
 use Rattle.join_book.specs.declared.place.Place.{Place}
 use Rattle.join_book.specs.declared.place.Place.TheVariants as place
 use Rattle.join_book.specs.declared.book.Deposit.{Deposit}
 use Rattle.join_book.specs.declared.book.Deposit.TheVariants.{Kept, Double, Stranger}
-use Rattle.join_book.specs.Groups.{AreGroup}
 
 -- A place is open, or it has the piece of its own job, or its piece found no memory.
 pub data Mark : Type 0 where
@@ -29,7 +29,7 @@ mark_of place.Failed = Failed
 
 -- What the type keeps: the jobs are a group of fit jobs, each has a place, and what a place is filled with is what its job writes.
 pub record IsKept (jobs : List JobParts) (places : List Place) : Type 0 where
-  pub group : AreGroup jobs
+  pub group : IsGroup (map job_of jobs)
   pub fit : (i : ℕ) (job : JobParts) → slice_get jobs i ≡ Some job → IsFit (job_of job)
   pub each : length places ≡ length jobs
   pub filled : (i : ℕ) (job : JobParts) (written : Laid) → slice_get jobs i ≡ Some job → slice_get places i ≡ Some (place.Filled written) →

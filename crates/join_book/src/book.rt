@@ -1,11 +1,11 @@
 //! Books.
-ghost use Rattle.std.specs.Prelude.{◌≡◌, ◌↔◌, IsTrue, IfOk, IsErr, length, replicate, slice_get, Some, ℕ, []};
+ghost use Rattle.std.specs.Prelude.{◌≡◌, ◌↔◌, IsTrue, IfOk, IsErr, length, map, replicate, slice_get, Some, ℕ, []};
 ghost use Rattle.array_meaning.specs.Pieces.{merged, last_writes};
 ghost use Rattle.array_eval.specs.Traces.{marked};
 ghost use Rattle.join_book.specs.Books.{Open, Failed, open_book, IsMarked, IsFull, HasFailed, IsBlank, IsPlaceOf, Deposits, marked_book, filled_pieces, all_writes};
 ghost use Rattle.array_jobs.specs.Jobs.{JobParts, IsFit, job_of};
 ghost use Rattle.join_book.specs.declared.place.Place.TheVariants as place;
-ghost use Rattle.join_book.specs.Groups.{AreGroup};
+ghost use Rattle.array_jobs.specs.Groups.{IsGroup};
 
 use crate::place::Place;
 use array_eval::{MarkedStore, Overlay};
@@ -55,7 +55,7 @@ impl<'p> Book<'p> {
     /// A book of these jobs, whose places are open. They are one to 64 jobs of one site and one phase, each at the
     /// place that it names. Of the calls below only `take_all` takes memory.
     pub fn new(alloc: Global, jobs: Vec<Job<'p>>) -> Result<Book<'p>, AllocError>
-        requires { AreGroup jobs.items }
+        requires { IsGroup (map job_of jobs.items) }
         ensures { IfOk result (λ book. book ≡ open_book jobs.entry.items) }
     {
         let places = open_places(alloc, &jobs)?;

@@ -1,9 +1,9 @@
 -- A barrier as pieces come.
-use Rattle.std.proofs.Common.{◌≡◌, ◌≢◌, ◌⊎◌, inl, inr, ℕ, List, length, Option, Some, None, IsSome, slice_get, slice_set, refl, sym, ◌∙◌, subst}
+use Rattle.std.proofs.Common.{◌≡◌, ◌≢◌, ◌⊎◌, inl, inr, ℕ, List, length, map, Option, Some, None, IsSome, slice_get, slice_set, refl, sym, ◌∙◌, subst}
 use Rattle.std.proofs.lemmas.Bool.{cases_eq, false≢true}
 use Rattle.array_jobs.specs.PieceParts.{PieceParts}
-use Rattle.array_jobs.specs.Jobs.{JobParts}
-use Rattle.join_book.specs.Groups.{AreGroup}
+use Rattle.array_jobs.specs.Jobs.{JobParts, job_of}
+use Rattle.array_jobs.specs.Groups.{IsGroup}
 use Rattle.join_book.specs.Books.{BookParts, Mark, Open, Filled, Failed, IsMarked, IsPlaceOf, IsFull, marked_book, open_book}
 use Rattle.join_book.proofs.BookLemmas.{at_other, at_same, at_replicate, own_place}
 use Rattle.lithe_barrier.specs.declared.state.Room.{Room}
@@ -65,7 +65,7 @@ not_free before room job waiting own closed i is at =
     let P : ℕ → Type 0 = λ n. IsMarked before n Open in closed (subst P same at)
 
 -- a new barrier waits for all
-pub waits_first : (jobs : List JobParts) (book : BookParts) (room : Room) → AreGroup jobs → book ≡ open_book jobs → IsRoomFor book room → IsWaiting book (Some room)
+pub waits_first : (jobs : List JobParts) (book : BookParts) (room : Room) → IsGroup (map job_of jobs) → book ≡ open_book jobs → IsRoomFor book room → IsWaiting book (Some room)
 waits_first jobs book room group e is =
     let P : BookParts → Type 0 = λ b. IsRoomFor b room → IsWaiting b (Some room) in
     subst P (sym e) (λ there. record {

@@ -1,8 +1,9 @@
 -- A barrier: a book of one phase, in which no place fails, that opens once.
-use Rattle.std.specs.Prelude.{◌≡◌, ℕ, ◌≤◌, [], length, Option, IsSome}
+use Rattle.std.specs.Prelude.{◌≡◌, ℕ, ◌≤◌, [], length, map, Option, IsSome}
 use Rattle.std.specs.Option.{ForSome}
+use Rattle.array_jobs.specs.Jobs.{job_of}
+use Rattle.array_jobs.specs.Groups.{IsGroup}
 use Rattle.array_jobs.specs.PieceParts.{PieceParts}
-use Rattle.join_book.specs.Groups.{AreGroup}
 use Rattle.join_book.specs.Books.{BookParts, Open, Filled, IsMarked, IsPlaceOf, IsFull, HasFailed, IsBlank, marked_book, all_writes}
 use Rattle.lithe_barrier.specs.declared.state.Arrival.{Arrival}
 use Rattle.lithe_barrier.specs.declared.state.Arrival.TheVariants.{Kept, Opened, Stranger}
@@ -29,7 +30,7 @@ pub record IsRoomFor (book : BookParts) (room : Room) : Type 0 where
 
 -- What the type keeps: the jobs are a group, no place has failed, and as long as one is free there is room for all that will be written.
 pub record IsWaiting (book : BookParts) (room : Option Room) : Type 0 where
-  pub group : AreGroup book.jobs
+  pub group : IsGroup (map job_of book.jobs)
   pub none_failed : ¬ HasFailed book
   pub ready : (i : ℕ) → IsMarked book i Open → IsSome room
   pub right : ForSome room (λ r. IsRoomFor book r)

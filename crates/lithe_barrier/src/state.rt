@@ -1,6 +1,7 @@
 //! The barrier as one owner has it.
-ghost use Rattle.std.specs.Prelude.{◌≡◌, ◌↔◌, IsTrue, IfOk};
-ghost use Rattle.join_book.specs.Groups.{AreGroup};
+ghost use Rattle.std.specs.Prelude.{◌≡◌, ◌↔◌, IsTrue, IfOk, map};
+ghost use Rattle.array_jobs.specs.Jobs.{job_of};
+ghost use Rattle.array_jobs.specs.Groups.{IsGroup};
 ghost use Rattle.join_book.specs.Books.{Open, open_book, IsMarked, IsFull, HasFailed, all_writes};
 ghost use Rattle.lithe_barrier.specs.Arrivals.{Arrives, IsRoomFor};
 
@@ -57,7 +58,7 @@ impl<'p> BarrierState<'p> {
     /// A barrier that waits for the pieces of these jobs. They are one to 64 jobs of one site and one phase, each at the
     /// place that it names. No other call takes memory.
     pub fn new(alloc: Global, jobs: Vec<Job<'p>>) -> Result<BarrierState<'p>, AllocError>
-        requires { AreGroup jobs.items }
+        requires { IsGroup (map job_of jobs.items) }
         ensures { IfOk result (λ barrier. barrier ≡ open_book jobs.entry.items) }
     {
         let book = Book::new(alloc, jobs)?;

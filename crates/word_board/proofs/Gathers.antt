@@ -13,7 +13,7 @@ use Rattle.transfer_table.specs.Entry.{made_by}
 use Rattle.transfer_table.specs.declared.entry.Stage.TheVariants.{Gone}
 use Rattle.transfer_table.specs.declared.entry.Entry.{Entry}
 use Rattle.transfer_table.proofs.Stages.{legal_children}
-use Rattle.hart_port.specs.Hand.{is_in}
+use Rattle.hart_port.specs.PortView.{is_in}
 use Rattle.board_rule.specs.declared.view.View.{View}
 use Rattle.board_rule.specs.Counts.{ended_as, one_if}
 use Rattle.board_rule.specs.Views.{joined_view, union}

@@ -4,8 +4,8 @@ use Rattle.transfer_table.specs.Plan.{Plan}
 use Rattle.transfer_table.specs.Entry.{registers, requested}
 use Rattle.transfer_table.specs.declared.entry.Entry.{Entry}
 use Rattle.transfer_table.specs.declared.entry.Entry.TheVariants.{Register, Enter}
-use Rattle.hart_port.specs.Hand.{is_in, with_site}
-use Rattle.hart_port.specs.SiteWord.{is_claimed, is_closed, is_wanted, flight_of}
+use Rattle.hart_port.specs.PortView.{is_in, with_site}
+use Rattle.hart_port.specs.Words.{is_claimed, is_closed, is_wanted, flight_of}
 use Rattle.hart_port.specs.declared.port.Taken.{Taken}
 use Rattle.hart_port.specs.declared.port.Entered.{Entered}
 use Rattle.hart_port.specs.declared.port.Entered.TheVariants.{Inside, NotWanted, Moved}

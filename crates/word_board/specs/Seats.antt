@@ -9,7 +9,7 @@ use Rattle.transfer_table.specs.Journal.{Reaches, IsComplete}
 use Rattle.transfer_table.specs.Entry.{made_by}
 use Rattle.transfer_table.specs.declared.entry.Stage.TheVariants.{Gone}
 use Rattle.transfer_table.specs.declared.entry.Entry.{Entry}
-use Rattle.hart_port.specs.Hand.{is_in}
+use Rattle.hart_port.specs.PortView.{is_in}
 use Rattle.board_rule.specs.declared.view.View.{View}
 use Rattle.board_rule.specs.Views.{fresh_view}
 use Rattle.word_board.specs.declared.seat.HartSeat.{HartSeat}

@@ -2,7 +2,7 @@
 ghost use Rattle.std.specs.Prelude.{◌≡◌, ◌≢◌, ◌≤◌, true, false, ◌∷◌, [], ◌<◌};
 ghost use Rattle.transfer_table.specs.Plan.{IsPlan, IsSite, parent, site_count};
 ghost use Rattle.transfer_table.specs.declared.entry.Entry.TheVariants.{Request, Yield, Unregister};
-ghost use Rattle.hart_port.specs.Hand.{is_in};
+ghost use Rattle.hart_port.specs.PortView.{is_in};
 ghost use Rattle.board_rule.specs.Words.{width, others_at};
 ghost use Rattle.board_rule.specs.Views.{close_view, left_marks};
 ghost use Rattle.word_board.specs.Calls.{Registers, MayAsk, did_blind, Enters, SeesGone, Sees, MayLeaveHome};

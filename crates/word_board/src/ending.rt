@@ -3,7 +3,7 @@ ghost use Rattle.std.specs.Prelude.{◌≡◌, ℕ, ◌+◌, ◌<◌, ◌≤◌,
 ghost use Rattle.std.specs.Mem.Slots.{slots_items, slots_len, IsFull};
 ghost use Rattle.transfer_table.specs.Plan.{IsPlan};
 ghost use Rattle.transfer_table.specs.declared.entry.Entry.{Entry};
-ghost use Rattle.hart_port.specs.Hand.{is_in};
+ghost use Rattle.hart_port.specs.PortView.{is_in};
 ghost use Rattle.board_rule.specs.Words.{width, room};
 ghost use Rattle.board_rule.specs.Views.{joined_view};
 ghost use Rattle.board_rule.specs.Ends.{Spells, AllEnded, IsJournal};

@@ -2,7 +2,7 @@
 ghost use Rattle.std.specs.Prelude.{◌≡◌, ◌<◌, ◌≤◌, ◌*◌, ◌^◌, ◌&&◌, ◌==◌, not};
 ghost use Rattle.transfer_table.specs.Entry.{hart_of, count_of, site_of};
 ghost use Rattle.transfer_table.specs.Laws.{IsEntryOf};
-ghost use Rattle.hart_port.specs.SiteWord.{is_wanted, owner_field};
+ghost use Rattle.hart_port.specs.Words.{is_wanted, owner_field};
 ghost use Rattle.board_rule.specs.Words.{spelled, others_at};
 
 use transfer_table::Entry;

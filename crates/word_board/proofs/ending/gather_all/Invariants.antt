@@ -1,5 +1,5 @@
 use Rattle.std.proofs.Common.{◌≡◌, ◌≤◌, ℕ, true, length, take, vec_len}
-use Rattle.hart_port.specs.Hand.{is_in}
+use Rattle.hart_port.specs.PortView.{is_in}
 use Rattle.word_board.specs.Seats.{HasFrom}
 use Rattle.word_board.proofs.ending.gather_all.Given as goal
 

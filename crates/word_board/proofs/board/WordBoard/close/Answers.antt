@@ -1,7 +1,7 @@
 use Rattle.std.proofs.Common.{◌≡◌, ◌∙◌, ap, arith, subst, ◌<◌, List, length, get_or}
 use Rattle.std.specs.List.{remove}
 use Rattle.transfer_table.proofs.Lists.{any_default}
-use Rattle.hart_port.specs.Hand.{is_in}
+use Rattle.hart_port.specs.PortView.{is_in}
 use Rattle.board_rule.specs.declared.view.View.{View}
 use Rattle.word_board.specs.declared.seat.HartSeat.{HartSeat}
 use Rattle.word_board.specs.Seats.{HasFrom}

@@ -1,0 +1,56 @@
+-- The scheduler of one `par`.
+use Rattle.std.specs.Prelude.{◌≡◌, ℕ, ◌*◌, List, [], ◌∷◌, length, map, Result}
+use Rattle.sched_api.specs.Wishes.{wishes_after}
+use Rattle.sched_api.specs.declared.hearing.Told.{Told}
+use Rattle.work_agenda.specs.Agenda.{AgendaParts, TakesNext, PutsReady}
+use Rattle.sched_api.specs.declared.scheduler.Next.{Next}
+use Rattle.lithe_mutex.specs.Mutex.{Possession, Free, Held}
+use Rattle.array_jobs.specs.Jobs.{JobParts}
+use Rattle.join_book.specs.Books.{BookParts, open_book}
+use Rattle.forkjoin_sched.specs.declared.work.PoolWork.{PoolWork}
+use Rattle.forkjoin_sched.specs.declared.work.PoolWork.TheVariants.{Begin, Ready}
+
+-- What contracts see of a pool: its site, what it has for harts, and the book of its pieces.
+pub record PoolParts : Type 0 where
+  pub site : ℕ
+  pub agenda : AgendaParts PoolWork
+  pub book : BookParts
+
+-- The site of the jobs.
+abbrev pub site_of_jobs : List JobParts → ℕ
+site_of_jobs [] = 0
+site_of_jobs (job ∷ jobs) = job.site
+
+-- How many wishes there is room for, for each job: a piece is in one child at a time.
+abbrev pub wishes_per_job : ℕ
+wishes_per_job = 15
+
+-- The pool of jobs none of which is begun, in the order of their places.
+abbrev pub new_pool : List JobParts → PoolParts
+new_pool jobs = record {
+  site = site_of_jobs jobs;
+  agenda = record { ready = []; room = length jobs; unbegun = map Begin jobs; wishes = record { sites = []; room = wishes_per_job * length jobs } };
+  book = open_book jobs;
+}
+
+-- The book that nobody has taken.
+abbrev pub free_book : {C : Type 0} → Possession BookParts C → BookParts
+free_book (Free book) = book
+free_book (Held waiting) = record { jobs = []; places = [] }
+
+-- What a pool does as a scheduler: it answers by its agenda, and a callback changes its wishes alone.
+pub record Answers (before : PoolParts) (next : Next PoolWork) (after : PoolParts) : Type 0 where
+  pub next : TakesNext before.agenda next after.agenda
+  pub site : after.site ≡ before.site
+  pub book : after.book ≡ before.book
+
+abbrev pub Hears : PoolParts → Told → PoolParts → Type 0
+Hears before told after = after ≡ record before { agenda = record before.agenda { wishes = wishes_after told before.agenda.wishes } }
+
+pub record Takes (before : PoolParts) (c : PoolWork) (answer : Result (Unit {0}) PoolWork) (after : PoolParts) : Type 0 where
+  pub ready : PutsReady before.agenda c answer after.agenda
+  pub site : after.site ≡ before.site
+  pub book : after.book ≡ before.book
+
+abbrev pub with_book : PoolParts → BookParts → PoolParts
+with_book pool book = record pool { book = book }

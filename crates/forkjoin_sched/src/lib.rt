@@ -1,0 +1,8 @@
+//! The fork-join pool: the scheduler of one `par`.
+#![tactic(auto)]
+
+mod pool;
+mod work;
+
+pub use pool::{Pool, PoolHeard};
+pub use work::PoolWork;

@@ -1,0 +1,225 @@
+//! Pools.
+ghost use Rattle.std.specs.Prelude.{◌≡◌, ◌↔◌, ◌<◌, IsTrue, IfOk, IsErr, map, length};
+ghost use Rattle.sched_api.specs.declared.hearing.Told.{Told};
+ghost use Rattle.sched_api.specs.Calls.{registered_told, unregistered_told, requested_told, yielded_told, blocked_told};
+ghost use Rattle.sched_api.specs.Wishes.{with_wishes, without_child};
+ghost use Rattle.join_book.specs.Groups.{AreGroup};
+ghost use Rattle.join_book.specs.Books.{Open, Failed, IsMarked, IsFull, HasFailed, Deposits, marked_book, all_writes};
+ghost use Rattle.forkjoin_sched.specs.declared.work.PoolWork.TheVariants.{Begin};
+ghost use Rattle.forkjoin_sched.specs.Pools.{new_pool, Answers, Hears, Takes, with_book};
+
+use crate::work::PoolWork;
+use array_eval::Overlay;
+use array_jobs::{Job, Piece};
+use join_book::{Book, Deposit};
+use lithe_mutex::{Acquired, MutexState};
+use sched_api::{Call, Hearing, Next, Scheduler, Told};
+use std::alloc::{AllocError, Global};
+use std::collections::VecDeque;
+use std::marker::Model;
+use work_agenda::Agenda;
+
+/// How many wishes there is room for, for each job: a piece is in one child at a time.
+const WISHES_PER_JOB: usize = 15;
+
+/// What a callback of a pool gives.
+#[derive(Drop)]
+pub struct PoolHeard {
+    told: Told,
+}
+
+impl Model for PoolHeard {
+    ghost use Rattle.sched_api.specs.declared.hearing.Told.{Told};
+
+    ghost Value = { Told };
+
+    ghost view = { λ h. h.told };
+}
+
+impl Hearing for PoolHeard {
+    ghost heard = { λ h. h };
+
+    fn told(&self) -> Told {
+        self.told
+    }
+}
+
+// Only the callbacks below call it.
+fn heard(call: Call, child: u16, count: u8) -> PoolHeard
+    ensures { result ≡ record { call = call; child = child; count = count } }
+{
+    PoolHeard {
+        told: Told { call, child, count },
+    }
+}
+
+/// The scheduler of one `par`. It has the pieces that are not begun, the contexts that are ready to go on, the wishes of
+/// its children, and the book of its pieces behind a mutex, which each call holds to its end.
+#[derive(Drop)]
+pub struct Pool<'p> {
+    site: u16,
+    agenda: Agenda<PoolWork<'p>>,
+    book: MutexState<Book<'p>, ()>,
+}
+
+impl<'p> Model for Pool<'p> {
+    ghost use Rattle.std.specs.Prelude.{◌≡◌};
+    ghost use Rattle.lithe_mutex.specs.Mutex.{Free};
+    ghost use Rattle.forkjoin_sched.specs.Pools.{PoolParts, free_book};
+
+    ghost Value = { PoolParts };
+
+    ghost view = { λ pool. record { site = pool.site; agenda = pool.agenda; book = free_book pool.book.possession } };
+
+    ghost invariant = { λ pool. pool.book.possession ≡ Free (free_book pool.book.possession) };
+}
+
+impl<'p> Pool<'p> {
+    /// A pool of these jobs, none of which is begun. They are one to 64 jobs of one site and one phase, each at the place
+    /// that it names. No other call but `take_all` takes memory.
+    pub fn new(alloc: Global, jobs: Vec<Job<'p>>) -> Result<Pool<'p>, AllocError>
+        requires { AreGroup jobs.items }
+        ensures { IfOk result (λ pool. pool ≡ new_pool jobs.entry.items) }
+    {
+        let site = jobs[0].site;
+        let count = jobs.len();
+        let unbegun = unbegun_work(alloc, &jobs)?;
+        let agenda = Agenda::new(alloc, count, WISHES_PER_JOB * count, unbegun)?;
+        let book = MutexState::new(alloc, 0, Book::new(alloc, jobs)?)?;
+        Ok(Pool { site, agenda, book })
+    }
+
+    /// Keeps a piece at the place of its job.
+    pub fn deposit(&mut self, piece: Piece<'p>) -> Deposit<'p>
+        ensures book { Deposits self.old.book piece.entry result self.new.book }
+        ensures rest { self.new ≡ with_book self.old self.new.book }
+    {
+        match self.book.acquire(()) {
+            Acquired::Got(mut book, ()) => {
+                let deposit = book.deposit(piece);
+                self.book.release(book);
+                deposit
+            }
+            Acquired::Kept => unreachable!(),
+        }
+    }
+
+    /// Marks a place whose piece found no memory. The place must be open.
+    pub fn fail(&mut self, place: u8)
+        requires { IsMarked self.old.book place Open }
+        ensures { self.new ≡ with_book self.old (marked_book self.old.book place Failed) }
+    {
+        match self.book.acquire(()) {
+            Acquired::Got(mut book, ()) => {
+                book.fail(place);
+                self.book.release(book);
+            }
+            Acquired::Kept => unreachable!(),
+        }
+    }
+
+    /// Whether every place is filled or failed.
+    pub fn is_full(&self) -> bool
+        ensures { IsTrue result ↔ IsFull self.now.book }
+    {
+        match self.book.value() {
+            Some(book) => book.is_full(),
+            None => unreachable!(),
+        }
+    }
+
+    /// Whether the piece of some place found no memory.
+    pub fn has_failed(&self) -> bool
+        ensures { IsTrue result ↔ HasFailed self.now.book }
+    {
+        match self.book.value() {
+            Some(book) => book.has_failed(),
+            None => unreachable!(),
+        }
+    }
+
+    /// The jobs, in the order of their places.
+    pub fn jobs(&self) -> &[Job<'p>]
+        ensures { result.now ≡ self.now.book.jobs }
+    {
+        match self.book.value() {
+            Some(book) => book.jobs(),
+            None => unreachable!(),
+        }
+    }
+
+    /// The writes of all pieces, merged in the order of their places. Every place must be filled or failed; where one has
+    /// failed, the answer is want of memory.
+    pub fn take_all(self) -> Result<Overlay, AllocError>
+        requires { IsFull self.book }
+        ensures failed { HasFailed self.entry.book → IsErr result }
+        ensures written { IfOk result (λ overlay. overlay.pairs ≡ all_writes self.entry.book) }
+    {
+        let Pool { mut book, .. } = self;
+        match book.acquire(()) {
+            Acquired::Got(book, ()) => book.take_all(),
+            Acquired::Kept => unreachable!(),
+        }
+    }
+}
+
+// Each job as work that isn't begun.
+fn unbegun_work<'p>(alloc: Global, jobs: &[Job<'p>]) -> Result<VecDeque<PoolWork<'p>>, AllocError>
+    ensures { IfOk result (λ work. work.items ≡ map Begin jobs.now) }
+{
+    let mut unbegun = VecDeque::with_capacity(alloc, jobs.len())?;
+    for job in jobs {
+        unbegun.push_back(PoolWork::Begin(job.copy()?))?;
+    }
+    Ok(unbegun)
+}
+
+impl<'p> Scheduler for Pool<'p> {
+    type Hold = ();
+
+    type Heard = PoolHeard;
+
+    type Ctx = PoolWork<'p>;
+
+    ghost site_of = { λ pool. pool.site };
+
+    ghost answers = { λ before next after. Answers before next after };
+
+    ghost hears = { λ before told after. Hears before told after };
+
+    ghost takes = { λ before c answer after. Takes before c answer after };
+
+    fn site(&self) -> u16 {
+        self.site
+    }
+
+    fn register(&mut self, _hold: (), child: u16) -> PoolHeard {
+        heard(Call::Registered, child, 0)
+    }
+
+    fn unregister(&mut self, _hold: (), child: u16) -> PoolHeard {
+        self.agenda.remove_wishes(child);
+        heard(Call::Unregistered, child, 0)
+    }
+
+    fn request(&mut self, _hold: (), child: u16, count: u8) -> PoolHeard {
+        self.agenda.add_wishes(child, count);
+        heard(Call::Requested, child, count)
+    }
+
+    fn yielded(&mut self, _hold: (), child: u16) -> PoolHeard {
+        heard(Call::Yielded, child, 0)
+    }
+
+    fn enter(&mut self, _hold: ()) -> Next<PoolWork<'p>> {
+        self.agenda.take_next()
+    }
+
+    fn block(&mut self, _hold: ()) -> PoolHeard {
+        heard(Call::Blocked, 0, 0)
+    }
+
+    fn unblock(&mut self, _hold: (), c: PoolWork<'p>) -> Result<(), PoolWork<'p>> {
+        self.agenda.put_ready(c)
+    }
+}
