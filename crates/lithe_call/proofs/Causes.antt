@@ -1,6 +1,6 @@
 -- From the faults of the steps to those of the whole.
-use Rattle.std.proofs.Common.{◌≡◌, ◌≢◌, ◌⊎◌, ◌∙◌, ◌≤◌, ◌<◌, ◌+◌, ℕ, List, [], ◌++◌, length, length-append, Option, Some, None, Result, Ok, Err, IfOk, IfErr, sym, ap, subst, append-nil, arith, inl, inr, refl}
-use Rattle.outside_io.specs.Outside.{Gives, IsAtEnd, Rose}
+use Rattle.std.proofs.Common.{◌≡◌, ◌≢◌, ◌⊎◌, ◌∙◌, ◌≤◌, ◌<◌, ◌+◌, ℕ, List, ◌++◌, length, length-append, Option, Some, None, Result, Ok, Err, IfOk, IfErr, sym, ap, subst, append-nil, arith, inl, inr, refl}
+use Rattle.outside_io.specs.Outside.{Rose}
 use Rattle.array_tree.specs.Trees.{ProgramTree}
 use Rattle.array_lang.specs.Spelled.{Spells, HasFault}
 use Rattle.array_lang.specs.declared.fault.SyntaxFault.{SyntaxFault}
@@ -13,7 +13,7 @@ use Rattle.disjoint_check.specs.declared.fault.CheckFault.TheVariants as check
 use Rattle.lithe_call.specs.Lines.{TellsSyntax, TellsRefusal}
 use Rattle.lithe_call.specs.Telling.{GivesAll, GivesMore, Tells}
 use Rattle.lithe_call.specs.Command.{form_of}
-use Rattle.lithe_call.specs.Faults.{SpellNothing, SpellRefused, IsCause, IsFault, IsNoRun}
+use Rattle.lithe_call.specs.Faults.{IsFault, IsNoRun}
 use Rattle.lithe_call.specs.Output.{IsOutputOf, SpellAccepted}
 use Rattle.lithe_call.specs.FaultOf.{status_of, line_of}
 use Rattle.lithe_call.specs.Served.{IsOutputFor, TellsStatus}

@@ -1,7 +1,7 @@
 -- What a call has read, written and told. The bytes are those that the source gave; a source that tells its bytes had
 -- just these left.
-use Rattle.std.specs.Prelude.{◌≡◌, ℕ, ◌<◌, List, length, Option, Some}
-use Rattle.outside_io.specs.Outside.{Gives, Appends}
+use Rattle.std.specs.Prelude.{◌≡◌, ℕ, List, Option, Some}
+use Rattle.outside_io.specs.Outside.{Appends}
 use Rattle.lithe_call.specs.Telling.{GivesAll, AppendsPrefix, Tells}
 use Rattle.lithe_call.specs.Command.{form_of}
 use Rattle.lithe_call.specs.Output.{IsOutputOf}
@@ -9,7 +9,7 @@ use Rattle.lithe_call.specs.Faults.{SpellNothing, SpellRefused}
 use Rattle.lithe_call.specs.Status.{constant_text}
 use Rattle.lithe_call.specs.declared.command.Command.{Command}
 use Rattle.lithe_call.specs.declared.status.Status.{Status}
-use Rattle.lithe_call.specs.declared.status.Status.TheVariants.{Done, Illegal, Usage, Syntax, Refused, TooLong, ReadFault, WriteFault, NoMemory}
+use Rattle.lithe_call.specs.declared.status.Status.TheVariants.{Syntax, Refused}
 
 -- the source gave to its end the bytes of an accepted program, and this text is what the words' command writes for it
 pub record IsOutputFor (words : List (List ℕ)) (left left' : Option (List ℕ)) (text : List ℕ) : Type 0 where

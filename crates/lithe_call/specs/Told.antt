@@ -7,7 +7,7 @@ use Rattle.lithe_call.specs.Faults.{SpellNothing, SpellRefused}
 use Rattle.lithe_call.specs.Status.{constant_text}
 use Rattle.lithe_call.specs.declared.command.Command.{Command}
 use Rattle.lithe_call.specs.declared.status.Status.{Status}
-use Rattle.lithe_call.specs.declared.status.Status.TheVariants.{Done, Illegal, Usage, Syntax, Refused, TooLong, ReadFault, WriteFault, NoMemory}
+use Rattle.lithe_call.specs.declared.status.Status.TheVariants.{Syntax, Refused}
 
 -- the sink took what the command writes for the program that these bytes spell
 pub record TookOutput (command : Command) (bytes : List ℕ) (taken taken' : Option (List ℕ)) : Type 0 where

@@ -1,4 +1,4 @@
-use Rattle.std.proofs.Common.{◌≡◌, ◌∙◌, sym, subst, map, string_bytes, inr}
+use Rattle.std.proofs.Common.{◌∙◌, sym, subst, map, string_bytes, inr}
 use Rattle.array_lang.proofs.OneProgram.{one_text}
 use Rattle.lithe_call.specs.declared.status.Status.{Status}
 use Rattle.lithe_call.specs.Served.{TellsStatus}
