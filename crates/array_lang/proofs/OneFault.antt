@@ -123,10 +123,10 @@ one_in_tokens tokens end f g nf ng h k = absurd h
 pub one_fault : (text : List ℕ) (f g : SyntaxFault) → HasFault text f → HasFault text g → f ≢ Memory → g ≢ Memory → f ≡ g
 one_fault text f g (no_memory e) k nf ng = absurd (nf e)
 one_fault text f g h (no_memory e) nf ng = absurd (ng e)
-one_fault text f g (in_cutting c e h) (in_cutting d e' k) nf ng = let same : c ≡ d = cc in h ∙ ap cutting_fault same ∙ sym k
-one_fault text f g (in_cutting c e h) (in_tokens ts e' k) nf ng = cc
-one_fault text f g (in_tokens ts e h) (in_cutting c e' k) nf ng = cc
-one_fault text f g (in_tokens ts e h) (in_tokens ts' e' k) nf ng =
+one_fault text f g (in_cutting c e h nm) (in_cutting d e' k nm') nf ng = let same : c ≡ d = cc in h ∙ ap cutting_fault same ∙ sym k
+one_fault text f g (in_cutting c e h nm) (in_tokens ts e' k nm') nf ng = cc
+one_fault text f g (in_tokens ts e h nm) (in_cutting c e' k nm') nf ng = cc
+one_fault text f g (in_tokens ts e h nm) (in_tokens ts' e' k nm') nf ng =
     let same : ts' ≡ ts = cc in
     one_in_tokens ts (length text) f g nf ng h (subst (λ l. HasTokenFault l (length text) g) same k)
 
@@ -139,8 +139,8 @@ none_in_tokens tokens end p f d n h = absurd h
 -- A text that spells a program has none.
 pub none_where_spelled : (text : List ℕ) (p : ProgramTree) (f : SyntaxFault) → Spells text p → HasFault text f → f ≡ Memory
 none_where_spelled text p f s (no_memory e) = e
-none_where_spelled text p f s (in_cutting c e h) = absurd (none_cut text c p e s)
-none_where_spelled text p f s (in_tokens ts e h) =
+none_where_spelled text p f s (in_cutting c e h nm) = absurd (none_cut text c p e s)
+none_where_spelled text p f s (in_tokens ts e h nm) =
     let same : s.tokens ≡ ts = let k = sym s.cut ∙ e in cc in
     none_in_tokens ts (length text) p f (subst (λ l. SpellsProgram l p) same s.tree)
     (subst (λ l. first_nested l ≡ None) same ((shallow_fits s.tokens p s.tree).1 s.fits)) h

@@ -12,11 +12,11 @@ use Rattle.array_lang.specs.Grammar.{SpellsProgram, Begins, StopsAt}
 use Rattle.array_lang.specs.Machine.{parse_of}
 use Rattle.array_lang.specs.Nesting.{first_beyond}
 use Rattle.array_lang.specs.Reading.{IsWhole}
-use Rattle.array_lang.specs.Spelled.{IsRead, Spells, IsUnexpected, IsTooNested, HasFault, in_cutting, in_tokens, no_memory, cutting_fault, place_of, IsAfter}
+use Rattle.array_lang.specs.Spelled.{IsRead, Spells, IsUnexpected, IsTooNested, HasFault, HasTokenFault, in_cutting, in_tokens, no_memory, cutting_fault, place_of, IsAfter}
 use Rattle.array_lang.specs.declared.bounds.Reach.{Reach}
 use Rattle.array_lang.specs.declared.bounds.Reach.TheVariants.{Outside}
 use Rattle.array_lang.specs.declared.fault.SyntaxFault.{SyntaxFault}
-use Rattle.array_lang.specs.declared.fault.SyntaxFault.TheVariants.{Memory}
+use Rattle.array_lang.specs.declared.fault.SyntaxFault.TheVariants.{Memory, Unexpected, TooNested}
 use Rattle.array_lang.proofs.Complete.{complete}
 use Rattle.array_lang.proofs.Nested.{shallow_fits}
 use Rattle.array_lang.proofs.Places.{scan_places}
@@ -139,7 +139,9 @@ nested_short tokens (t ∷ rest) index end at within n h none p = absurd (omega 
 -- a fault of cutting is the answer, or memory ran out
 pub cut_fault : (text : List ℕ) (cause : TokenFault) (fault : SyntaxFault) → Fails cause (tokens_of text) → fault ≡ cutting_fault cause → HasFault text fault
 cut_fault text cutting.Memory fault h e = no_memory e
-cut_fault text cause fault h e = in_cutting cause h e
+cut_fault text (cutting.NotAscii at) fault h e = in_cutting (cutting.NotAscii at) h e (λ m. let wrong = sym e ∙ m in cc)
+cut_fault text (cutting.BadToken at) fault h e = in_cutting (cutting.BadToken at) h e (λ m. let wrong = sym e ∙ m in cc)
+cut_fault text (cutting.NumberTooLarge at) fault h e = in_cutting (cutting.NumberTooLarge at) h e (λ m. let wrong = sym e ∙ m in cc)
 
 pub only_fault : (text : List ℕ) (cause : TokenFault) (fault : SyntaxFault) (q : ProgramTree) → Fails cause (tokens_of text) → fault ≡ cutting_fault cause → Spells text q → fault ≡ Memory
 only_fault text cutting.Memory fault q h e s = e
@@ -155,9 +157,16 @@ pub only_whole : (text : List ℕ) (tokens : List Spot) (end : ℕ) (r : Result 
 only_whole text tokens end (Ok b) e h p s = only_found text tokens (program_of b) p e h s
 only_whole text tokens end (Err fault) e h p s = only_memory text tokens fault p e h.1 s
 
+-- a fault of the tokens is the answer, or memory ran out
+pub token_fault : (text : List ℕ) (tokens : List Spot) (fault : SyntaxFault) → tokens_of text ≡ Ok tokens → HasTokenFault tokens (length text) fault → HasFault text fault
+token_fault text tokens Memory e h = no_memory refl
+token_fault text tokens (Unexpected at) e h = in_tokens tokens e h (λ m. let wrong = m in cc)
+token_fault text tokens (TooNested at) e h = in_tokens tokens e h (λ m. let wrong = m in cc)
+token_fault text tokens fault e h = absurd h
+
 pub fault_whole : (text : List ℕ) (tokens : List Spot) (r : Result Program SyntaxFault) → tokens_of text ≡ Ok tokens → IsWhole tokens (length text) r → IfErr r (HasFault text)
 fault_whole text tokens (Ok b) e h = tt
-fault_whole text tokens (Err fault) e h = in_tokens tokens e h.0
+fault_whole text tokens (Err fault) e h = token_fault text tokens fault e h.0
 
 spots-take : (n : ℕ) (ts : List Token) → spots (take n ts) ≡ take n (spots ts)
 spots-take zero ts = refl

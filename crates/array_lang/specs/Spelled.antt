@@ -1,5 +1,5 @@
 -- The texts that spell a program, and the faults of the others.
-use Rattle.std.specs.Prelude.{◌≡◌, ℕ, ◌+◌, ◌≤◌, ◌<◌, List, [], ◌∷◌, length, take, drop, Option, Some, None, Result, Ok, Err, IsTrue}
+use Rattle.std.specs.Prelude.{◌≡◌, ◌≢◌, ℕ, ◌+◌, ◌≤◌, ◌<◌, List, [], ◌∷◌, length, take, drop, Option, Some, None, Result, Ok, Err, IsTrue}
 use Rattle.array_tokens.specs.Lexemes.{Spot, tokens_of}
 use Rattle.array_tokens.specs.declared.fault.TokenFault.{TokenFault}
 use Rattle.array_tokens.specs.declared.fault.TokenFault.TheVariants as cutting
@@ -59,10 +59,11 @@ cutting_fault (cutting.BadToken at) = BadToken at
 cutting_fault (cutting.NumberTooLarge at) = NumberTooLarge at
 cutting_fault cutting.Memory = Memory
 
--- The fault is the text's first: that of cutting it, and else the first of its tokens. Want of memory may come at any text.
+-- The fault is the text's first: that of cutting it, and else the first of its tokens. Want of memory may come at any
+-- text, and is no fault of it.
 pub data HasFault (text : List ℕ) (fault : SyntaxFault) : Type 0 where
-  in_cutting : (cause : TokenFault) → tokens_of text ≡ Err cause → fault ≡ cutting_fault cause → HasFault text fault
-  in_tokens : (tokens : List Spot) → tokens_of text ≡ Ok tokens → HasTokenFault tokens (length text) fault → HasFault text fault
+  in_cutting : (cause : TokenFault) → tokens_of text ≡ Err cause → fault ≡ cutting_fault cause → fault ≢ Memory → HasFault text fault
+  in_tokens : (tokens : List Spot) → tokens_of text ≡ Ok tokens → HasTokenFault tokens (length text) fault → fault ≢ Memory → HasFault text fault
   no_memory : fault ≡ Memory → HasFault text fault
 
 -- The answer is this program, unless memory ran out.

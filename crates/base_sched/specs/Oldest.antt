@@ -1,9 +1,7 @@
 -- What the base answers a hart that comes to it.
 use Rattle.std.specs.Prelude.{◌≡◌, ℕ, List, [], ◌∷◌, Bool, true}
-use Rattle.sched_api.specs.Wishes.{WishList, no_wishes, with_wishes, without_child}
+use Rattle.sched_api.specs.Wishes.{WishList, no_wishes, wishes_after}
 use Rattle.sched_api.specs.declared.hearing.Told.{Told}
-use Rattle.sched_api.specs.declared.hearing.Call.{Call}
-use Rattle.sched_api.specs.declared.hearing.Call.TheVariants.{Registered, Unregistered, Requested, Yielded, Blocked}
 use Rattle.sched_api.specs.declared.scheduler.Next.{Next}
 use Rattle.sched_api.specs.declared.scheduler.Next.TheVariants.{Run, Lend, Nothing}
 
@@ -26,13 +24,6 @@ LendsOldest before (Run c) after = ⊥
 LendsOldest before (Lend site) after = before ≡ with_sites after (site ∷ after.wishes.sites)
 LendsOldest before Nothing after = (before.wishes.sites ≡ []) × (after ≡ before)
 
--- the wishes after a callback: a request adds, the child's going takes off, and the others change none
-abbrev pub wishes_after : Call → ℕ → ℕ → WishList → WishList
-wishes_after Registered child count w = w
-wishes_after Unregistered child count w = without_child w child
-wishes_after Requested child count w = with_wishes w child count
-wishes_after Yielded child count w = w
-wishes_after Blocked child count w = w
-
+-- the base after a callback
 abbrev pub HearsOf : BaseState → Told → BaseState → Type 0
-HearsOf before told after = after ≡ record before { wishes = wishes_after told.call told.child told.count before.wishes }
+HearsOf before told after = after ≡ record before { wishes = wishes_after told before.wishes }

@@ -8,7 +8,7 @@ use Rattle.lithe_mutex.specs.Mutex.{Possession, Free, Held}
 use Rattle.array_jobs.specs.Jobs.{JobParts}
 use Rattle.join_book.specs.Books.{BookParts, open_book}
 use Rattle.forkjoin_sched.specs.declared.work.PoolWork.{PoolWork}
-use Rattle.forkjoin_sched.specs.declared.work.PoolWork.TheVariants.{Begin, Ready}
+use Rattle.forkjoin_sched.specs.declared.work.PoolWork.TheVariants.{Begin}
 
 -- What contracts see of a pool: its site, what it has for harts, and the book of its pieces.
 pub record PoolParts : Type 0 where
@@ -40,7 +40,7 @@ free_book (Held waiting) = record { jobs = []; places = [] }
 
 -- What a pool does as a scheduler: it answers by its agenda, and a callback changes its wishes alone.
 pub record Answers (before : PoolParts) (next : Next PoolWork) (after : PoolParts) : Type 0 where
-  pub next : TakesNext before.agenda next after.agenda
+  pub handed : TakesNext before.agenda next after.agenda
   pub site : after.site ≡ before.site
   pub book : after.book ≡ before.book
 

@@ -3,7 +3,8 @@ ghost use Rattle.std.specs.Prelude.{◌≡◌, ◌↔◌, ◌<◌, IsTrue, IfOk,
 ghost use Rattle.sched_api.specs.declared.hearing.Told.{Told};
 ghost use Rattle.sched_api.specs.Calls.{registered_told, unregistered_told, requested_told, yielded_told, blocked_told};
 ghost use Rattle.sched_api.specs.Wishes.{with_wishes, without_child};
-ghost use Rattle.join_book.specs.Groups.{AreGroup};
+ghost use Rattle.array_jobs.specs.Jobs.{job_of};
+ghost use Rattle.array_jobs.specs.Groups.{IsGroup};
 ghost use Rattle.join_book.specs.Books.{Open, Failed, IsMarked, IsFull, HasFailed, Deposits, marked_book, all_writes};
 ghost use Rattle.forkjoin_sched.specs.declared.work.PoolWork.TheVariants.{Begin};
 ghost use Rattle.forkjoin_sched.specs.Pools.{new_pool, Answers, Hears, Takes, with_book};
@@ -64,10 +65,17 @@ pub struct Pool<'p> {
 
 impl<'p> Model for Pool<'p> {
     ghost use Rattle.std.specs.Prelude.{◌≡◌};
+    ghost use Rattle.std.specs.Coded.{codes};
+    ghost use Rattle.array_tree.specs.contracts.tree.Arrays as arrays_type;
+    ghost use Rattle.array_tree.specs.contracts.tree.Block as block_type;
+    ghost use Rattle.step_eval.specs.contracts.stage.Stage as stage_type;
+    ghost use Rattle.step_eval.specs.Codes.{coded_sequence};
     ghost use Rattle.lithe_mutex.specs.Mutex.{Free};
     ghost use Rattle.forkjoin_sched.specs.Pools.{PoolParts, free_book};
 
     ghost Value = { PoolParts };
+
+    ghost coded = { Prim.hlevel (codes, arrays_type.the_row.coded, block_type.the_row.coded, stage_type.the_row.coded, coded_sequence) };
 
     ghost view = { λ pool. record { site = pool.site; agenda = pool.agenda; book = free_book pool.book.possession } };
 
@@ -78,7 +86,7 @@ impl<'p> Pool<'p> {
     /// A pool of these jobs, none of which is begun. They are one to 64 jobs of one site and one phase, each at the place
     /// that it names. No other call but `take_all` takes memory.
     pub fn new(alloc: Global, jobs: Vec<Job<'p>>) -> Result<Pool<'p>, AllocError>
-        requires { AreGroup jobs.items }
+        requires { IsGroup (map job_of jobs.items) }
         ensures { IfOk result (λ pool. pool ≡ new_pool jobs.entry.items) }
     {
         let site = jobs[0].site;

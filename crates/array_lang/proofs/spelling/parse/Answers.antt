@@ -1,6 +1,5 @@
 use Rattle.std.proofs.Common.{sym, length}
-use Rattle.array_lang.proofs.Whole.{found_whole, only_whole, fault_whole, cut_fault, none_nested}
-use Rattle.array_lang.specs.Spelled.{in_tokens}
+use Rattle.array_lang.proofs.Whole.{found_whole, only_whole, fault_whole, token_fault, cut_fault, none_nested}
 use Rattle.array_lang.proofs.spelling.parse.Goals as goal
 
 pub returns-in-None-clause-found : goal.returns-in-None-clause-found
@@ -13,7 +12,7 @@ pub returns-in-None-clause-fault : goal.returns-in-None-clause-fault
 returns-in-None-clause-fault c = fault_whole _ _ _ c.in-Ok.ensures (rw c.deref-in-None.ensures.value at c.whole.ensures)
 
 pub returns-clause-fault : goal.returns-clause-fault
-returns-clause-fault c = in_tokens _ c.in-Ok.ensures (rw c.deref-in-Some.ensures.value at (c.first_fault.ensures (length c.args.text.now)))
+returns-clause-fault c = token_fault _ _ _ c.in-Ok.ensures (rw c.deref-in-Some.ensures.value at (c.first_fault.ensures (length c.args.text.now)))
 
 pub returns-in-Err-clause-fault : goal.returns-in-Err-clause-fault
 returns-in-Err-clause-fault c = cut_fault _ _ _ c.in-Err.ensures c.from.ensures

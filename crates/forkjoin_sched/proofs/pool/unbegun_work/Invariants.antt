@@ -1,0 +1,6 @@
+use Rattle.std.proofs.Common.{◌≡◌, map, take}
+use Rattle.forkjoin_sched.specs.declared.work.PoolWork.TheVariants.{Begin}
+use Rattle.forkjoin_sched.proofs.pool.unbegun_work.Given as goal
+
+abbrev pub invariant-loop-job : goal.invariant-loop-job
+invariant-loop-job l = l.unbegun.items ≡ map Begin (take l.job-index l.jobs)
