@@ -1,21 +1,18 @@
 -- A ledger goes on with what its table admits, and its words fit.
-use Rattle.std.proofs.Common.{◌≡◌, ℕ, suc, ◌+◌, ◌-◌, ◌*◌, ◌^◌, ◌<◌, ◌≤◌, List, [], ◌∷◌, ◌++◌, length, get_or, drop, refl, sym, ap, subst, ◌∙◌, arith, ⊎_elim, Ok}
-use Rattle.std.specs.List.{All}
-use Rattle.std.proofs.lemmas.List.Elements.{All-drop}
+use Rattle.std.proofs.Common.{◌≡◌, ℕ, suc, ◌+◌, ◌-◌, ◌*◌, ◌^◌, ◌<◌, ◌≤◌, List, [], ◌∷◌, length, get_or, drop, sym, ap, subst, ◌∙◌, arith, ⊎_elim}
 use Rattle.std.proofs.Math.Seq.{drop-cons}
 use Rattle.std.proofs.lemmas.List.{length-drop, get_or-drop}
 use Rattle.std.proofs.lemmas.Nat.{mul-le}
-use Rattle.transfer_table.specs.Plan.{Plan, IsPlan, site_count}
-use Rattle.transfer_table.specs.Table.{TableState, owner, admit_of}
-use Rattle.transfer_table.specs.declared.entry.Entry.{Entry}
+use Rattle.transfer_table.specs.Plan.{IsHart, site_count}
+use Rattle.transfer_table.specs.Table.{owner}
 use Rattle.transfer_table.proofs.Positions.{legal_position}
 use Rattle.transfer_table.proofs.Bounds.{legal_length, legal_owner}
 use Rattle.hart_port.specs.Words.{owner_digits}
 use Rattle.hart_port.specs.Ledger.{LedgerState, IsLedger}
 
 -- each hart is in the base or in a site of the plan
-pub owner_below : (l : LedgerState) → IsLedger l → (h : ℕ) → h < l.plan.harts → owner l.state h ≤ 4095
-owner_below l is h hart = let few = is.plan.few_sites in ⊎_elim (λ z. omega arith) (λ r. let high = r.0.1 in omega arith) (legal_owner l.plan is.plan l.entries l.state is.reached h hart)
+pub owner_inside : (l : LedgerState) → IsLedger l → (h : ℕ) → IsHart l.plan h → owner l.state h ≤ site_count l.plan
+owner_inside l is h hart = ⊎_elim (λ z. omega arith) (λ r. let high = r.0.1 in high) (legal_owner l.plan is.plan l.entries l.state is.reached h hart)
 
 -- up to four owners fit in 48 bits
 small : (os : List ℕ) → ((i : ℕ) → i < length os → get_or os i 0 ≤ 4095) → length os ≤ 4 → owner_digits os < 2 ^ 48
@@ -30,7 +27,7 @@ small (a ∷ b ∷ c ∷ d ∷ e ∷ os) f few = absurd (omega arith)
 pub digits_small : (l : LedgerState) → IsLedger l → (n : ℕ) → owner_digits (drop n l.state.owners) < 2 ^ 48
 digits_small l is n = let fits = legal_position l.plan is.plan l.entries l.state is.reached in let most = is.plan.few_harts in let same = fits.owners in
     let size : length (drop n l.state.owners) ≡ length l.state.owners - n = length-drop n l.state.owners in
-    small (drop n l.state.owners) (λ i lt. subst (λ (x : ℕ). x ≤ 4095) (sym (get_or-drop n l.state.owners i 0)) (owner_below l is (n + i) (omega arith))) (omega arith)
+    small (drop n l.state.owners) (λ i lt. subst (λ (x : ℕ). x ≤ 4095) (sym (get_or-drop n l.state.owners i 0)) (let high = owner_inside l is (n + i) (omega arith) in let few = is.plan.few_sites in omega arith)) (omega arith)
 
 -- one hart more
 pub digits_before : (os : List ℕ) (h : ℕ) → 0 < h → h ≤ length os → owner_digits (drop (h - 1) os) ≡ owner_digits (drop h os) * 4096 + get_or os (h - 1) 0

@@ -1,5 +1,5 @@
 pub mod Words
 pub mod Homes
 pub mod Single
-pub mod Views
 pub mod Ledgers
+pub mod Views

@@ -1,5 +1,5 @@
 -- What the journal of a plan with one hart has.
-use Rattle.std.proofs.Common.{◌≡◌, ◌≢◌, ℕ, ◌+◌, ◌-◌, ◌≤◌, Bool, true, false, if◌then◌else◌, List, refl, sym, ap, ◌∙◌, arith}
+use Rattle.std.proofs.Common.{◌≡◌, ◌≢◌, ℕ, ◌≤◌, Bool, false, if◌then◌else◌, List, refl, ap, ◌∙◌, arith}
 use Rattle.transfer_table.specs.Plan.{Plan, IsPlan, IsSite}
 use Rattle.transfer_table.specs.Table.{TableState, row, is_new, is_gone}
 use Rattle.transfer_table.specs.Journal.{Reaches}

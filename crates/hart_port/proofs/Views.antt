@@ -1,26 +1,22 @@
 -- What the port's invariant says of the view that contracts have of it.
-use Rattle.std.proofs.Common.{◌≡◌, ℕ, ◌+◌, ◌<◌, ◌≤◌, ⊎_elim, Bool, true, false, ◌&&◌, List, ◌++◌, ◌∷◌, [], length, refl, sym, ap, subst, ◌∙◌, arith, Option, Some, None, zero, suc}
+use Rattle.std.proofs.Common.{◌≡◌, ℕ, ◌+◌, ◌<◌, ◌≤◌, Bool, true, false, ◌&&◌, List, ◌++◌, ◌∷◌, [], length, refl, sym, ap, ◌∙◌, arith, Option, Some, None, zero, suc}
 use Rattle.std.proofs.lemmas.Bool.Decides.{nat_tests}
 use Rattle.transfer_table.specs.Plan.{Plan, IsHart, IsSite, parent, site_count}
-use Rattle.transfer_table.specs.Table.{TableState, effect_of, first_state, owner, row, is_home, lives_with}
+use Rattle.transfer_table.specs.Table.{first_state, owner, row, is_home, lives_with}
 use Rattle.transfer_table.specs.Allowed.{IsAllowed}
 use Rattle.transfer_table.specs.declared.entry.Entry.TheVariants.{Register, Yield, Unregister}
 use Rattle.transfer_table.proofs.Positions.{legal_position}
 use Rattle.transfer_table.proofs.Lists.{replicate_at}
 use Rattle.transfer_table.proofs.Effects.{owner-effect_same}
-use Rattle.transfer_table.proofs.Bounds.{legal_owner}
 use Rattle.transfer_table.proofs.Stages.{live_home}
-use Rattle.hart_port.specs.PortView.{PortView, IsPortView, is_in, with_site, without, homes_of, MayUnregister, registered, unregistered}
+use Rattle.hart_port.specs.PortView.{PortView, IsPortView, is_in, without, homes_of, MayUnregister, registered, unregistered}
 use Rattle.hart_port.specs.Ledger.{LedgerState, IsLedger, first_ledger, no_site, with_entry}
 use Rattle.hart_port.specs.Plain.{IsPlain, first_view, view_of}
+use Rattle.hart_port.proofs.Ledgers.{owner_inside}
 use Rattle.hart_port.proofs.Homes.{length-homes_of, is_in-homes_of, homes_of-register, homes_of-unregister, homes_of-first}
 
 pub first : (p : Plan) → p.harts ≡ 1 → IsHart p 0
 first p one = omega arith
-
--- the hart is in the base or in a site of the plan
-pub inside_plan : (l : LedgerState) → IsLedger l → l.plan.harts ≡ 1 → owner l.state 0 ≤ site_count l.plan
-inside_plan l is one = ⊎_elim (λ z. omega arith) (λ r. let high = r.0.1 in high) (legal_owner l.plan is.plan l.entries l.state is.reached 0 (first l.plan one))
 
 -- the view of the only hart of a ledger of the same plan, with sets of the right size
 pub is_view : (l after : LedgerState) (closed empty gone : List Bool) → IsLedger after → after.plan ≡ l.plan → l.plan.harts ≡ 1
@@ -31,7 +27,7 @@ is_view l after closed empty gone is same before c e g = let fits = legal_positi
     record {
       plan = is.plan;
       hart = first after.plan one;
-      owner = inside_plan after is one;
+      owner = owner_inside after is 0 (first after.plan one);
       homes = (let n = length-homes_of after.state 0 in let m = fits.rows in omega arith);
       closed = c ∙ sites;
       empty = e ∙ sites;
@@ -55,7 +51,7 @@ is_home-some (Some g) h e = let same : g ≡ h = grind (arith, nat_tests) in ap 
 
 -- where the owner is a home, it is a live site whose home is the hart
 pub owner_home : (l : LedgerState) → IsLedger l → l.plan.harts ≡ 1 → is_in (homes_of l.state 0) (owner l.state 0) ≡ true → IsSite l.plan (owner l.state 0) × ((row l.state (owner l.state 0)).home ≡ Some 0)
-owner_home l ledger one is = more (owner l.state 0) is (inside_plan l ledger one)
+owner_home l ledger one is = more (owner l.state 0) is (owner_inside l ledger 0 (first l.plan one))
   where
     more : (s : ℕ) → is_in (homes_of l.state 0) s ≡ true → s ≤ site_count l.plan → IsSite l.plan s × ((row l.state s).home ≡ Some 0)
     more zero is_true high = absurd (cc)
@@ -69,7 +65,7 @@ may_unregister l closed empty gone is may = let home = owner_home l is.ledger is
 -- a hart that isn't the home of its owner: there is no such one where there is one hart
 pub may_yield : (l : LedgerState) → IsLedger l → l.plan.harts ≡ 1 → 0 < owner l.state 0 → is_in (homes_of l.state 0) (owner l.state 0) ≡ false → IsAllowed l.plan l.state (Yield 0 (owner l.state 0))
 may_yield l is one low guest = let live = live_home l.plan is.plan l.entries l.state is.reached 0 (owner l.state 0) (first l.plan one) (omega arith) refl in
-    (first l.plan one, (omega arith, inside_plan l is one), refl, (λ home. let here : lives_with l.state (owner l.state 0) 0 ≡ true = rw (live, home) refl in let not_here = sym (is_in-homes_of l.state 0 (owner l.state 0) (omega arith)) ∙ guest in cc))
+    (first l.plan one, (omega arith, owner_inside l is 0 (first l.plan one)), refl, (λ home. let here : lives_with l.state (owner l.state 0) 0 ≡ true = rw (live, home) refl in let not_here = sym (is_in-homes_of l.state 0 (owner l.state 0) (omega arith)) ∙ guest in cc))
 
 -- the view after each kind of entry
 pub view-register : (l : LedgerState) (closed empty gone : List Bool) (s : ℕ) → IsLedger l → IsAllowed l.plan l.state (Register 0 s)

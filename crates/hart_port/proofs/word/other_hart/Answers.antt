@@ -1,5 +1,5 @@
 -- A further hart: the rest of the word loses its field, which isn't the site.
-use Rattle.std.proofs.Common.{◌≡◌, ◌≢◌, ◌<◌, ◌+◌, ◌*◌, ◌/◌, ◌%◌, ◌^◌, ℕ, suc, ap, sym, ◌∙◌, arith}
+use Rattle.std.proofs.Common.{◌≡◌, ◌≢◌, ◌+◌, ◌/◌, ◌%◌, ◌^◌, ℕ, suc, ap, sym, ◌∙◌, arith}
 use Rattle.std.proofs.Math.Nat.{div-div-eq-div-mul, pow-suc}
 use borrow.Author.Count.{below_more}
 use Rattle.hart_port.specs.Words.{owner_field}

@@ -1,6 +1,5 @@
 -- A legal list has fewer entries than there is room for, and goes on with what is admitted.
-use Rattle.std.proofs.Common.{◌≡◌, ◌∙◌, ap, sym, subst, arith, rules}
-use Rattle.std.proofs.lemmas.Grind.{common_steps}
+use Rattle.std.proofs.Common.{arith}
 use Rattle.transfer_table.proofs.Bounds.{legal_room}
 use Rattle.transfer_table.proofs.Replays.{reaches-snoc}
 use Rattle.hart_port.proofs.ledger.Ledger.admit.Goals as goal

@@ -1,7 +1,6 @@
 -- The owners from a hart on have less than 2^48, so a further digit fits.
-use Rattle.std.proofs.Common.{◌≡◌, ◌∙◌, ap, sym, subst, arith, rules, ℕ, refl, drop, []}
+use Rattle.std.proofs.Common.{◌≡◌, ◌∙◌, ap, sym, arith, ℕ, drop, []}
 use Rattle.std.proofs.lemmas.List.{drop_all}
-use Rattle.std.proofs.lemmas.Grind.{common_steps}
 use Rattle.transfer_table.proofs.Positions.{legal_position}
 use Rattle.transfer_table.specs.Plan.{Plan}
 use Rattle.hart_port.specs.Words.{owner_digits}

@@ -1,7 +1,7 @@
 -- The first ledger, and flags that are all off, make the first view.
-use Rattle.std.proofs.Common.{◌≡◌, ◌∙◌, ℕ, ◌+◌, ap, false, replicate, []}
+use Rattle.std.proofs.Common.{◌≡◌, ◌∙◌, ℕ, ◌+◌, ap, false, replicate}
 use Rattle.transfer_table.specs.Table.{first_state}
-use Rattle.hart_port.specs.Ledger.{no_site, first_ledger}
+use Rattle.hart_port.specs.Ledger.{no_site}
 use Rattle.hart_port.specs.Plain.{Plain, first_view, view_of}
 use Rattle.hart_port.proofs.Views.{view-first}
 use Rattle.hart_port.proofs.plain.PlainPort.new.Goals as goal

@@ -1,6 +1,6 @@
 -- The owner is a site of the plan, since the hart is its home.
-use Rattle.std.proofs.Common.{◌≡◌, ◌∙◌, ℕ, ◌≤◌, ap, sym, subst, true, length-set, arith}
-use Rattle.transfer_table.specs.Plan.{Plan, IsSite}
+use Rattle.std.proofs.Common.{◌≡◌, ◌∙◌, ℕ, ap, sym, subst, true, length-set, arith}
+use Rattle.transfer_table.specs.Plan.{IsSite}
 use Rattle.hart_port.specs.PortView.{PortView, is_in, with_site}
 use Rattle.hart_port.specs.Ledger.{LedgerState}
 use Rattle.hart_port.specs.Plain.{Plain}

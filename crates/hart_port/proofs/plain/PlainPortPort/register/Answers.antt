@@ -1,10 +1,9 @@
 -- A new site was never registered or asked for, and one that isn't new was registered, so its word is claimed.
-use Rattle.std.proofs.Common.{◌≡◌, ◌≢◌, ◌≤◌, ℕ, ◌∙◌, ap, sym, subst, refl, length-set}
+use Rattle.std.proofs.Common.{◌≡◌, ◌≢◌, ◌≤◌, ◌∙◌, ap, sym, subst, length-set}
 use Rattle.transfer_table.specs.Plan.{IsSite, parent}
 use Rattle.transfer_table.specs.Table.{row}
 use Rattle.transfer_table.specs.Entry.{registers, requested}
 use Rattle.transfer_table.specs.declared.entry.Stage.TheVariants.{New}
-use Rattle.transfer_table.specs.declared.entry.Entry.TheVariants.{Register}
 use Rattle.hart_port.specs.PortView.{PortView, registered, is_in, without}
 use Rattle.hart_port.specs.Words.{is_claimed}
 use Rattle.hart_port.specs.Ledger.{LedgerState}

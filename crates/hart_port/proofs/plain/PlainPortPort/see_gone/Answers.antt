@@ -1,9 +1,8 @@
 -- A site that was unregistered is gone; the sets keep their sizes.
-use Rattle.std.proofs.Common.{◌≡◌, ◌≤◌, ◌∙◌, ap, sym, subst, length-set, refl}
+use Rattle.std.proofs.Common.{◌≤◌, ◌∙◌, ap, sym, subst, length-set, refl}
 use Rattle.transfer_table.specs.Plan.{IsSite}
 use Rattle.transfer_table.specs.Table.{row}
 use Rattle.transfer_table.specs.Entry.{unregisters}
-use Rattle.transfer_table.specs.declared.entry.Stage.TheVariants.{Gone}
 use Rattle.hart_port.specs.PortView.{PortView, IsPortView, with_site, without}
 use Rattle.hart_port.specs.Plain.{Plain}
 use Rattle.hart_port.proofs.Single.{went}

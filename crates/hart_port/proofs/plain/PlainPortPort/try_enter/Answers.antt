@@ -1,5 +1,5 @@
 -- No wish is ever made, so the word wants no hart.
-use Rattle.std.proofs.Common.{◌≡◌, ◌∙◌, ap, sym, subst, false}
+use Rattle.std.proofs.Common.{◌∙◌, ap, sym, subst}
 use Rattle.transfer_table.specs.Plan.{IsSite}
 use Rattle.transfer_table.specs.Table.{row}
 use Rattle.hart_port.specs.Words.{is_wanted}

@@ -1,5 +1,5 @@
 -- The entry is allowed: the only hart is alone in its site, and each child that was seen gone is gone.
-use Rattle.std.proofs.Common.{◌≡◌, ◌∙◌, ap, sym, subst, length-set, ℕ}
+use Rattle.std.proofs.Common.{◌∙◌, ap, sym, subst, length-set, ℕ}
 use Rattle.transfer_table.specs.Allowed.{IsAllowed}
 use Rattle.transfer_table.specs.declared.entry.Entry.TheVariants.{Unregister}
 use Rattle.hart_port.specs.PortView.{MayUnregister, unregistered, without}
