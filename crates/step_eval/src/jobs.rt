@@ -6,6 +6,7 @@ ghost use Rattle.array_meaning.specs.Limits.{count_of};
 ghost use Rattle.disjoint_check.specs.LimitFault.{capped};
 ghost use Rattle.array_jobs.specs.Works.{work_of};
 ghost use Rattle.array_jobs.specs.Jobs.{job_of};
+ghost use Rattle.array_jobs.specs.Groups.{IsGroup};
 ghost use Rattle.step_eval.specs.Nests.{nested_of, phases_of, branch_trees, member_trees, piece_trees, sites_before, earlier_sites, numbered, jobs_in, AreFitJobs};
 
 use crate::nested::Nested;
@@ -15,7 +16,8 @@ use array_tree::{Block, Blocks, Name, Stmt};
 use disjoint_check::sites_in_turns;
 use std::alloc::{AllocError, Global};
 
-/// The jobs of the pieces of a phase, counted from 0, in the order of their places: one for each branch or member.
+/// The jobs of the pieces of a phase, counted from 0, in the order of their places: one for each branch or member. They
+/// are a group.
 ///
 /// They start from this store, which has as many cells as the one before the construct. A `par` has one phase.
 pub fn jobs_of<'p>(
@@ -26,7 +28,8 @@ pub fn jobs_of<'p>(
 ) -> Result<Vec<Job<'p>>, AllocError>
     requires phase { phase < phases_of (statement_of nested.now.construct) }
     requires cells { length store.now ≡ length nested.now.store }
-    ensures { IfOk result (λ jobs. map job_of jobs.items ≡ jobs_in (nested_of nested.now) phase store.now) }
+    ensures jobs { IfOk result (λ jobs. map job_of jobs.items ≡ jobs_in (nested_of nested.now) phase store.now) }
+    ensures group { IfOk result (λ jobs. IsGroup (map job_of jobs.items)) }
 {
     let works = works_of(alloc, nested.construct, phase)?;
     jobs_of_works(

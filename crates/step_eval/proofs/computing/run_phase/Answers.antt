@@ -11,7 +11,7 @@ pub returns : goal.returns
 returns c =
     let nested = nested_of c.args.nested.now in
     let jobs : map job_of c.deref.result.now ≡ jobs_in nested c.args.phase c.args.store.now.cells
-    = ap (map job_of) c.deref.ensures.value ∙ c.in_ok-jobs.ensures ∙ ap (jobs_in nested c.args.phase) c.in_ok-start.ensures in
+    = ap (map job_of) c.deref.ensures.value ∙ c.in_ok-jobs.ensures.jobs ∙ ap (jobs_in nested c.args.phase) c.in_ok-start.ensures in
     let next = reached_next nested c.requires.fit c.args.phase c.requires.phase c.args.store.now c.requires.reached in
     let same : c.merge_pieces.new.store ≡ noted_all (writes_of_jobs (map job_of c.deref.result.now)) c.args.store.now → HasReached nested (c.args.phase + 1) c.merge_pieces.new.store
     = λ e. rw (e ∙ ap (λ js. noted_all (writes_of_jobs js) c.args.store.now) jobs) next in
