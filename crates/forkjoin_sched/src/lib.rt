@@ -1,6 +1,7 @@
 //! The fork-join pool: the scheduler of one `par`.
 #![tactic(auto)]
 
+pub mod laws;
 mod pool;
 mod work;
 
