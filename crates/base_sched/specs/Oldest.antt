@@ -24,6 +24,6 @@ LendsOldest before (Run c) after = ⊥
 LendsOldest before (Lend site) after = before ≡ with_sites after (site ∷ after.wishes.sites)
 LendsOldest before Nothing after = (before.wishes.sites ≡ []) × (after ≡ before)
 
--- the base after a callback
+-- The base after a callback: it has other wishes as the callback says, and nothing else has changed.
 abbrev pub HearsOf : BaseState → Told → BaseState → Type 0
 HearsOf before told after = after ≡ record before { wishes = wishes_after told before.wishes }
