@@ -1,0 +1,45 @@
+//! Machines that are run to their ends.
+ghost use Rattle.std.specs.Prelude.{◌≡◌, false, IfOk, IsTrue};
+ghost use Rattle.step_eval.specs.Machines.{is_awaiting, Advances, IsFinished};
+
+use array_jobs::{Job, Piece};
+use contexts::{Machine, Step};
+use std::alloc::Global;
+use std::test::Fail;
+use step_eval::{Nested, StepMachine, compute};
+
+/// One step.
+pub fn stepped<'p>(machine: &mut StepMachine<'p>) -> Step<Nested<'p>>
+    requires { is_awaiting machine.old.stage ≡ false }
+    ensures { Advances machine.old result machine.new }
+{
+    machine.step()
+}
+
+// One step, and the supply of what it hands out. Whether nothing is left.
+fn turn(alloc: Global, machine: &mut StepMachine) -> Result<bool, Fail>
+    requires { is_awaiting machine.old.stage ≡ false }
+    ensures going { IfOk result (λ _. is_awaiting machine.new.stage ≡ false) }
+    ensures done { IfOk result (λ done. IsTrue done → IsFinished machine.new) }
+{
+    match stepped(machine) {
+        Step::More => Ok(false),
+        Step::Finished => Ok(true),
+        Step::Nest(nested) => {
+            machine.supply(&compute(alloc, &nested)?)?;
+            Ok(false)
+        }
+        Step::NoMemory => Err(Fail::new("want of memory")),
+    }
+}
+
+/// The piece of a job by its machine, which is supplied with what each construct writes.
+pub fn driven<'p>(alloc: Global, job: Job<'p>) -> Result<Piece<'p>, Fail> {
+    let mut machine = StepMachine::new(alloc, job)?;
+    for _ in 0..u64::MAX {
+        if turn(alloc, &mut machine)? {
+            return Ok(machine.into_piece());
+        }
+    }
+    Err(Fail::new("a machine without an end"))
+}

@@ -1,0 +1,9 @@
+//! Tests of jobs, of machines and of what a construct writes, by texts and through public calls alone.
+#![tactic(auto)]
+
+#[cfg(test)]
+mod bodies;
+#[cfg(test)]
+mod constructs;
+#[cfg(test)]
+mod driving;
