@@ -2,3 +2,4 @@ pub mod Plays
 pub mod Of
 pub mod Calls
 pub mod Seats
+pub mod PortViews
