@@ -27,7 +27,8 @@ use Rattle.board_rule.specs.declared.view.Marks.{Marks}
 use Rattle.board_rule.specs.declared.view.Drawn.{Drawn}
 use Rattle.board_rule.specs.declared.view.Doing.{Doing}
 use Rattle.board_rule.specs.declared.view.Doing.TheVariants.{Idle, Claiming, Crediting, Reserved, Landing, Sealing}
-use Rattle.board_rule.specs.Words.{board_word, journal_index, journal_word}
+use Rattle.hart_port.specs.Words.{board_word}
+use Rattle.board_rule.specs.Words.{journal_index, journal_word}
 use Rattle.board_rule.specs.Counts.{total, one_if, draws, draws_in, numbered, ended_as, Load, part, load, flight}
 use Rattle.board_rule.specs.Views.{made_entry}
 use Rattle.board_rule.specs.Rule.{Stands, Knows, KnowsSites, IsSeat, IsSiteWord, DoesRight, SawChildren, started, is_last}
@@ -114,7 +115,7 @@ other_hart p s k id j v z at seat apart there c =
 
 pub board_step : (p : Plan) (s : St) (k : Stands p s) (id : ℕ) (v : View) (e : Entry) (d : Doing) (m : Marks) (o place n : ℕ) → get_elem? s.views id ≡ some v → IsSeat v
     → v.drawn ≡ None → hart_of e ≡ v.hart → IsAllowed p k.table e → o ≡ owner_after p e → place ≡ length k.journal
-    → n ≡ board_word (length k.journal + 1) (effect_of p k.table e).owners
+    → n ≡ board_word (effect_of p k.table e) (length k.journal + 1)
     → ((y : ℕ) → y ≢ site_of e → part d y ≡ part v.doing y)
     → IsSiteWord (slice_index s.words (site_of e)) (k.closing (site_of e)) (load (site_of e) (set s.views id (record (made_entry e o place v) { doing = d; marks = m }))) (row_after k.table e)
     → started (row_after k.table e).stage ≡ 1
@@ -151,7 +152,7 @@ board_step p s k id v e d m o place n at seat undrawn by allowed owned placed bo
         plan = k.plan;
         wide = length-set s.words 0 n ∙ k.wide;
         legal = reaches-allowed p k.plan es t e k.legal allowed;
-        board = get_or-set_same s.words 0 n 0 (let q = k.wide in omega arith) ∙ (board ∙ ap (λ (q : ℕ). board_word q u.owners) (sym longer));
+        board = get_or-set_same s.words 0 n 0 (let q = k.wide in omega arith) ∙ (board ∙ ap (board_word u) (sym longer));
         places = λ i f is. ⊎_elim
             (λ old. let inside = get-inside es i f old in place_at f _ _ _ _ (word_same i) (draws_same i (λ z. omega arith)) (k.places i f old))
             (λ new. let b = k.beyond i (omega arith) in let sum = total-set (draws i) s.views id v w at in let was = old_draw i in let is_one = new_draw i ∙ ap one_if (eq-eqb (length es) i (sym new.0)) in

@@ -12,15 +12,17 @@ use Rattle.transfer_table.proofs.Admits.{admits}
 use Rattle.transfer_table.proofs.Positions.{legal_position, reaches-allowed}
 use Rattle.transfer_table.proofs.Effects.{owner_after}
 use Rattle.transfer_table.proofs.Bounds.{legal_room}
-use Rattle.board_rule.specs.Words.{length_unit, digits, board_word, room}
+use Rattle.hart_port.specs.Words.{owner_digits}
+use Rattle.hart_port.specs.Words.{board_word}
+use Rattle.board_rule.specs.Words.{length_unit, room}
 use Rattle.board_rule.proofs.Lists.{digits-set}
 use Rattle.board_rule.proofs.Fields.{digits_small}
 
 -- one digit changes
 digits_after : (p : Plan) → IsPlan p → (es : List Entry) (t : TableState) (e : Entry) → Reaches p es t → IsAllowed p t e
-    → digits (effect_of p t e).owners + owner t (hart_of e) * 4096 ^ hart_of e ≡ digits t.owners + owner_after p e * 4096 ^ hart_of e
+    → owner_digits (effect_of p t e).owners + owner t (hart_of e) * 4096 ^ hart_of e ≡ owner_digits t.owners + owner_after p e * 4096 ^ hart_of e
 digits_after p plan es t (Register h s) leads a = digits-set t.owners h s (let z = (legal_position p plan es t leads).owners in omega (arith, a.0))
-digits_after p plan es t (Request h s k) leads a = ap (λ (o : ℕ). digits t.owners + o * 4096 ^ h) a.2
+digits_after p plan es t (Request h s k) leads a = ap (λ (o : ℕ). owner_digits t.owners + o * 4096 ^ h) a.2
 digits_after p plan es t (Enter h s) leads a = digits-set t.owners h s (let z = (legal_position p plan es t leads).owners in omega (arith, a.0))
 digits_after p plan es t (Yield h s) leads a = digits-set t.owners h (parent p s) (let z = (legal_position p plan es t leads).owners in omega (arith, a.0))
 digits_after p plan es t (Unregister h s) leads a = digits-set t.owners h (parent p s) (let z = (legal_position p plan es t leads).owners in omega (arith, a.0))
@@ -33,9 +35,9 @@ few_entries : (p : Plan) → IsPlan p → room p ≤ 45045
 few_entries p plan = let few = plan.few_harts in let sites = plan.few_sites in let a : site_count p * (3 * p.harts - 1) ≤ site_count p * 11 = mul-le-mul_left (site_count p) (let z : 3 * p.harts - 1 ≤ 11 = omega arith in z) in omega arith
 
 -- the word after the addition
-pub board_next : (p : Plan) → IsPlan p → (es : List Entry) (t : TableState) (e : Entry) → Reaches p es t → IsAllowed p t e → (n k : ℕ) → n ≡ board_word (length es) t.owners
+pub board_next : (p : Plan) → IsPlan p → (es : List Entry) (t : TableState) (e : Entry) → Reaches p es t → IsAllowed p t e → (n k : ℕ) → n ≡ board_word t (length es)
     → k + owner t (hart_of e) * 4096 ^ hart_of e ≡ length_unit + owner_after p e * 4096 ^ hart_of e
-    → (n + k) % 2 ^ 64 ≡ board_word (length es + 1) (effect_of p t e).owners
+    → (n + k) % 2 ^ 64 ≡ board_word (effect_of p t e) (length es + 1)
 board_next p plan es t e leads a n k is amount =
     let digit = digits_after p plan es t e leads a in
     let small = digits_small p plan (es ++ e ∷ []) (effect_of p t e) (reaches-allowed p plan es t e leads a) in

@@ -3,7 +3,7 @@ use Rattle.std.proofs.Common.{◌≡◌, ◌⊎◌, ℕ, zero, suc, ◌+◌, ◌
 use mathlib.Core.Option.{some, some-injective, some-ne-none}
 use lib.ListN.{get_elem?}
 use Rattle.std.proofs.Math.Nat.{pow-succ', mul_comm, mul_assoc}
-use Rattle.board_rule.specs.Words.{digits}
+use Rattle.hart_port.specs.Words.{owner_digits}
 
 module _ {A : Type 0} where
   pub get-more : (xs ys : List A) (i : ℕ) (a : A) → slice_get xs i ≡ Some a → slice_get (xs ++ ys) i ≡ Some a
@@ -57,12 +57,12 @@ take_next l i a e = rw (add-one i) (take_one l i a e)
 one_digit : (a q : ℕ) → a * (4096 * q) ≡ 4096 * (a * q)
 one_digit a q = sym (mul_assoc a 4096 q) ∙ ap (λ (z : ℕ). z * q) (mul_comm a 4096) ∙ mul_assoc 4096 a q
 
-pub digits-set : (os : List ℕ) (h v : ℕ) → h < length os → digits (set os h v) + slice_index os h * 4096 ^ h ≡ digits os + v * 4096 ^ h
+pub digits-set : (os : List ℕ) (h v : ℕ) → h < length os → owner_digits (set os h v) + slice_index os h * 4096 ^ h ≡ owner_digits os + v * 4096 ^ h
 digits-set [] h v l = absurd (omega arith)
 digits-set (o ∷ os) zero v l = omega arith
 digits-set (o ∷ os) (suc h) v l = let r = digits-set os h v (omega arith) in let a = one_digit (slice_index os h) (4096 ^ h) in let b = one_digit v (4096 ^ h) in
     rw (pow-succ' 4096 h) (omega arith)
 
-pub digits-small : (os : List ℕ) → ((h : ℕ) → h < length os → slice_index os h ≤ 4095) → digits os < 4096 ^ length os
+pub digits-small : (os : List ℕ) → ((h : ℕ) → h < length os → slice_index os h ≤ 4095) → owner_digits os < 4096 ^ length os
 digits-small [] f = omega arith
 digits-small (o ∷ os) f = let r = digits-small os (λ h l. f (suc h) (omega arith)) in let a : o ≤ 4095 = f 0 (omega arith) in rw (pow-succ' 4096 (length os)) (omega arith)

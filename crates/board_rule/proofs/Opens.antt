@@ -17,7 +17,8 @@ use Rattle.hart_port.specs.Ledger.{no_site}
 use Rattle.board_rule.specs.declared.view.View.{View}
 use Rattle.board_rule.specs.declared.view.Doing.{Doing}
 use Rattle.board_rule.specs.declared.view.Doing.TheVariants.{Idle}
-use Rattle.board_rule.specs.Words.{digits, width, journal_index}
+use Rattle.hart_port.specs.Words.{owner_digits}
+use Rattle.board_rule.specs.Words.{width, journal_index}
 use Rattle.board_rule.specs.Counts.{total, one_if, draws, numbered, no_load, Load, part, load, flight}
 use Rattle.board_rule.specs.Views.{first_view, no_marks, split_left, split_right}
 use Rattle.board_rule.specs.Rule.{Stands, Knows, KnowsSites, HasFlags, IsSeat, DoesRight}
@@ -28,7 +29,7 @@ use Rattle.board_rule.proofs.Sets.{in-no_site}
 use Rattle.board_rule.proofs.SiteSteps.{place_at, sites_other}
 use Rattle.board_rule.proofs.BoardSteps.{one_seat, other_hart}
 
-no_digits : (n : ℕ) → digits (replicate n 0) ≡ 0
+no_digits : (n : ℕ) → owner_digits (replicate n 0) ≡ 0
 no_digits zero = refl
 no_digits (suc n) = let r = no_digits n in omega arith
 

@@ -20,7 +20,8 @@ use Rattle.board_rule.specs.declared.view.Drawn.{Drawn}
 use Rattle.board_rule.specs.declared.view.Ended.{Ended}
 use Rattle.board_rule.specs.declared.view.Doing.{Doing}
 use Rattle.board_rule.specs.declared.view.Doing.TheVariants.{Idle, Claiming, Crediting, Reserved, Landing, Sealing}
-use Rattle.board_rule.specs.Words.{board_word, width, journal_word, spelled}
+use Rattle.hart_port.specs.Words.{board_word}
+use Rattle.board_rule.specs.Words.{width, journal_word, spelled}
 use Rattle.board_rule.specs.Counts.{total, one_if, draws, numbered, ended_as, Load, load, flight}
 use Rattle.board_rule.specs.Views.{spent_view}
 
@@ -128,7 +129,7 @@ pub record Stands (p : Plan) (s : State (Unit {0}) View) : Type 0 where
   -- the journal is legal, and leads to the state
   pub legal : Reaches p journal table
   -- the board word has the journal's length and the state's owners
-  pub board : slice_index s.words 0 ≡ board_word (length journal) table.owners
+  pub board : slice_index s.words 0 ≡ board_word table (length journal)
   -- each place of the journal is written, or drawn by one view; behind it nothing is
   pub places : (i : ℕ) (e : Entry) → slice_get journal i ≡ Some e → IsPlace (journal_word p s.words i) (total (draws i) s.views) e
   pub beyond : (i : ℕ) → length journal ≤ i → (journal_word p s.words i ≡ 0) × (total (draws i) s.views ≡ 0)

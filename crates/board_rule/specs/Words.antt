@@ -1,5 +1,5 @@
 -- The words of the board: the board word, the site words, and the journal words.
-use Rattle.std.specs.Prelude.{ℕ, ◌+◌, ◌-◌, ◌*◌, ◌/◌, ◌==◌, not, ◌&&◌, ◌||◌, Bool, false, List, [], ◌∷◌, slice_index, zero, suc}
+use Rattle.std.specs.Prelude.{ℕ, ◌+◌, ◌-◌, ◌*◌, ◌/◌, ◌==◌, not, ◌&&◌, ◌||◌, Bool, false, List, slice_index, zero, suc}
 use Rattle.transfer_table.specs.Plan.{Plan, site_count}
 use Rattle.transfer_table.specs.declared.entry.Entry.{Entry}
 use Rattle.transfer_table.specs.declared.entry.Entry.TheVariants.{Register, Request, Enter, Yield, Unregister}
@@ -8,15 +8,6 @@ use Rattle.hart_port.specs.Words.{owner_field}
 -- by how much the board word grows with each entry: 2^48
 abbrev pub length_unit : ℕ
 length_unit = 281474976710656
-
--- the owners as the digits of a number to the base 4096, that of hart 0 the least
-abbrev pub digits : List ℕ → ℕ
-digits [] = 0
-digits (o ∷ os) = o + 4096 * digits os
-
--- the board word: how many entries there are, and the owner of each hart
-abbrev pub board_word : ℕ → List ℕ → ℕ
-board_word entries owners = entries * length_unit + digits owners
 
 -- how many entries the board word counts
 abbrev pub entries_in : ℕ → ℕ
