@@ -1,17 +1,16 @@
 //! Pools.
 
-use crate::books::piece_at;
+use crate::books::{Came, TWO_BRANCHES, outcome_of, piece_at};
 use crate::constructs::{accepted, first_jobs, parsed};
+use array_eval::Overlay;
 use array_jobs::{Job, copy_jobs};
+use array_tree::Program;
 use contexts::{InitRefused, Paused, ctx_init, ctx_pause, ctx_run};
 use forkjoin_sched::{Pool, PoolWork};
-use join_book::Deposit;
-use sched_api::{Call, Hearing, Next, Scheduler, Told};
+use sched_api::{Call, Hearing, Next, Scheduler};
 use std::alloc::Global;
 use std::test::Fail;
 use step_eval::StepMachine;
-
-const TWO_BRANCHES: &[u8] = b"array a[4]; par { { a[0] = 1; } { a[1] = 2; } }";
 
 // What a pool answers: a piece is told by its place.
 #[derive(Debug, PartialEq, Eq, Drop)]
@@ -42,20 +41,46 @@ fn waiting<'p>(alloc: Global, jobs: &[Job<'p>]) -> Result<Paused<StepMachine<'p>
     }
 }
 
+// A pool of the two branches.
+fn pool_of<'p>(alloc: Global, program: &'p Program) -> Result<Pool<'p>, Fail> {
+    let jobs = first_jobs(alloc, &accepted(alloc, program)?)?;
+    Ok(Pool::new(alloc, jobs)?)
+}
+
+// Puts a context back; whether there was room.
+fn unblocked<'p>(pool: &mut Pool<'p>, context: Paused<StepMachine<'p>>) -> bool {
+    match pool.unblock((), PoolWork::Ready(context)) {
+        Ok(()) => true,
+        Err(_) => false,
+    }
+}
+
+// Deposits the piece of one of the jobs.
+fn bring<'p>(
+    pool: &mut Pool<'p>,
+    alloc: Global,
+    jobs: &[Job<'p>],
+    place: usize,
+) -> Result<Came, Fail> {
+    let piece = piece_at(alloc, jobs, place)?;
+    Ok(outcome_of(pool.deposit(piece)))
+}
+
+// What a full pool gives.
+fn taken(pool: Pool) -> Result<Overlay, Fail> {
+    if !pool.is_full() || pool.has_failed() {
+        return Err(Fail::new("it isn't full"));
+    }
+    Ok(pool.take_all()?)
+}
+
 #[test]
 fn pieces_go_before_wishes(rt: HostRuntime) -> Result<(), Fail> {
     let alloc = rt.alloc();
     let program = parsed(alloc, TWO_BRANCHES)?;
-    let mut pool = Pool::new(alloc, first_jobs(alloc, &accepted(alloc, &program)?)?)?;
+    let mut pool = pool_of(alloc, &program)?;
     let told = pool.request((), 2, 2).told();
-    assert_eq!(rt;
-        told,
-        Told {
-            call: Call::Requested,
-            child: 2,
-            count: 2
-        }
-    );
+    assert!(rt; told.call == Call::Requested && told.child == 2 && told.count == 2);
     assert_eq!(rt; next_of(&mut pool), Answer::Begins(0));
     assert_eq!(rt; next_of(&mut pool), Answer::Begins(1));
     assert_eq!(rt; next_of(&mut pool), Answer::Lends(2));
@@ -68,24 +93,13 @@ fn pieces_go_before_wishes(rt: HostRuntime) -> Result<(), Fail> {
 fn ready_contexts_go_before_pieces(rt: HostRuntime) -> Result<(), Fail> {
     let alloc = rt.alloc();
     let program = parsed(alloc, TWO_BRANCHES)?;
-    let jobs = first_jobs(alloc, &accepted(alloc, &program)?)?;
-    let copies = copy_jobs(alloc, &jobs)?;
-    let mut pool = Pool::new(alloc, jobs)?;
+    let mut pool = pool_of(alloc, &program)?;
+    let copies = copy_jobs(alloc, pool.jobs())?;
     let told = pool.block(()).told();
-    assert_eq!(rt;
-        told,
-        Told {
-            call: Call::Blocked,
-            child: 0,
-            count: 0
-        }
-    );
-    for _ in 0..2 {
-        let context = PoolWork::Ready(waiting(alloc, &copies)?);
-        assert!(rt; pool.unblock((), context).is_ok());
-    }
-    let third = PoolWork::Ready(waiting(alloc, &copies)?);
-    assert!(rt; matches!(pool.unblock((), third), Err(PoolWork::Ready(_))));
+    assert!(rt; told.call == Call::Blocked && told.child == 0 && told.count == 0);
+    assert!(rt; unblocked(&mut pool, waiting(alloc, &copies)?));
+    assert!(rt; unblocked(&mut pool, waiting(alloc, &copies)?));
+    assert!(rt; !unblocked(&mut pool, waiting(alloc, &copies)?));
     assert_eq!(rt; next_of(&mut pool), Answer::GoesOn);
     assert_eq!(rt; next_of(&mut pool), Answer::GoesOn);
     assert_eq!(rt; next_of(&mut pool), Answer::Begins(0));
@@ -96,14 +110,11 @@ fn ready_contexts_go_before_pieces(rt: HostRuntime) -> Result<(), Fail> {
 fn a_full_pool_gives_the_writes_of_all(rt: HostRuntime) -> Result<(), Fail> {
     let alloc = rt.alloc();
     let program = parsed(alloc, TWO_BRANCHES)?;
-    let jobs = first_jobs(alloc, &accepted(alloc, &program)?)?;
-    let copies = copy_jobs(alloc, &jobs)?;
-    let mut pool = Pool::new(alloc, jobs)?;
+    let mut pool = pool_of(alloc, &program)?;
+    let copies = copy_jobs(alloc, pool.jobs())?;
     assert_eq!(rt; pool.site(), 1);
-    assert!(rt; matches!(pool.deposit(piece_at(alloc, &copies, 1)?), Deposit::Kept));
-    assert!(rt; matches!(pool.deposit(piece_at(alloc, &copies, 0)?), Deposit::Kept));
-    assert!(rt; pool.is_full());
-    assert!(rt; !pool.has_failed());
-    assert_eq!(rt; pool.take_all()?.pairs(), [(0, 1), (1, 2)].as_slice());
+    assert_eq!(rt; bring(&mut pool, alloc, &copies, 1)?, Came::Kept);
+    assert_eq!(rt; bring(&mut pool, alloc, &copies, 0)?, Came::Kept);
+    assert_eq!(rt; taken(pool)?.pairs(), [(0, 1), (1, 2)].as_slice());
     Ok(())
 }
