@@ -2,6 +2,8 @@
 #![tactic(auto)]
 
 #[cfg(test)]
+mod ports;
+#[cfg(test)]
 mod refusals;
 #[cfg(test)]
 mod row;

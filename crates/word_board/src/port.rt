@@ -1,5 +1,9 @@
 //! A board by reference, and a seat of it.
-ghost use Rattle.std.specs.Prelude.{◌≡◌};
+ghost use Rattle.std.specs.Prelude.{◌≡◌, ◌<◌, ◌≤◌, true, false};
+ghost use Rattle.transfer_table.specs.Plan.{IsSite, parent};
+ghost use Rattle.transfer_table.specs.Entry.{unregisters};
+ghost use Rattle.hart_port.specs.Count.{RoseIfErr, RoseUnlessInside};
+ghost use Rattle.hart_port.specs.PortView.{IsPortView, is_in, Registers, MayRequest, requested_by, Enters, yielded, closes, sees_gone, Sees, MayUnregister, unregistered};
 ghost use Rattle.word_board.specs.Of.{IsOf};
 ghost use Rattle.word_board.specs.PortViews.{port_view};
 
@@ -63,7 +67,14 @@ impl<'a> Port for WordPort<'a> {
         false
     }
 
-    fn register(&mut self, _hold: (), site: u16) -> Result<(), Taken> {
+    fn register(&mut self, _hold: (), site: u16) -> Result<(), Taken>
+        requires known { IsSite (port_view self.old.seat.seat.me.0).plan site }
+        requires child { (port_view self.old.seat.seat.me.0).owner ≡ parent (port_view self.old.seat.seat.me.0).plan site }
+        ensures does { Registers (port_view self.old.seat.seat.me.0) site result (port_view self.new.seat.seat.me.0) }
+        ensures count { RoseIfErr result self.old.refused self.new.refused }
+        ensures kept { IsPortView (port_view self.new.seat.seat.me.0) }
+        ensures board { self.new.board.now ≡ self.old.board.now }
+    {
         let answer = self.board.register(&mut self.seat, site);
         if answer.is_err() {
             self.refused = self.refused.saturating_add(1);
@@ -71,11 +82,25 @@ impl<'a> Port for WordPort<'a> {
         answer
     }
 
-    fn request(&mut self, _hold: (), site: u16, count: u8) {
+    fn request(&mut self, _hold: (), site: u16, count: u8)
+        requires known { IsSite (port_view self.old.seat.seat.me.0).plan site }
+        requires may { MayRequest (port_view self.old.seat.seat.me.0) site count }
+        ensures does { port_view self.new.seat.seat.me.0 ≡ requested_by (port_view self.old.seat.seat.me.0) site count }
+        ensures count { self.new.refused ≡ self.old.refused }
+        ensures kept { IsPortView (port_view self.new.seat.seat.me.0) }
+        ensures board { self.new.board.now ≡ self.old.board.now }
+    {
         self.board.request(&mut self.seat, site, count);
     }
 
-    fn try_enter(&mut self, _hold: (), site: u16) -> Entered {
+    fn try_enter(&mut self, _hold: (), site: u16) -> Entered
+        requires known { IsSite (port_view self.old.seat.seat.me.0).plan site }
+        requires child { (port_view self.old.seat.seat.me.0).owner ≡ parent (port_view self.old.seat.seat.me.0).plan site }
+        ensures does { Enters (port_view self.old.seat.seat.me.0) site result (port_view self.new.seat.seat.me.0) }
+        ensures count { RoseUnlessInside result self.old.refused self.new.refused }
+        ensures kept { IsPortView (port_view self.new.seat.seat.me.0) }
+        ensures board { self.new.board.now ≡ self.old.board.now }
+    {
         let answer = self.board.try_enter(&mut self.seat, site);
         if !matches!(answer, Entered::Inside) {
             self.refused = self.refused.saturating_add(1);
@@ -83,23 +108,58 @@ impl<'a> Port for WordPort<'a> {
         answer
     }
 
-    fn yield_hart(&mut self, _hold: ()) {
+    fn yield_hart(&mut self, _hold: ())
+        requires inside { 0 < (port_view self.old.seat.seat.me.0).owner }
+        requires guest { is_in (port_view self.old.seat.seat.me.0).homes (port_view self.old.seat.seat.me.0).owner ≡ false }
+        ensures does { port_view self.new.seat.seat.me.0 ≡ yielded (port_view self.old.seat.seat.me.0) }
+        ensures count { self.new.refused ≡ self.old.refused }
+        ensures kept { IsPortView (port_view self.new.seat.seat.me.0) }
+        ensures board { self.new.board.now ≡ self.old.board.now }
+    {
         self.board.yield_hart(&mut self.seat);
     }
 
-    fn close_site(&mut self, _hold: ()) {
+    fn close_site(&mut self, _hold: ())
+        requires home { is_in (port_view self.old.seat.seat.me.0).homes (port_view self.old.seat.seat.me.0).owner ≡ true }
+        requires open_yet { is_in (port_view self.old.seat.seat.me.0).closed (port_view self.old.seat.seat.me.0).owner ≡ false }
+        ensures does { port_view self.new.seat.seat.me.0 ≡ closes (port_view self.old.seat.seat.me.0) }
+        ensures count { self.new.refused ≡ self.old.refused }
+        ensures kept { IsPortView (port_view self.new.seat.seat.me.0) }
+        ensures board { self.new.board.now ≡ self.old.board.now }
+    {
         self.board.close_site(&mut self.seat);
     }
 
-    fn see_gone(&mut self, _hold: (), site: u16) -> bool {
+    fn see_gone(&mut self, _hold: (), site: u16) -> bool
+        requires { IsSite (port_view self.old.seat.seat.me.0).plan site }
+        ensures gone { result ≡ true → port_view self.new.seat.seat.me.0 ≡ sees_gone (port_view self.old.seat.seat.me.0) site }
+        ensures not_yet { result ≡ false → port_view self.new.seat.seat.me.0 ≡ port_view self.old.seat.seat.me.0 }
+        ensures alone { (port_view self.old.seat.seat.me.0).alone ≡ true → 1 ≤ unregisters site (port_view self.old.seat.seat.me.0).mine → result ≡ true }
+        ensures count { self.new.refused ≡ self.old.refused }
+        ensures kept { IsPortView (port_view self.new.seat.seat.me.0) }
+        ensures board { self.new.board.now ≡ self.old.board.now }
+    {
         self.board.see_gone(&mut self.seat, site)
     }
 
-    fn see_empty(&mut self, _hold: ()) -> Seen {
+    fn see_empty(&mut self, _hold: ()) -> Seen
+        requires home { is_in (port_view self.old.seat.seat.me.0).homes (port_view self.old.seat.seat.me.0).owner ≡ true }
+        requires closed { is_in (port_view self.old.seat.seat.me.0).closed (port_view self.old.seat.seat.me.0).owner ≡ true }
+        ensures does { Sees (port_view self.old.seat.seat.me.0) result (port_view self.new.seat.seat.me.0) }
+        ensures count { self.new.refused ≡ self.old.refused }
+        ensures kept { IsPortView (port_view self.new.seat.seat.me.0) }
+        ensures board { self.new.board.now ≡ self.old.board.now }
+    {
         self.board.see_empty(&mut self.seat)
     }
 
-    fn unregister(&mut self, _hold: ()) {
+    fn unregister(&mut self, _hold: ())
+        requires { MayUnregister (port_view self.old.seat.seat.me.0) }
+        ensures does { port_view self.new.seat.seat.me.0 ≡ unregistered (port_view self.old.seat.seat.me.0) }
+        ensures count { self.new.refused ≡ self.old.refused }
+        ensures kept { IsPortView (port_view self.new.seat.seat.me.0) }
+        ensures board { self.new.board.now ≡ self.old.board.now }
+    {
         self.board.unregister(&mut self.seat);
     }
 }
