@@ -1,6 +1,12 @@
-//! Tests of the word board from outside it, apart from it since a crate with tests is proved twice.
+//! Tests of harts that share a table, on the word board and on a ledger under a lock.
+//!
+//! They stand apart since a crate is proved a second time with its tests.
 #![tactic(auto)]
 
+#[cfg(test)]
+mod calls;
+#[cfg(test)]
+mod locked;
 #[cfg(test)]
 mod ports;
 #[cfg(test)]
