@@ -12,6 +12,8 @@ mod ports;
 #[cfg(test)]
 mod refusals;
 #[cfg(test)]
+mod roaming;
+#[cfg(test)]
 mod row;
 #[cfg(test)]
 mod seats;
