@@ -3,7 +3,7 @@
 use crate::seats::{close_two, open_two};
 use std::test::Fail;
 use transfer_table::{Fault, Plan, Why, first_fault};
-use word_board::{Entered, Taken};
+use word_board::{Entered, Seen, Taken};
 
 #[test]
 fn a_hart_that_is_not_wanted(rt: HostRuntime) -> Result<(), Fail> {
@@ -22,6 +22,21 @@ fn a_hart_that_is_not_wanted(rt: HostRuntime) -> Result<(), Fail> {
         board.try_enter(&mut b, 1),
         Entered::NotWanted { shown: 259 }
     );
+    Ok(())
+}
+
+#[test]
+fn a_site_that_is_gone(rt: HostRuntime) -> Result<(), Fail> {
+    let plan = Plan::new(rt.alloc(), 2, &[0])?;
+    let (board, mut a, mut b) = open_two(rt.alloc(), &plan)?;
+    assert_eq!(rt; board.register(&mut a, 1), Ok(()));
+    board.close_site(&mut a);
+    let Seen::Empty = board.see_empty(&mut a) else {
+        return Err(Fail::new("a hart is inside"));
+    };
+    board.unregister(&mut a);
+    assert_eq!(rt; board.try_enter(&mut b, 1), Entered::NotWanted { shown: 7 });
+    assert_eq!(rt; board.register(&mut b, 1), Err(Taken { shown: 7 }));
     Ok(())
 }
 
