@@ -1,4 +1,5 @@
 pub mod OverlayLemmas
+pub mod PageLemmas
 pub mod ScopeLemmas
 pub mod TraceLemmas
 pub mod StartLemmas

@@ -6,7 +6,7 @@ use Rattle.std.proofs.lemmas.List.{length-replicate}
 use Rattle.array_meaning.specs.Stores.{Arrays, Store, Write, after}
 use Rattle.array_meaning.specs.Steps.{Steps, followed_by, writes_of}
 use Rattle.array_meaning.specs.Pieces.{lay, lays, last_writes, IsAbove}
-use Rattle.array_meaning.proofs.StepLemmas.{writes_followed_by}
+use Rattle.array_meaning.proofs.StepLemmas.{writes_followed_by, length_after}
 use Rattle.array_meaning.proofs.LastLemmas.{same_last, last_value_last}
 use Rattle.array_eval.specs.Traces.{Trace, fresh, noted, noted_all, traced, marked_from, marked, marks_in}
 
@@ -17,6 +17,10 @@ cells_after (w ∷ ws) t = cells_after ws (noted w.0 w.1 t)
 pub noted_append : (a b : List Write) (t : Trace) → noted_all (a ++ b) t ≡ noted_all b (noted_all a t)
 noted_append [] b t = refl
 noted_append (w ∷ a) b t = noted_append a b (noted w.0 w.1 t)
+
+-- steps keep the number of cells
+pub length_traced : (arrays : Arrays) (steps : Steps) (t : Trace) → length (traced arrays steps t).cells ≡ length t.cells
+length_traced arrays steps t = ap length (cells_after (writes_of arrays steps t.cells) t) ∙ length_after (writes_of arrays steps t.cells) t.cells
 
 -- no mark is lost or gained
 pub length_marks : (ws : List Write) (t : Trace) → length (noted_all ws t).marks ≡ length t.marks

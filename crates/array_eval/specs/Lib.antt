@@ -1,4 +1,5 @@
 pub mod Views
+pub mod Pages
 pub mod ArrayText
 pub mod Overlays
 pub mod Bindings

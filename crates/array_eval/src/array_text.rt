@@ -18,7 +18,8 @@ pub fn write_arrays(alloc: Global, program: &Program, store: &Store) -> Result<V
     ensures { IfOk result (λ text. text.items ≡ array_text (program_of program.now) store.now) }
 {
     let mut text = Vec::new(alloc);
-    let mut rest = store.cells();
+    let cells = store.to_cells(alloc)?;
+    let mut rest = cells.as_slice();
     for array in &program.arrays.declarations {
         let (own, others) = rest.split_at(array.length.unsigned_abs() as usize);
         write_line(alloc, &array.name, own, &mut text)?;

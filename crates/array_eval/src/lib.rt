@@ -6,6 +6,7 @@ mod cells;
 mod marked_store;
 mod members;
 mod overlay;
+mod page;
 mod run;
 mod scope;
 mod store;

@@ -13,6 +13,8 @@ use std::marker::Model;
 /// Contracts see it as the list of values and the list of marks.
 #[derive(Debug, Drop)]
 pub struct MarkedStore {
+    // What it was made from: a store that is taken from it shares the pages that are as they were.
+    start: Store,
     cells: Vec<i64>,
     marks: Vec<bool>,
 }
@@ -33,9 +35,13 @@ impl MarkedStore {
     pub fn new(alloc: Global, store: &Store) -> Result<MarkedStore, AllocError>
         ensures { IfOk result (λ marked. marked ≡ fresh store.now) }
     {
-        let cells = store.copy()?.into_cells();
+        let cells = store.to_cells(alloc)?;
         let marks = vec![in alloc; false; cells.len()]?;
-        Ok(MarkedStore { cells, marks })
+        Ok(MarkedStore {
+            start: store.copy()?,
+            cells,
+            marks,
+        })
     }
 
     /// The value of each cell.
@@ -68,7 +74,7 @@ impl MarkedStore {
     pub fn to_store(&self, alloc: Global) -> Result<Store, AllocError>
         ensures { IfOk result (λ store. store ≡ self.now.cells) }
     {
-        Ok(Store::of_cells(self.cells.as_slice().to_vec(alloc)?))
+        self.start.changed_to(alloc, &self.cells)
     }
 
     /// The cells that were written, each with its value. There must be at most 65,535 cells.
@@ -91,13 +97,6 @@ impl MarkedStore {
         ensures { overlay.new.pairs ≡ last_writes (marked self.now) }
     {
         lay_marked(&self.cells, &self.marks, overlay);
-    }
-
-    /// The store alone.
-    pub(crate) fn into_store(self) -> Store
-        ensures { result ≡ self.cells }
-    {
-        Store::of_cells(self.cells)
     }
 }
 

@@ -24,7 +24,7 @@ pub fn run_one(alloc: Global, program: &Program) -> Result<Store, AllocError>
     ensures meaning { IfOk result (λ store. store ≡ final_store (program_of program.now)) }
     ensures whole { IfOk result (λ store. length store ≡ cells_of (arrays_of (declarations_of program.now.arrays))) }
 {
-    let zero = Store::of_cells(vec![in alloc; 0; count_cells(&program.arrays)]?);
+    let zero = Store::zero(alloc, count_cells(&program.arrays) as u16)?;
     let mut store = MarkedStore::new(alloc, &zero)?;
     run_block(
         &program.arrays,
@@ -32,7 +32,7 @@ pub fn run_one(alloc: Global, program: &Program) -> Result<Store, AllocError>
         &Scope::Outermost,
         &mut store,
     );
-    Ok(store.into_store())
+    store.to_store(alloc)
 }
 
 /// Runs a block.

@@ -3,6 +3,7 @@
 use crate::programs::{are_sized, parsed};
 use array_eval::{LoopVar, MarkedStore, Overlay, Scope, Store, Vars, run_assign, start_of_member};
 use array_tree::{Expr, Name};
+use std::alloc::{AllocError, Global};
 use std::test::Fail;
 
 #[test]
@@ -14,6 +15,37 @@ fn a_store_is_written_and_copied(rt: HostRuntime) -> Result<(), Fail> {
     assert_eq!(rt; store.get(1), 8);
     assert_eq!(rt; copy.get(1), -7);
     assert_eq!(rt; copy.get(2), 0);
+    Ok(())
+}
+
+// A store of 130 cells, with 7 in the last of the first page, the first of the second and the first of the third.
+fn store_of_three_pages(alloc: Global) -> Result<Store, AllocError> {
+    let mut store = Store::zero(alloc, 130)?;
+    store.put(63, 7)?;
+    store.put(64, 7)?;
+    store.put(129, 7)?;
+    Ok(store)
+}
+
+#[test]
+fn a_copy_that_is_written_leaves_the_store(rt: HostRuntime) -> Result<(), Fail> {
+    let store = store_of_three_pages(rt.alloc())?;
+    let mut copy = store.copy()?;
+    copy.put(64, 9)?;
+    assert_eq!(rt; [store.get(63), store.get(64), store.get(129)], [7, 7, 7]);
+    assert_eq!(rt; [copy.get(63), copy.get(64), copy.get(129)], [7, 9, 7]);
+    Ok(())
+}
+
+#[test]
+fn a_store_with_an_overlay_leaves_the_store(rt: HostRuntime) -> Result<(), Fail> {
+    let store = store_of_three_pages(rt.alloc())?;
+    let mut overlay = Overlay::roomy(rt.alloc(), 2)?;
+    overlay.lay(63, 1);
+    overlay.lay(129, 2);
+    let other = store.with(&overlay)?;
+    assert_eq!(rt; [store.get(63), store.get(64), store.get(129)], [7, 7, 7]);
+    assert_eq!(rt; [other.get(63), other.get(64), other.get(129)], [1, 7, 2]);
     Ok(())
 }
 

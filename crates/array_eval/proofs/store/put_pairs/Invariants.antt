@@ -1,9 +1,9 @@
 use Rattle.std.proofs.Common.{◌≡◌, ◌<◌, All, length, drop}
 use Rattle.array_meaning.specs.Stores.{after}
-use Rattle.array_eval.proofs.store.write_pairs.Given as goal
+use Rattle.array_eval.proofs.store.put_pairs.Given as goal
 
 abbrev pub invariant-loop-cell : goal.invariant-loop-cell
 invariant-loop-cell l = record {
-  rest : after (drop l.cell-index l.pairs) l.cells ≡ after l.pairs l.fn.cells;
-  there : All (λ pair. pair.0 < length l.fn.cells) l.pairs;
+  rest : after (drop l.cell-index l.pairs) l.store ≡ after l.pairs l.fn.store;
+  there : All (λ pair. pair.0 < length l.store) l.pairs;
 }

@@ -1,0 +1,310 @@
+-- Cells on pages.
+use Rattle.std.proofs.Common.{◌≡◌, ℕ, zero, suc, ◌+◌, ◌-◌, ◌*◌, ◌/◌, ◌%◌, ◌<◌, ◌≤◌, List, [], ◌∷◌, ◌++◌, length, set, take, drop, get_or, ℤ, pos, refl, sym, ap, ◌∙◌, arith, length-set}
+use Rattle.std.specs.Prelude.{All, replicate, Result, Ok, Err, OnOk, OnErr}
+use Rattle.std.proofs.Math.Nat.{div-add-mod, mod-lt}
+use Rattle.std.proofs.Math.Seq.{take-set-lt, take-append_seam, drop-append_seam, take-add}
+use Rattle.std.proofs.lemmas.List.{length-append, length-replicate, length-take, length-take-le, length-drop, take_all, take-replicate, drop-append-le, set-get_or, get_or_append_left, get_or-append-add, set-append_left, set-append_right, drop-set-lt, append_assoc, append-nil, take-append-drop, replicate-append-replicate, get_or-take, drop-replicate, take_more, replicate_more}
+use Rattle.std.proofs.lemmas.Grind.{div_ceil_times}
+use Rattle.array_eval.specs.Pages.{padded, cells_on, pages_for, ArePages}
+
+-- Each page has 64 cells.
+abbrev pub AreWhole : List (List ℤ) → Type 0
+AreWhole pages = All (λ page. length page ≡ 64) pages
+
+first_whole : (page : List ℤ) (more : List (List ℤ)) → AreWhole (page ∷ more) → length page ≡ 64
+first_whole page more whole = whole zero page (omega arith)
+
+others_whole : (page : List ℤ) (more : List (List ℤ)) → AreWhole (page ∷ more) → AreWhole more
+others_whole page more whole = λ k d h. whole (suc k) d (omega (arith, h))
+
+pub cells_append : (ps qs : List (List ℤ)) → cells_on (ps ++ qs) ≡ cells_on ps ++ cells_on qs
+cells_append [] qs = refl
+cells_append (p ∷ ps) qs = ap (λ x. p ++ x) (cells_append ps qs) ∙ sym (append_assoc p (cells_on ps) (cells_on qs))
+
+pub length_on : (pages : List (List ℤ)) → AreWhole pages → length (cells_on pages) ≡ 64 * length pages
+length_on [] whole = refl
+length_on (p ∷ ps) whole =
+    let front = first_whole p ps whole in
+    let rest = length_on ps (others_whole p ps whole) in
+    let both = length-append p (cells_on ps) in
+    omega (arith, front, rest, both)
+
+-- the cell at a place of a page
+get_at : (pages : List (List ℤ)) (q r : ℕ) (page : List ℤ) (d : ℤ) → AreWhole pages → q < length pages → r < 64 →
+    get_or (cells_on pages) (64 * q + r) d ≡ get_or (get_or pages q page) r d
+get_at [] q r page d whole in_q in_r = absurd (omega (arith, in_q))
+get_at (p ∷ ps) zero r page d whole in_q in_r =
+    let front = first_whole p ps whole in
+    let place : 64 * 0 + r ≡ r = omega arith in
+    ap (λ i. get_or (p ++ cells_on ps) i d) place ∙ get_or_append_left p (cells_on ps) d r (omega (arith, front, in_r))
+get_at (p ∷ ps) (suc q) r page d whole in_q in_r =
+    let front = first_whole p ps whole in
+    let place : 64 * suc q + r ≡ length p + (64 * q + r) = omega (arith, front) in
+    ap (λ i. get_or (p ++ cells_on ps) i d) place
+    ∙ get_or-append-add p (cells_on ps) (64 * q + r) d
+    ∙ get_at ps q r page d (others_whole p ps whole) (omega (arith, in_q)) in_r
+
+set_at : (pages : List (List ℤ)) (q r : ℕ) (page : List ℤ) (v : ℤ) → AreWhole pages → q < length pages → r < 64 →
+    cells_on (set pages q (set (get_or pages q page) r v)) ≡ set (cells_on pages) (64 * q + r) v
+set_at [] q r page v whole in_q in_r = absurd (omega (arith, in_q))
+set_at (p ∷ ps) zero r page v whole in_q in_r =
+    let front = first_whole p ps whole in
+    let place : 64 * 0 + r ≡ r = omega arith in
+    sym (ap (λ i. set (p ++ cells_on ps) i v) place ∙ set-append_left p (cells_on ps) r v (omega (arith, front, in_r)))
+set_at (p ∷ ps) (suc q) r page v whole in_q in_r =
+    let front = first_whole p ps whole in
+    let place : 64 * suc q + r - 64 ≡ 64 * q + r = omega arith in
+    ap (λ x. p ++ x) (set_at ps q r page v (others_whole p ps whole) (omega (arith, in_q)) in_r)
+    ∙ sym (set-append_right p (cells_on ps) 64 (64 * suc q + r) v front (omega arith)
+    ∙ ap (λ i. p ++ set (cells_on ps) i v) place)
+
+-- the page of a cell is there
+pub page_there : (count cell : ℕ) (pages : List (List ℤ)) → ArePages count pages → cell < count → cell / 64 < length pages
+page_there count cell pages right h =
+    let many = right.fewest in
+    let few = (div_ceil_times count 64 (omega arith)).0 in
+    let whole = div-add-mod cell 64 in
+    omega (arith, many, few, whole, h)
+
+pub cell_of_page : (count cell : ℕ) (pages : List (List ℤ)) (page : List ℤ) (d : ℤ) → ArePages count pages → cell < count →
+    get_or (get_or pages (cell / 64) page) (cell % 64) d ≡ get_or (take count (cells_on pages)) cell d
+cell_of_page count cell pages page d right h =
+    sym (get_or-take count (cells_on pages) cell d h
+    ∙ ap (λ i. get_or (cells_on pages) i d) (sym (div-add-mod cell 64))
+    ∙ get_at pages (cell / 64) (cell % 64) page d right.whole (page_there count cell pages right h) (mod-lt cell (omega arith)))
+
+put_on : (count cell : ℕ) (pages : List (List ℤ)) (page : List ℤ) (v : ℤ) → ArePages count pages → cell < count →
+    cells_on (set pages (cell / 64) (set (get_or pages (cell / 64) page) (cell % 64) v)) ≡ set (cells_on pages) cell v
+put_on count cell pages page v right h =
+    set_at pages (cell / 64) (cell % 64) page v right.whole (page_there count cell pages right h) (mod-lt cell (omega arith))
+    ∙ ap (λ i. set (cells_on pages) i v) (div-add-mod cell 64)
+
+-- a cell is written in its page
+pub put_in_page : (count cell : ℕ) (pages : List (List ℤ)) (page : List ℤ) (v : ℤ) → ArePages count pages → cell < count →
+    take count (cells_on (set pages (cell / 64) (set (get_or pages (cell / 64) page) (cell % 64) v))) ≡ set (take count (cells_on pages)) cell v
+put_in_page count cell pages page v right h = ap (take count) (put_on count cell pages page v right h) ∙ take-set-lt count (cells_on pages) cell v h
+
+whole_set : (pages : List (List ℤ)) (q : ℕ) (page : List ℤ) → AreWhole pages → length page ≡ 64 → AreWhole (set pages q page)
+whole_set [] q page whole h = whole
+whole_set (p ∷ ps) zero page whole h = λ k d in_k. cases k d in_k
+  where
+    cases : (k : ℕ) (d : List ℤ) → k < length (page ∷ ps) → length (get_or (page ∷ ps) k d) ≡ 64
+    cases zero d in_k = h
+    cases (suc k) d in_k = whole (suc k) d in_k
+whole_set (p ∷ ps) (suc q) page whole h = λ k d in_k. cases (whole_set ps q page (others_whole p ps whole) h) k d in_k
+  where
+    cases : AreWhole (set ps q page) → (k : ℕ) (d : List ℤ) → k < length (p ∷ set ps q page) → length (get_or (p ∷ set ps q page) k d) ≡ 64
+    cases ih zero d in_k = first_whole p ps whole
+    cases ih (suc k) d in_k = ih k d (omega (arith, in_k))
+
+pub still_pages : (count cell : ℕ) (pages : List (List ℤ)) (page : List ℤ) (v : ℤ) → ArePages count pages → cell < count →
+    ArePages count (set pages (cell / 64) (set (get_or pages (cell / 64) page) (cell % 64) v))
+still_pages count cell pages page v right h =
+    let there = page_there count cell pages right h in
+    let same = length-set (get_or pages (cell / 64) page) (cell % 64) v in
+    let as_many = length-set pages (cell / 64) (set (get_or pages (cell / 64) page) (cell % 64) v) in
+    record {
+      whole = whole_set pages (cell / 64) (set (get_or pages (cell / 64) page) (cell % 64) v) right.whole (same ∙ right.whole (cell / 64) page there);
+      fewest = as_many ∙ right.fewest;
+      zeros = ap (drop count) (put_on count cell pages page v right h) ∙ drop-set-lt count (cells_on pages) cell v h
+          ∙ right.zeros ∙ ap (λ n. replicate (64 * n - count) (pos 0)) (sym as_many);
+    }
+
+-- ---- making pages
+
+pub zeros_behind : (n m : ℕ) → drop n (replicate m (pos 0)) ≡ replicate (m - n) (pos 0)
+zeros_behind n m = drop-replicate n m (pos 0)
+
+pub zeros_more : (cells : List ℤ) (i : ℕ) (d : ℤ) → i < length cells → take i cells ≡ replicate i (pos 0) → get_or cells i d ≡ pos 0 →
+    take (i + 1) cells ≡ replicate (i + 1) (pos 0)
+zeros_more cells i d h before here = take_more cells i d h ∙ ap (λ xs. xs ++ get_or cells i d ∷ []) before ∙ ap (λ x. replicate i (pos 0) ++ x ∷ []) here ∙ replicate_more i (pos 0)
+
+-- a cell of what is seen lies before the end
+pub below_count : (count : ℕ) (cells view : List ℤ) (cell : ℕ) → take count cells ≡ view → cell < length view → cell < count
+below_count count cells view cell e h =
+    let long = length-take count cells in
+    let same : length (take count cells) ≡ length view = ap length e in
+    omega (arith, long, same, h)
+
+-- a page that was written, or wasn't for want of memory
+pub put_or_not : {E : Type 0} (count cell : ℕ) (pages : List (List ℤ)) (page new : List ℤ) (v : ℤ) (r : Result (Unit {0}) E) → ArePages count pages → cell < count →
+    OnOk r (new ≡ set (get_or pages (cell / 64) page) (cell % 64) v) → OnErr r (new ≡ get_or pages (cell / 64) page) →
+    ArePages count (set pages (cell / 64) new)
+put_or_not count cell pages page new v (Ok u) right h ok err = rw ok (still_pages count cell pages page v right h)
+put_or_not count cell pages page new v (Err e) right h ok err = rw (err, set-get_or pages (cell / 64) page) right
+
+-- one page more
+pub one_more : (pages : List (List ℤ)) (i : ℕ) (d : List ℤ) → i < length pages → cells_on (take (i + 1) pages) ≡ cells_on (take i pages) ++ get_or pages i d
+one_more pages i d h =
+    ap cells_on (take_more pages i d h) ∙ cells_append (take i pages) (get_or pages i d ∷ [])
+    ∙ ap (λ xs. cells_on (take i pages) ++ xs) (append-nil (get_or pages i d))
+
+-- ---- comparing pages
+
+-- what is seen, and the zeros behind it
+all_cells : (count : ℕ) (pages : List (List ℤ)) → ArePages count pages →
+    cells_on pages ≡ take count (cells_on pages) ++ replicate (64 * pages_for count - count) (pos 0)
+all_cells count pages right =
+    sym (take-append-drop count (cells_on pages))
+    ∙ ap (λ xs. take count (cells_on pages) ++ xs) (right.zeros ∙ ap (λ n. replicate (64 * n - count) (pos 0)) right.fewest)
+
+same_pages : (ps qs : List (List ℤ)) → AreWhole ps → AreWhole qs → length ps ≡ length qs → cells_on ps ≡ cells_on qs → ps ≡ qs
+same_pages [] [] whole whole' long e = refl
+same_pages [] (q ∷ qs) whole whole' long e = absurd (omega (arith, long))
+same_pages (p ∷ ps) [] whole whole' long e = absurd (omega (arith, long))
+same_pages (p ∷ ps) (q ∷ qs) whole whole' long e =
+    let as_long = first_whole p ps whole ∙ sym (first_whole q qs whole') in
+    let front : p ≡ q = sym (take-append_seam p (cells_on ps)) ∙ ap (take (length p)) e ∙ ap (λ n. take n (q ++ cells_on qs)) as_long ∙ take-append_seam q (cells_on qs) in
+    let back : cells_on ps ≡ cells_on qs = sym (drop-append_seam p (cells_on ps)) ∙ ap (drop (length p)) e ∙ ap (λ n. drop n (q ++ cells_on qs)) as_long ∙ drop-append_seam q (cells_on qs) in
+    ap (λ x. x ∷ ps) front ∙ ap (λ xs. q ∷ xs) (same_pages ps qs (others_whole p ps whole) (others_whole q qs whole') (omega (arith, long)) back)
+
+-- how many cells are seen
+pub length_seen : (count : ℕ) (pages : List (List ℤ)) → ArePages count pages → length (take count (cells_on pages)) ≡ count
+length_seen count pages right =
+    let few = (div_ceil_times count 64 (omega arith)).0 in
+    let many = right.fewest in
+    let long = length_on pages right.whole in
+    length-take-le count (cells_on pages) (omega (arith, few, many, long))
+
+-- where the same is seen the pages are the same
+pub pages_decide : (count : ℕ) (ps qs : List (List ℤ)) → ArePages count ps → ArePages count qs → take count (cells_on ps) ≡ take count (cells_on qs) → ps ≡ qs
+pages_decide count ps qs right right' e =
+    same_pages ps qs right.whole right'.whole (right.fewest ∙ sym right'.fewest)
+    (all_cells count ps right ∙ ap (λ xs. xs ++ replicate (64 * pages_for count - count) (pos 0)) e ∙ sym (all_cells count qs right'))
+
+-- ---- laying cells on pages
+
+-- what is laid out, with the zeros behind it
+abbrev pub filled : List ℤ → List ℤ
+filled cells = cells ++ replicate (64 * pages_for (length cells) - length cells) (pos 0)
+
+length_filled : (cells : List ℤ) → length (filled cells) ≡ 64 * pages_for (length cells)
+length_filled cells =
+    let both = length-append cells (replicate (64 * pages_for (length cells) - length cells) (pos 0)) in
+    let behind = length-replicate (64 * pages_for (length cells) - length cells) (pos 0) in
+    let few = (div_ceil_times (length cells) 64 (omega arith)).0 in
+    omega (arith, both, behind, few)
+
+-- the first so many of cells with zeros behind them
+take_filled : (n z : ℕ) (xs : List ℤ) → n ≤ length xs + z → take n (xs ++ replicate z (pos 0)) ≡ take n xs ++ replicate (n - length (take n xs)) (pos 0)
+take_filled zero z xs h = refl
+take_filled (suc n) z [] h =
+    let all : suc n ≡ suc n - 0 = omega arith in
+    take-replicate (suc n) z (pos 0) (omega (arith, h)) ∙ ap (λ k. replicate k (pos 0)) all
+take_filled (suc n) z (x ∷ xs) h =
+    let left : suc n - length (x ∷ take n xs) ≡ n - length (take n xs) = omega arith in
+    ap (λ ys. x ∷ ys) (take_filled n z xs (omega (arith, h))) ∙ ap (λ k. x ∷ take n xs ++ replicate k (pos 0)) (sym left)
+
+pub length_padded : (cells : List ℤ) → length cells ≤ 64 → length (padded cells) ≡ 64
+length_padded cells h =
+    let both = length-append cells (replicate (64 - length cells) (pos 0)) in
+    let behind = length-replicate (64 - length cells) (pos 0) in
+    omega (arith, both, behind, h)
+
+-- where the cells of a page begin
+pub page_begins : (count number : ℕ) → number < pages_for count → 64 * number < count
+page_begins count number h =
+    let few = (div_ceil_times count 64 (omega arith)).1 in
+    omega (arith, few, h)
+
+next_page : (cells : List ℤ) (number : ℕ) → number < pages_for (length cells) →
+    take (64 * (number + 1)) (filled cells) ≡ take (64 * number) (filled cells) ++ padded (take 64 (drop (64 * number) cells))
+next_page cells number h =
+    let behind = 64 * pages_for (length cells) - length cells in
+    let start = page_begins (length cells) number h in
+    let long = length-drop (64 * number) cells in
+    let place : 64 * (number + 1) ≡ 64 * number + 64 = omega arith in
+    ap (λ n. take n (filled cells)) place
+    ∙ take-add (64 * number) 64 (filled cells)
+    ∙ ap (λ xs. take (64 * number) (filled cells) ++ take 64 xs) (drop-append-le (64 * number) cells (replicate behind (pos 0)) (omega (arith, start)))
+    ∙ ap (λ xs. take (64 * number) (filled cells) ++ xs) (take_filled 64 behind (drop (64 * number) cells) (omega (arith, start, long, h)))
+
+-- the cells of one page more
+pub laid_next : (cells : List ℤ) (number : ℕ) (pages : List (List ℤ)) (page : List ℤ) → number < pages_for (length cells) →
+    cells_on pages ≡ take (64 * number) (filled cells) → page ≡ padded (take 64 (drop (64 * number) cells)) →
+    cells_on (pages ++ page ∷ []) ≡ take (64 * (number + 1)) (filled cells)
+laid_next cells number pages page h before here =
+    cells_append pages (page ∷ []) ∙ ap (λ xs. cells_on pages ++ xs) (append-nil page ∙ here)
+    ∙ ap (λ xs. xs ++ padded (take 64 (drop (64 * number) cells))) before ∙ sym (next_page cells number h)
+
+pub whole_push : (pages : List (List ℤ)) (cells page : List ℤ) → AreWhole pages → page ≡ padded cells → length cells ≤ 64 → AreWhole (pages ++ page ∷ [])
+whole_push [] cells page whole e h = λ k d in_k. one k d in_k
+  where
+    one : (k : ℕ) (d : List ℤ) → k < length (page ∷ []) → length (get_or (page ∷ []) k d) ≡ 64
+    one zero d in_k = ap length e ∙ length_padded cells h
+    one (suc k) d in_k = absurd (omega (arith, in_k))
+whole_push (p ∷ ps) cells page whole e h = λ k d in_k. cases (whole_push ps cells page (others_whole p ps whole) e h) k d in_k
+  where
+    cases : AreWhole (ps ++ page ∷ []) → (k : ℕ) (d : List ℤ) → k < length (p ∷ (ps ++ page ∷ [])) → length (get_or (p ∷ (ps ++ page ∷ [])) k d) ≡ 64
+    cases ih zero d in_k = first_whole p ps whole
+    cases ih (suc k) d in_k = ih k d (omega (arith, in_k))
+
+laid_all : (cells : List ℤ) (pages : List (List ℤ)) → cells_on pages ≡ take (64 * pages_for (length cells)) (filled cells) → cells_on pages ≡ filled cells
+laid_all cells pages laid =
+    let long = length_filled cells in
+    laid ∙ take_all (64 * pages_for (length cells)) (filled cells) (omega (arith, long))
+
+-- all cells are laid out
+pub laid_pages : (cells : List ℤ) (pages : List (List ℤ)) → cells_on pages ≡ take (64 * pages_for (length cells)) (filled cells) → AreWhole pages →
+    length pages ≡ pages_for (length cells) → ArePages (length cells) pages
+laid_pages cells pages laid whole many =
+    let behind = 64 * pages_for (length cells) - length cells in
+    record {
+      whole = whole;
+      fewest = many;
+      zeros = ap (drop (length cells)) (laid_all cells pages laid) ∙ drop-append_seam cells (replicate behind (pos 0))
+          ∙ ap (λ n. replicate (64 * n - length cells) (pos 0)) (sym many);
+    }
+
+pub laid_cells : (cells : List ℤ) (pages : List (List ℤ)) → cells_on pages ≡ take (64 * pages_for (length cells)) (filled cells) →
+    take (length cells) (cells_on pages) ≡ cells
+laid_cells cells pages laid =
+    ap (take (length cells)) (laid_all cells pages laid) ∙ take-append_seam cells (replicate (64 * pages_for (length cells) - length cells) (pos 0))
+
+-- ---- pages of zeros
+
+zeros_on : (n : ℕ) → cells_on (replicate n (padded [])) ≡ replicate (64 * n) (pos 0)
+zeros_on zero = refl
+zeros_on (suc n) =
+    let more : 64 * suc n ≡ 64 + 64 * n = omega arith in
+    ap (λ xs. padded [] ++ xs) (zeros_on n) ∙ replicate-append-replicate 64 (64 * n) (pos 0) ∙ ap (λ k. replicate k (pos 0)) (sym more)
+
+whole_zeros : (n : ℕ) → AreWhole (replicate n (padded []))
+whole_zeros zero = λ k d in_k. absurd (omega (arith, in_k))
+whole_zeros (suc n) = λ k d in_k. cases (whole_zeros n) k d in_k
+  where
+    cases : AreWhole (replicate n (padded [])) → (k : ℕ) (d : List ℤ) → k < length (padded [] ∷ replicate n (padded [])) → length (get_or (padded [] ∷ replicate n (padded [])) k d) ≡ 64
+    cases ih zero d in_k = length-replicate 64 (pos 0)
+    cases ih (suc k) d in_k = ih k d (omega (arith, in_k))
+
+pub zero_pages : (count : ℕ) → ArePages count (replicate (pages_for count) (padded []))
+zero_pages count =
+    let many = length-replicate (pages_for count) (padded []) in
+    record {
+      whole = whole_zeros (pages_for count);
+      fewest = many;
+      zeros = ap (drop count) (zeros_on (pages_for count)) ∙ drop-replicate count (64 * pages_for count) (pos 0)
+          ∙ ap (λ n. replicate (64 * n - count) (pos 0)) (sym many);
+    }
+
+pub zero_cells : (count : ℕ) → take count (cells_on (replicate (pages_for count) (padded []))) ≡ replicate count (pos 0)
+zero_cells count =
+    let few = (div_ceil_times count 64 (omega arith)).0 in
+    ap (take count) (zeros_on (pages_for count)) ∙ take-replicate count (64 * pages_for count) (pos 0) (omega (arith, few))
+
+-- ---- a page of cells with zeros behind them
+
+pub page_is : (page cells : List ℤ) → length page ≡ 64 → take (length cells) page ≡ cells → drop (length cells) page ≡ replicate (length (drop (length cells) page)) (pos 0) →
+    page ≡ padded cells
+page_is page cells whole front back =
+    let long = length-drop (length cells) page in
+    let left : length (drop (length cells) page) ≡ 64 - length cells = omega (arith, long, whole) in
+    sym (take-append-drop (length cells) page) ∙ ap (λ xs. xs ++ drop (length cells) page) front ∙ ap (λ xs. cells ++ xs) (back ∙ ap (λ n. replicate n (pos 0)) left)
+
+pub front_of_page : (page cells : List ℤ) → page ≡ padded cells → take (length cells) page ≡ cells
+front_of_page page cells e = ap (take (length cells)) e ∙ take-append_seam cells (replicate (64 - length cells) (pos 0))
+
+pub back_of_page : (page cells : List ℤ) → page ≡ padded cells → drop (length cells) page ≡ replicate (length (drop (length cells) page)) (pos 0)
+back_of_page page cells e =
+    let zeros = ap (drop (length cells)) e ∙ drop-append_seam cells (replicate (64 - length cells) (pos 0)) in
+    zeros ∙ ap (λ n. replicate n (pos 0)) (sym (ap length zeros ∙ length-replicate (64 - length cells) (pos 0)))

@@ -1,0 +1,22 @@
+-- Cells on pages of 64.
+use Rattle.std.specs.Int.{div_ceil}
+use Rattle.std.specs.Prelude.{◌≡◌, ℕ, ◌-◌, ◌*◌, List, [], ◌∷◌, ◌++◌, ℤ, pos, All, length, replicate, drop}
+
+-- Cells with zeros behind them, to the end of a page.
+abbrev pub padded : List ℤ → List ℤ
+padded cells = cells ++ replicate (64 - length cells) (pos 0)
+
+-- The cells of pages, one page after another.
+abbrev pub cells_on : List (List ℤ) → List ℤ
+cells_on [] = []
+cells_on (page ∷ more) = page ++ cells_on more
+
+-- How many pages so many cells take.
+abbrev pub pages_for : ℕ → ℕ
+pages_for count = div_ceil count 64
+
+-- So many cells lie on these pages: no page is too many, and zeros end the last one.
+pub record ArePages (count : ℕ) (pages : List (List ℤ)) : Type 0 where
+  pub whole : All (λ page. length page ≡ 64) pages
+  pub fewest : length pages ≡ pages_for count
+  pub zeros : drop count (cells_on pages) ≡ replicate (64 * length pages - count) (pos 0)

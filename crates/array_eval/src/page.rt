@@ -1,0 +1,125 @@
+//! Pages of cells, which several stores can share.
+ghost use Rattle.std.specs.Prelude.{◌≡◌, ◌<◌, ◌≤◌, ◌↔◌, IsTrue, IfOk, OnOk, OnErr, length, replicate, pos};
+ghost use Rattle.array_meaning.specs.Stores.{at_cell, written};
+ghost use Rattle.array_eval.specs.Equal.{store_eq};
+ghost use Rattle.array_eval.specs.Pages.{padded};
+
+use std::alloc::{AllocError, Global};
+use std::marker::Model;
+use std::sync::Arc;
+
+/// How many cells a page has.
+pub(crate) const CELLS: usize = 64;
+
+/// The values of 64 cells. A copy shares them until one of the two is written.
+///
+/// Contracts see a page as the list of its values.
+#[derive(Debug, Drop)]
+pub(crate) struct Page {
+    cells: Arc<[i64; 64]>,
+}
+
+impl Model for Page {
+    ghost use Rattle.std.specs.Prelude.{◌≡◌, List, ℤ, length};
+    ghost use Rattle.std.specs.Arc.{arc_value};
+
+    ghost Value = { List ℤ };
+
+    ghost view = { λ page. arc_value page.cells };
+
+    ghost invariant = { λ page. length (arc_value page.cells) ≡ 64 };
+}
+
+impl Page {
+    /// A page of these cells, with zeros behind them. There must be at most 64.
+    #[tactic(auto, using(crate::proofs::PageLemmas::zeros_behind))]
+    pub(crate) fn new(alloc: Global, cells: &[i64]) -> Result<Page, AllocError>
+        requires { length cells.now ≤ 64 }
+        ensures { IfOk result (λ page. page ≡ padded cells.now) }
+    {
+        let mut own = [0; CELLS];
+        own[..cells.len()].copy_from_slice(cells);
+        Ok(Page {
+            cells: Arc::new(alloc, own)?,
+        })
+    }
+
+    /// The page itself, shared.
+    pub(crate) fn copy(&self) -> Result<Page, AllocError>
+        ensures { IfOk result (λ page. page ≡ self.now) }
+    {
+        Ok(Page {
+            cells: Arc::try_clone(&self.cells)?,
+        })
+    }
+
+    /// What a cell has.
+    pub(crate) fn get(&self, cell: usize) -> i64
+        requires { cell < 64 }
+        ensures { result ≡ at_cell self.now cell }
+    {
+        self.cells[cell]
+    }
+
+    /// The values.
+    pub(crate) fn cells(&self) -> &[i64]
+        ensures same { result.now ≡ self.now }
+        ensures whole { length result.now ≡ 64 }
+    {
+        self.cells.as_slice()
+    }
+
+    /// Writes a cell: in place if nobody shares the page, and else in a copy of its own.
+    pub(crate) fn put(&mut self, alloc: Global, cell: usize, value: i64) -> Result<(), AllocError>
+        requires { cell < 64 }
+        ensures written { OnOk result (self.new ≡ written self.old cell value) }
+        ensures unchanged { OnErr result (self.new ≡ self.old) }
+    {
+        match Arc::get_mut(&mut self.cells) {
+            Some(own) => own[cell] = value,
+            None => {
+                let mut own = *self.cells;
+                own[cell] = value;
+                self.cells = Arc::new(alloc, own)?;
+            }
+        }
+        Ok(())
+    }
+
+    /// Whether it has these cells, with zeros behind them.
+    pub(crate) fn has(&self, cells: &[i64]) -> bool
+        requires { length cells.now ≤ 64 }
+        ensures { IsTrue result ↔ (self.now ≡ padded cells.now) }
+    {
+        let (own, behind) = self.cells().split_at(cells.len());
+        own == cells && are_zeros(behind)
+    }
+}
+
+impl PartialEq for Page {
+    ghost use Rattle.std.proofs.Common.{refl};
+    ghost use Rattle.array_tree.specs.EqualLaws.{equal_laws};
+    ghost use Rattle.array_eval.specs.Equal.{store_eq};
+    ghost use Rattle.array_eval.specs.EqualLaws.{store_decides};
+
+    ghost eq = { store_eq };
+
+    ghost laws = { equal_laws (λ page. page) store_eq (λ a b. (store_decides a b).0) (λ a. (store_decides a a).1 refl) };
+
+    fn eq(&self, other: &Page) -> bool {
+        self.cells() == other.cells()
+    }
+}
+
+// Whether each value is 0.
+#[tactic(auto, using(crate::proofs::PageLemmas::zeros_more))]
+fn are_zeros(cells: &[i64]) -> bool
+    ensures { IsTrue result ↔ (cells.now ≡ replicate (length cells.now) (pos 0)) }
+{
+    for value in cells {
+        if *value != 0 {
+            return false;
+        }
+    }
+    true
+}
