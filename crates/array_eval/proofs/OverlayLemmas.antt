@@ -1,6 +1,8 @@
 -- Where a pair stands in a list of rising cells.
-use Rattle.std.proofs.Common.{◌≡◌, ℕ, zero, suc, ◌<◌, ◌≤◌, Bool, true, false, cond, List, [], ◌∷◌, ◌++◌, length, get_or, set, take, drop, Some, None, ℤ, pos, refl, ap, arith}
-use Rattle.std.specs.Prelude.{nat_lt, nat_eq}
+use Rattle.std.proofs.Common.{◌≡◌, ℕ, zero, suc, ◌+◌, ◌-◌, ◌<◌, ◌≤◌, Bool, true, false, cond, List, [], ◌∷◌, ◌++◌, length, get_or, set, take, drop, Some, None, ℤ, pos, refl, ap, subst, arith}
+use Rattle.std.specs.Prelude.{All, nat_lt, nat_eq}
+use Rattle.array_meaning.proofs.LastLemmas.{rising_lay}
+use Rattle.std.proofs.lemmas.List.Elements.{All-append}
 use Rattle.std.proofs.lemmas.Bool.Decides.{nat_tests}
 use Rattle.array_meaning.specs.Stores.{Write}
 use Rattle.array_meaning.specs.Pieces.{lay, value_at, IsAbove, IsRising}
@@ -115,3 +117,50 @@ would_stand c ws i rising e not =
       none = value_not_there c ws (0, pos 0) rising missing;
       laid = λ v. lay_new c v ws (0, pos 0) missing;
     })
+
+-- ---- how long a rising list is
+
+short_above : (c n : ℕ) (ws : List Write) → IsRising ws → IsAbove c ws → All (λ w. w.0 < n) ws → length ws ≤ n - suc c
+short_above c n [] rising above below = omega arith
+short_above c n (w ∷ ws) rising above below =
+    let up = above.0 in
+    let under = below zero w (omega arith) in
+    let rest = short_above w.0 n ws rising.1 rising.0 (λ k d h. below (suc k) d (omega (arith, h))) in
+    omega (arith, up, under, rest)
+
+pub rising_short : (n : ℕ) (ws : List Write) → IsRising ws → All (λ w. w.0 < n) ws → length ws ≤ n
+rising_short n [] rising below = omega arith
+rising_short n (w ∷ ws) rising below =
+    let under = below zero w (omega arith) in
+    let rest = short_above w.0 n ws rising.1 rising.0 (λ k d h. below (suc k) d (omega (arith, h))) in
+    omega (arith, under, rest)
+
+-- ---- a pair behind all others
+
+pub lay_last : (c : ℕ) (v : ℤ) (ws : List Write) → All (λ w. w.0 < c) ws → lay c v ws ≡ ws ++ (c, v) ∷ []
+lay_last c v [] below = refl
+lay_last c v (w ∷ ws) below =
+    let under = below zero w (omega arith) in
+    let less : nat_lt c w.0 ≡ false = grind (arith, nat_tests) in
+    let same : nat_eq c w.0 ≡ false = grind (arith, nat_tests) in
+    rw (less, same) (ap (λ more. w ∷ more) (lay_last c v ws (λ k d h. below (suc k) d (omega (arith, h)))))
+
+pub rising_last : (c : ℕ) (v : ℤ) (ws : List Write) → All (λ w. w.0 < c) ws → IsRising ws → IsRising (ws ++ (c, v) ∷ [])
+rising_last c v ws below rising =
+    let P : List Write → Type 0 = λ pairs. IsRising pairs in
+    subst P (lay_last c v ws below) (rising_lay c v ws rising)
+
+pub below_next : (c : ℕ) (ws : List Write) → All (λ w. w.0 < c) ws → All (λ w. w.0 < c + 1) ws
+below_next c ws below = λ k d h. let under = below k d h in omega (arith, under)
+
+pub below_laid : (c : ℕ) (v : ℤ) (ws : List Write) → All (λ w. w.0 < c) ws → All (λ w. w.0 < c + 1) (lay c v ws)
+below_laid c v ws below =
+    let P : Write → Type 0 = λ w. w.0 < c + 1 in
+    rw (lay_last c v ws below) (All-append P ws ((c, v) ∷ []) (below_next c ws below) (only (c, v) (omega arith)))
+  where
+    only : (w : Write) → w.0 < c + 1 → All (λ x. x.0 < c + 1) (w ∷ [])
+    only w under = λ k d h. at k d h
+      where
+        at : (k : ℕ) (d : Write) → k < length (w ∷ []) → (get_or (w ∷ []) k d).0 < c + 1
+        at zero d h = under
+        at (suc k) d h = absurd (omega (arith, h))

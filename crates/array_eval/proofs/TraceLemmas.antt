@@ -105,6 +105,11 @@ pub below_of : (n : ℕ) (ws : List Write) → All (λ w. w.0 < n) ws → AreBel
 below_of n [] all = tt
 below_of n (w ∷ ws) all = (all zero w (omega arith), below_of n ws (λ k d h. all (suc k) d (omega (arith, h))))
 
+-- an overlay is laid over what is marked
+pub laid_marks : (ws : List Write) (before after : Trace) → after ≡ noted_all ws before → length before.cells ≡ length before.marks →
+    All (λ w. w.0 < length before.cells) ws → marked after ≡ lays ws (marked before)
+laid_marks ws before after e same below = ap marked e ∙ marked_after ws before (below_of (length before.cells) ws below) same
+
 -- what is marked in the end is what was written last to each cell
 pub marked_last : (ws : List Write) (store : Store) → All (λ w. w.0 < length store) ws →
     last_writes (marked (noted_all ws (fresh store))) ≡ last_writes ws

@@ -6,3 +6,4 @@ pub mod Bindings
 pub mod Traces
 pub mod Equal
 pub mod EqualLaws
+pub mod Laws

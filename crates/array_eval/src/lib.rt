@@ -3,6 +3,7 @@
 
 mod array_text;
 mod cells;
+mod laws;
 mod marked_store;
 mod members;
 mod overlay;
@@ -15,6 +16,7 @@ mod vars;
 
 pub use array_text::write_arrays;
 pub use cells::count_cells;
+pub use laws::rising_lists_are_short;
 pub use marked_store::MarkedStore;
 pub use members::{span, start_of_member};
 pub use overlay::Overlay;

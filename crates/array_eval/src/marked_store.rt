@@ -1,6 +1,6 @@
 //! Stores that know which of their cells were written.
-ghost use Rattle.std.specs.Prelude.{◌≡◌, ◌<◌, ◌≤◌, IfOk, [], length};
-ghost use Rattle.array_meaning.specs.Pieces.{last_writes};
+ghost use Rattle.std.specs.Prelude.{◌≡◌, ◌<◌, ◌≤◌, All, IfOk, [], length};
+ghost use Rattle.array_meaning.specs.Pieces.{lays, last_writes};
 ghost use Rattle.array_eval.specs.Traces.{fresh, noted, noted_all, marked, marked_from, marks_in};
 
 use crate::overlay::Overlay;
@@ -61,10 +61,15 @@ impl MarkedStore {
         }
     }
 
-    /// Writes an overlay's cells, those that are there.
+    /// Writes an overlay's cells, those that are there, and marks them. It takes no memory, and time for the pairs alone.
+    ///
+    /// So pieces are merged: where all cells are there, the overlay is laid over what is marked, and its values win.
     pub fn merge(&mut self, written: &Overlay)
-        ensures { self.new ≡ noted_all written.now.pairs self.old }
+        ensures noted { self.new ≡ noted_all written.now.pairs self.old }
+        ensures laid { All (λ pair. pair.0 < length self.old.cells) written.now.pairs → marked self.new ≡ lays written.now.pairs (marked self.old) }
     {
+        // What the type keeps of a store is known where a field of it is seen.
+        let _ = &self.marks;
         for (cell, value) in written.pairs() {
             self.write(usize::from(*cell), *value);
         }
@@ -87,7 +92,8 @@ impl MarkedStore {
         Ok(overlay)
     }
 
-    /// Lays the cells that were written, each with its value, into an overlay of no cell. It takes no memory.
+    /// Lays the cells that were written, each with its value, into an overlay of no cell. It takes no memory, and one
+    /// pass over the cells.
     ///
     /// The overlay must have room for as many pairs as there are cells, and there must be at most 65,535 cells.
     pub fn lay_written(&self, overlay: &mut Overlay)
@@ -125,7 +131,7 @@ fn lay_marked(cells: &[i64], marks: &[bool], overlay: &mut Overlay)
 {
     for (cell, value) in cells.iter().enumerate() {
         if marks[cell] {
-            overlay.lay(cell as u16, *value);
+            overlay.append(cell as u16, *value);
         }
     }
 }

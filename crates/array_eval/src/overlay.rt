@@ -1,5 +1,5 @@
 //! Overlays: the cells that were written, with their last values.
-ghost use Rattle.std.specs.Prelude.{◌≡◌, ◌≤◌, ◌<◌, OnOk, OnErr, IfOk, IfErr, IsTrue, ◌↔◌, [], length, slice_index_or, pos, vec_capacity};
+ghost use Rattle.std.specs.Prelude.{◌≡◌, ◌≤◌, ◌<◌, OnOk, OnErr, IfOk, IfErr, IsTrue, ◌↔◌, All, [], ◌∷◌, ◌++◌, length, slice_index_or, pos, vec_capacity};
 ghost use Rattle.array_meaning.specs.Pieces.{lay, value_at, IsRising};
 ghost use Rattle.array_eval.specs.Overlays.{place_in, HasRoom, StandsAt, WouldStandAt};
 
@@ -68,6 +68,17 @@ impl Overlay {
         ensures room { self.new.room ≡ self.old.room }
     {
         let _ = put_pair(&mut self.pairs, cell, value);
+    }
+
+    /// Lays a pair behind all others. It takes no memory, and no search.
+    #[tactic(auto, using(crate::proofs::OverlayLemmas::lay_last, crate::proofs::OverlayLemmas::rising_last))]
+    pub(crate) fn append(&mut self, cell: u16, value: i64)
+        requires last { All (λ pair. pair.0 < cell) self.old.pairs }
+        requires room { length self.old.pairs < self.old.room }
+        ensures pairs { self.new.pairs ≡ lay cell value self.old.pairs }
+        ensures room { self.new.room ≡ self.old.room }
+    {
+        push_pair(&mut self.pairs, cell, value);
     }
 
     /// The value of a cell, if it was written.
@@ -148,4 +159,16 @@ fn put_pair(pairs: &mut Vec<(u16, i64)>, cell: u16, value: i64) -> Result<(), Al
             Ok(())
         }
     }
+}
+
+// Puts a pair behind the others. There must be room for it.
+#[tactic(auto, using(std::proofs::lemmas::List::Edits::insert_end))]
+fn push_pair(pairs: &mut Vec<(u16, i64)>, cell: u16, value: i64)
+    requires { length pairs.old.items < vec_capacity pairs.old }
+    ensures pairs { pairs.new.items ≡ pairs.old.items ++ (cell, value) ∷ [] }
+    ensures room { vec_capacity pairs.new ≡ vec_capacity pairs.old }
+{
+    // A push isn't known to keep the room.
+    let end = pairs.len();
+    let _ = pairs.insert(end, (cell, value));
 }

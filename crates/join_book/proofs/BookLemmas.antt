@@ -11,7 +11,7 @@ use Rattle.array_meaning.specs.Pieces.{merged, lays, last_writes}
 use Rattle.array_meaning.proofs.LastLemmas.{lays_append}
 use Rattle.array_meaning.proofs.MergeLemmas.{lays_last}
 use Rattle.array_eval.specs.Traces.{Trace, marked, noted_all}
-use Rattle.array_eval.proofs.TraceLemmas.{AreBelow, length_marks, marked_after, below_of, cells_after}
+use Rattle.array_eval.proofs.TraceLemmas.{length_marks, cells_after}
 use Rattle.array_meaning.proofs.StepLemmas.{length_after}
 use Rattle.array_eval.specs.Overlays.{Laid}
 use Rattle.array_meaning.specs.Stores.{arrays_of, cells_of}
@@ -230,12 +230,11 @@ all_filled (job ∷ jobs) (Failed ∷ marks) e full fine = absurd (fine zero ref
 
 -- every filled place's writes lie inside a store of the jobs' size
 pub filled_below : (jobs : List JobParts) (places : List Place) (i : ℕ) (written : Laid) (job : JobParts) (n : ℕ) → IsKept jobs places →
-    slice_get jobs i ≡ Some job → slice_get places i ≡ Some (place.Filled written) → length job.store ≡ n → AreBelow n written.pairs
+    slice_get jobs i ≡ Some job → slice_get places i ≡ Some (place.Filled written) → length job.store ≡ n → All (λ w. w.0 < n) written.pairs
 filled_below jobs places i written job n kept own at cells =
     let all = piece_below (job_of job) (kept.fit i job own) in
-    let below = below_of (length job.store) (piece_of_job (job_of job)) all in
-    let P : ℕ → Type 0 = λ m. AreBelow m written.pairs in
-    subst P cells (rw (kept.filled i job written own at) below)
+    let P : ℕ → Type 0 = λ m. All (λ w. w.0 < m) written.pairs in
+    subst P cells (rw (kept.filled i job written own at) all)
 
 -- what is known of a store while a book is merged into it, with the places before this one done
 pub record IsMerging (book : BookParts) (places : List Place) (i : ℕ) (store first : Trace) : Type 0 where
@@ -255,8 +254,9 @@ begins book jobs places xs first e f marks = record {
 pub merge_filled : (jobs : List JobParts) (places : List Place) (i : ℕ) (written : Laid) (before after first : Trace) → IsKept jobs places →
     HaveCells (told_book jobs places) (length first.cells) → i < length places → place.Filled written ≡ get_or places i (place.Filled written) →
     after ≡ noted_all written.pairs before →
+    (All (λ w. w.0 < length before.cells) written.pairs → marked after ≡ lays written.pairs (marked before)) →
     IsMerging (told_book jobs places) places i before first → IsMerging (told_book jobs places) places (i + 1) after first
-merge_filled jobs places i written before after first kept have h is now merging = found (slice_get_cases jobs i).1
+merge_filled jobs places i written before after first kept have h is now laid merging = found (slice_get_cases jobs i).1
   where
     found : ((job : JobParts) × (i < length jobs) × (slice_get jobs i ≡ Some job) × (get_or jobs i job ≡ job)) ⊎ ((length jobs ≤ i) × (slice_get jobs i ≡ None)) →
         IsMerging (told_book jobs places) places (i + 1) after first
@@ -265,7 +265,7 @@ merge_filled jobs places i written before after first kept have h is now merging
         let at = slice_get_read places (length places) i (place.Filled written) refl h is in
         let below = filled_below jobs places i written job.0 (length before.cells) kept job.2 at (have i job.0 job.2 ∙ sym merging.cells) in
         let next = next_filled jobs places i written job.0 kept h is job.2 in
-        let lays_on : marked (noted_all written.pairs before) ≡ lays written.pairs (marked before) = marked_after written.pairs before below (sym merging.marks) in
+        let lays_on : marked (noted_all written.pairs before) ≡ lays written.pairs (marked before) = ap marked (sym now) ∙ laid below in
         let same_cells : length (noted_all written.pairs before).cells ≡ length before.cells = ap length (cells_after written.pairs before) ∙ length_after written.pairs before.cells in
         rw now (record {
           cells = same_cells ∙ merging.cells;

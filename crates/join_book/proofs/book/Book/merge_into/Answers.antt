@@ -1,6 +1,7 @@
 use Rattle.std.proofs.Common.{ap, sym, [], ◌≡◌, ◌+◌, ◌<◌, ◌∙◌, subst, length, List, get_or, arith}
 use Rattle.std.proofs.lemmas.List.{length-map}
 use Rattle.array_meaning.specs.Pieces.{last_writes, merged}
+use Rattle.array_eval.specs.Traces.{marked}
 use Rattle.join_book.specs.declared.place.Place.{Place}
 use Rattle.join_book.specs.declared.place.Place.TheVariants as variant
 use Rattle.join_book.specs.Books.{BookParts, HaveCells, mark_of, filled_pieces}
@@ -26,7 +27,7 @@ loop-place-preserved c =
           IsMerging b xs i before first → IsMerging b xs (i + 1) after first in
           let Q : Place → Type 0 = λ p. p ≡ get_or c.deref-place-items.result.now i p in
           carried jobs places c.args.self.now c.deref-place-items.result.now P c.self.view_is c.deref-place-items.ensures.value
-          (λ have h is merging. merge_filled jobs places i w.in-Filled.written before after first c.self.invariant have h is (w.store-is ∙ w.merge.ensures) merging)
+          (λ have h is merging. merge_filled jobs places i w.in-Filled.written before after first c.self.invariant have h is (w.store-is ∙ w.merge.ensures.noted) (λ below. ap marked w.store-is ∙ w.merge.ensures.laid below) merging)
           c.requires.cells c.loop-place-test.true (subst Q w.in-Filled.is c.place-item.is) c.loop-place.invariant
       | in_default w ↦
           let P : BookParts → List Place → Type 0 = λ b xs. i < length xs → c.place-item.result ≡ get_or xs i c.place-item.result →

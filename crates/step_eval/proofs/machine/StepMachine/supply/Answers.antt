@@ -21,7 +21,7 @@ taken c =
     c.args.written.now.pairs sound c.construct.ensures c.sites_in_construct-sites.ensures c.pass.ensures.passed (c.pass.ensures.stacked sound.stacked) awaited
 
 pub invariant_of-self : goal.invariant_of-self
-invariant_of-self c = rw c.merge.ensures (taken c).sound
+invariant_of-self c = rw c.merge.ensures.noted (taken c).sound
 
 pub returns-clause-ok : goal.returns-clause-ok
 returns-clause-ok c =
@@ -33,7 +33,7 @@ returns-clause-ok c =
       next = inside.next + c.sites_in_construct-sites.result;
       stage = Going;
     } in
-    subst (λ m. HasMoved m.rest m after) c.self.view_is (rw (c.merge.ensures, awaiting c) (taken c).moved)
+    subst (λ m. HasMoved m.rest m after) c.self.view_is (rw (c.merge.ensures.noted, awaiting c) (taken c).moved)
 
 pub returns-clause-left : goal.returns-clause-left
 returns-clause-left c =
