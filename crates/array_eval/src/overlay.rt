@@ -81,6 +81,14 @@ impl Overlay {
         push_pair(&mut self.pairs, cell, value);
     }
 
+    /// Gives back the room that no pair has. The pairs stay.
+    pub fn shrink_to_fit(&mut self)
+        ensures pairs { self.new.pairs ≡ self.old.pairs }
+        ensures room { self.new.room ≤ self.old.room }
+    {
+        self.pairs.shrink_to_fit();
+    }
+
     /// The value of a cell, if it was written.
     pub fn get(&self, cell: u16) -> Option<i64>
         ensures { result ≡ value_at self.now.pairs cell }

@@ -107,6 +107,7 @@ impl<'p> StepMachine<'p> {
         } = self;
         let mut written = room;
         store.lay_written(&mut written);
+        written.shrink_to_fit();
         Piece::new(job, written)
     }
 }
