@@ -1,0 +1,3 @@
+pub mod ParentLemmas
+pub mod WorkLemmas
+pub mod JobLemmas
