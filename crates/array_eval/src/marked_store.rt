@@ -13,8 +13,6 @@ use std::marker::Model;
 /// Contracts see it as the list of values and the list of marks.
 #[derive(Debug, Drop)]
 pub struct MarkedStore {
-    // What it was made from: a store that is taken from it shares the pages that are as they were.
-    start: Store,
     cells: Vec<i64>,
     marks: Vec<bool>,
 }
@@ -37,11 +35,7 @@ impl MarkedStore {
     {
         let cells = store.to_cells(alloc)?;
         let marks = vec![in alloc; false; cells.len()]?;
-        Ok(MarkedStore {
-            start: store.copy()?,
-            cells,
-            marks,
-        })
+        Ok(MarkedStore { cells, marks })
     }
 
     /// The value of each cell.
@@ -79,7 +73,14 @@ impl MarkedStore {
     pub fn to_store(&self, alloc: Global) -> Result<Store, AllocError>
         ensures { IfOk result (λ store. store ≡ self.now.cells) }
     {
-        self.start.changed_to(alloc, &self.cells)
+        Store::of_cells(alloc, &self.cells)
+    }
+
+    /// A store of these values, as `to_store` gives it. It shares memory with an earlier one where they have the same.
+    pub fn to_store_after(&self, alloc: Global, earlier: &Store) -> Result<Store, AllocError>
+        ensures { IfOk result (λ store. store ≡ self.now.cells) }
+    {
+        earlier.changed_to(alloc, &self.cells)
     }
 
     /// The cells that were written, each with its value. There must be at most 65,535 cells.

@@ -98,6 +98,17 @@ impl Store {
         Ok(())
     }
 
+    /// A store of these cells.
+    pub(crate) fn of_cells(alloc: Global, cells: &[i64]) -> Result<Store, AllocError>
+        ensures { IfOk result (λ store. store ≡ cells.now) }
+    {
+        Ok(Store {
+            alloc,
+            count: cells.len(),
+            pages: lay_out(alloc, cells, &[])?,
+        })
+    }
+
     /// A store of these cells, which shares each page that it has in common with this one.
     pub(crate) fn changed_to(&self, alloc: Global, cells: &[i64]) -> Result<Store, AllocError>
         ensures { IfOk result (λ store. store ≡ cells.now) }
