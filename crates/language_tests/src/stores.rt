@@ -1,4 +1,5 @@
 //! Stores, overlays and variables.
+ghost use Rattle.std.specs.Prelude.{◌≡◌, IfOk, length};
 
 use crate::programs::{are_sized, parsed};
 use array_eval::{LoopVar, MarkedStore, Overlay, Scope, Store, Vars, run_assign, start_of_member};
@@ -19,7 +20,9 @@ fn a_store_is_written_and_copied(rt: HostRuntime) -> Result<(), Fail> {
 }
 
 // A store of 130 cells, with 7 in the last of the first page, the first of the second and the first of the third.
-fn store_of_three_pages(alloc: Global) -> Result<Store, AllocError> {
+fn store_of_three_pages(alloc: Global) -> Result<Store, AllocError>
+    ensures { IfOk result (λ store. length store ≡ 130) }
+{
     let mut store = Store::zero(alloc, 130)?;
     store.put(63, 7)?;
     store.put(64, 7)?;
