@@ -6,5 +6,6 @@ pub mod TouchedLemmas
 pub mod NumberLemmas
 pub mod ClashLemmas
 pub mod PieceLemmas
+pub mod AloneLemmas
 pub mod SiteLemmas
 pub mod ApartLemmas

@@ -272,7 +272,7 @@ first_same f g i (suc k) h =
     ap (λ b. cond b (Some i) (first_from f (i + 1) k)) (h i (omega arith))
     ∙ ap (λ rest. cond (g i) (Some i) rest) (first_same f g (i + 1) k (λ c small. h c (omega arith)))
 
-first_none : (f : ℕ → Bool) (i k : ℕ) → ((c : ℕ) → c < i + k → f c ≡ false) → first_from f i k ≡ None
+pub first_none : (f : ℕ → Bool) (i k : ℕ) → ((c : ℕ) → c < i + k → f c ≡ false) → first_from f i k ≡ None
 first_none f i zero h = refl
 first_none f i (suc k) h =
     ap (λ b. cond b (Some i) (first_from f (i + 1) k)) (h i (omega arith)) ∙ first_none f (i + 1) k (λ c small. h c (omega arith))

@@ -64,7 +64,7 @@ fn mark_pieces<'s>(arrays: &Arrays, branches: &'s Blocks, scope: &'s Scope<'s>, 
     }
 }
 
-/// The least cell on which two branches of a `par` overlap.
+/// The least cell on which two branches of a `par` overlap. A branch alone can't, and isn't walked through.
 pub(crate) fn overlap_of_branches<'s>(
     arrays: &Arrays,
     branches: &'s Blocks,
@@ -77,6 +77,9 @@ pub(crate) fn overlap_of_branches<'s>(
     ensures found { result ≡ overlap (arrays_of (declarations_of arrays.now)) (cells_of (arrays_of (declarations_of arrays.now))) (branch_works (sequences_of branches.now) (vars_of scope.now)) }
     ensures small { IfSome result (λ cell. cell < 4096) }
 {
+    if branches.blocks.len() < 2 {
+        return None;
+    }
     table.clear();
     mark_pieces(arrays, branches, scope, table);
     least_overlap(arrays, table)
@@ -112,7 +115,7 @@ fn mark_members<'s>(
     }
 }
 
-/// The least cell on which two members of a `team` overlap in one phase.
+/// The least cell on which two members of a `team` overlap in one phase. A member alone can't, and isn't walked through.
 pub(crate) fn overlap_of_members<'s>(
     arrays: &Arrays,
     phase: &'s Block,
@@ -129,6 +132,9 @@ pub(crate) fn overlap_of_members<'s>(
     ensures found { result ≡ overlap (arrays_of (declarations_of arrays.now)) (cells_of (arrays_of (declarations_of arrays.now))) (team_works var.now low high members (sequence_work (sequence_of phase.now)) (vars_of scope.now)) }
     ensures small { IfSome result (λ cell. cell < 4096) }
 {
+    if members < 2 {
+        return None;
+    }
     table.clear();
     mark_members(arrays, phase, var, low, high, members, scope, table);
     least_overlap(arrays, table)

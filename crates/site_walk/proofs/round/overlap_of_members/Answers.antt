@@ -9,6 +9,7 @@ use Rattle.array_eval.specs.Views.{vars_of}
 use Rattle.site_walk.specs.Touched.{clashes}
 use Rattle.site_walk.specs.Marks.{with_pieces, done_at, HasPlaces, cleared}
 use Rattle.site_walk.proofs.PieceLemmas.{least_overlap, pieces_keep_places, cleared_places}
+use Rattle.site_walk.proofs.AloneLemmas.{members_alone}
 use Rattle.site_walk.proofs.round.overlap_of_members.Goals as goal
 
 pub returns-clause-places : goal.returns-clause-places
@@ -31,3 +32,9 @@ returns-clause-found c =
     (to_z-of_z w64 c.args.low c.ranges.low)
     ∙ ap (λ high. overlap arrays (cells_of arrays) (team_works c.args.var.now c.args.low high c.args.members (sequence_work (sequence_of c.args.phase.now)) (vars_of c.args.scope.now)))
     (to_z-of_z w64 c.args.high c.ranges.high)
+
+pub returns-then-members-lt2-clause-found : goal.returns-then-members-lt2-clause-found
+returns-then-members-lt2-clause-found c =
+    let arrays = arrays_of (declarations_of c.args.arrays.now) in
+    sym (members_alone arrays (cells_of arrays) c.args.var.now c.args.low c.args.high c.args.members
+    (sequence_work (sequence_of c.args.phase.now)) (vars_of c.args.scope.now) c.if-members-lt2.true)
