@@ -3,3 +3,4 @@ pub mod PageLemmas
 pub mod ScopeLemmas
 pub mod TraceLemmas
 pub mod StartLemmas
+pub mod LayoutLemmas

@@ -1,3 +1,4 @@
+pub mod Layouts
 pub mod Views
 pub mod Pages
 pub mod ArrayText

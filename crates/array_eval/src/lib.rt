@@ -4,6 +4,7 @@
 mod array_text;
 mod cells;
 mod laws;
+mod layout;
 mod marked_store;
 mod members;
 mod overlay;
@@ -17,6 +18,7 @@ mod vars;
 pub use array_text::write_arrays;
 pub use cells::count_cells;
 pub use laws::rising_lists_are_short;
+pub use layout::{Layout, Place};
 pub use marked_store::MarkedStore;
 pub use members::{span, start_of_member};
 pub use overlay::Overlay;

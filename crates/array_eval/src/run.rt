@@ -6,12 +6,13 @@ ghost use Rattle.array_meaning.specs.Work.{statement_work, sequence_work, branch
 ghost use Rattle.array_eval.specs.Traces.{noted, traced};
 ghost use Rattle.array_eval.specs.Views.{vars_of};
 
-use crate::cells::{cell, count_cells};
+use crate::cells::cell;
+use crate::layout::Layout;
 use crate::marked_store::MarkedStore;
 use crate::scope::Scope;
 use crate::store::Store;
 use crate::value::{evaluate, is_dynamic};
-use array_tree::{Arrays, Block, Blocks, Expr, Name, Program, Stmt};
+use array_tree::{Block, Blocks, Expr, Name, Program, Stmt};
 use std::alloc::{AllocError, Global};
 
 /// The store that a program ends with on one thread, branches from left to right and phases one after another.
@@ -24,60 +25,53 @@ pub fn run_one(alloc: Global, program: &Program) -> Result<Store, AllocError>
     ensures meaning { IfOk result (λ store. store ≡ final_store (program_of program.now)) }
     ensures whole { IfOk result (λ store. length store ≡ cells_of (arrays_of (declarations_of program.now.arrays))) }
 {
-    let zero = Store::zero(alloc, count_cells(&program.arrays) as u16)?;
+    let layout = Layout::new(alloc, &program.arrays)?;
+    let zero = Store::zero(alloc, layout.cells() as u16)?;
     let mut store = MarkedStore::new(alloc, &zero)?;
-    run_block(
-        &program.arrays,
-        &program.body,
-        &Scope::Outermost,
-        &mut store,
-    );
+    run_block(&layout, &program.body, &Scope::Outermost, &mut store);
     store.to_store(alloc)
 }
 
 /// Runs a block.
 #[cycle(run)]
 pub fn run_block<'s>(
-    arrays: &Arrays,
+    layout: &Layout,
     block: &'s Block,
     scope: &'s Scope<'s>,
     store: &mut MarkedStore,
 )
-    requires { AreSized (arrays_of (declarations_of arrays.now)) }
-    ensures { store.new ≡ traced (arrays_of (declarations_of arrays.now)) (sequence_work (sequence_of block.now) (vars_of scope.now)) store.old }
+    ensures { store.new ≡ traced layout.now (sequence_work (sequence_of block.now) (vars_of scope.now)) store.old }
 {
     for statement in &block.statements {
-        run_statement(arrays, statement, scope, store);
+        run_statement(layout, statement, scope, store);
     }
 }
 
 /// Runs an assignment: index and value are computed, and then the cell is written.
 pub fn run_assign(
-    arrays: &Arrays,
+    layout: &Layout,
     array: &Name,
     index: &Expr,
     right: &Expr,
     scope: &Scope,
     store: &mut MarkedStore,
 )
-    requires { AreSized (arrays_of (declarations_of arrays.now)) }
-    ensures { store.new ≡ noted (cell_of (arrays_of (declarations_of arrays.now)) array.now (is_dynamic (expression_of index.now)) (value_of (arrays_of (declarations_of arrays.now)) (vars_of scope.now) (expression_of index.now) store.old.cells)) (value_of (arrays_of (declarations_of arrays.now)) (vars_of scope.now) (expression_of right.now) store.old.cells) store.old }
+    ensures { store.new ≡ noted (cell_of layout.now array.now (is_dynamic (expression_of index.now)) (value_of layout.now (vars_of scope.now) (expression_of index.now) store.old.cells)) (value_of layout.now (vars_of scope.now) (expression_of right.now) store.old.cells) store.old }
 {
-    let place = evaluate(arrays, index, scope, store.cells());
-    let number = evaluate(arrays, right, scope, store.cells());
-    store.write(cell(arrays, array, is_dynamic(index), place), number);
+    let place = evaluate(layout, index, scope, store.cells());
+    let number = evaluate(layout, right, scope, store.cells());
+    store.write(cell(layout, array, is_dynamic(index), place), number);
 }
 
 // Runs a statement.
 #[cycle(run)]
 fn run_statement<'s>(
-    arrays: &Arrays,
+    layout: &Layout,
     statement: &'s Stmt,
     scope: &'s Scope<'s>,
     store: &mut MarkedStore,
 )
-    requires { AreSized (arrays_of (declarations_of arrays.now)) }
-    ensures { store.new ≡ traced (arrays_of (declarations_of arrays.now)) (statement_work (statement_of statement.now) (vars_of scope.now)) store.old }
+    ensures { store.new ≡ traced layout.now (statement_work (statement_of statement.now) (vars_of scope.now)) store.old }
 {
     match statement {
         Stmt::Assign {
@@ -85,41 +79,41 @@ fn run_statement<'s>(
             index,
             value: right,
             ..
-        } => run_assign(arrays, array, index, right, scope, store),
+        } => run_assign(layout, array, index, right, scope, store),
         Stmt::For {
             var,
             low,
             high,
             body,
             ..
-        } => run_loop(arrays, body, var, *low, *high, scope, store),
+        } => run_loop(layout, body, var, *low, *high, scope, store),
         Stmt::If {
             cond,
             then_block,
             else_block,
             ..
         } => {
-            if evaluate(arrays, cond, scope, store.cells()) != 0 {
-                run_block(arrays, then_block, scope, store);
+            if evaluate(layout, cond, scope, store.cells()) != 0 {
+                run_block(layout, then_block, scope, store);
             } else {
-                run_block(arrays, else_block, scope, store);
+                run_block(layout, else_block, scope, store);
             }
         }
-        Stmt::Par { branches, .. } => run_branches(arrays, branches, scope, store),
+        Stmt::Par { branches, .. } => run_branches(layout, branches, scope, store),
         Stmt::Team {
             var,
             low,
             high,
             phases,
             ..
-        } => run_phases(arrays, phases, var, *low, *high, scope, store),
+        } => run_phases(layout, phases, var, *low, *high, scope, store),
     }
 }
 
 /// Runs a block once for each number from `low` to before `high`, with that number as the variable.
 #[cycle(run)]
 pub fn run_loop<'s>(
-    arrays: &Arrays,
+    layout: &Layout,
     body: &'s Block,
     var: &'s Name,
     low: i64,
@@ -127,8 +121,7 @@ pub fn run_loop<'s>(
     scope: &'s Scope<'s>,
     store: &mut MarkedStore,
 )
-    requires { AreSized (arrays_of (declarations_of arrays.now)) }
-    ensures { store.new ≡ traced (arrays_of (declarations_of arrays.now)) (loop var.now low high (sequence_work (sequence_of body.now)) (vars_of scope.now)) store.old }
+    ensures { store.new ≡ traced layout.now (loop var.now low high (sequence_work (sequence_of body.now)) (vars_of scope.now)) store.old }
 {
     for number in low..high {
         let turn = Scope::Turn {
@@ -136,30 +129,29 @@ pub fn run_loop<'s>(
             value: number,
             outer: scope,
         };
-        run_block(arrays, body, &turn, store);
+        run_block(layout, body, &turn, store);
     }
 }
 
 // Runs the branches of a `par`, one after another.
 #[cycle(run)]
 fn run_branches<'s>(
-    arrays: &Arrays,
+    layout: &Layout,
     branches: &'s Blocks,
     scope: &'s Scope<'s>,
     store: &mut MarkedStore,
 )
-    requires { AreSized (arrays_of (declarations_of arrays.now)) }
-    ensures { store.new ≡ traced (arrays_of (declarations_of arrays.now)) (branches_work (sequences_of branches.now) (vars_of scope.now)) store.old }
+    ensures { store.new ≡ traced layout.now (branches_work (sequences_of branches.now) (vars_of scope.now)) store.old }
 {
     for branch in &branches.blocks {
-        run_block(arrays, branch, scope, store);
+        run_block(layout, branch, scope, store);
     }
 }
 
 // Runs the phases of a `team`, one after another.
 #[cycle(run)]
 fn run_phases<'s>(
-    arrays: &Arrays,
+    layout: &Layout,
     phases: &'s Blocks,
     var: &'s Name,
     low: i64,
@@ -167,10 +159,9 @@ fn run_phases<'s>(
     scope: &'s Scope<'s>,
     store: &mut MarkedStore,
 )
-    requires { AreSized (arrays_of (declarations_of arrays.now)) }
-    ensures { store.new ≡ traced (arrays_of (declarations_of arrays.now)) (phases_work (sequences_of phases.now) var.now low high (vars_of scope.now)) store.old }
+    ensures { store.new ≡ traced layout.now (phases_work (sequences_of phases.now) var.now low high (vars_of scope.now)) store.old }
 {
     for phase in &phases.blocks {
-        run_loop(arrays, phase, var, low, high, scope, store);
+        run_loop(layout, phase, var, low, high, scope, store);
     }
 }

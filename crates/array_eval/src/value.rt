@@ -1,30 +1,30 @@
 //! What expressions give.
 ghost use Rattle.std.specs.Prelude.{◌≡◌};
-ghost use Rattle.array_tree.specs.Trees.{expression_of, declarations_of};
-ghost use Rattle.array_meaning.specs.Stores.{arrays_of, AreSized, is_dynamic, value_of};
+ghost use Rattle.array_tree.specs.Trees.{expression_of};
+ghost use Rattle.array_meaning.specs.Stores.{is_dynamic, value_of};
 ghost use Rattle.array_meaning.specs.Values.{applied, wrapping_minus};
 ghost use Rattle.array_eval.specs.Views.{vars_of};
 
 use crate::cells::{cell, read};
+use crate::layout::Layout;
 use crate::scope::Scope;
-use array_tree::{Arrays, Expr, Op};
+use array_tree::{Expr, Op};
 
 /// The value of an expression.
-pub fn evaluate(arrays: &Arrays, expr: &Expr, scope: &Scope, cells: &[i64]) -> i64
-    requires { AreSized (arrays_of (declarations_of arrays.now)) }
-    ensures { result ≡ value_of (arrays_of (declarations_of arrays.now)) (vars_of scope.now) (expression_of expr.now) cells.now }
+pub fn evaluate(layout: &Layout, expr: &Expr, scope: &Scope, cells: &[i64]) -> i64
+    ensures { result ≡ value_of layout.now (vars_of scope.now) (expression_of expr.now) cells.now }
 {
     match expr {
         Expr::Number(number) => *number,
         Expr::Var(name) => scope.get(name),
         Expr::Read(array, index) => {
-            let place = evaluate(arrays, index, scope, cells);
-            read(cells, cell(arrays, array, is_dynamic(index), place))
+            let place = evaluate(layout, index, scope, cells);
+            read(cells, cell(layout, array, is_dynamic(index), place))
         }
-        Expr::Neg(operand) => negate(evaluate(arrays, operand, scope, cells)),
+        Expr::Neg(operand) => negate(evaluate(layout, operand, scope, cells)),
         Expr::Binary(op, left, right) => {
-            let a = evaluate(arrays, left, scope, cells);
-            let b = evaluate(arrays, right, scope, cells);
+            let a = evaluate(layout, left, scope, cells);
+            let b = evaluate(layout, right, scope, cells);
             apply(*op, a, b)
         }
     }

@@ -1,7 +1,5 @@
 //! Pieces.
 ghost use Rattle.std.specs.Prelude.{◌≡◌, IfOk};
-ghost use Rattle.array_tree.specs.Trees.{declarations_of};
-ghost use Rattle.array_meaning.specs.Stores.{arrays_of, AreSized};
 ghost use Rattle.array_eval.specs.Traces.{traced};
 ghost use Rattle.array_eval.specs.Views.{vars_of};
 ghost use Rattle.array_jobs.specs.Works.{work_of, steps_of};
@@ -10,8 +8,7 @@ ghost use Rattle.array_jobs.specs.PieceParts.{piece_of_job};
 
 use crate::job::Job;
 use crate::work::Work;
-use array_eval::{MarkedStore, Overlay, Scope, run_block, run_loop};
-use array_tree::Arrays;
+use array_eval::{Layout, MarkedStore, Overlay, Scope, run_block, run_loop};
 use std::alloc::{AllocError, Global};
 use std::marker::Model;
 
@@ -62,23 +59,23 @@ pub fn piece_of<'p>(alloc: Global, job: Job<'p>) -> Result<Piece<'p>, AllocError
 pub fn written_by(alloc: Global, job: &Job) -> Result<Overlay, AllocError>
     ensures { IfOk result (λ overlay. overlay.pairs ≡ piece_of_job (job_of job.now)) }
 {
+    let layout = Layout::new(alloc, job.arrays)?;
     let mut store = MarkedStore::new(alloc, &job.store)?;
-    run_work(job.arrays, &job.work, &Scope::Kept(&job.vars), &mut store);
+    run_work(&layout, &job.work, &Scope::Kept(&job.vars), &mut store);
     store.written(alloc)
 }
 
 // Runs a work.
-fn run_work<'s>(arrays: &Arrays, work: &'s Work<'s>, scope: &'s Scope<'s>, store: &mut MarkedStore)
-    requires { AreSized (arrays_of (declarations_of arrays.now)) }
-    ensures { store.new ≡ traced (arrays_of (declarations_of arrays.now)) (steps_of (work_of work.now) (vars_of scope.now)) store.old }
+fn run_work<'s>(layout: &Layout, work: &'s Work<'s>, scope: &'s Scope<'s>, store: &mut MarkedStore)
+    ensures { store.new ≡ traced layout.now (steps_of (work_of work.now) (vars_of scope.now)) store.old }
 {
     match work {
-        Work::Branch(body) => run_block(arrays, body, scope, store),
+        Work::Branch(body) => run_block(layout, body, scope, store),
         Work::Member {
             var,
             low,
             high,
             body,
-        } => run_loop(arrays, body, var, *low, *high, scope, store),
+        } => run_loop(layout, body, var, *low, *high, scope, store),
     }
 }

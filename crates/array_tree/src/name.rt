@@ -45,6 +45,13 @@ impl Name {
         self.bytes.as_slice()
     }
 
+    /// The digest of the bytes, equal for equal names and mostly different for others.
+    pub fn digest(&self) -> u64
+        ensures { result ≡ digest_of self.now }
+    {
+        self.digest
+    }
+
     /// An equal name.
     pub fn copy(&self) -> Result<Name, AllocError>
         ensures { IfOk result (λ name. name ≡ self.now) }

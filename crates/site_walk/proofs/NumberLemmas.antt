@@ -7,7 +7,8 @@ use Rattle.std.proofs.lemmas.Int.{ints}
 use Rattle.array_meaning.specs.Stores.{Arrays, is_name, base_of, length_of, cells_of, cell_of}
 use Rattle.array_meaning.specs.Overlap.{covers}
 use Rattle.array_meaning.specs.Accepted.{is_inside}
-use Rattle.site_walk.specs.Numbers.{number_of, array_at}
+use Rattle.array_eval.specs.Layouts.{number_of}
+use Rattle.site_walk.specs.Numbers.{array_at}
 
 -- ---- the first array, or a later one
 

@@ -8,7 +8,8 @@ use Rattle.site_walk.specs.declared.touched.Pieces.TheVariants.{One}
 use Rattle.site_walk.specs.declared.touched.Touched.{Touched}
 use Rattle.site_walk.specs.declared.table.Table.{Table}
 use Rattle.site_walk.specs.Touched.{joined, clashes, touched_at, untouched}
-use Rattle.site_walk.specs.Numbers.{number_of, array_at}
+use Rattle.array_eval.specs.Layouts.{number_of}
+use Rattle.site_walk.specs.Numbers.{array_at}
 
 -- Nothing done to so many cells and so many arrays.
 abbrev pub nothing_done : ℕ → ℕ → Table

@@ -8,27 +8,25 @@ ghost use Rattle.array_eval.specs.Views.{vars_of};
 ghost use Rattle.site_walk.specs.Outside.{or_else, index_fault, first_outside, or_outside};
 
 use crate::fault::WalkFault;
-use crate::places::place_of;
-use array_eval::{Scope, evaluate, is_dynamic};
-use array_tree::{Arrays, Block, Blocks, Expr, Name, Stmt};
+use array_eval::{Layout, Scope, evaluate, is_dynamic};
+use array_tree::{Block, Blocks, Expr, Name, Stmt};
 
 // What is wrong with an index of an array.
 fn index_outside(
-    arrays: &Arrays,
+    layout: &Layout,
     line: u32,
     scope: &Scope,
     array: &Name,
     index: &Expr,
 ) -> Option<WalkFault>
-    requires { AreSized (arrays_of (declarations_of arrays.now)) }
-    ensures { result ≡ index_fault line (length_of (arrays_of (declarations_of arrays.now)) array.now)
-        (visit (arrays_of (declarations_of arrays.now)) line false (vars_of scope.now) array.now (expression_of index.now)).index }
+    ensures { result ≡ index_fault line (length_of layout.now array.now)
+        (visit layout.now line false (vars_of scope.now) array.now (expression_of index.now)).index }
 {
     if is_dynamic(index) {
         return None;
     }
-    let number = evaluate(arrays, index, scope, &[]);
-    let length = place_of(arrays, array).length;
+    let number = evaluate(layout, index, scope, &[]);
+    let length = layout.place_of(array).length;
     if 0 <= number && number < length as i64 {
         None
     } else {
@@ -42,39 +40,37 @@ fn index_outside(
 
 // Keeps what is wrong with an index of an array, unless something was found before.
 fn keep_index(
-    arrays: &Arrays,
+    layout: &Layout,
     line: u32,
     scope: &Scope,
     array: &Name,
     index: &Expr,
     found: &mut Option<WalkFault>,
 )
-    requires { AreSized (arrays_of (declarations_of arrays.now)) }
-    ensures { found.new ≡ or_else found.old (index_fault line (length_of (arrays_of (declarations_of arrays.now)) array.now)
-        (visit (arrays_of (declarations_of arrays.now)) line false (vars_of scope.now) array.now (expression_of index.now)).index) }
+    ensures { found.new ≡ or_else found.old (index_fault line (length_of layout.now array.now)
+        (visit layout.now line false (vars_of scope.now) array.now (expression_of index.now)).index) }
 {
     if found.is_none() {
-        *found = index_outside(arrays, line, scope, array, index);
+        *found = index_outside(layout, line, scope, array, index);
     }
 }
 
 // Keeps the first fault among the reads of an expression.
 #[tactic(auto, using(crate::proofs::OutsideLemmas::first_append, crate::proofs::OutsideLemmas::or_else_assoc, crate::proofs::OutsideLemmas::or_else_none))]
-fn keep_reads(arrays: &Arrays, line: u32, scope: &Scope, expr: &Expr, found: &mut Option<WalkFault>)
-    requires { AreSized (arrays_of (declarations_of arrays.now)) }
-    ensures { found.new ≡ or_else found.old (first_outside (arrays_of (declarations_of arrays.now))
-        (reads_in (arrays_of (declarations_of arrays.now)) line (vars_of scope.now) (expression_of expr.now))) }
+fn keep_reads(layout: &Layout, line: u32, scope: &Scope, expr: &Expr, found: &mut Option<WalkFault>)
+    ensures { found.new ≡ or_else found.old (first_outside layout.now
+        (reads_in layout.now line (vars_of scope.now) (expression_of expr.now))) }
 {
     match expr {
         Expr::Number(_) | Expr::Var(_) => {}
         Expr::Read(array, index) => {
-            keep_reads(arrays, line, scope, index, found);
-            keep_index(arrays, line, scope, array, index, found);
+            keep_reads(layout, line, scope, index, found);
+            keep_index(layout, line, scope, array, index, found);
         }
-        Expr::Neg(operand) => keep_reads(arrays, line, scope, operand, found),
+        Expr::Neg(operand) => keep_reads(layout, line, scope, operand, found),
         Expr::Binary(_, left, right) => {
-            keep_reads(arrays, line, scope, left, found);
-            keep_reads(arrays, line, scope, right, found);
+            keep_reads(layout, line, scope, left, found);
+            keep_reads(layout, line, scope, right, found);
         }
     }
 }
@@ -82,16 +78,15 @@ fn keep_reads(arrays: &Arrays, line: u32, scope: &Scope, expr: &Expr, found: &mu
 /// Keeps the first fault of an index in the walk through a block, unless something was found before.
 #[cycle(keep)]
 pub(crate) fn keep_block<'s>(
-    arrays: &Arrays,
+    layout: &Layout,
     block: &'s Block,
     scope: &'s Scope<'s>,
     found: &mut Option<WalkFault>,
 )
-    requires { AreSized (arrays_of (declarations_of arrays.now)) }
-    ensures { found.new ≡ or_outside (arrays_of (declarations_of arrays.now)) (sequence_work (sequence_of block.now) (vars_of scope.now)) found.old }
+    ensures { found.new ≡ or_outside layout.now (sequence_work (sequence_of block.now) (vars_of scope.now)) found.old }
 {
     for statement in &block.statements {
-        keep_statement(arrays, statement, scope, found);
+        keep_statement(layout, statement, scope, found);
     }
 }
 
@@ -99,13 +94,12 @@ pub(crate) fn keep_block<'s>(
 #[cycle(keep)]
 #[tactic(auto, using(crate::proofs::OutsideLemmas::first_append, crate::proofs::OutsideLemmas::or_else_assoc, crate::proofs::OutsideLemmas::or_else_none))]
 fn keep_statement<'s>(
-    arrays: &Arrays,
+    layout: &Layout,
     statement: &'s Stmt,
     scope: &'s Scope<'s>,
     found: &mut Option<WalkFault>,
 )
-    requires { AreSized (arrays_of (declarations_of arrays.now)) }
-    ensures { found.new ≡ or_outside (arrays_of (declarations_of arrays.now)) (statement_work (statement_of statement.now) (vars_of scope.now)) found.old }
+    ensures { found.new ≡ or_outside layout.now (statement_work (statement_of statement.now) (vars_of scope.now)) found.old }
 {
     match statement {
         Stmt::Assign {
@@ -114,9 +108,9 @@ fn keep_statement<'s>(
             index,
             value,
         } => {
-            keep_reads(arrays, *line, scope, index, found);
-            keep_reads(arrays, *line, scope, value, found);
-            keep_index(arrays, *line, scope, array, index, found);
+            keep_reads(layout, *line, scope, index, found);
+            keep_reads(layout, *line, scope, value, found);
+            keep_index(layout, *line, scope, array, index, found);
         }
         Stmt::For {
             var,
@@ -124,32 +118,32 @@ fn keep_statement<'s>(
             high,
             body,
             ..
-        } => keep_loop(arrays, body, var, *low, *high, scope, found),
+        } => keep_loop(layout, body, var, *low, *high, scope, found),
         Stmt::If {
             line,
             cond,
             then_block,
             else_block,
         } => {
-            keep_reads(arrays, *line, scope, cond, found);
-            keep_block(arrays, then_block, scope, found);
-            keep_block(arrays, else_block, scope, found);
+            keep_reads(layout, *line, scope, cond, found);
+            keep_block(layout, then_block, scope, found);
+            keep_block(layout, else_block, scope, found);
         }
-        Stmt::Par { branches, .. } => keep_branches(arrays, branches, scope, found),
+        Stmt::Par { branches, .. } => keep_branches(layout, branches, scope, found),
         Stmt::Team {
             var,
             low,
             high,
             phases,
             ..
-        } => keep_phases(arrays, phases, var, *low, *high, scope, found),
+        } => keep_phases(layout, phases, var, *low, *high, scope, found),
     }
 }
 
 // The same of a block for each number from low to before high.
 #[cycle(keep)]
 fn keep_loop<'s>(
-    arrays: &Arrays,
+    layout: &Layout,
     body: &'s Block,
     var: &'s Name,
     low: i64,
@@ -157,8 +151,7 @@ fn keep_loop<'s>(
     scope: &'s Scope<'s>,
     found: &mut Option<WalkFault>,
 )
-    requires { AreSized (arrays_of (declarations_of arrays.now)) }
-    ensures { found.new ≡ or_outside (arrays_of (declarations_of arrays.now)) (loop var.now low high (sequence_work (sequence_of body.now)) (vars_of scope.now)) found.old }
+    ensures { found.new ≡ or_outside layout.now (loop var.now low high (sequence_work (sequence_of body.now)) (vars_of scope.now)) found.old }
 {
     for number in low..high {
         let turn = Scope::Turn {
@@ -166,30 +159,29 @@ fn keep_loop<'s>(
             value: number,
             outer: scope,
         };
-        keep_block(arrays, body, &turn, found);
+        keep_block(layout, body, &turn, found);
     }
 }
 
 // The same of the branches of a `par`.
 #[cycle(keep)]
 fn keep_branches<'s>(
-    arrays: &Arrays,
+    layout: &Layout,
     branches: &'s Blocks,
     scope: &'s Scope<'s>,
     found: &mut Option<WalkFault>,
 )
-    requires { AreSized (arrays_of (declarations_of arrays.now)) }
-    ensures { found.new ≡ or_outside (arrays_of (declarations_of arrays.now)) (branches_work (sequences_of branches.now) (vars_of scope.now)) found.old }
+    ensures { found.new ≡ or_outside layout.now (branches_work (sequences_of branches.now) (vars_of scope.now)) found.old }
 {
     for branch in &branches.blocks {
-        keep_block(arrays, branch, scope, found);
+        keep_block(layout, branch, scope, found);
     }
 }
 
 // The same of the phases of a `team`.
 #[cycle(keep)]
 fn keep_phases<'s>(
-    arrays: &Arrays,
+    layout: &Layout,
     phases: &'s Blocks,
     var: &'s Name,
     low: i64,
@@ -197,10 +189,9 @@ fn keep_phases<'s>(
     scope: &'s Scope<'s>,
     found: &mut Option<WalkFault>,
 )
-    requires { AreSized (arrays_of (declarations_of arrays.now)) }
-    ensures { found.new ≡ or_outside (arrays_of (declarations_of arrays.now)) (phases_work (sequences_of phases.now) var.now low high (vars_of scope.now)) found.old }
+    ensures { found.new ≡ or_outside layout.now (phases_work (sequences_of phases.now) var.now low high (vars_of scope.now)) found.old }
 {
     for phase in &phases.blocks {
-        keep_loop(arrays, phase, var, low, high, scope, found);
+        keep_loop(layout, phase, var, low, high, scope, found);
     }
 }

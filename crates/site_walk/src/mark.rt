@@ -7,15 +7,14 @@ ghost use Rattle.array_meaning.specs.Touch.{reads_in, visit};
 ghost use Rattle.array_eval.specs.Views.{vars_of};
 ghost use Rattle.site_walk.specs.Marks.{with_touch, with_visits, with_piece, touch_of};
 
-use crate::places::place_of;
 use crate::table::Table;
 use crate::touched::{Pieces, Touched};
-use array_eval::{Scope, evaluate, is_dynamic};
-use array_tree::{Arrays, Block, Blocks, Expr, Name, Stmt};
+use array_eval::{Layout, Scope, evaluate, is_dynamic};
+use array_tree::{Block, Blocks, Expr, Name, Stmt};
 
 // Marks what a piece does by an index of an array.
 fn mark_index(
-    arrays: &Arrays,
+    layout: &Layout,
     piece: usize,
     writes: bool,
     scope: &Scope,
@@ -23,11 +22,10 @@ fn mark_index(
     index: &Expr,
     table: &mut Table,
 )
-    requires { AreSized (arrays_of (declarations_of arrays.now)) }
-    ensures { table.new ≡ with_touch (arrays_of (declarations_of arrays.now)) (touch_of piece writes) array.now
-        (visit (arrays_of (declarations_of arrays.now)) 0 writes (vars_of scope.now) array.now (expression_of index.now)).index table.old }
+    ensures { table.new ≡ with_touch layout.now (touch_of piece writes) array.now
+        (visit layout.now 0 writes (vars_of scope.now) array.now (expression_of index.now)).index table.old }
 {
-    let place = place_of(arrays, array);
+    let place = layout.place_of(array);
     let touch = Touched {
         by: Pieces::One(piece),
         written: writes,
@@ -35,7 +33,7 @@ fn mark_index(
     if is_dynamic(index) {
         table.touch_array(place.number, touch);
     } else {
-        let number = evaluate(arrays, index, scope, &[]);
+        let number = evaluate(layout, index, scope, &[]);
         let inside = 0 <= number && number < place.length as i64;
         let cell = place.base + number.unsigned_abs() as usize;
         table.touch_cell(place.number, cell, inside, touch);
@@ -44,21 +42,20 @@ fn mark_index(
 
 // Marks the reads of an expression. No mark tells a line.
 #[tactic(auto, using(crate::proofs::MarkLemmas::visits_append))]
-fn mark_reads(arrays: &Arrays, piece: usize, scope: &Scope, expr: &Expr, table: &mut Table)
-    requires { AreSized (arrays_of (declarations_of arrays.now)) }
-    ensures { table.new ≡ with_visits (arrays_of (declarations_of arrays.now)) piece
-        (reads_in (arrays_of (declarations_of arrays.now)) 0 (vars_of scope.now) (expression_of expr.now)) table.old }
+fn mark_reads(layout: &Layout, piece: usize, scope: &Scope, expr: &Expr, table: &mut Table)
+    ensures { table.new ≡ with_visits layout.now piece
+        (reads_in layout.now 0 (vars_of scope.now) (expression_of expr.now)) table.old }
 {
     match expr {
         Expr::Number(_) | Expr::Var(_) => {}
         Expr::Read(array, index) => {
-            mark_reads(arrays, piece, scope, index, table);
-            mark_index(arrays, piece, false, scope, array, index, table);
+            mark_reads(layout, piece, scope, index, table);
+            mark_index(layout, piece, false, scope, array, index, table);
         }
-        Expr::Neg(operand) => mark_reads(arrays, piece, scope, operand, table),
+        Expr::Neg(operand) => mark_reads(layout, piece, scope, operand, table),
         Expr::Binary(_, left, right) => {
-            mark_reads(arrays, piece, scope, left, table);
-            mark_reads(arrays, piece, scope, right, table);
+            mark_reads(layout, piece, scope, left, table);
+            mark_reads(layout, piece, scope, right, table);
         }
     }
 }
@@ -66,31 +63,29 @@ fn mark_reads(arrays: &Arrays, piece: usize, scope: &Scope, expr: &Expr, table: 
 /// Marks what a piece does in a block: whatever is on either side of an `if`, and in whatever order it may run.
 #[cycle(mark)]
 pub(crate) fn mark_block<'s>(
-    arrays: &Arrays,
+    layout: &Layout,
     piece: usize,
     block: &'s Block,
     scope: &'s Scope<'s>,
     table: &mut Table,
 )
-    requires { AreSized (arrays_of (declarations_of arrays.now)) }
-    ensures { table.new ≡ with_piece (arrays_of (declarations_of arrays.now)) piece (sequence_work (sequence_of block.now) (vars_of scope.now)) table.old }
+    ensures { table.new ≡ with_piece layout.now piece (sequence_work (sequence_of block.now) (vars_of scope.now)) table.old }
 {
     for statement in &block.statements {
-        mark_statement(arrays, piece, statement, scope, table);
+        mark_statement(layout, piece, statement, scope, table);
     }
 }
 
 // The same of a statement.
 #[cycle(mark)]
 fn mark_statement<'s>(
-    arrays: &Arrays,
+    layout: &Layout,
     piece: usize,
     statement: &'s Stmt,
     scope: &'s Scope<'s>,
     table: &mut Table,
 )
-    requires { AreSized (arrays_of (declarations_of arrays.now)) }
-    ensures { table.new ≡ with_piece (arrays_of (declarations_of arrays.now)) piece (statement_work (statement_of statement.now) (vars_of scope.now)) table.old }
+    ensures { table.new ≡ with_piece layout.now piece (statement_work (statement_of statement.now) (vars_of scope.now)) table.old }
 {
     match statement {
         Stmt::Assign {
@@ -99,9 +94,9 @@ fn mark_statement<'s>(
             value,
             ..
         } => {
-            mark_reads(arrays, piece, scope, index, table);
-            mark_reads(arrays, piece, scope, value, table);
-            mark_index(arrays, piece, true, scope, array, index, table);
+            mark_reads(layout, piece, scope, index, table);
+            mark_reads(layout, piece, scope, value, table);
+            mark_index(layout, piece, true, scope, array, index, table);
         }
         Stmt::For {
             var,
@@ -109,32 +104,32 @@ fn mark_statement<'s>(
             high,
             body,
             ..
-        } => mark_loop(arrays, piece, body, var, *low, *high, scope, table),
+        } => mark_loop(layout, piece, body, var, *low, *high, scope, table),
         Stmt::If {
             cond,
             then_block,
             else_block,
             ..
         } => {
-            mark_reads(arrays, piece, scope, cond, table);
-            mark_block(arrays, piece, then_block, scope, table);
-            mark_block(arrays, piece, else_block, scope, table);
+            mark_reads(layout, piece, scope, cond, table);
+            mark_block(layout, piece, then_block, scope, table);
+            mark_block(layout, piece, else_block, scope, table);
         }
-        Stmt::Par { branches, .. } => mark_branches(arrays, piece, branches, scope, table),
+        Stmt::Par { branches, .. } => mark_branches(layout, piece, branches, scope, table),
         Stmt::Team {
             var,
             low,
             high,
             phases,
             ..
-        } => mark_phases(arrays, piece, phases, var, *low, *high, scope, table),
+        } => mark_phases(layout, piece, phases, var, *low, *high, scope, table),
     }
 }
 
 /// The same of a block for each number from low to before high.
 #[cycle(mark)]
 pub(crate) fn mark_loop<'s>(
-    arrays: &Arrays,
+    layout: &Layout,
     piece: usize,
     body: &'s Block,
     var: &'s Name,
@@ -143,8 +138,7 @@ pub(crate) fn mark_loop<'s>(
     scope: &'s Scope<'s>,
     table: &mut Table,
 )
-    requires { AreSized (arrays_of (declarations_of arrays.now)) }
-    ensures { table.new ≡ with_piece (arrays_of (declarations_of arrays.now)) piece (loop var.now low high (sequence_work (sequence_of body.now)) (vars_of scope.now)) table.old }
+    ensures { table.new ≡ with_piece layout.now piece (loop var.now low high (sequence_work (sequence_of body.now)) (vars_of scope.now)) table.old }
 {
     for number in low..high {
         let turn = Scope::Turn {
@@ -152,31 +146,30 @@ pub(crate) fn mark_loop<'s>(
             value: number,
             outer: scope,
         };
-        mark_block(arrays, piece, body, &turn, table);
+        mark_block(layout, piece, body, &turn, table);
     }
 }
 
 // The same of the branches of a `par` inside the piece.
 #[cycle(mark)]
 fn mark_branches<'s>(
-    arrays: &Arrays,
+    layout: &Layout,
     piece: usize,
     branches: &'s Blocks,
     scope: &'s Scope<'s>,
     table: &mut Table,
 )
-    requires { AreSized (arrays_of (declarations_of arrays.now)) }
-    ensures { table.new ≡ with_piece (arrays_of (declarations_of arrays.now)) piece (branches_work (sequences_of branches.now) (vars_of scope.now)) table.old }
+    ensures { table.new ≡ with_piece layout.now piece (branches_work (sequences_of branches.now) (vars_of scope.now)) table.old }
 {
     for branch in &branches.blocks {
-        mark_block(arrays, piece, branch, scope, table);
+        mark_block(layout, piece, branch, scope, table);
     }
 }
 
 // The same of the phases of a `team` inside the piece.
 #[cycle(mark)]
 fn mark_phases<'s>(
-    arrays: &Arrays,
+    layout: &Layout,
     piece: usize,
     phases: &'s Blocks,
     var: &'s Name,
@@ -185,10 +178,9 @@ fn mark_phases<'s>(
     scope: &'s Scope<'s>,
     table: &mut Table,
 )
-    requires { AreSized (arrays_of (declarations_of arrays.now)) }
-    ensures { table.new ≡ with_piece (arrays_of (declarations_of arrays.now)) piece (phases_work (sequences_of phases.now) var.now low high (vars_of scope.now)) table.old }
+    ensures { table.new ≡ with_piece layout.now piece (phases_work (sequences_of phases.now) var.now low high (vars_of scope.now)) table.old }
 {
     for phase in &phases.blocks {
-        mark_loop(arrays, piece, phase, var, low, high, scope, table);
+        mark_loop(layout, piece, phase, var, low, high, scope, table);
     }
 }

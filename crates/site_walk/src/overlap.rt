@@ -13,25 +13,24 @@ ghost use Rattle.site_walk.specs.Marks.{HasPlaces};
 use crate::fault::WalkFault;
 use crate::round::{overlap_of_branches, overlap_of_members};
 use crate::table::Table;
-use array_eval::Scope;
-use array_tree::{Arrays, Block, Blocks, Name, Stmt};
+use array_eval::{Layout, Scope};
+use array_tree::{Block, Blocks, Name, Stmt};
 
 // Keeps the overlap of a `par` itself, unless something was found before.
 fn keep_par<'s>(
-    arrays: &Arrays,
+    layout: &Layout,
     line: u32,
     branches: &'s Blocks,
     scope: &'s Scope<'s>,
     table: &mut Table,
     found: &mut Option<WalkFault>,
 )
-    requires sized { AreSized (arrays_of (declarations_of arrays.now)) }
-    requires places { HasPlaces (arrays_of (declarations_of arrays.now)) table.old }
-    ensures places { HasPlaces (arrays_of (declarations_of arrays.now)) table.new }
-    ensures found { found.new ≡ or_else found.old (rounds_fault (arrays_of (declarations_of arrays.now)) line (branch_works (sequences_of branches.now) (vars_of scope.now) ∷ [])) }
+    requires places { HasPlaces layout.now table.old }
+    ensures places { HasPlaces layout.now table.new }
+    ensures found { found.new ≡ or_else found.old (rounds_fault layout.now line (branch_works (sequences_of branches.now) (vars_of scope.now) ∷ [])) }
 {
     if found.is_none() {
-        if let Some(cell) = overlap_of_branches(arrays, branches, scope, table) {
+        if let Some(cell) = overlap_of_branches(layout, branches, scope, table) {
             *found = Some(WalkFault::Overlap {
                 line,
                 cell: cell as u16,
@@ -42,7 +41,7 @@ fn keep_par<'s>(
 
 // Keeps the overlap of the first phase of a `team` that has one, unless something was found before.
 fn keep_team<'s>(
-    arrays: &Arrays,
+    layout: &Layout,
     line: u32,
     phases: &'s Blocks,
     var: &'s Name,
@@ -53,21 +52,20 @@ fn keep_team<'s>(
     table: &mut Table,
     found: &mut Option<WalkFault>,
 )
-    requires sized { AreSized (arrays_of (declarations_of arrays.now)) }
-    requires places { HasPlaces (arrays_of (declarations_of arrays.now)) table.old }
-    ensures places { HasPlaces (arrays_of (declarations_of arrays.now)) table.new }
-    ensures found { found.new ≡ or_else found.old (rounds_fault (arrays_of (declarations_of arrays.now)) line (phase_rounds (sequences_of phases.now) var.now low high members (vars_of scope.now))) }
+    requires places { HasPlaces layout.now table.old }
+    ensures places { HasPlaces layout.now table.new }
+    ensures found { found.new ≡ or_else found.old (rounds_fault layout.now line (phase_rounds (sequences_of phases.now) var.now low high members (vars_of scope.now))) }
 {
     for phase in &phases.blocks {
         keep_phase(
-            arrays, line, phase, var, low, high, members, scope, table, found,
+            layout, line, phase, var, low, high, members, scope, table, found,
         );
     }
 }
 
 // Keeps the overlap of the members of a `team` in one phase, unless something was found before.
 fn keep_phase<'s>(
-    arrays: &Arrays,
+    layout: &Layout,
     line: u32,
     phase: &'s Block,
     var: &'s Name,
@@ -78,14 +76,13 @@ fn keep_phase<'s>(
     table: &mut Table,
     found: &mut Option<WalkFault>,
 )
-    requires sized { AreSized (arrays_of (declarations_of arrays.now)) }
-    requires places { HasPlaces (arrays_of (declarations_of arrays.now)) table.old }
-    ensures places { HasPlaces (arrays_of (declarations_of arrays.now)) table.new }
-    ensures found { found.new ≡ or_else found.old (rounds_fault (arrays_of (declarations_of arrays.now)) line (team_works var.now low high members (sequence_work (sequence_of phase.now)) (vars_of scope.now) ∷ [])) }
+    requires places { HasPlaces layout.now table.old }
+    ensures places { HasPlaces layout.now table.new }
+    ensures found { found.new ≡ or_else found.old (rounds_fault layout.now line (team_works var.now low high members (sequence_work (sequence_of phase.now)) (vars_of scope.now) ∷ [])) }
 {
     if found.is_none() {
         if let Some(cell) = overlap_of_members(
-            arrays, phase, var, low, high, members, scope, table,
+            layout, phase, var, low, high, members, scope, table,
         ) {
             *found = Some(WalkFault::Overlap {
                 line,
@@ -99,35 +96,33 @@ fn keep_phase<'s>(
 /// before.
 #[cycle(seek)]
 pub(crate) fn seek_block<'s>(
-    arrays: &Arrays,
+    layout: &Layout,
     block: &'s Block,
     scope: &'s Scope<'s>,
     table: &mut Table,
     found: &mut Option<WalkFault>,
 )
-    requires sized { AreSized (arrays_of (declarations_of arrays.now)) }
-    requires places { HasPlaces (arrays_of (declarations_of arrays.now)) table.old }
-    ensures places { HasPlaces (arrays_of (declarations_of arrays.now)) table.new }
-    ensures found { found.new ≡ or_overlap (arrays_of (declarations_of arrays.now)) (sequence_sites (sequence_of block.now) (vars_of scope.now)) found.old }
+    requires places { HasPlaces layout.now table.old }
+    ensures places { HasPlaces layout.now table.new }
+    ensures found { found.new ≡ or_overlap layout.now (sequence_sites (sequence_of block.now) (vars_of scope.now)) found.old }
 {
     for statement in &block.statements {
-        seek_statement(arrays, statement, scope, table, found);
+        seek_statement(layout, statement, scope, table, found);
     }
 }
 
 // The same of a statement.
 #[cycle(seek)]
 fn seek_statement<'s>(
-    arrays: &Arrays,
+    layout: &Layout,
     statement: &'s Stmt,
     scope: &'s Scope<'s>,
     table: &mut Table,
     found: &mut Option<WalkFault>,
 )
-    requires sized { AreSized (arrays_of (declarations_of arrays.now)) }
-    requires places { HasPlaces (arrays_of (declarations_of arrays.now)) table.old }
-    ensures places { HasPlaces (arrays_of (declarations_of arrays.now)) table.new }
-    ensures found { found.new ≡ or_overlap (arrays_of (declarations_of arrays.now)) (statement_sites (statement_of statement.now) (vars_of scope.now)) found.old }
+    requires places { HasPlaces layout.now table.old }
+    ensures places { HasPlaces layout.now table.new }
+    ensures found { found.new ≡ or_overlap layout.now (statement_sites (statement_of statement.now) (vars_of scope.now)) found.old }
 {
     match statement {
         Stmt::Assign { .. } => {}
@@ -137,18 +132,18 @@ fn seek_statement<'s>(
             high,
             body,
             ..
-        } => seek_loop(arrays, body, var, *low, *high, scope, table, found),
+        } => seek_loop(layout, body, var, *low, *high, scope, table, found),
         Stmt::If {
             then_block,
             else_block,
             ..
         } => {
-            seek_block(arrays, then_block, scope, table, found);
-            seek_block(arrays, else_block, scope, table, found);
+            seek_block(layout, then_block, scope, table, found);
+            seek_block(layout, else_block, scope, table, found);
         }
         Stmt::Par { line, branches } => {
-            keep_par(arrays, *line, branches, scope, table, found);
-            seek_branches(arrays, branches, scope, table, found);
+            keep_par(layout, *line, branches, scope, table, found);
+            seek_branches(layout, branches, scope, table, found);
         }
         Stmt::Team {
             line,
@@ -159,7 +154,7 @@ fn seek_statement<'s>(
             phases,
         } => {
             keep_team(
-                arrays,
+                layout,
                 *line,
                 phases,
                 var,
@@ -170,7 +165,7 @@ fn seek_statement<'s>(
                 table,
                 found,
             );
-            seek_phases(arrays, phases, var, *low, *high, scope, table, found);
+            seek_phases(layout, phases, var, *low, *high, scope, table, found);
         }
     }
 }
@@ -178,7 +173,7 @@ fn seek_statement<'s>(
 // The same of a block for each number from low to before high.
 #[cycle(seek)]
 fn seek_loop<'s>(
-    arrays: &Arrays,
+    layout: &Layout,
     body: &'s Block,
     var: &'s Name,
     low: i64,
@@ -187,10 +182,9 @@ fn seek_loop<'s>(
     table: &mut Table,
     found: &mut Option<WalkFault>,
 )
-    requires sized { AreSized (arrays_of (declarations_of arrays.now)) }
-    requires places { HasPlaces (arrays_of (declarations_of arrays.now)) table.old }
-    ensures places { HasPlaces (arrays_of (declarations_of arrays.now)) table.new }
-    ensures found { found.new ≡ or_overlap (arrays_of (declarations_of arrays.now)) (loop_sites var.now low high (sequence_sites (sequence_of body.now)) (vars_of scope.now)) found.old }
+    requires places { HasPlaces layout.now table.old }
+    ensures places { HasPlaces layout.now table.new }
+    ensures found { found.new ≡ or_overlap layout.now (loop_sites var.now low high (sequence_sites (sequence_of body.now)) (vars_of scope.now)) found.old }
 {
     for number in low..high {
         let turn = Scope::Turn {
@@ -198,33 +192,32 @@ fn seek_loop<'s>(
             value: number,
             outer: scope,
         };
-        seek_block(arrays, body, &turn, table, found);
+        seek_block(layout, body, &turn, table, found);
     }
 }
 
 // The same of the branches of a `par`.
 #[cycle(seek)]
 fn seek_branches<'s>(
-    arrays: &Arrays,
+    layout: &Layout,
     branches: &'s Blocks,
     scope: &'s Scope<'s>,
     table: &mut Table,
     found: &mut Option<WalkFault>,
 )
-    requires sized { AreSized (arrays_of (declarations_of arrays.now)) }
-    requires places { HasPlaces (arrays_of (declarations_of arrays.now)) table.old }
-    ensures places { HasPlaces (arrays_of (declarations_of arrays.now)) table.new }
-    ensures found { found.new ≡ or_overlap (arrays_of (declarations_of arrays.now)) (branches_sites (sequences_of branches.now) (vars_of scope.now)) found.old }
+    requires places { HasPlaces layout.now table.old }
+    ensures places { HasPlaces layout.now table.new }
+    ensures found { found.new ≡ or_overlap layout.now (branches_sites (sequences_of branches.now) (vars_of scope.now)) found.old }
 {
     for branch in &branches.blocks {
-        seek_block(arrays, branch, scope, table, found);
+        seek_block(layout, branch, scope, table, found);
     }
 }
 
 // The same of the phases of a `team`.
 #[cycle(seek)]
 fn seek_phases<'s>(
-    arrays: &Arrays,
+    layout: &Layout,
     phases: &'s Blocks,
     var: &'s Name,
     low: i64,
@@ -233,12 +226,11 @@ fn seek_phases<'s>(
     table: &mut Table,
     found: &mut Option<WalkFault>,
 )
-    requires sized { AreSized (arrays_of (declarations_of arrays.now)) }
-    requires places { HasPlaces (arrays_of (declarations_of arrays.now)) table.old }
-    ensures places { HasPlaces (arrays_of (declarations_of arrays.now)) table.new }
-    ensures found { found.new ≡ or_overlap (arrays_of (declarations_of arrays.now)) (phases_sites (sequences_of phases.now) var.now low high (vars_of scope.now)) found.old }
+    requires places { HasPlaces layout.now table.old }
+    ensures places { HasPlaces layout.now table.new }
+    ensures found { found.new ≡ or_overlap layout.now (phases_sites (sequences_of phases.now) var.now low high (vars_of scope.now)) found.old }
 {
     for phase in &phases.blocks {
-        seek_loop(arrays, phase, var, low, high, scope, table, found);
+        seek_loop(layout, phase, var, low, high, scope, table, found);
     }
 }

@@ -13,28 +13,26 @@ ghost use Rattle.site_walk.specs.Marks.{with_pieces, done_at, HasPlaces, cleared
 use crate::mark::{mark_block, mark_loop};
 use crate::places::number_at;
 use crate::table::Table;
-use array_eval::{Scope, count_cells, start_of_member};
-use array_tree::{Arrays, Block, Blocks, Name};
+use array_eval::{Layout, Scope, start_of_member};
+use array_tree::{Block, Blocks, Name};
 
 // Whether the pieces of a round clash on a cell.
-fn clashes_on(arrays: &Arrays, table: &Table, cell: usize) -> bool
-    requires { AreSized (arrays_of (declarations_of arrays.now)) }
-    ensures { result ≡ clashes (done_at (arrays_of (declarations_of arrays.now)) table.now cell) }
+fn clashes_on(layout: &Layout, table: &Table, cell: usize) -> bool
+    ensures { result ≡ clashes (done_at layout.now table.now cell) }
 {
     let here = table.cells.get(cell);
-    here.with(table.everywhere.get(number_at(arrays, cell)))
+    here.with(table.everywhere.get(number_at(layout, cell)))
         .clashes()
 }
 
 // The least cell on which the pieces of a round clash.
 #[tactic(auto, using(crate::proofs::PieceLemmas::first_found, crate::proofs::PieceLemmas::first_later, crate::proofs::PieceLemmas::first_end))]
-fn least_clash(arrays: &Arrays, table: &Table) -> Option<usize>
-    requires { AreSized (arrays_of (declarations_of arrays.now)) }
-    ensures least { result ≡ first_from (λ cell. clashes (done_at (arrays_of (declarations_of arrays.now)) table.now cell)) 0 (cells_of (arrays_of (declarations_of arrays.now))) }
+fn least_clash(layout: &Layout, table: &Table) -> Option<usize>
+    ensures least { result ≡ first_from (λ cell. clashes (done_at layout.now table.now cell)) 0 (cells_of layout.now) }
     ensures small { IfSome result (λ cell. cell < 4096) }
 {
-    for cell in 0..count_cells(arrays) {
-        if clashes_on(arrays, table, cell) {
+    for cell in 0..layout.cells() {
+        if clashes_on(layout, table, cell) {
             return Some(cell);
         }
     }
@@ -42,52 +40,49 @@ fn least_clash(arrays: &Arrays, table: &Table) -> Option<usize>
 }
 
 // The least cell on which the pieces of a round clash. Mostly nothing is suspect, and no cell is looked at.
-fn least_overlap(arrays: &Arrays, table: &Table) -> Option<usize>
-    requires { AreSized (arrays_of (declarations_of arrays.now)) }
-    ensures least { result ≡ cond table.now.suspect (first_from (λ cell. clashes (done_at (arrays_of (declarations_of arrays.now)) table.now cell)) 0 (cells_of (arrays_of (declarations_of arrays.now)))) None }
+fn least_overlap(layout: &Layout, table: &Table) -> Option<usize>
+    ensures least { result ≡ cond table.now.suspect (first_from (λ cell. clashes (done_at layout.now table.now cell)) 0 (cells_of layout.now)) None }
     ensures small { IfSome result (λ cell. cell < 4096) }
 {
     if table.suspect {
-        least_clash(arrays, table)
+        least_clash(layout, table)
     } else {
         None
     }
 }
 
 // Marks what the branches of a `par` do, each as a piece.
-fn mark_pieces<'s>(arrays: &Arrays, branches: &'s Blocks, scope: &'s Scope<'s>, table: &mut Table)
-    requires { AreSized (arrays_of (declarations_of arrays.now)) }
-    ensures { table.new ≡ with_pieces (arrays_of (declarations_of arrays.now)) 0 (branch_works (sequences_of branches.now) (vars_of scope.now)) table.old }
+fn mark_pieces<'s>(layout: &Layout, branches: &'s Blocks, scope: &'s Scope<'s>, table: &mut Table)
+    ensures { table.new ≡ with_pieces layout.now 0 (branch_works (sequences_of branches.now) (vars_of scope.now)) table.old }
 {
     for (piece, branch) in branches.blocks.iter().enumerate() {
-        mark_block(arrays, piece, branch, scope, table);
+        mark_block(layout, piece, branch, scope, table);
     }
 }
 
 /// The least cell on which two branches of a `par` overlap. A branch alone can't, and isn't walked through.
 pub(crate) fn overlap_of_branches<'s>(
-    arrays: &Arrays,
+    layout: &Layout,
     branches: &'s Blocks,
     scope: &'s Scope<'s>,
     table: &mut Table,
 ) -> Option<usize>
-    requires sized { AreSized (arrays_of (declarations_of arrays.now)) }
-    requires places { HasPlaces (arrays_of (declarations_of arrays.now)) table.old }
-    ensures places { HasPlaces (arrays_of (declarations_of arrays.now)) table.new }
-    ensures found { result ≡ overlap (arrays_of (declarations_of arrays.now)) (cells_of (arrays_of (declarations_of arrays.now))) (branch_works (sequences_of branches.now) (vars_of scope.now)) }
+    requires places { HasPlaces layout.now table.old }
+    ensures places { HasPlaces layout.now table.new }
+    ensures found { result ≡ overlap layout.now (cells_of layout.now) (branch_works (sequences_of branches.now) (vars_of scope.now)) }
     ensures small { IfSome result (λ cell. cell < 4096) }
 {
     if branches.blocks.len() < 2 {
         return None;
     }
     table.clear();
-    mark_pieces(arrays, branches, scope, table);
-    least_overlap(arrays, table)
+    mark_pieces(layout, branches, scope, table);
+    least_overlap(layout, table)
 }
 
 // Marks what the members of a `team` do in one phase, each as a piece.
 fn mark_members<'s>(
-    arrays: &Arrays,
+    layout: &Layout,
     phase: &'s Block,
     var: &'s Name,
     low: i64,
@@ -96,14 +91,13 @@ fn mark_members<'s>(
     scope: &'s Scope<'s>,
     table: &mut Table,
 )
-    requires { AreSized (arrays_of (declarations_of arrays.now)) }
-    ensures { table.new ≡ with_pieces (arrays_of (declarations_of arrays.now)) 0 (team_works var.now low high members (sequence_work (sequence_of phase.now)) (vars_of scope.now)) table.old }
+    ensures { table.new ≡ with_pieces layout.now 0 (team_works var.now low high members (sequence_work (sequence_of phase.now)) (vars_of scope.now)) table.old }
 {
     for member in 0..members {
         let start = start_of_member(low, high, members, member);
         let end = start_of_member(low, high, members, member + 1);
         mark_loop(
-            arrays,
+            layout,
             member as usize,
             phase,
             var,
@@ -117,7 +111,7 @@ fn mark_members<'s>(
 
 /// The least cell on which two members of a `team` overlap in one phase. A member alone can't, and isn't walked through.
 pub(crate) fn overlap_of_members<'s>(
-    arrays: &Arrays,
+    layout: &Layout,
     phase: &'s Block,
     var: &'s Name,
     low: i64,
@@ -126,16 +120,15 @@ pub(crate) fn overlap_of_members<'s>(
     scope: &'s Scope<'s>,
     table: &mut Table,
 ) -> Option<usize>
-    requires sized { AreSized (arrays_of (declarations_of arrays.now)) }
-    requires places { HasPlaces (arrays_of (declarations_of arrays.now)) table.old }
-    ensures places { HasPlaces (arrays_of (declarations_of arrays.now)) table.new }
-    ensures found { result ≡ overlap (arrays_of (declarations_of arrays.now)) (cells_of (arrays_of (declarations_of arrays.now))) (team_works var.now low high members (sequence_work (sequence_of phase.now)) (vars_of scope.now)) }
+    requires places { HasPlaces layout.now table.old }
+    ensures places { HasPlaces layout.now table.new }
+    ensures found { result ≡ overlap layout.now (cells_of layout.now) (team_works var.now low high members (sequence_work (sequence_of phase.now)) (vars_of scope.now)) }
     ensures small { IfSome result (λ cell. cell < 4096) }
 {
     if members < 2 {
         return None;
     }
     table.clear();
-    mark_members(arrays, phase, var, low, high, members, scope, table);
-    least_overlap(arrays, table)
+    mark_members(layout, phase, var, low, high, members, scope, table);
+    least_overlap(layout, table)
 }

@@ -6,8 +6,7 @@ ghost use Rattle.site_walk.specs.Marks.{with_static, with_dynamic, nothing_done,
 
 use crate::layer::Layer;
 use crate::touched::Touched;
-use array_eval::count_cells;
-use array_tree::Arrays;
+use array_eval::Layout;
 use std::alloc::{AllocError, Global};
 
 /// What the pieces of a round do. A static index touches a cell, and a dynamic one all cells of an array by one mark.
@@ -26,14 +25,13 @@ pub(crate) struct Table {
 }
 
 impl Table {
-    /// A table for these arrays, with nothing done.
-    pub(crate) fn new(alloc: Global, arrays: &Arrays) -> Result<Table, AllocError>
-        requires { AreSized (arrays_of (declarations_of arrays.now)) }
-        ensures { IfOk result (λ table. table ≡ nothing_done (cells_of (arrays_of (declarations_of arrays.now))) (length (arrays_of (declarations_of arrays.now)))) }
+    /// A table for the arrays of a layout, with nothing done.
+    pub(crate) fn new(alloc: Global, layout: &Layout) -> Result<Table, AllocError>
+        ensures { IfOk result (λ table. table ≡ nothing_done (cells_of layout.now) (length layout.now)) }
     {
-        let count = arrays.declarations.len();
+        let count = layout.count();
         Ok(Table {
-            cells: Layer::new(alloc, count_cells(arrays))?,
+            cells: Layer::new(alloc, layout.cells())?,
             everywhere: Layer::new(alloc, count)?,
             read: Layer::new(alloc, count)?,
             written: Layer::new(alloc, count)?,

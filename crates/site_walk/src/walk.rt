@@ -10,7 +10,7 @@ use crate::fault::WalkFault;
 use crate::inside::keep_block;
 use crate::overlap::seek_block;
 use crate::table::Table;
-use array_eval::Scope;
+use array_eval::{Layout, Scope};
 use array_tree::Program;
 use std::alloc::Global;
 
@@ -30,22 +30,21 @@ pub fn walk_program(alloc: Global, program: &Program) -> Result<(), WalkFault>
 
     ensures fault { IfErr result (λ fault. (fault ≡ WalkFault.Memory) ⊎ (walk_fault_of (program_of program.now) ≡ Some fault)) }
 {
+    let layout = match Layout::new(alloc, &program.arrays) {
+        Ok(layout) => layout,
+        Err(_) => return Err(WalkFault::Memory),
+    };
     let mut found = None;
-    keep_block(
-        &program.arrays,
-        &program.body,
-        &Scope::Outermost,
-        &mut found,
-    );
+    keep_block(&layout, &program.body, &Scope::Outermost, &mut found);
     if let Some(fault) = found {
         return Err(fault);
     }
-    let mut table = match Table::new(alloc, &program.arrays) {
+    let mut table = match Table::new(alloc, &layout) {
         Ok(table) => table,
         Err(_) => return Err(WalkFault::Memory),
     };
     seek_block(
-        &program.arrays,
+        &layout,
         &program.body,
         &Scope::Outermost,
         &mut table,

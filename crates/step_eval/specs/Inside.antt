@@ -5,7 +5,7 @@ use Rattle.contexts.specs.declared.machine.Step.{Step}
 use Rattle.contexts.specs.declared.machine.Step.TheVariants as step
 use Rattle.array_tree.specs.declared.tree.Stmt.{Stmt}
 use Rattle.array_tree.specs.Trees.{Statement, statement_of, declarations_of}
-use Rattle.array_meaning.specs.Stores.{arrays_of}
+use Rattle.array_meaning.specs.Stores.{Arrays, arrays_of}
 use Rattle.array_meaning.specs.Plans.{statement_sites_in}
 use Rattle.array_eval.specs.Traces.{Trace}
 use Rattle.array_eval.specs.Overlays.{Laid}
@@ -32,6 +32,10 @@ abbrev pub IsSound : Stage → JobParts → Frames → Trace → Laid → ℕ �
 IsSound Going job frames store room next = IsWhole Going job frames store room next
 IsSound Awaiting job frames store room next = IsWhole Awaiting job frames store room next
 IsSound Failed job frames store room next = Unit {0}
+
+-- The arrays that a machine finds are those of its job.
+abbrev pub IsLayoutOf : Arrays → JobParts → Type 0
+IsLayoutOf layout job = layout ≡ arrays_of (declarations_of job.arrays)
 
 -- A machine that goes on.
 abbrev pub while_going : JobParts → List WorkAt → Trace → ℕ → Progress

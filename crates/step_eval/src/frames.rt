@@ -1,7 +1,6 @@
 //! What a machine has still to run.
 ghost use Rattle.std.specs.Prelude.{◌≡◌, ◌∷◌, ◌++◌, [], IfOk, IfErr, OnOk, None, false, IsSome};
-ghost use Rattle.array_tree.specs.Trees.{statement_of, sequence_of, declarations_of};
-ghost use Rattle.array_meaning.specs.Stores.{arrays_of, AreSized};
+ghost use Rattle.array_tree.specs.Trees.{statement_of, sequence_of};
 ghost use Rattle.array_eval.specs.Traces.{noted_all};
 ghost use Rattle.array_jobs.specs.Works.{branch_of, member_of, work_of};
 ghost use Rattle.step_eval.specs.declared.frames.Frame.TheVariants.{Statements, Turns};
@@ -10,9 +9,9 @@ ghost use Rattle.step_eval.specs.Nests.{is_construct};
 ghost use Rattle.step_eval.specs.Machines.{construct_of, next_construct};
 ghost use Rattle.step_eval.specs.Frames.{statements_from, works_in, works_of, works_with, vars_in, IsMore, IsStacked, IsStackedWith, IsEnded, AreAll, HasBegun, HaveMoved, Went, HasTurned, HasPassed, IsBehind, IsConstruct, IsConstructAt};
 
-use array_eval::{LoopVar, MarkedStore, Scope, Vars, evaluate, run_assign};
+use array_eval::{Layout, LoopVar, MarkedStore, Scope, Vars, evaluate, run_assign};
 use array_jobs::Work;
-use array_tree::{Arrays, Block, Name, Stmt};
+use array_tree::{Block, Name, Stmt};
 use std::alloc::{AllocError, Global};
 
 /// A work that is still to be run.
@@ -102,21 +101,20 @@ impl<'p> Frames<'p> {
     #[inline(always)]
     pub(crate) fn go_on(
         &mut self,
-        arrays: &Arrays,
+        layout: &Layout,
         around: &Vars,
         store: &mut MarkedStore,
     ) -> Result<bool, AllocError>
-        requires sized { AreSized (arrays_of (declarations_of arrays.now)) }
         requires stacked { IsStacked self.old }
         requires simple { next_construct (works_of self.old around.now) ≡ None }
-        ensures went { IfOk result (λ went. Went (arrays_of (declarations_of arrays.now)) went (works_of self.old around.now) store.old (works_of self.new around.now) store.new) }
+        ensures went { IfOk result (λ went. Went layout.now went (works_of self.old around.now) store.old (works_of self.new around.now) store.new) }
         ensures stacked { IfOk result (λ _. IsStacked self.new) }
         ensures more { IfErr result (λ _. IsMore (works_of self.old around.now)) }
     {
         match self.top {
             None => Ok(false),
             Some(top) => {
-                self.go_on_in(arrays, around, store, top)?;
+                self.go_on_in(layout, around, store, top)?;
                 Ok(true)
             }
         }
@@ -137,20 +135,19 @@ impl<'p> Frames<'p> {
     #[inline(always)]
     fn go_on_in(
         &mut self,
-        arrays: &Arrays,
+        layout: &Layout,
         around: &Vars,
         store: &mut MarkedStore,
         top: Frame<'p>,
     ) -> Result<(), AllocError>
-        requires sized { AreSized (arrays_of (declarations_of arrays.now)) }
         requires stacked { IsStackedWith top self.old }
         requires simple { next_construct (works_with top self.old around.now) ≡ None }
-        ensures moved { OnOk result (HaveMoved (arrays_of (declarations_of arrays.now)) (works_with top.entry self.old around.now) store.old (works_of self.new around.now) store.new) }
+        ensures moved { OnOk result (HaveMoved layout.now (works_with top.entry self.old around.now) store.old (works_of self.new around.now) store.new) }
         ensures stacked { OnOk result (IsStacked self.new) }
     {
         match top {
             Frame::Statements { block, from } => {
-                self.go_on_in_block(arrays, around, store, block, from)
+                self.go_on_in_block(layout, around, store, block, from)
             }
             Frame::Turns { body, next, high } => self.go_on_in_loop(body, next, high),
         }
@@ -160,16 +157,15 @@ impl<'p> Frames<'p> {
     #[inline(always)]
     fn go_on_in_block(
         &mut self,
-        arrays: &Arrays,
+        layout: &Layout,
         around: &Vars,
         store: &mut MarkedStore,
         block: &'p Block,
         from: usize,
     ) -> Result<(), AllocError>
-        requires sized { AreSized (arrays_of (declarations_of arrays.now)) }
         requires stacked { IsStackedWith (Statements block from) self.old }
         requires simple { construct_of (branch_of (statements_from block.now from)) ≡ None }
-        ensures moved { OnOk result (HaveMoved (arrays_of (declarations_of arrays.now)) (works_with (Statements block.entry from) self.old around.now) store.old (works_of self.new around.now) store.new) }
+        ensures moved { OnOk result (HaveMoved layout.now (works_with (Statements block.entry from) self.old around.now) store.old (works_of self.new around.now) store.new) }
         ensures stacked { OnOk result (IsStacked self.new) }
     {
         if from < block.statements.len() {
@@ -177,7 +173,7 @@ impl<'p> Frames<'p> {
                 block,
                 from: from + 1,
             };
-            self.begin(arrays, around, store, &block.statements[from], rest)
+            self.begin(layout, around, store, &block.statements[from], rest)
         } else {
             self.end();
             Ok(())
@@ -214,17 +210,16 @@ impl<'p> Frames<'p> {
     #[inline(always)]
     fn begin(
         &mut self,
-        arrays: &Arrays,
+        layout: &Layout,
         around: &Vars,
         store: &mut MarkedStore,
         statement: &'p Stmt,
         rest: Frame<'p>,
     ) -> Result<(), AllocError>
-        requires sized { AreSized (arrays_of (declarations_of arrays.now)) }
         requires stacked { IsStackedWith rest self.old }
         requires simple { is_construct (statement_of statement.now) ≡ false }
-        ensures begun { OnOk result (works_of self.new around.now ≡ begun (arrays_of (declarations_of arrays.now)) store.old.cells (statement_of statement.now) (vars_in self.old around.now) ++ works_with rest.entry self.old around.now) }
-        ensures store { OnOk result (store.new ≡ noted_all (begun_writes (arrays_of (declarations_of arrays.now)) store.old.cells (statement_of statement.now) (vars_in self.old around.now)) store.old) }
+        ensures begun { OnOk result (works_of self.new around.now ≡ begun layout.now store.old.cells (statement_of statement.now) (vars_in self.old around.now) ++ works_with rest.entry self.old around.now) }
+        ensures store { OnOk result (store.new ≡ noted_all (begun_writes layout.now store.old.cells (statement_of statement.now) (vars_in self.old around.now)) store.old) }
         ensures stacked { OnOk result (IsStacked self.new) }
     {
         let outer = Scope::Kept(around);
@@ -239,7 +234,7 @@ impl<'p> Frames<'p> {
                 value,
                 ..
             } => {
-                run_assign(arrays, array, index, value, &scope, store);
+                run_assign(layout, array, index, value, &scope, store);
                 self.top = Some(rest);
                 Ok(())
             }
@@ -256,7 +251,7 @@ impl<'p> Frames<'p> {
                 else_block,
                 ..
             } => {
-                if evaluate(arrays, cond, &scope, store.cells()) != 0 {
+                if evaluate(layout, cond, &scope, store.cells()) != 0 {
                     self.begin_block(then_block, rest)
                 } else {
                     self.begin_block(else_block, rest)

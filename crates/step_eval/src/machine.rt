@@ -6,12 +6,12 @@ ghost use Rattle.array_jobs.specs.Jobs.{job_of};
 ghost use Rattle.step_eval.specs.declared.stage.Stage.TheVariants.{Awaiting, Failed};
 ghost use Rattle.step_eval.specs.Machines.{Progress, IsRight, fresh_machine, is_awaiting, to_do, left_of, Advances, HasMoved, AreAwaited, IsFinished};
 ghost use Rattle.step_eval.specs.Frames.{works_of, IsStacked, IsMore};
-ghost use Rattle.step_eval.specs.Inside.{while_going, Advanced, IsHandedOut, IsConstructNext, stage_by, sites_seen};
+ghost use Rattle.step_eval.specs.Inside.{while_going, Advanced, IsLayoutOf, IsHandedOut, IsConstructNext, stage_by, sites_seen};
 
 use crate::frames::Frames;
 use crate::nested::Nested;
 use crate::stage::Stage;
-use array_eval::{MarkedStore, Overlay};
+use array_eval::{Layout, MarkedStore, Overlay};
 use array_jobs::{Job, Piece};
 use array_tree::Stmt;
 use contexts::{Machine, Step};
@@ -28,6 +28,7 @@ use std::marker::Model;
 pub struct StepMachine<'p> {
     alloc: Global,
     job: Job<'p>,
+    layout: Layout<'p>,
     frames: Frames<'p>,
     store: MarkedStore,
     // Room for all that the job may write, so that its piece takes no memory.
@@ -44,7 +45,7 @@ impl<'p> Model for StepMachine<'p> {
     ghost use Rattle.step_eval.specs.Codes.{coded_sequence};
     ghost use Rattle.step_eval.specs.Machines.{Progress};
     ghost use Rattle.step_eval.specs.Frames.{works_of};
-    ghost use Rattle.step_eval.specs.Inside.{IsSound};
+    ghost use Rattle.step_eval.specs.Inside.{IsSound, IsLayoutOf};
 
     ghost Value = { Progress };
 
@@ -52,7 +53,7 @@ impl<'p> Model for StepMachine<'p> {
 
     ghost view = { λ machine. record { job = machine.job; rest = works_of machine.frames machine.job.vars; store = machine.store; next = machine.next; stage = machine.stage } };
 
-    ghost invariant = { λ machine. IsSound machine.stage machine.job machine.frames machine.store machine.room machine.next };
+    ghost invariant = { λ machine. IsSound machine.stage machine.job machine.frames machine.store machine.room machine.next × IsLayoutOf machine.layout machine.job };
 }
 
 impl<'p> StepMachine<'p> {
@@ -60,6 +61,7 @@ impl<'p> StepMachine<'p> {
     pub fn new(alloc: Global, job: Job<'p>) -> Result<StepMachine<'p>, AllocError>
         ensures { IfOk result (λ machine. machine ≡ fresh_machine job.entry) }
     {
+        let layout = Layout::new(alloc, job.arrays)?;
         let frames = Frames::new(alloc, job.work)?;
         let store = MarkedStore::new(alloc, &job.store)?;
         let room = Overlay::roomy(alloc, store.cells().len() as u16)?;
@@ -67,6 +69,7 @@ impl<'p> StepMachine<'p> {
         Ok(StepMachine {
             alloc,
             job,
+            layout,
             frames,
             store,
             room,
@@ -130,6 +133,7 @@ impl<'p> Machine for StepMachine<'p> {
         match self.stage {
             Stage::Going => match advance(
                 self.alloc,
+                &self.layout,
                 &self.job,
                 &mut self.frames,
                 &mut self.store,
@@ -175,11 +179,13 @@ fn sites_in_construct(construct: Option<&Stmt>) -> u64
 #[inline(always)]
 fn advance<'p>(
     alloc: Global,
+    layout: &Layout,
     job: &Job<'p>,
     frames: &mut Frames<'p>,
     store: &mut MarkedStore,
     next: u16,
 ) -> Result<Step<Nested<'p>>, AllocError>
+    requires layout { IsLayoutOf layout.now job.now }
     requires right { IsRight (job_of job.now) (works_of frames.old job.now.vars) store.old next }
     requires stacked { IsStacked frames.old }
     ensures advanced { IfOk result (λ step. Advanced (while_going job.now (works_of frames.old job.now.vars) store.old next) step (works_of frames.new job.now.vars) store.new) }
@@ -192,7 +198,7 @@ fn advance<'p>(
             Ok(Step::Nest(nested))
         }
         None => {
-            if frames.go_on(job.arrays, &job.vars, store)? {
+            if frames.go_on(layout, &job.vars, store)? {
                 Ok(Step::More)
             } else {
                 Ok(Step::Finished)

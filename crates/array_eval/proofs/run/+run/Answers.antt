@@ -1,8 +1,7 @@
 use Rattle.std.proofs.Common.{arith, ◌+ℤ◌, ◌<ℤ◌, pos, to_z, of_z, ◌+◌, drop, map, ap, sym, ◌∙◌, ◌≡◌, w64}
 use mir.Val.{SFits}
 use Rattle.std.proofs.lemmas.Int.{to_z-of_z, ints}
-use Rattle.array_tree.specs.Trees.{statement_of, sequence_of, sequence, sequences, declarations_of}
-use Rattle.array_meaning.specs.Stores.{arrays_of}
+use Rattle.array_tree.specs.Trees.{statement_of, sequence_of, sequence, sequences}
 use Rattle.array_meaning.specs.Work.{statement_work, sequence_work, branches_work, phases_work, loop}
 use Rattle.array_eval.proofs.TraceLemmas.{traced_followed_by}
 use Rattle.array_meaning.proofs.ThreadLemmas.{statements_left, branches_left, phases_left, turns_left}
@@ -12,7 +11,7 @@ use Rattle.array_eval.proofs.run.+run.Goals as goal
 
 pub run_block-loop-statement-preserved : goal.run_block-loop-statement-preserved
 run_block-loop-statement-preserved t c =
-    let arrays = arrays_of (declarations_of c.args.arrays.now) in
+    let arrays = c.args.layout.now in
     let vars = vars_of c.args.scope.now in
     let items = c.deref-statement-items.result.now in
     ap (traced arrays (sequence_work (sequence (map statement_of (drop (c.loop-statement.statement-index + 1) items))) vars))
@@ -22,7 +21,7 @@ run_block-loop-statement-preserved t c =
 
 pub run_branches-loop-branch-preserved : goal.run_branches-loop-branch-preserved
 run_branches-loop-branch-preserved t c =
-    let arrays = arrays_of (declarations_of c.args.arrays.now) in
+    let arrays = c.args.layout.now in
     let vars = vars_of c.args.scope.now in
     let items = c.deref-branch-items.result.now in
     ap (traced arrays (branches_work (sequences (map sequence_of (drop (c.loop-branch.branch-index + 1) items))) vars))
@@ -32,7 +31,7 @@ run_branches-loop-branch-preserved t c =
 
 pub run_loop-loop-number-preserved : goal.run_loop-loop-number-preserved
 run_loop-loop-number-preserved t c =
-    let arrays = arrays_of (declarations_of c.args.arrays.now) in
+    let arrays = c.args.layout.now in
     let vars = vars_of c.args.scope.now in
     let var = c.args.var.now in
     let body = sequence_work (sequence_of c.args.body.now) in
@@ -49,7 +48,7 @@ run_loop-loop-number-preserved t c =
 
 pub run_phases-loop-phase-preserved : goal.run_phases-loop-phase-preserved
 run_phases-loop-phase-preserved t c =
-    let arrays = arrays_of (declarations_of c.args.arrays.now) in
+    let arrays = c.args.layout.now in
     let vars = vars_of c.args.scope.now in
     let var = c.args.var.now in
     let low = to_z w64 (of_z w64 c.args.low) in

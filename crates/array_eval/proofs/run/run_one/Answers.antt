@@ -13,7 +13,9 @@ returns-clause-whole c =
     let program = c.args.program.now in
     let arrays = arrays_of (declarations_of program.arrays) in
     let long : Trace → ℕ = λ trace. length trace.cells in
-    let left = ap long c.run_block.ensures ∙ length_traced arrays (sequence_work (sequence_of program.body) []) c.in_ok-store.store
-    ∙ ap long c.in_ok-store.ensures ∙ ap length c.in_ok-zero.ensures ∙ length-replicate c.count_cells.result (pos 0) ∙ c.count_cells.ensures in
+    let layout = c.in_ok-layout.layout in
+    let left = ap long c.run_block.ensures ∙ length_traced layout (sequence_work (sequence_of program.body) []) c.in_ok-store.store
+    ∙ ap long c.in_ok-store.ensures ∙ ap length c.in_ok-zero.ensures ∙ length-replicate c.cells.result (pos 0) ∙ c.cells.ensures.cells
+    ∙ ap cells_of c.in_ok-layout.ensures in
     IfOk-weaker c.to_store.result (λ store. store ≡ c.run_block.new.store.cells) (λ store. length store ≡ cells_of arrays)
     (λ store e. ap length e ∙ left) c.to_store.ensures

@@ -15,7 +15,7 @@ use Rattle.site_walk.proofs.inside.+keep.Goals as goal
 
 pub keep_block-loop-statement-preserved : goal.keep_block-loop-statement-preserved
 keep_block-loop-statement-preserved t c =
-    let arrays = arrays_of (declarations_of c.args.arrays.now) in
+    let arrays = c.args.layout.now in
     let vars = vars_of c.args.scope.now in
     let items = c.deref-statement-items.result.now in
     ap (or_outside arrays (sequence_work (sequence (map statement_of (drop (c.loop-statement.statement-index + 1) items))) vars))
@@ -25,7 +25,7 @@ keep_block-loop-statement-preserved t c =
 
 pub keep_branches-loop-branch-preserved : goal.keep_branches-loop-branch-preserved
 keep_branches-loop-branch-preserved t c =
-    let arrays = arrays_of (declarations_of c.args.arrays.now) in
+    let arrays = c.args.layout.now in
     let vars = vars_of c.args.scope.now in
     let items = c.deref-branch-items.result.now in
     ap (or_outside arrays (branches_work (sequences (map sequence_of (drop (c.loop-branch.branch-index + 1) items))) vars))
@@ -35,7 +35,7 @@ keep_branches-loop-branch-preserved t c =
 
 pub keep_loop-loop-number-preserved : goal.keep_loop-loop-number-preserved
 keep_loop-loop-number-preserved t c =
-    let arrays = arrays_of (declarations_of c.args.arrays.now) in
+    let arrays = c.args.layout.now in
     let vars = vars_of c.args.scope.now in
     let var = c.args.var.now in
     let body = sequence_work (sequence_of c.args.body.now) in
@@ -52,7 +52,7 @@ keep_loop-loop-number-preserved t c =
 
 pub keep_phases-loop-phase-preserved : goal.keep_phases-loop-phase-preserved
 keep_phases-loop-phase-preserved t c =
-    let arrays = arrays_of (declarations_of c.args.arrays.now) in
+    let arrays = c.args.layout.now in
     let vars = vars_of c.args.scope.now in
     let var = c.args.var.now in
     let low = to_z w64 (of_z w64 c.args.low) in
@@ -65,7 +65,7 @@ keep_phases-loop-phase-preserved t c =
 
 pub keep_statement-returns-in-Assign : goal.keep_statement-returns-in-Assign
 keep_statement-returns-in-Assign t c =
-    let arrays = arrays_of (declarations_of c.args.arrays.now) in
+    let arrays = c.args.layout.now in
     let vars = vars_of c.args.scope.now in
     let index = expression_of c.in-Assign.index in
     let value = expression_of c.in-Assign.value in
@@ -78,7 +78,7 @@ keep_statement-returns-in-Assign t c =
 
 pub keep_statement-returns-in-If : goal.keep_statement-returns-in-If
 keep_statement-returns-in-If t c =
-    let arrays = arrays_of (declarations_of c.args.arrays.now) in
+    let arrays = c.args.layout.now in
     let vars = vars_of c.args.scope.now in
     let first = sequence_work (sequence_of c.in-If.then_block) vars in
     let second = sequence_work (sequence_of c.in-If.else_block) vars in

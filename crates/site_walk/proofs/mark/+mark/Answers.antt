@@ -15,7 +15,7 @@ use Rattle.site_walk.proofs.mark.+mark.Goals as goal
 
 pub mark_block-loop-statement-preserved : goal.mark_block-loop-statement-preserved
 mark_block-loop-statement-preserved t c =
-    let arrays = arrays_of (declarations_of c.args.arrays.now) in
+    let arrays = c.args.layout.now in
     let vars = vars_of c.args.scope.now in
     let items = c.deref-statement-items.result.now in
     ap (with_piece arrays c.args.piece (sequence_work (sequence (map statement_of (drop (c.loop-statement.statement-index + 1) items))) vars))
@@ -25,7 +25,7 @@ mark_block-loop-statement-preserved t c =
 
 pub mark_branches-loop-branch-preserved : goal.mark_branches-loop-branch-preserved
 mark_branches-loop-branch-preserved t c =
-    let arrays = arrays_of (declarations_of c.args.arrays.now) in
+    let arrays = c.args.layout.now in
     let vars = vars_of c.args.scope.now in
     let items = c.deref-branch-items.result.now in
     ap (with_piece arrays c.args.piece (branches_work (sequences (map sequence_of (drop (c.loop-branch.branch-index + 1) items))) vars))
@@ -35,7 +35,7 @@ mark_branches-loop-branch-preserved t c =
 
 pub mark_loop-loop-number-preserved : goal.mark_loop-loop-number-preserved
 mark_loop-loop-number-preserved t c =
-    let arrays = arrays_of (declarations_of c.args.arrays.now) in
+    let arrays = c.args.layout.now in
     let vars = vars_of c.args.scope.now in
     let var = c.args.var.now in
     let body = sequence_work (sequence_of c.args.body.now) in
@@ -52,7 +52,7 @@ mark_loop-loop-number-preserved t c =
 
 pub mark_phases-loop-phase-preserved : goal.mark_phases-loop-phase-preserved
 mark_phases-loop-phase-preserved t c =
-    let arrays = arrays_of (declarations_of c.args.arrays.now) in
+    let arrays = c.args.layout.now in
     let vars = vars_of c.args.scope.now in
     let var = c.args.var.now in
     let low = to_z w64 (of_z w64 c.args.low) in
@@ -65,7 +65,7 @@ mark_phases-loop-phase-preserved t c =
 
 pub mark_statement-returns-in-Assign : goal.mark_statement-returns-in-Assign
 mark_statement-returns-in-Assign t c =
-    let arrays = arrays_of (declarations_of c.args.arrays.now) in
+    let arrays = c.args.layout.now in
     let vars = vars_of c.args.scope.now in
     let piece = c.args.piece in
     let array = c.in-Assign.array in
@@ -79,7 +79,7 @@ mark_statement-returns-in-Assign t c =
 
 pub mark_statement-returns-in-If : goal.mark_statement-returns-in-If
 mark_statement-returns-in-If t c =
-    let arrays = arrays_of (declarations_of c.args.arrays.now) in
+    let arrays = c.args.layout.now in
     let vars = vars_of c.args.scope.now in
     let piece = c.args.piece in
     let first = sequence_work (sequence_of c.in-If.then_block) vars in

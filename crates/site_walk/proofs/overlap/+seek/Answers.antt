@@ -13,7 +13,7 @@ use Rattle.site_walk.proofs.overlap.+seek.Goals as goal
 
 pub seek_block-loop-statement-preserved : goal.seek_block-loop-statement-preserved
 seek_block-loop-statement-preserved t c =
-    let arrays = arrays_of (declarations_of c.args.arrays.now) in
+    let arrays = c.args.layout.now in
     let vars = vars_of c.args.scope.now in
     let items = c.deref-statement-items.result.now in
     record {
@@ -26,7 +26,7 @@ seek_block-loop-statement-preserved t c =
 
 pub seek_branches-loop-branch-preserved : goal.seek_branches-loop-branch-preserved
 seek_branches-loop-branch-preserved t c =
-    let arrays = arrays_of (declarations_of c.args.arrays.now) in
+    let arrays = c.args.layout.now in
     let vars = vars_of c.args.scope.now in
     let items = c.deref-branch-items.result.now in
     record {
@@ -39,7 +39,7 @@ seek_branches-loop-branch-preserved t c =
 
 pub seek_loop-loop-number-preserved : goal.seek_loop-loop-number-preserved
 seek_loop-loop-number-preserved t c =
-    let arrays = arrays_of (declarations_of c.args.arrays.now) in
+    let arrays = c.args.layout.now in
     let vars = vars_of c.args.scope.now in
     let var = c.args.var.now in
     let body = sequence_sites (sequence_of c.args.body.now) in
@@ -59,7 +59,7 @@ seek_loop-loop-number-preserved t c =
 
 pub seek_phases-loop-phase-preserved : goal.seek_phases-loop-phase-preserved
 seek_phases-loop-phase-preserved t c =
-    let arrays = arrays_of (declarations_of c.args.arrays.now) in
+    let arrays = c.args.layout.now in
     let vars = vars_of c.args.scope.now in
     let var = c.args.var.now in
     let low = to_z w64 (of_z w64 c.args.low) in
@@ -75,7 +75,7 @@ seek_phases-loop-phase-preserved t c =
 
 pub seek_statement-returns-in-If-clause-found : goal.seek_statement-returns-in-If-clause-found
 seek_statement-returns-in-If-clause-found t c =
-    let arrays = arrays_of (declarations_of c.args.arrays.now) in
+    let arrays = c.args.layout.now in
     let vars = vars_of c.args.scope.now in
     let first = sequence_sites (sequence_of c.in-If.then_block) vars in
     let second = sequence_sites (sequence_of c.in-If.else_block) vars in
@@ -84,7 +84,7 @@ seek_statement-returns-in-If-clause-found t c =
 
 pub seek_statement-returns-in-Par-clause-found : goal.seek_statement-returns-in-Par-clause-found
 seek_statement-returns-in-Par-clause-found t c =
-    let arrays = arrays_of (declarations_of c.args.arrays.now) in
+    let arrays = c.args.layout.now in
     let vars = vars_of c.args.scope.now in
     let own = rounds_fault arrays c.in-Par.line (branch_works (sequences_of c.in-Par.branches) vars ∷ []) in
     let inner = branches_sites (sequences_of c.in-Par.branches) vars in

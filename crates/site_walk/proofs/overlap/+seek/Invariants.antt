@@ -10,28 +10,28 @@ use Rattle.site_walk.proofs.overlap.+seek.Given as goal
 -- what is left to look through from here gives what all gives from the start
 abbrev pub invariant-seek_block-loop-statement : goal.invariant-seek_block-loop-statement
 invariant-seek_block-loop-statement l = record {
-  places : HasPlaces (arrays_of (declarations_of l.arrays)) l.table;
-  found : or_overlap (arrays_of (declarations_of l.arrays)) (sequence_sites (sequence (map statement_of (drop l.statement-index l.statement-items))) (vars_of l.scope)) l.found
-      ≡ or_overlap (arrays_of (declarations_of l.arrays)) (sequence_sites (sequence_of l.block) (vars_of l.scope)) l.fn.found;
+  places : HasPlaces l.layout l.table;
+  found : or_overlap l.layout (sequence_sites (sequence (map statement_of (drop l.statement-index l.statement-items))) (vars_of l.scope)) l.found
+      ≡ or_overlap l.layout (sequence_sites (sequence_of l.block) (vars_of l.scope)) l.fn.found;
 }
 
 abbrev pub invariant-seek_branches-loop-branch : goal.invariant-seek_branches-loop-branch
 invariant-seek_branches-loop-branch l = record {
-  places : HasPlaces (arrays_of (declarations_of l.arrays)) l.table;
-  found : or_overlap (arrays_of (declarations_of l.arrays)) (branches_sites (sequences (map sequence_of (drop l.branch-index l.branch-items))) (vars_of l.scope)) l.found
-      ≡ or_overlap (arrays_of (declarations_of l.arrays)) (branches_sites (sequences_of l.branches) (vars_of l.scope)) l.fn.found;
+  places : HasPlaces l.layout l.table;
+  found : or_overlap l.layout (branches_sites (sequences (map sequence_of (drop l.branch-index l.branch-items))) (vars_of l.scope)) l.found
+      ≡ or_overlap l.layout (branches_sites (sequences_of l.branches) (vars_of l.scope)) l.fn.found;
 }
 
 abbrev pub invariant-seek_loop-loop-number : goal.invariant-seek_loop-loop-number
 invariant-seek_loop-loop-number l = record {
-  places : HasPlaces (arrays_of (declarations_of l.arrays)) l.table;
-  found : or_overlap (arrays_of (declarations_of l.arrays)) (loop_sites l.var l.number l.high (sequence_sites (sequence_of l.body)) (vars_of l.scope)) l.found
-      ≡ or_overlap (arrays_of (declarations_of l.arrays)) (loop_sites l.var l.low l.high (sequence_sites (sequence_of l.body)) (vars_of l.scope)) l.fn.found;
+  places : HasPlaces l.layout l.table;
+  found : or_overlap l.layout (loop_sites l.var l.number l.high (sequence_sites (sequence_of l.body)) (vars_of l.scope)) l.found
+      ≡ or_overlap l.layout (loop_sites l.var l.low l.high (sequence_sites (sequence_of l.body)) (vars_of l.scope)) l.fn.found;
 }
 
 abbrev pub invariant-seek_phases-loop-phase : goal.invariant-seek_phases-loop-phase
 invariant-seek_phases-loop-phase l = record {
-  places : HasPlaces (arrays_of (declarations_of l.arrays)) l.table;
-  found : or_overlap (arrays_of (declarations_of l.arrays)) (phases_sites (sequences (map sequence_of (drop l.phase-index l.phase-items))) l.var l.low l.high (vars_of l.scope)) l.found
-      ≡ or_overlap (arrays_of (declarations_of l.arrays)) (phases_sites (sequences_of l.phases) l.var l.low l.high (vars_of l.scope)) l.fn.found;
+  places : HasPlaces l.layout l.table;
+  found : or_overlap l.layout (phases_sites (sequences (map sequence_of (drop l.phase-index l.phase-items))) l.var l.low l.high (vars_of l.scope)) l.found
+      ≡ or_overlap l.layout (phases_sites (sequences_of l.phases) l.var l.low l.high (vars_of l.scope)) l.fn.found;
 }

@@ -12,7 +12,7 @@ use Rattle.site_walk.proofs.overlap.keep_phase.Goals as goal
 
 pub returns-in-Some-clause-found : goal.returns-in-Some-clause-found
 returns-in-Some-clause-found c =
-    let arrays = arrays_of (declarations_of c.args.arrays.now) in
+    let arrays = c.args.layout.now in
     let least = overlap arrays (cells_of arrays) (team_works c.args.var.now c.args.low c.args.high c.args.members (sequence_work (sequence_of c.args.phase.now)) (vars_of c.args.scope.now)) in
     let e = rw (to_z-of_z w64 c.args.low c.ranges.low, to_z-of_z w64 c.args.high c.ranges.high) at c.overlap_of_members.ensures.found in
     let is = c.in-Some.is in
@@ -20,7 +20,7 @@ returns-in-Some-clause-found c =
 
 pub returns-in_default-clause-found : goal.returns-in_default-clause-found
 returns-in_default-clause-found c =
-    let arrays = arrays_of (declarations_of c.args.arrays.now) in
+    let arrays = c.args.layout.now in
     let least = overlap arrays (cells_of arrays) (team_works c.args.var.now c.args.low c.args.high c.args.members (sequence_work (sequence_of c.args.phase.now)) (vars_of c.args.scope.now)) in
     let e = rw (to_z-of_z w64 c.args.low c.ranges.low, to_z-of_z w64 c.args.high c.ranges.high) at c.overlap_of_members.ensures.found in
     let is = c.in_default.is in

@@ -12,7 +12,7 @@ use Rattle.site_walk.proofs.overlap.keep_team.Goals as goal
 
 pub loop-phase-preserved : goal.loop-phase-preserved
 loop-phase-preserved c =
-    let arrays = arrays_of (declarations_of c.args.arrays.now) in
+    let arrays = c.args.layout.now in
     let vars = vars_of c.args.scope.now in
     let line = c.args.line in
     let var = c.args.var.now in

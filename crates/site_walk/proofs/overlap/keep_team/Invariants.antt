@@ -10,7 +10,7 @@ use Rattle.site_walk.proofs.overlap.keep_team.Given as goal
 
 abbrev pub invariant-loop-phase : goal.invariant-loop-phase
 invariant-loop-phase l = record {
-  places : HasPlaces (arrays_of (declarations_of l.arrays)) l.table;
-  found : or_else l.found (rounds_fault (arrays_of (declarations_of l.arrays)) l.line (phase_rounds (sequences (map sequence_of (drop l.phase-index l.phase-items))) l.var l.low l.high l.members (vars_of l.scope)))
-      ≡ or_else l.fn.found (rounds_fault (arrays_of (declarations_of l.arrays)) l.line (phase_rounds (sequences_of l.phases) l.var l.low l.high l.members (vars_of l.scope)));
+  places : HasPlaces l.layout l.table;
+  found : or_else l.found (rounds_fault l.layout l.line (phase_rounds (sequences (map sequence_of (drop l.phase-index l.phase-items))) l.var l.low l.high l.members (vars_of l.scope)))
+      ≡ or_else l.fn.found (rounds_fault l.layout l.line (phase_rounds (sequences_of l.phases) l.var l.low l.high l.members (vars_of l.scope)));
 }

@@ -8,5 +8,5 @@ use Rattle.site_walk.proofs.round.least_clash.Given as goal
 
 abbrev pub invariant-loop-cell : goal.invariant-loop-cell
 invariant-loop-cell l =
-    first_from (λ cell. clashes (done_at (arrays_of (declarations_of l.arrays)) l.table cell)) l.cell (cells_of (arrays_of (declarations_of l.arrays)) - l.cell)
-    ≡ first_from (λ cell. clashes (done_at (arrays_of (declarations_of l.arrays)) l.table cell)) 0 (cells_of (arrays_of (declarations_of l.arrays)))
+    first_from (λ cell. clashes (done_at l.layout l.table cell)) l.cell (cells_of l.layout - l.cell)
+    ≡ first_from (λ cell. clashes (done_at l.layout l.table cell)) 0 (cells_of l.layout)

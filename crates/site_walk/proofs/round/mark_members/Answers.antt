@@ -11,7 +11,7 @@ use Rattle.site_walk.proofs.round.mark_members.Goals as goal
 
 pub loop-member-preserved : goal.loop-member-preserved
 loop-member-preserved c =
-    let arrays = arrays_of (declarations_of c.args.arrays.now) in
+    let arrays = c.args.layout.now in
     let vars = vars_of c.args.scope.now in
     let var = c.args.var.now in
     let low = to_z w64 (of_z w64 c.args.low) in

@@ -8,5 +8,5 @@ use Rattle.site_walk.proofs.round.mark_pieces.Given as goal
 
 abbrev pub invariant-loop-piece : goal.invariant-loop-piece
 invariant-loop-piece l =
-    with_pieces (arrays_of (declarations_of l.arrays)) l.piece (branch_works (sequences (map sequence_of (drop l.piece l.branch-items))) (vars_of l.scope)) l.table
-    ≡ with_pieces (arrays_of (declarations_of l.arrays)) 0 (branch_works (sequences_of l.branches) (vars_of l.scope)) l.fn.table
+    with_pieces l.layout l.piece (branch_works (sequences (map sequence_of (drop l.piece l.branch-items))) (vars_of l.scope)) l.table
+    ≡ with_pieces l.layout 0 (branch_works (sequences_of l.branches) (vars_of l.scope)) l.fn.table

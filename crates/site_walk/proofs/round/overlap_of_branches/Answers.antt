@@ -15,7 +15,7 @@ use Rattle.site_walk.proofs.round.overlap_of_branches.Goals as goal
 
 pub returns-clause-places : goal.returns-clause-places
 returns-clause-places c =
-    let arrays = arrays_of (declarations_of c.args.arrays.now) in
+    let arrays = c.args.layout.now in
     let pieces = branch_works (sequences_of c.args.branches.now) (vars_of c.args.scope.now) in
     let before = c.args.table.now in
     subst (HasPlaces arrays) (sym (c.mark_pieces.ensures ∙ ap (with_pieces arrays 0 pieces) c.clear.ensures))
@@ -23,7 +23,7 @@ returns-clause-places c =
 
 pub returns-clause-found : goal.returns-clause-found
 returns-clause-found c =
-    let arrays = arrays_of (declarations_of c.args.arrays.now) in
+    let arrays = c.args.layout.now in
     let pieces = branch_works (sequences_of c.args.branches.now) (vars_of c.args.scope.now) in
     c.least_overlap.ensures.least
     ∙ ap (λ t. cond t.suspect (first_from (λ cell. clashes (done_at arrays t cell)) 0 (cells_of arrays)) None)
@@ -32,7 +32,7 @@ returns-clause-found c =
 
 pub returns-then-len-lt2-clause-found : goal.returns-then-len-lt2-clause-found
 returns-then-len-lt2-clause-found c =
-    let arrays = arrays_of (declarations_of c.args.arrays.now) in
+    let arrays = c.args.layout.now in
     let vars = vars_of c.args.scope.now in
     let branches = (out-Blocks c.args.branches.now).blocks.items in
     let counted = c.len.ensures in

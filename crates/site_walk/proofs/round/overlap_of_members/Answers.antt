@@ -14,7 +14,7 @@ use Rattle.site_walk.proofs.round.overlap_of_members.Goals as goal
 
 pub returns-clause-places : goal.returns-clause-places
 returns-clause-places c =
-    let arrays = arrays_of (declarations_of c.args.arrays.now) in
+    let arrays = c.args.layout.now in
     let pieces = team_works c.args.var.now (to_z w64 (of_z w64 c.args.low)) (to_z w64 (of_z w64 c.args.high)) c.args.members (sequence_work (sequence_of c.args.phase.now)) (vars_of c.args.scope.now) in
     let before = c.args.table.now in
     subst (HasPlaces arrays) (sym (c.mark_members.ensures ∙ ap (with_pieces arrays 0 pieces) c.clear.ensures))
@@ -22,7 +22,7 @@ returns-clause-places c =
 
 pub returns-clause-found : goal.returns-clause-found
 returns-clause-found c =
-    let arrays = arrays_of (declarations_of c.args.arrays.now) in
+    let arrays = c.args.layout.now in
     let pieces = team_works c.args.var.now (to_z w64 (of_z w64 c.args.low)) (to_z w64 (of_z w64 c.args.high)) c.args.members (sequence_work (sequence_of c.args.phase.now)) (vars_of c.args.scope.now) in
     c.least_overlap.ensures.least
     ∙ ap (λ t. cond t.suspect (first_from (λ cell. clashes (done_at arrays t cell)) 0 (cells_of arrays)) None)
@@ -35,6 +35,6 @@ returns-clause-found c =
 
 pub returns-then-members-lt2-clause-found : goal.returns-then-members-lt2-clause-found
 returns-then-members-lt2-clause-found c =
-    let arrays = arrays_of (declarations_of c.args.arrays.now) in
+    let arrays = c.args.layout.now in
     sym (members_alone arrays (cells_of arrays) c.args.var.now c.args.low c.args.high c.args.members
     (sequence_work (sequence_of c.args.phase.now)) (vars_of c.args.scope.now) c.if-members-lt2.true)

@@ -1,12 +1,15 @@
-use Rattle.std.proofs.Common.{[], sym, ◌∙◌}
+use Rattle.std.proofs.Common.{[], sym, ap, ◌∙◌}
 use Rattle.array_tree.specs.Trees.{sequence_of, declarations_of}
 use Rattle.array_meaning.specs.Stores.{arrays_of}
 use Rattle.array_meaning.specs.Work.{sequence_work}
 use Rattle.array_meaning.specs.Touch.{walk}
+use Rattle.site_walk.specs.Outside.{first_outside}
 use Rattle.site_walk.proofs.OutsideLemmas.{inside_of_none}
 use Rattle.site_walk.proofs.walk.walk_program.Goals as goal
 
 pub returns-clause-indices : goal.returns-clause-indices
 returns-clause-indices c =
     let arrays = arrays_of (declarations_of c.args.program.now.arrays) in
-    inside_of_none arrays (walk arrays (sequence_work (sequence_of c.args.program.now.body) [])) (sym c.keep_block.ensures ∙ c.in_default.is)
+    let work = sequence_work (sequence_of c.args.program.now.body) [] in
+    inside_of_none arrays (walk arrays work)
+    (sym (ap (λ a. first_outside a (walk a work)) c.in-Ok.ensures) ∙ sym c.keep_block.ensures ∙ c.in_default.is)

@@ -2,15 +2,13 @@ use Rattle.std.proofs.Common.{rules, subst, to_z, of_z, w64}
 use mir.Val.{SFits}
 use Rattle.std.proofs.lemmas.Int.{to_z-of_z}
 use Rattle.std.proofs.lemmas.Result.{on_ok_weaker}
-use Rattle.array_tree.specs.Trees.{declarations_of}
-use Rattle.array_meaning.specs.Stores.{arrays_of}
 use Rattle.step_eval.specs.declared.frames.Frame.TheVariants.{Turns}
 use Rattle.step_eval.specs.Frames.{works_of, works_with, HaveMoved}
 use Rattle.step_eval.proofs.frames.Frames.go_on_in.Goals as goal
 
 pub returns-in-Turns-clause-moved : goal.returns-in-Turns-clause-moved
 returns-in-Turns-clause-moved c =
-    let arrays = arrays_of (declarations_of c.args.arrays.now) in
+    let arrays = c.args.layout.now in
     let around = c.args.around.now in
     let store = c.args.store.now in
     let before = c.args.self.now in

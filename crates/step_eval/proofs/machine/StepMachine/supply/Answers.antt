@@ -15,13 +15,13 @@ taken : (c : goal.After-self-2-1) → IsSupplied c.self.inside.job c.self.inside
     (noted_all c.args.written.now.pairs c.self.inside.store) c.self.inside.room c.self.inside.next (c.self.inside.next + c.sites_in_construct-sites.result)
 taken c =
     let inside = c.self.inside in
-    let sound = subst (λ stage. IsSound stage inside.job inside.frames inside.store inside.room inside.next) (awaiting c) c.self.invariant in
+    let sound = subst (λ stage. IsSound stage inside.job inside.frames inside.store inside.room inside.next) (awaiting c) c.self.invariant.0 in
     let awaited = subst (λ m. AreAwaited m c.args.written.now.pairs) (sym c.self.view_is) c.requires.written in
     supply_done inside.job inside.frames c.pass.new.self inside.store inside.room inside.next c.sites_in_construct-sites.result c.construct.result
     c.args.written.now.pairs sound c.construct.ensures c.sites_in_construct-sites.ensures c.pass.ensures.passed (c.pass.ensures.stacked sound.stacked) awaited
 
 pub invariant_of-self : goal.invariant_of-self
-invariant_of-self c = rw c.merge.ensures.noted (taken c).sound
+invariant_of-self c = (rw c.merge.ensures.noted (taken c).sound, c.self.invariant.1)
 
 pub returns-clause-ok : goal.returns-clause-ok
 returns-clause-ok c =

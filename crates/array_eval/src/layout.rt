@@ -1,0 +1,192 @@
+//! Where the arrays of a program lie.
+ghost use Rattle.std.specs.Prelude.{◌≡◌, ◌≤◌, ◌<◌, ◌+◌, ◌↔◌, IfOk, length, map, drop, replicate, unsigned_abs};
+ghost use Rattle.array_tree.specs.Trees.{declarations_of, declaration_of};
+ghost use Rattle.array_meaning.specs.Stores.{arrays_of, AreSized, HaveCells, base_of, length_of, cells_of};
+ghost use Rattle.array_eval.specs.Layouts.{number_of, slot_of, AreFirsts};
+
+use crate::cells::count_cells;
+use array_tree::{ArrayDecl, Arrays, Name};
+use std::alloc::{AllocError, Global};
+use std::marker::Model;
+
+/// Where an array lies: its place among the arrays, its first cell, and how many it has.
+#[derive(Clone, Copy, Debug, Drop)]
+pub struct Place {
+    pub number: usize,
+    pub base: usize,
+    pub length: usize,
+}
+
+// The first array in a slot: its place among the arrays, and its first cell.
+#[derive(Clone, Copy, Debug, Drop)]
+struct First {
+    number: u16,
+    base: u16,
+}
+
+/// The arrays of a program, and where each is found: the first one of each slot of digests. Behind it the others are
+/// looked through, since names of one slot may differ.
+///
+/// Contracts see a layout as the arrays. Its type keeps that each array has a cell, and all at most 4,096.
+#[derive(Debug, Drop)]
+pub struct Layout<'p> {
+    arrays: &'p Arrays,
+    firsts: Vec<First>,
+    cells: usize,
+}
+
+impl<'p> Model for Layout<'p> {
+    ghost use Rattle.std.specs.Coded.{codes};
+    ghost use Rattle.array_tree.specs.contracts.tree.Arrays as arrays_type;
+    ghost use Rattle.array_tree.specs.Trees.{declarations_of};
+    ghost use Rattle.array_meaning.specs.Stores.{Arrays, arrays_of};
+    ghost use Rattle.array_eval.specs.Layouts.{IsLaidOut};
+
+    ghost Value = { Arrays };
+
+    ghost coded = { Prim.hlevel (codes, arrays_type.the_row.coded) };
+
+    ghost view = { λ layout. arrays_of (declarations_of layout.arrays.now) };
+
+    ghost invariant = { λ layout. IsLaidOut (arrays_of (declarations_of layout.arrays.now)) layout.firsts.items layout.cells };
+}
+
+impl<'p> Layout<'p> {
+    /// The layout of these arrays. Each must have a cell, and all at most 4,096.
+    pub fn new(alloc: Global, arrays: &'p Arrays) -> Result<Layout<'p>, AllocError>
+        requires { AreSized (arrays_of (declarations_of arrays.now)) }
+        ensures { IfOk result (λ layout. layout ≡ arrays_of (declarations_of arrays.now)) }
+    {
+        let cells = count_cells(arrays);
+        let none = First {
+            number: arrays.declarations.len() as u16,
+            base: cells as u16,
+        };
+        let mut firsts = table_of(alloc, none)?;
+        put_firsts(&arrays.declarations, cells as u16, &mut firsts);
+        Ok(Layout {
+            arrays,
+            firsts,
+            cells,
+        })
+    }
+
+    /// Where the array of a name lies. Where there is none, it is one cell behind the others.
+    pub fn place_of(&self, name: &Name) -> Place
+        ensures number { result.number ≡ number_of self.now name.now }
+        ensures base { result.base ≡ base_of self.now name.now }
+        ensures length { result.length ≡ length_of self.now name.now }
+        ensures base_small { result.base ≤ 4096 }
+        ensures length_small { result.length ≤ 4096 }
+        ensures some { 0 < result.length }
+    {
+        let first = self.firsts[slot(name)];
+        let declarations = declared_from(&self.arrays.declarations, usize::from(first.number));
+        place_among(declarations, name, first)
+    }
+
+    /// The arrays themselves.
+    pub fn arrays(&self) -> &'p Arrays
+        ensures arrays { arrays_of (declarations_of result.now) ≡ self.now }
+        ensures sized { AreSized self.now }
+    {
+        self.arrays
+    }
+
+    /// How many arrays there are.
+    pub fn count(&self) -> usize
+        ensures { result ≡ length self.now }
+    {
+        self.arrays.declarations.len()
+    }
+
+    /// How many cells the arrays have.
+    pub fn cells(&self) -> usize
+        ensures cells { result ≡ cells_of self.now }
+        ensures small { result ≤ 4096 }
+    {
+        self.cells
+    }
+}
+
+// A table with this in each slot.
+fn table_of(alloc: Global, first: First) -> Result<Vec<First>, AllocError>
+    ensures { IfOk result (λ firsts. firsts.items ≡ replicate 256 first) }
+{
+    vec![in alloc; first; 256]
+}
+
+// The slot of a name.
+fn slot(name: &Name) -> usize
+    ensures slot { result ≡ slot_of name.now }
+    ensures inside { result < 256 }
+{
+    (name.digest() % 256) as usize
+}
+
+// The declarations from one on.
+fn declared_from(declarations: &[ArrayDecl], from: usize) -> &[ArrayDecl]
+    requires { from ≤ length declarations.now }
+    ensures { result.now ≡ drop from declarations.now }
+{
+    &declarations[from..]
+}
+
+// How many cells an array has.
+fn cells_in(array: &ArrayDecl) -> usize
+    ensures { result ≡ unsigned_abs array.now.length }
+{
+    array.length.unsigned_abs() as usize
+}
+
+// Where the array of a name lies among declarations, before which come those of a slot's first array.
+fn place_among(declarations: &[ArrayDecl], name: &Name, first: First) -> Place
+    requires each { HaveCells (arrays_of (map declaration_of declarations.now)) }
+    requires whole { first.base + cells_of (arrays_of (map declaration_of declarations.now)) ≤ 4096 }
+    ensures number { result.number ≡ first.number + number_of (arrays_of (map declaration_of declarations.now)) name.now }
+    ensures base { result.base ≡ first.base + base_of (arrays_of (map declaration_of declarations.now)) name.now }
+    ensures length { result.length ≡ length_of (arrays_of (map declaration_of declarations.now)) name.now }
+    ensures base_small { result.base ≤ 4096 }
+    ensures length_small { result.length ≤ 4096 }
+    ensures some { 0 < result.length }
+{
+    let mut number = usize::from(first.number);
+    let mut base = usize::from(first.base);
+    for array in declarations {
+        let length = array.length.unsigned_abs() as usize;
+        if array.name == *name {
+            return Place {
+                number,
+                base,
+                length,
+            };
+        }
+        number += 1;
+        base += length;
+    }
+    Place {
+        number,
+        base,
+        length: 1,
+    }
+}
+
+// Puts each array into its slot, the last one first: what comes earlier takes its place.
+fn put_firsts(declarations: &[ArrayDecl], cells: u16, firsts: &mut [First])
+    requires cells { cells ≡ cells_of (arrays_of (map declaration_of declarations.now)) }
+    requires count { length declarations.now ≤ 4096 }
+    requires none { firsts.old ≡ replicate 256 (record { number = length declarations.now; base = cells }) }
+    ensures { AreFirsts 0 0 (arrays_of (map declaration_of declarations.now)) firsts.new }
+{
+    let mut left = declarations.len();
+    let mut base = cells;
+    while left > 0 {
+        left -= 1;
+        let array = &declarations[left];
+        base -= cells_in(array) as u16;
+        firsts[slot(&array.name)] = First {
+            number: left as u16,
+            base,
+        };
+    }
+}
