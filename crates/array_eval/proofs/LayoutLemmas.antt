@@ -199,5 +199,5 @@ start_at ds firsts cells name slot first laid at read =
     let at-first : First → Type 0 = λ f. IsStart ds name f.number f.base in
     let small : slot < length firsts = (let many = laid.right.slots in let inside = slot_small name in omega arith) in
     let same : at_slot firsts (slot_of name) ≡ first =
-        ap (at_slot firsts) (sym at) ∙ get_or_default firsts slot (record { number = 0; base = 0 }) first small ∙ sym read in
+    ap (at_slot firsts) (sym at) ∙ get_or_default firsts slot (record { number = 0; base = 0 }) first small ∙ sym read in
     subst at-first same (start_of_name ds firsts cells name laid)

@@ -1,5 +1,5 @@
 //! Where the arrays of a program lie.
-ghost use Rattle.std.specs.Prelude.{◌≡◌, ◌≤◌, ◌<◌, ◌+◌, ◌↔◌, IfOk, length, map, drop, replicate, unsigned_abs};
+ghost use Rattle.std.specs.Prelude.{◌≡◌, ◌≤◌, ◌<◌, ◌+◌, IfOk, length, map, drop, replicate, unsigned_abs};
 ghost use Rattle.array_tree.specs.Trees.{declarations_of, declaration_of};
 ghost use Rattle.array_meaning.specs.Stores.{arrays_of, AreSized, HaveCells, base_of, length_of, cells_of};
 ghost use Rattle.array_eval.specs.Layouts.{number_of, slot_of, AreFirsts};

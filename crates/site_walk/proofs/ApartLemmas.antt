@@ -4,27 +4,25 @@ use Rattle.std.specs.Prelude.{◌&&◌, ◌||◌, not, unsigned_abs, nat_eq, nat
 use Rattle.std.proofs.lemmas.Bool.{false≢true}
 use Rattle.std.proofs.lemmas.Bool.Decides.{nat_tests}
 use Rattle.std.proofs.lemmas.Int.{ints}
-use Rattle.array_tree.specs.Trees.{Expression, Number, Var, Read, Neg, Binary, Statement, Assign, For, If, Par, Team, Sequence, ended, followed, Sequences, no_more, beside, Declaration, ProgramTree}
-use Rattle.array_meaning.specs.Stores.{Arrays, Vars, is_name, arrays_of, base_of, length_of, cells_of}
+use Rattle.array_tree.specs.Trees.{Statement, Assign, For, If, Par, Team, Sequence, ended, followed, Sequences, no_more, beside, ProgramTree}
+use Rattle.array_meaning.specs.Stores.{Arrays, Vars, arrays_of, base_of, length_of, cells_of}
 use Rattle.array_meaning.specs.Steps.{Steps, followed_by, join}
 use Rattle.array_meaning.specs.Work.{Work, turns, span, loop, statement_work, sequence_work, branches_work, phases_work}
 use Rattle.array_meaning.specs.Members.{member_works, team_works}
-use Rattle.array_meaning.specs.Touch.{Visit, walk, visit, reads_in}
+use Rattle.array_meaning.specs.Touch.{Visit, walk, reads_in}
 use Rattle.array_meaning.specs.Overlap.{covers, changed, read, overlaps, first_from, overlap}
 use Rattle.array_meaning.specs.Sites.{Site, branch_works, phase_rounds, turn_sites, statement_sites, sequence_sites, branches_sites, phases_sites, AreRoundsApart, AreSitesApart}
-use Rattle.array_meaning.specs.Names.{is_among, names_of, uses_known_names, statement_has_known_names, has_known_names, have_known_names, has_only_known_names}
+use Rattle.array_meaning.specs.Names.{is_among, are_known, names_of, has_only_known_names}
 use Rattle.array_meaning.specs.Accepted.{is_inside, are_inside, has_indices_inside, HasApartSites}
+use Rattle.array_meaning.proofs.InsideLemmas.{names_in, names_in_of, array_inside}
+use Rattle.array_meaning.proofs.KnownLemmas.{sequence_known}
 use Rattle.array_meaning.proofs.FrameLemmas.{walk_followed_by}
 use Rattle.array_meaning.proofs.MemberLemmas.{members_loop}
-use Rattle.array_meaning.proofs.OverlapLemmas.{apart_of_clear, clear_of_apart}
+use Rattle.array_meaning.proofs.OverlapLemmas.{and_both, apart_of_clear, clear_of_apart}
 use Rattle.site_walk.specs.declared.fault.WalkFault.{WalkFault}
 use Rattle.site_walk.specs.Outside.{or_else, out_of_range_of}
 use Rattle.site_walk.specs.FirstOverlap.{cell_fault, rounds_fault, first_overlap, overlap_of, walk_fault_of}
 use Rattle.site_walk.proofs.OutsideLemmas.{inside_of_none}
-
-both_true : (a b : Bool) → (a && b) ≡ true → (a ≡ true) × (b ≡ true)
-both_true true b e = (refl, e)
-both_true false b e = absurd (false≢true e)
 
 -- ---- what holds of each visit of a program holds of each visit of each piece
 
@@ -132,83 +130,6 @@ module _ (arrays : Arrays) (P : Visit → Type 0) where
         (of_turns (λ x. sequence_work first ((var, x) ∷ vars)) (λ x. sequence_sites first ((var, x) ∷ vars)) (λ x. of_sequence first ((var, x) ∷ vars)) low (span low high) parts.0)
         (of_inner_phases rest var low high vars parts.1)
 
--- ---- names that are known
-
-module _ (arrays : Arrays) (names : List (List ℕ)) where
-  abbrev IsKnown : Visit → Type 0
-  IsKnown v = is_among v.array names ≡ true
-
-  known_reads : (line : ℕ) (vars : Vars) (e : Expression) (own : List (List ℕ)) → uses_known_names e names own ≡ true → Each arrays IsKnown (reads_in arrays line vars e)
-  known_reads line vars (Number n) own h = tt
-  known_reads line vars (Var name) own h = tt
-  known_reads line vars (Read array index) own h =
-      let parts = both_true (is_among array names) (uses_known_names index names own) h in
-      each_append arrays IsKnown (reads_in arrays line vars index) (visit arrays line false vars array index ∷ []) (known_reads line vars index own parts.1) (parts.0, tt)
-  known_reads line vars (Neg e) own h = known_reads line vars e own h
-  known_reads line vars (Binary op a b) own h =
-      let parts = both_true (uses_known_names a names own) (uses_known_names b names own) h in
-      each_append arrays IsKnown (reads_in arrays line vars a) (reads_in arrays line vars b) (known_reads line vars a own parts.0) (known_reads line vars b own parts.1)
-
-  known_followed : (a b : Steps) → Each arrays IsKnown (walk arrays a) → Each arrays IsKnown (walk arrays b) → Each arrays IsKnown (walk arrays (followed_by a b))
-  known_followed a b h k = subst (Each arrays IsKnown) (sym (walk_followed_by arrays a b)) (each_append arrays IsKnown (walk arrays a) (walk arrays b) h k)
-
-  known_turns : (work : ℤ → Steps) → ((x : ℤ) → Each arrays IsKnown (walk arrays (work x))) → (x : ℤ) (n : ℕ) → Each arrays IsKnown (walk arrays (turns work x n))
-  known_turns work one x zero = tt
-  known_turns work one x (suc n) = known_followed (work x) (turns work (x +ℤ pos 1) n) (one x) (known_turns work one (x +ℤ pos 1) n)
-
-  mutual
-    known_statement : (s : Statement) (vars : Vars) (own : List (List ℕ)) → statement_has_known_names s names own ≡ true → Each arrays IsKnown (walk arrays (statement_work s vars))
-    known_statement (Assign line array index value) vars own h =
-        let parts = both_true (is_among array names) (uses_known_names index names own && uses_known_names value names own) h in
-        let more = both_true (uses_known_names index names own) (uses_known_names value names own) parts.1 in
-        each_append arrays IsKnown (reads_in arrays line vars index) (reads_in arrays line vars value ++ (visit arrays line true vars array index ∷ []))
-        (known_reads line vars index own more.0)
-        (each_append arrays IsKnown (reads_in arrays line vars value) (visit arrays line true vars array index ∷ []) (known_reads line vars value own more.1) (parts.0, tt))
-    known_statement (For line var low high body) vars own h =
-        known_turns (λ x. sequence_work body ((var, x) ∷ vars)) (λ x. known_sequence body ((var, x) ∷ vars) (var ∷ own) h) low (span low high)
-    known_statement (If line test then_block else_block) vars own h =
-        let parts = both_true (uses_known_names test names own) (has_known_names then_block names own && has_known_names else_block names own) h in
-        let more = both_true (has_known_names then_block names own) (has_known_names else_block names own) parts.1 in
-        each_append arrays IsKnown (reads_in arrays line vars test) (walk arrays (sequence_work then_block vars) ++ (walk arrays (sequence_work else_block vars) ++ []))
-        (known_reads line vars test own parts.0)
-        (each_append arrays IsKnown (walk arrays (sequence_work then_block vars)) (walk arrays (sequence_work else_block vars) ++ []) (known_sequence then_block vars own more.0)
-        (each_append arrays IsKnown (walk arrays (sequence_work else_block vars)) [] (known_sequence else_block vars own more.1) tt))
-    known_statement (Par line branches) vars own h = known_branches branches vars own h
-    known_statement (Team line var low high members phases) vars own h = known_phases phases var low high vars own h
-
-    pub known_sequence : (s : Sequence) (vars : Vars) (own : List (List ℕ)) → has_known_names s names own ≡ true → Each arrays IsKnown (walk arrays (sequence_work s vars))
-    known_sequence ended vars own h = tt
-    known_sequence (followed first rest) vars own h =
-        let parts = both_true (statement_has_known_names first names own) (has_known_names rest names own) h in
-        known_followed (statement_work first vars) (sequence_work rest vars) (known_statement first vars own parts.0) (known_sequence rest vars own parts.1)
-
-    known_branches : (bs : Sequences) (vars : Vars) (own : List (List ℕ)) → have_known_names bs names own ≡ true → Each arrays IsKnown (walk arrays (branches_work bs vars))
-    known_branches no_more vars own h = tt
-    known_branches (beside first rest) vars own h =
-        let parts = both_true (has_known_names first names own) (have_known_names rest names own) h in
-        known_followed (sequence_work first vars) (branches_work rest vars) (known_sequence first vars own parts.0) (known_branches rest vars own parts.1)
-
-    known_phases : (bs : Sequences) (var : List ℕ) (low high : ℤ) (vars : Vars) (own : List (List ℕ)) → have_known_names bs names (var ∷ own) ≡ true →
-        Each arrays IsKnown (walk arrays (phases_work bs var low high vars))
-    known_phases no_more var low high vars own h = tt
-    known_phases (beside first rest) var low high vars own h =
-        let parts = both_true (has_known_names first names (var ∷ own)) (have_known_names rest names (var ∷ own)) h in
-        known_followed (loop var low high (sequence_work first) vars) (phases_work rest var low high vars)
-        (known_turns (λ x. sequence_work first ((var, x) ∷ vars)) (λ x. known_sequence first ((var, x) ∷ vars) (var ∷ own) parts.0) low (span low high))
-        (known_phases rest var low high vars own parts.1)
-
--- a known array lies before the last cell
-known_room : (ds : List Declaration) (name : List ℕ) → is_among name (names_of ds) ≡ true →
-    base_of (arrays_of ds) name + length_of (arrays_of ds) name ≤ cells_of (arrays_of ds)
-known_room [] name h = absurd (false≢true h)
-known_room (d ∷ ds) name h = cases (is_name d.name name) (known_room ds name) h
-  where
-    cases : (b : Bool) → (is_among name (names_of ds) ≡ true → base_of (arrays_of ds) name + length_of (arrays_of ds) name ≤ cells_of (arrays_of ds)) →
-        (b || is_among name (names_of ds)) ≡ true →
-        cond b 0 (unsigned_abs d.length + base_of (arrays_of ds) name) + cond b (unsigned_abs d.length) (length_of (arrays_of ds) name) ≤ unsigned_abs d.length + cells_of (arrays_of ds)
-    cases true rest h = omega arith
-    cases false rest h = let room = rest h in omega arith
-
 -- ---- behind the last cell nothing is touched
 
 IsFit : Arrays → Visit → Type 0
@@ -309,20 +230,21 @@ sites_clear arrays (s ∷ sites) h =
 
 -- ---- of a program
 
-fit_visits : (ds : List Declaration) (vs : List Visit) → Each (arrays_of ds) (IsKnown (arrays_of ds) (names_of ds)) vs → are_inside (arrays_of ds) vs ≡ true → Each (arrays_of ds) (IsFit (arrays_of ds)) vs
+fit_visits : (arrays : Arrays) (vs : List Visit) → are_known (names_in arrays) vs ≡ true → are_inside arrays vs ≡ true → Each arrays (IsFit arrays) vs
 unfolding IsFit
-fit_visits ds [] known inside = tt
-fit_visits ds (v ∷ vs) known inside =
-    let parts = both_true (is_inside (length_of (arrays_of ds) v.array) v.index) (are_inside (arrays_of ds) vs) inside in
-    ((parts.0, known_room ds v.array known.0), fit_visits ds vs known.1 parts.1)
+fit_visits arrays [] known inside = tt
+fit_visits arrays (v ∷ vs) known inside =
+    let named = and_both (is_among v.array (names_in arrays)) (are_known (names_in arrays) vs) known in
+    let parts = and_both (is_inside (length_of arrays v.array) v.index) (are_inside arrays vs) inside in
+    ((parts.0, array_inside arrays v.array named.0), fit_visits arrays vs named.1 parts.1)
 
 pub apart_of_none : (program : ProgramTree) → has_only_known_names program ≡ true → has_indices_inside program ≡ true → overlap_of program ≡ None → HasApartSites program
 apart_of_none program known inside h =
     let arrays = arrays_of program.arrays in
-    sites_apart arrays (sequence_sites program.body [])
-    (of_sequence arrays (IsFit arrays) program.body []
-    (fit_visits program.arrays (walk arrays (sequence_work program.body []))
-    (known_sequence arrays (names_of program.arrays) program.body [] [] known) inside)) h
+    let visits = walk arrays (sequence_work program.body []) in
+    let named : are_known (names_in arrays) visits ≡ true =
+    ap (λ names. are_known names visits) (names_in_of program.arrays) ∙ sequence_known arrays (names_of program.arrays) program.body [] [] known in
+    sites_apart arrays (sequence_sites program.body []) (of_sequence arrays (IsFit arrays) program.body [] (fit_visits arrays visits named inside)) h
 
 pub none_of_apart : (program : ProgramTree) → HasApartSites program → overlap_of program ≡ None
 none_of_apart program h = sites_clear (arrays_of program.arrays) (sequence_sites program.body []) h

@@ -1,7 +1,6 @@
 //! The walk that marks what a piece does.
 ghost use Rattle.std.specs.Prelude.{◌≡◌, true, false};
-ghost use Rattle.array_tree.specs.Trees.{expression_of, statement_of, sequence_of, sequences_of, declarations_of};
-ghost use Rattle.array_meaning.specs.Stores.{arrays_of, AreSized};
+ghost use Rattle.array_tree.specs.Trees.{expression_of, statement_of, sequence_of, sequences_of};
 ghost use Rattle.array_meaning.specs.Work.{statement_work, sequence_work, branches_work, phases_work, loop};
 ghost use Rattle.array_meaning.specs.Touch.{reads_in, visit};
 ghost use Rattle.array_eval.specs.Views.{vars_of};

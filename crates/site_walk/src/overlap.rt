@@ -1,7 +1,6 @@
 //! The walk that looks for an overlap of two pieces of a site.
 ghost use Rattle.std.specs.Prelude.{◌≡◌, [], ◌∷◌};
-ghost use Rattle.array_tree.specs.Trees.{statement_of, sequence_of, sequences_of, declarations_of};
-ghost use Rattle.array_meaning.specs.Stores.{arrays_of, AreSized, cells_of};
+ghost use Rattle.array_tree.specs.Trees.{statement_of, sequence_of, sequences_of};
 ghost use Rattle.array_meaning.specs.Work.{sequence_work};
 ghost use Rattle.array_meaning.specs.Members.{team_works};
 ghost use Rattle.array_meaning.specs.Sites.{branch_works, phase_rounds, statement_sites, sequence_sites, branches_sites, phases_sites, loop_sites};

@@ -1,6 +1,6 @@
 //! Which array a cell belongs to.
 ghost use Rattle.std.specs.Prelude.{◌≡◌};
-ghost use Rattle.array_tree.specs.Trees.{declarations_of, declaration_of};
+ghost use Rattle.array_tree.specs.Trees.{declarations_of};
 ghost use Rattle.array_meaning.specs.Stores.{arrays_of};
 ghost use Rattle.site_walk.specs.Numbers.{array_at};
 

@@ -1,14 +1,14 @@
 //! The pieces of one round, and the least cell on which two of them overlap.
-ghost use Rattle.std.specs.Prelude.{◌≡◌, ◌<◌, ◌≤◌, ◌+◌, cond, Some, None, IfSome};
-ghost use Rattle.array_tree.specs.Trees.{sequence_of, sequences_of, declarations_of};
-ghost use Rattle.array_meaning.specs.Stores.{arrays_of, AreSized, cells_of};
+ghost use Rattle.std.specs.Prelude.{◌≡◌, ◌<◌, ◌+◌, cond, Some, None, IfSome};
+ghost use Rattle.array_tree.specs.Trees.{sequence_of, sequences_of};
+ghost use Rattle.array_meaning.specs.Stores.{cells_of};
 ghost use Rattle.array_meaning.specs.Work.{sequence_work};
 ghost use Rattle.array_meaning.specs.Members.{team_works};
 ghost use Rattle.array_meaning.specs.Overlap.{first_from, overlap};
 ghost use Rattle.array_meaning.specs.Sites.{branch_works};
 ghost use Rattle.array_eval.specs.Views.{vars_of};
 ghost use Rattle.site_walk.specs.Touched.{clashes};
-ghost use Rattle.site_walk.specs.Marks.{with_pieces, done_at, HasPlaces, cleared};
+ghost use Rattle.site_walk.specs.Marks.{with_pieces, done_at, HasPlaces};
 
 use crate::mark::{mark_block, mark_loop};
 use crate::places::number_at;

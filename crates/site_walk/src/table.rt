@@ -1,7 +1,6 @@
 //! What the pieces of a round do, cell by cell and array by array.
 ghost use Rattle.std.specs.Prelude.{◌≡◌, IfOk, length};
-ghost use Rattle.array_tree.specs.Trees.{declarations_of};
-ghost use Rattle.array_meaning.specs.Stores.{arrays_of, AreSized, cells_of};
+ghost use Rattle.array_meaning.specs.Stores.{cells_of};
 ghost use Rattle.site_walk.specs.Marks.{with_static, with_dynamic, nothing_done, cleared};
 
 use crate::layer::Layer;

@@ -26,7 +26,7 @@ overflow_sub-base c =
     let more = c.loop-left-test.true in
     let within = c.loop-left.invariant.within in
     let own = own_cells ds c.loop-left.left (c.loop-left.left - 1) c.loop-left.base c.index-declarations-left.result
-        (omega arith) (omega arith) c.index-declarations-left.is c.loop-left.invariant.base in
+    (omega arith) (omega arith) c.index-declarations-left.is c.loop-left.invariant.base in
     let value = c.cells_in.ensures in
     omega arith
 
@@ -36,7 +36,7 @@ overflow_cast-base c =
     let more = c.loop-left-test.true in
     let within = c.loop-left.invariant.within in
     let own = own_cells ds c.loop-left.left (c.loop-left.left - 1) c.loop-left.base c.index-declarations-left.result
-        (omega arith) (omega arith) c.index-declarations-left.is c.loop-left.invariant.base in
+    (omega arith) (omega arith) c.index-declarations-left.is c.loop-left.invariant.base in
     let value = c.cells_in.ensures in
     let fits = c.loop-left.auto.base-fits.fits in
     record { fits = omega arith }

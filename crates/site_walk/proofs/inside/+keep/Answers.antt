@@ -2,8 +2,8 @@ use Rattle.site_walk.specs.declared.fault.WalkFault.{WalkFault}
 use Rattle.std.proofs.Common.{Option, false, arith, ◌+ℤ◌, ◌<ℤ◌, pos, to_z, of_z, ◌+◌, drop, map, ap, sym, ◌∙◌, ◌≡◌, w64}
 use mir.Val.{SFits}
 use Rattle.std.proofs.lemmas.Int.{to_z-of_z, ints}
-use Rattle.array_tree.specs.Trees.{expression_of, statement_of, sequence_of, sequence, sequences, declarations_of}
-use Rattle.array_meaning.specs.Stores.{arrays_of, length_of}
+use Rattle.array_tree.specs.Trees.{expression_of, statement_of, sequence_of, sequence, sequences}
+use Rattle.array_meaning.specs.Stores.{length_of}
 use Rattle.site_walk.specs.Outside.{or_else, index_fault, first_outside, or_outside}
 use Rattle.array_meaning.specs.Work.{statement_work, sequence_work, branches_work, phases_work, loop}
 use Rattle.site_walk.proofs.OutsideLemmas.{outside_followed_by, outside_set, outside_choose}

@@ -1,6 +1,5 @@
 use Rattle.std.proofs.Common.{◌≡◌, drop, map}
-use Rattle.array_tree.specs.Trees.{statement_of, sequence_of, sequences_of, sequence, sequences, declarations_of}
-use Rattle.array_meaning.specs.Stores.{arrays_of}
+use Rattle.array_tree.specs.Trees.{statement_of, sequence_of, sequences_of, sequence, sequences}
 use Rattle.site_walk.specs.Outside.{or_outside}
 use Rattle.array_meaning.specs.Work.{sequence_work, branches_work, phases_work, loop}
 use Rattle.array_eval.specs.Views.{vars_of}

@@ -2,8 +2,7 @@ use Rattle.site_walk.specs.declared.table.Table.{Table}
 use Rattle.std.proofs.Common.{true, arith, ◌+ℤ◌, ◌<ℤ◌, pos, to_z, of_z, ◌+◌, drop, map, ap, sym, ◌∙◌, ◌≡◌, w64}
 use mir.Val.{SFits}
 use Rattle.std.proofs.lemmas.Int.{to_z-of_z, ints}
-use Rattle.array_tree.specs.Trees.{expression_of, statement_of, sequence_of, sequence, sequences, declarations_of}
-use Rattle.array_meaning.specs.Stores.{arrays_of}
+use Rattle.array_tree.specs.Trees.{expression_of, statement_of, sequence_of, sequence, sequences}
 use Rattle.site_walk.specs.Marks.{with_touch, with_visits, with_piece, touch_of}
 use Rattle.array_meaning.specs.Work.{statement_work, sequence_work, branches_work, phases_work, loop}
 use Rattle.site_walk.proofs.MarkLemmas.{piece_followed_by, piece_set, piece_choose}

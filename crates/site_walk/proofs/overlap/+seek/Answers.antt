@@ -1,8 +1,7 @@
 use Rattle.std.proofs.Common.{arith, ◌+ℤ◌, ◌<ℤ◌, pos, to_z, of_z, ◌+◌, drop, map, ap, sym, ◌∙◌, ◌≡◌, [], ◌∷◌, w64}
 use mir.Val.{SFits}
 use Rattle.std.proofs.lemmas.Int.{to_z-of_z, ints}
-use Rattle.array_tree.specs.Trees.{statement_of, sequence_of, sequences_of, sequence, sequences, declarations_of}
-use Rattle.array_meaning.specs.Stores.{arrays_of}
+use Rattle.array_tree.specs.Trees.{statement_of, sequence_of, sequences_of, sequence, sequences}
 use Rattle.array_meaning.specs.Sites.{branch_works, statement_sites, sequence_sites, branches_sites, phases_sites, loop_sites}
 use Rattle.array_eval.specs.Views.{vars_of}
 use Rattle.site_walk.specs.FirstOverlap.{rounds_fault, first_overlap, or_overlap}

@@ -1,6 +1,5 @@
 use Rattle.std.proofs.Common.{◌≡◌, drop, map}
-use Rattle.array_tree.specs.Trees.{statement_of, sequence_of, sequences_of, sequence, sequences, declarations_of}
-use Rattle.array_meaning.specs.Stores.{arrays_of}
+use Rattle.array_tree.specs.Trees.{statement_of, sequence_of, sequences_of, sequence, sequences}
 use Rattle.array_meaning.specs.Sites.{sequence_sites, branches_sites, phases_sites, loop_sites}
 use Rattle.array_eval.specs.Views.{vars_of}
 use Rattle.site_walk.specs.FirstOverlap.{or_overlap}

@@ -1,8 +1,8 @@
 use Rattle.std.proofs.Common.{w64, ap, ◌∙◌}
 use Rattle.std.specs.Prelude.{not}
 use Rattle.std.proofs.lemmas.Int.{to_z-of_z}
-use Rattle.array_tree.specs.Trees.{sequence_of, declarations_of}
-use Rattle.array_meaning.specs.Stores.{arrays_of, cells_of}
+use Rattle.array_tree.specs.Trees.{sequence_of}
+use Rattle.array_meaning.specs.Stores.{cells_of}
 use Rattle.array_meaning.specs.Work.{sequence_work}
 use Rattle.array_meaning.specs.Members.{team_works}
 use Rattle.array_meaning.specs.Overlap.{overlap}

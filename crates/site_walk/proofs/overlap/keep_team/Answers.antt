@@ -1,6 +1,5 @@
 use Rattle.std.proofs.Common.{to_z, of_z, w64, ◌+◌, drop, map, ap, sym, ◌∙◌, [], ◌∷◌}
-use Rattle.array_tree.specs.Trees.{sequence_of, sequences, declarations_of}
-use Rattle.array_meaning.specs.Stores.{arrays_of}
+use Rattle.array_tree.specs.Trees.{sequence_of, sequences}
 use Rattle.array_meaning.specs.Work.{sequence_work}
 use Rattle.array_meaning.specs.Members.{team_works}
 use Rattle.array_meaning.specs.Sites.{phase_rounds}

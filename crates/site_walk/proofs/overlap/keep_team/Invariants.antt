@@ -1,6 +1,5 @@
 use Rattle.std.proofs.Common.{◌≡◌, drop, map}
-use Rattle.array_tree.specs.Trees.{sequence_of, sequences, sequences_of, declarations_of}
-use Rattle.array_meaning.specs.Stores.{arrays_of}
+use Rattle.array_tree.specs.Trees.{sequence_of, sequences, sequences_of}
 use Rattle.array_meaning.specs.Sites.{phase_rounds}
 use Rattle.array_eval.specs.Views.{vars_of}
 use Rattle.site_walk.specs.Outside.{or_else}

@@ -1,6 +1,5 @@
 use Rattle.std.proofs.Common.{◌≡◌, ◌-◌}
-use Rattle.array_tree.specs.Trees.{declarations_of}
-use Rattle.array_meaning.specs.Stores.{arrays_of, cells_of}
+use Rattle.array_meaning.specs.Stores.{cells_of}
 use Rattle.array_meaning.specs.Overlap.{first_from}
 use Rattle.site_walk.specs.Touched.{clashes}
 use Rattle.site_walk.specs.Marks.{done_at}

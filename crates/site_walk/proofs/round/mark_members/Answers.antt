@@ -1,7 +1,6 @@
 use Rattle.std.proofs.Common.{◌≡◌, ◌+◌, ◌-◌, to_z, of_z, w64, ap, sym, ◌∙◌}
 use Rattle.std.proofs.lemmas.Int.{to_z-of_z}
-use Rattle.array_tree.specs.Trees.{sequence_of, declarations_of}
-use Rattle.array_meaning.specs.Stores.{arrays_of}
+use Rattle.array_tree.specs.Trees.{sequence_of}
 use Rattle.array_meaning.specs.Work.{sequence_work, loop}
 use Rattle.array_meaning.specs.Members.{start_of, member_works}
 use Rattle.array_eval.specs.Views.{vars_of}

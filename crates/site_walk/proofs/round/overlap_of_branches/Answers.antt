@@ -1,9 +1,9 @@
 use Rattle.std.proofs.Common.{cond, ◌<◌, length, arith, None, ap, sym, subst, ◌∙◌}
 use Rattle.std.proofs.lemmas.Grind.{common_steps}
-use Rattle.array_tree.specs.Trees.{sequences_of, declarations_of}
+use Rattle.array_tree.specs.Trees.{sequences_of}
 use Rattle.array_tree.specs.declared.tree.Blocks.{out-Blocks}
 use Rattle.array_tree.proofs.Views.{sequences_of-blocks}
-use Rattle.array_meaning.specs.Stores.{arrays_of, cells_of}
+use Rattle.array_meaning.specs.Stores.{cells_of}
 use Rattle.array_meaning.specs.Overlap.{first_from, overlap}
 use Rattle.array_meaning.specs.Sites.{branch_works}
 use Rattle.array_eval.specs.Views.{vars_of}

@@ -1,8 +1,8 @@
 use Rattle.std.proofs.Common.{cond, None, ap, sym, subst, ◌∙◌, to_z, of_z, w64}
 use Rattle.array_meaning.specs.Work.{sequence_work}
 use Rattle.std.proofs.lemmas.Int.{to_z-of_z}
-use Rattle.array_tree.specs.Trees.{sequence_of, declarations_of}
-use Rattle.array_meaning.specs.Stores.{arrays_of, cells_of}
+use Rattle.array_tree.specs.Trees.{sequence_of}
+use Rattle.array_meaning.specs.Stores.{cells_of}
 use Rattle.array_meaning.specs.Overlap.{first_from, overlap}
 use Rattle.array_meaning.specs.Members.{team_works}
 use Rattle.array_eval.specs.Views.{vars_of}
