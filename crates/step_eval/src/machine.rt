@@ -1,7 +1,7 @@
 //! Machines that run a job a step at a time.
 ghost use Rattle.std.specs.Prelude.{◌≡◌, ◌<◌, false, IfOk, IfErr, OnOk, OnErr};
 ghost use Rattle.contexts.specs.Machine.{Steps};
-ghost use Rattle.array_tree.specs.Trees.{statement_of, declarations_of};
+ghost use Rattle.array_tree.specs.Trees.{statement_of};
 ghost use Rattle.array_jobs.specs.Jobs.{job_of};
 ghost use Rattle.step_eval.specs.declared.stage.Stage.TheVariants.{Awaiting, Failed};
 ghost use Rattle.step_eval.specs.Machines.{Progress, IsRight, fresh_machine, is_awaiting, to_do, left_of, Advances, HasMoved, AreAwaited, IsFinished};

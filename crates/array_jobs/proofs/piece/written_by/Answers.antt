@@ -19,7 +19,7 @@ written-requires c =
     let steps = steps_of (work_of c.job.inside.work) c.job.inside.vars in
     let trace : c.run_work.new.store ≡ traced arrays steps (fresh c.job.inside.store)
     = c.run_work.ensures ∙ ap (traced c.in_ok-layout.layout steps) c.in_ok-store.ensures
-        ∙ ap (λ layout. traced layout steps (fresh c.job.inside.store)) c.in_ok-layout.ensures in
+    ∙ ap (λ layout. traced layout steps (fresh c.job.inside.store)) c.in_ok-layout.ensures in
     let cells = ap (λ t. length t.cells) trace ∙ same_cells _ c.job.invariant in
     let whole = (sized _ c.job.invariant).whole in
     omega (arith, cells, whole)
@@ -30,7 +30,7 @@ returns c =
     let steps = steps_of (work_of c.job.inside.work) c.job.inside.vars in
     let trace : c.run_work.new.store ≡ traced arrays steps (fresh c.job.inside.store)
     = c.run_work.ensures ∙ ap (traced c.in_ok-layout.layout steps) c.in_ok-store.ensures
-        ∙ ap (λ layout. traced layout steps (fresh c.job.inside.store)) c.in_ok-layout.ensures in
+    ∙ ap (λ layout. traced layout steps (fresh c.job.inside.store)) c.in_ok-layout.ensures in
     IfOk-weaker c.written.result _ _
     (λ overlay e. e ∙ ap (λ t. last_writes (marked t)) trace ∙ marked_piece _ c.job.invariant ∙ ap (λ job. piece_of_job (job_of job)) c.job.view_is)
     c.written.ensures

@@ -6,11 +6,12 @@ use Rattle.step_eval.proofs.MachineLemmas.{sound_fresh}
 use Rattle.step_eval.proofs.machine.StepMachine.new.Goals as goal
 
 pub invariant_of-result : goal.invariant_of-result
-invariant_of-result c =
-    (sound_fresh _ c.args.job c.in_ok-frames.frames c.in_ok-store.store c.in_ok-room.room c.job.view_is c.job.invariant
-    c.in_ok-frames.ensures.all c.in_ok-frames.ensures.stacked c.in_ok-store.ensures c.in_ok-room.ensures.pairs
-    (c.in_ok-room.ensures.room ∙ ap length c.cells.ensures),
-    c.in_ok-layout.ensures ∙ ap (λ job. arrays_of (declarations_of job.arrays)) c.job.view_is)
+invariant_of-result c = (
+  sound_fresh _ c.args.job c.in_ok-frames.frames c.in_ok-store.store c.in_ok-room.room c.job.view_is c.job.invariant
+      c.in_ok-frames.ensures.all c.in_ok-frames.ensures.stacked c.in_ok-store.ensures c.in_ok-room.ensures.pairs
+      (c.in_ok-room.ensures.room ∙ ap length c.cells.ensures),
+  c.in_ok-layout.ensures ∙ ap (λ job. arrays_of (declarations_of job.arrays)) c.job.view_is,
+)
 
 pub new-requires : goal.new-requires
 new-requires c = sized _ c.job.invariant

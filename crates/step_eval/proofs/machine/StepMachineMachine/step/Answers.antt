@@ -9,11 +9,12 @@ use Rattle.step_eval.proofs.machine.StepMachineMachine.step.Goals as goal
 pub invariant_of-self : goal.invariant_of-self
 invariant_of-self c =
     let inside = c.self.inside in
-    let sound = subst (λ stage. IsSound stage inside.job inside.frames inside.store inside.room inside.next) c.in-Going.is c.self.invariant.0 in
-    (rw c.stage_after-self-inside.ensures
-    (sound_advanced inside.job inside.frames c.advance.new.frames inside.store c.advance.new.store inside.room inside.next c.in-Ok.step sound
-    c.in-Ok.ensures.advanced c.in-Ok.ensures.stacked),
-    c.self.invariant.1)
+    let sound = subst (λ stage. IsSound stage inside.job inside.frames inside.store inside.room inside.next) c.in-Going.is c.self.invariant.0 in (
+      rw c.stage_after-self-inside.ensures
+          (sound_advanced inside.job inside.frames c.advance.new.frames inside.store c.advance.new.store inside.room inside.next c.in-Ok.step sound
+          c.in-Ok.ensures.advanced c.in-Ok.ensures.stacked),
+      c.self.invariant.1,
+    )
 
 pub returns-in-Ok-clause-work : goal.returns-in-Ok-clause-work
 returns-in-Ok-clause-work c =
