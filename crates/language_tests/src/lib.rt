@@ -10,6 +10,8 @@ mod cutting;
 #[cfg(test)]
 mod evaluating;
 #[cfg(test)]
+mod layouts;
+#[cfg(test)]
 mod parsing;
 #[cfg(test)]
 mod printing;

@@ -2,7 +2,9 @@
 ghost use Rattle.std.specs.Prelude.{◌≡◌, IfOk, length};
 
 use crate::programs::{are_sized, parsed};
-use array_eval::{LoopVar, MarkedStore, Overlay, Scope, Store, Vars, run_assign, start_of_member};
+use array_eval::{
+    Layout, LoopVar, MarkedStore, Overlay, Scope, Store, Vars, run_assign, start_of_member,
+};
 use array_tree::{Expr, Name};
 use std::alloc::{AllocError, Global};
 use std::test::Fail;
@@ -131,7 +133,8 @@ fn a_store_knows_what_was_written(rt: HostRuntime) -> Result<(), Fail> {
     let a = Name::new(alloc, b"a")?;
     let value = Expr::Read(Name::new(alloc, b"a")?, Box::new(alloc, Expr::Number(2))?);
     let scope = Scope::Outermost;
-    run_assign(&arrays, &a, &Expr::Number(3), &value, &scope, &mut store);
+    let layout = Layout::new(alloc, &arrays)?;
+    run_assign(&layout, &a, &Expr::Number(3), &value, &scope, &mut store);
     assert_eq!(rt; store.to_store(alloc)?.get(3), 5);
     let expected = [(0, 0), (2, 5), (3, 5)];
     assert_eq!(rt; store.written(alloc)?.pairs(), expected.as_slice());
