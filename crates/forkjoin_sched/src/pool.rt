@@ -45,8 +45,8 @@ impl Hearing for PoolHeard {
     }
 }
 
-// Only the callbacks below call it.
-fn heard(call: Call, child: u16, count: u8) -> PoolHeard
+// Only callbacks call it.
+pub(crate) fn heard(call: Call, child: u16, count: u8) -> PoolHeard
     ensures { result ≡ record { call = call; child = child; count = count } }
 {
     PoolHeard {
@@ -109,6 +109,16 @@ impl<'p> Pool<'p> {
                 deposit
             }
             Acquired::Kept => unreachable!(),
+        }
+    }
+
+    /// Whether the place is there and its piece is still to come.
+    pub fn is_open(&self, place: u8) -> bool
+        ensures { IsTrue result ↔ IsMarked self.now.book place Open }
+    {
+        match self.book.value() {
+            Some(book) => book.is_open(place),
+            None => unreachable!(),
         }
     }
 
