@@ -1,28 +1,51 @@
--- Harts that go from site to site of a flat plan.
-use Rattle.std.specs.Prelude.{◌≡◌, ◌≢◌, ℕ, ◌≤◌, true, false}
-use Rattle.transfer_table.specs.Plan.{Plan, IsSite, parent}
-use Rattle.transfer_table.specs.Entry.{requested}
+-- Harts that go from site to site of a plan.
+use Rattle.std.specs.Prelude.{◌≡◌, ◌≢◌, ℕ, ◌≤◌, ◌<◌, true, false, List, length, slice_index_or}
+use Rattle.transfer_table.specs.Plan.{parent}
 use Rattle.hart_port.specs.PortView.{is_in}
 use Rattle.board_rule.specs.declared.view.View.{View}
+use Rattle.word_board.specs.Of.{IsOf}
+use Rattle.word_board.specs.declared.seat.HartSeat.{HartSeat}
+use Rattle.word_board.specs.declared.board.WordBoard.{WordBoard}
 
--- each site is the base's child, and a site's home may ask for a guest
-pub record IsFlat (p : Plan) : Type 0 where
-  pub top : (c : ℕ) → IsSite p c → parent p c ≡ 0
-  pub some_guest : 2 ≤ p.harts
+-- The hart is the home of no site behind its owner. A site stands behind its parent, since its number is greater.
+abbrev pub HasNoHomeBehind : View → Type 0
+HasNoHomeBehind v = (c : ℕ) → v.owner < c → is_in v.marks.homes c ≡ false
 
--- the hart is at the base, and the home of no site
-pub record IsFree (v : View) : Type 0 where
-  pub base : v.owner ≡ 0
-  pub homeless : (c : ℕ) → is_in v.marks.homes c ≡ false
+-- the hart is where it was, the home of the same sites, and up to its owner it has closed the same
+pub record IsBack (v w : View) : Type 0 where
+  pub owner : w.owner ≡ v.owner
+  pub homes : (c : ℕ) → is_in w.marks.homes c ≡ is_in v.marks.homes c
+  pub closed : (c : ℕ) → c ≤ v.owner → is_in w.marks.closed c ≡ is_in v.marks.closed c
 
--- the hart is in the site, its only home
-pub record IsHomeOnly (v : View) (x : ℕ) : Type 0 where
-  pub inside : v.owner ≡ x
-  pub home : is_in v.marks.homes x ≡ true
-  pub only : (c : ℕ) → c ≢ x → is_in v.marks.homes c ≡ false
+-- the hart has only looked: what it has seen gone stays so
+pub record HasLooked (v w : View) : Type 0 where
+  pub owner : w.owner ≡ v.owner
+  pub homes : w.marks.homes ≡ v.marks.homes
+  pub closed : w.marks.closed ≡ v.marks.closed
+  pub gone : (c : ℕ) → is_in v.marks.gone c ≡ true → is_in w.marks.gone c ≡ true
 
--- and has just registered it
-pub record IsNewHome (v : View) (x : ℕ) : Type 0 where
-  pub home : IsHomeOnly v x
-  pub is_open : is_in v.marks.closed x ≡ false
-  pub unasked : requested x v.mine ≡ 0
+-- the hart has left its owner for the owner's parent, and is its home no longer
+pub record HasLeft (v w : View) : Type 0 where
+  pub owner : w.owner ≡ parent v.plan v.owner
+  pub own : is_in w.marks.homes v.owner ≡ false
+  pub homes : (c : ℕ) → c ≢ v.owner → is_in w.marks.homes c ≡ is_in v.marks.homes c
+  pub closed : (c : ℕ) → c ≢ v.owner → is_in w.marks.closed c ≡ is_in v.marks.closed c
+
+-- hart h's seat of the board
+pub record IsHartOf (b : WordBoard) (h : ℕ) (q : HartSeat) : Type 0 where
+  pub of : IsOf b q
+  pub hart : q.seat.me.0.hart ≡ h
+
+-- and the hart is at the base, the home of no site
+pub record IsNewHart (b : WordBoard) (h : ℕ) (q : HartSeat) : Type 0 where
+  pub of : IsOf b q
+  pub hart : q.seat.me.0.hart ≡ h
+  pub base : q.seat.me.0.owner ≡ 0
+  pub homeless : HasNoHomeBehind q.seat.me.0
+
+-- the seat at place h is hart h's
+abbrev pub AreHarts : WordBoard → List HartSeat → Type 0
+AreHarts b qs = (h : ℕ) (d : HartSeat) → h < length qs → IsHartOf b h (slice_index_or qs h d)
+
+abbrev pub AreNewHarts : WordBoard → List HartSeat → Type 0
+AreNewHarts b qs = (h : ℕ) (d : HartSeat) → h < length qs → IsNewHart b h (slice_index_or qs h d)

@@ -1,78 +1,112 @@
-//! Two threads at one board.
-ghost use Rattle.std.specs.Prelude.{◌≡◌, ◌≢◌, ℕ};
-ghost use Rattle.transfer_table.specs.Plan.{IsSite, parent};
-ghost use Rattle.word_board.specs.Of.{IsOf};
+//! The row of two harts at one site by two threads, as far as its order allows it: whether the guest comes in time is left open.
+ghost use Rattle.std.specs.Prelude.{◌≡◌, [], ◌∷◌};
+ghost use Rattle.board_tests.specs.Roam.{IsNewHart, IsHartOf, AreNewHarts, AreHarts};
 
-use crate::seats::{close_two, open_two};
+use crate::roaming::{came_in, visit};
+use crate::seats::{close_all, open_all};
+use std::alloc::Global;
 use std::sync::Wait;
 use std::test::Fail;
-use std::thread::{Threads, join};
-use transfer_table::{Plan, first_fault};
-use word_board::{HartSeat, Seen, WordBoard};
+use std::thread::{Threads, for_each_mut};
+use transfer_table::{Entry, Plan, first_fault};
+use word_board::{Closed, HartSeat, WordBoard};
 
-// The hart comes to a site without children, and leaves it.
-fn come_and_go(board: &WordBoard, mut seat: HartSeat, site: u16) -> HartSeat
-    requires of { IsOf board.now seat }
-    requires site { IsSite board.now.plan site }
-    requires child { seat.seat.me.0.owner ≡ parent board.now.plan site }
-    requires leaf { (c : ℕ) → IsSite board.now.plan c → parent board.now.plan c ≢ site }
-    ensures of { IsOf board.now result }
-    ensures hart { result.seat.me.0.hart ≡ seat.seat.me.0.hart }
+/// How often the guest tries, before it gives up on a home that doesn't come.
+const ROUNDS: u32 = 1 << 20;
+
+const WITH_A_GUEST: [Entry; 5] = [
+    Entry::Register { hart: 0, site: 1 },
+    Entry::Request {
+        hart: 0,
+        site: 1,
+        count: 1,
+    },
+    Entry::Enter { hart: 1, site: 1 },
+    Entry::Yield { hart: 1, site: 1 },
+    Entry::Unregister { hart: 0, site: 1 },
+];
+
+const ALONE: [Entry; 3] = [
+    Entry::Register { hart: 0, site: 1 },
+    Entry::Request {
+        hart: 0,
+        site: 1,
+        count: 1,
+    },
+    Entry::Unregister { hart: 0, site: 1 },
+];
+
+// The hart tries to be the guest of the site until the site is gone.
+fn be_guest(board: &WordBoard, seat: &mut HartSeat)
+    requires plan { board.now.plan ≡ record { harts = 2; parents = 0 ∷ [] } }
+    requires new { IsNewHart board.now 1 seat.old }
+    ensures { IsHartOf board.now 1 seat.new }
 {
-    if board.register(&mut seat, site).is_ok() {
-        board.close_site(&mut seat);
-        if let Seen::Empty = board.see_empty(&mut seat) {
-            board.unregister(&mut seat);
+    for _ in 0..ROUNDS {
+        if came_in(board, seat, 1) {
+            board.yield_hart(seat);
+            return;
+        }
+        if board.see_gone(seat, 1) {
+            return;
         }
     }
-    seat
 }
 
-// Two harts do so at once, each at its site.
-fn come_and_go_both<R: Threads + Wait + Sync>(
-    rt: &R,
-    board: &WordBoard,
-    a: HartSeat,
-    b: HartSeat,
-) -> (HartSeat, HartSeat)
-    requires of { IsOf board.now a × IsOf board.now b }
-    requires harts { (a.seat.me.0.hart ≡ 0) × (b.seat.me.0.hart ≡ 1) }
-    requires sites { IsSite board.now.plan 1 × IsSite board.now.plan 2 }
-    requires children { (a.seat.me.0.owner ≡ parent board.now.plan 1) × (b.seat.me.0.owner ≡ parent board.now.plan 2) }
-    requires leaves { (c : ℕ) → IsSite board.now.plan c → (parent board.now.plan c ≢ 1) × (parent board.now.plan c ≢ 2) }
-    ensures of { IsOf board.now result.0 × IsOf board.now result.1 }
-    ensures harts { (result.0.seat.me.0.hart ≡ 0) × (result.1.seat.me.0.hart ≡ 1) }
+// Hart 0 is the home, hart 1 the guest.
+fn take_part(board: &WordBoard, plan: &Plan, seat: &mut HartSeat, hart: usize)
+    requires plan { plan.now ≡ board.now.plan }
+    requires row { board.now.plan ≡ record { harts = 2; parents = 0 ∷ [] } }
+    requires new { IsNewHart board.now hart seat.old }
+    ensures { IsHartOf board.now hart seat.new }
 {
-    join(
-        rt,
-        move || -> HartSeat
-            requires of { IsOf board.now a }
-            requires hart { a.seat.me.0.hart ≡ 0 }
-            requires site { IsSite board.now.plan 1 }
-            requires child { a.seat.me.0.owner ≡ parent board.now.plan 1 }
-            requires leaf { (c : ℕ) → IsSite board.now.plan c → parent board.now.plan c ≢ 1 }
-            ensures of { IsOf board.entry.now result }
-            ensures hart { result.seat.me.0.hart ≡ 0 }
-        { come_and_go(board, a, 1) },
-        move || -> HartSeat
-            requires of { IsOf board.now b }
-            requires hart { b.seat.me.0.hart ≡ 1 }
-            requires site { IsSite board.now.plan 2 }
-            requires child { b.seat.me.0.owner ≡ parent board.now.plan 2 }
-            requires leaf { (c : ℕ) → IsSite board.now.plan c → parent board.now.plan c ≢ 2 }
-            ensures of { IsOf board.entry.now result }
-            ensures hart { result.seat.me.0.hart ≡ 1 }
-        { come_and_go(board, b, 2) },
-    )
+    match hart {
+        0 => {
+            visit(board, plan, seat, 1);
+        }
+        1 => be_guest(board, seat),
+        _ => {}
+    }
+}
+
+// Both do so at once.
+fn play<R: Threads + Wait + Sync>(rt: &R, board: &WordBoard, plan: &Plan, seats: &mut [HartSeat])
+    requires plan { plan.now ≡ board.now.plan }
+    requires row { board.now.plan ≡ record { harts = 2; parents = 0 ∷ [] } }
+    requires seats { AreNewHarts board.now seats.old }
+    ensures { AreHarts board.now seats.new }
+{
+    let go = |hart: usize, seat: &mut HartSeat|
+        requires plan { plan.now ≡ board.now.plan }
+        requires row { board.now.plan ≡ record { harts = 2; parents = 0 ∷ [] } }
+        requires seat { IsNewHart board.now hart seat.old }
+        ensures { IsHartOf board.entry.now hart seat.new }
+    { take_part(board, plan, seat, hart) };
+    for_each_mut(rt, seats, 2, &go);
+}
+
+// Whether a journal is the row's, with the guest or without.
+fn is_row(alloc: Global, plan: &Plan, closed: &Closed) -> Result<bool, Fail> {
+    let entries = closed.entries();
+    if entries.len() > 5 || first_fault(alloc, plan, entries)? != None {
+        return Ok(false);
+    }
+    Ok(entries == WITH_A_GUEST.as_slice() || entries == ALONE.as_slice())
+}
+
+// Whether the two play the row.
+fn is_played(rt: &(impl Threads + Wait + Sync), alloc: Global) -> Result<bool, Fail> {
+    let plan = Plan::new(alloc, 2, &[0])?;
+    let (board, mut seats) = open_all(alloc, &plan)?;
+    play(rt, &board, &plan, seats.as_mut_slice());
+    let closed = close_all(alloc, board, seats)?;
+    is_row(alloc, &plan, &closed)
 }
 
 #[test]
-fn two_threads_come_and_go(rt: HostRuntime) -> Result<(), Fail> {
-    let plan = Plan::new(rt.alloc(), 2, &[0, 0])?;
-    let (board, a, b) = open_two(rt.alloc(), &plan)?;
-    let (a, b) = come_and_go_both(&rt, &board, a, b);
-    let closed = close_two(rt.alloc(), board, a, b)?;
-    assert_eq!(rt; closed.entries().len(), 4);
-    assert_eq!(rt; first_fault(rt.alloc(), &plan, closed.entries())?, None);
+fn two_threads_at_one_site(rt: HostRuntime) -> Result<(), Fail> {
+    for _ in 0..20 {
+        assert!(rt; is_played(&rt, rt.alloc())?);
+    }
     Ok(())
 }
