@@ -1,4 +1,4 @@
-//! The body of an accepted program.
+//! The body of a program.
 ghost use Rattle.std.specs.Prelude.{◌≡◌, IfOk};
 ghost use Rattle.array_tree.specs.Trees.{program_of};
 ghost use Rattle.array_meaning.specs.Accepted.{IsAccepted};
@@ -9,19 +9,11 @@ use crate::job::Job;
 use crate::work::Work;
 use array_eval::{Store, Vars, count_cells};
 use array_tree::Program;
-use disjoint_check::Accepted;
 use std::alloc::{AllocError, Global};
 
-/// The body of an accepted program as the one piece of site 0, the base: it starts from zeros, and the first site
-/// inside it is 1.
-pub fn body_job<'p>(alloc: Global, accepted: &Accepted<'p>) -> Result<Job<'p>, AllocError>
-    ensures { IfOk result (λ job. job_of job ≡ body_of (program_of accepted.now.program)) }
-{
-    job_of_program(alloc, accepted.program())
-}
-
-// The body of a program that meets all conditions.
-fn job_of_program<'p>(alloc: Global, program: &'p Program) -> Result<Job<'p>, AllocError>
+/// The body of a program as the one piece of site 0, the base: it starts from zeros, and the first site inside it is 1.
+/// The program must meet all conditions, as one that is accepted does.
+pub fn body_job<'p>(alloc: Global, program: &'p Program) -> Result<Job<'p>, AllocError>
     requires { IsAccepted (program_of program.now) }
     ensures { IfOk result (λ job. job_of job ≡ body_of (program_of program.now)) }
 {

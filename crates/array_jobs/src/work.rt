@@ -4,7 +4,7 @@ ghost use Rattle.array_jobs.specs.Works.{work_of, sites_of};
 ghost use Rattle.array_jobs.specs.Equal.{work_eq};
 
 use array_tree::{Block, Name};
-use disjoint_check::{sites_in_block, sites_in_turns};
+use site_counts::{sites_in_block, sites_in_turns};
 
 /// What a job runs.
 #[derive(Clone, Copy, Debug, Drop)]

@@ -15,7 +15,8 @@ use Rattle.disjoint_check.specs.Faults.{unless, first_fault}
 use Rattle.disjoint_check.specs.FirstNames.{duplicate_name, unknown_name}
 use Rattle.disjoint_check.specs.FirstRanges.{range_fault}
 use Rattle.disjoint_check.specs.FirstNesting.{site_under_if_in}
-use Rattle.disjoint_check.specs.LimitFault.{capped, told_depth, limit_fault_of, MeetsLimits}
+use Rattle.site_counts.specs.Capped.{capped}
+use Rattle.disjoint_check.specs.LimitFault.{told_depth, limit_fault_of, MeetsLimits}
 use Rattle.disjoint_check.proofs.Firsts.{is_none, none_from, to_none, none_cons, none_map, none_unless}
 use Rattle.disjoint_check.proofs.NameLaws.{single_names, only_known_names}
 use Rattle.disjoint_check.proofs.RangeLaws.{in_range, no_construct_under_if}

@@ -1,6 +1,4 @@
 pub mod Among
-pub mod Trees
-pub mod Capped
 pub mod Firsts
 pub mod NameLaws
 pub mod RangeLaws

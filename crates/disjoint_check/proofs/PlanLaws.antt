@@ -8,7 +8,7 @@ use Rattle.array_meaning.specs.Plans.{plan_of, sites_in}
 use Rattle.transfer_table.specs.Causes.{cause_if, first_cause}
 use Rattle.transfer_table.specs.Plan.{bad_parent, plan_fault_of}
 use Rattle.transfer_table.specs.declared.plan.PlanFault.TheVariants as fault
-use Rattle.disjoint_check.specs.LimitFault.{capped}
+use Rattle.site_counts.specs.Capped.{capped}
 use Rattle.disjoint_check.specs.Unrolled.{Rows, parents_in, shape, shapes_in, with_sequence}
 use Rattle.disjoint_check.proofs.Parents.{plan_is, plan_length, good_plan}
 

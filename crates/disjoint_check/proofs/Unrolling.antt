@@ -3,7 +3,7 @@ use Rattle.std.proofs.Common.{◌≡◌, ℕ, zero, suc, ◌+◌, ◌*◌, ◌-�
 use Rattle.array_tree.specs.Trees.{Statement, Assign, For, If, Par, Team, Sequence, ended, followed}
 use Rattle.array_meaning.specs.Work.{span}
 use Rattle.array_meaning.specs.Plans.{sites_in, statement_sites_in, branches_sites_in}
-use Rattle.disjoint_check.specs.LimitFault.{capped}
+use Rattle.site_counts.specs.Capped.{capped}
 use Rattle.disjoint_check.specs.Unrolled.{Rows, repeat, with_statement, with_sequence}
 
 pub repeat_next : (n i : ℕ) (more : Rows → Rows) (rows : Rows) → i < n → repeat (n - i) more rows ≡ repeat (n - (i + 1)) more (more rows)

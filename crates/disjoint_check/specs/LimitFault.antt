@@ -5,16 +5,13 @@ use Rattle.array_tree.specs.Trees.{ProgramTree}
 use Rattle.array_meaning.specs.Names.{has_single_names, has_only_known_names}
 use Rattle.array_meaning.specs.Limits.{is_in_range, has_no_site_under_if, depth_of, units_of, pieces_in}
 use Rattle.array_meaning.specs.Plans.{sites_in}
+use Rattle.site_counts.specs.Capped.{capped}
 use Rattle.disjoint_check.specs.Faults.{unless, first_fault}
 use Rattle.disjoint_check.specs.FirstNames.{duplicate_name, unknown_name}
 use Rattle.disjoint_check.specs.FirstRanges.{range_fault}
 use Rattle.disjoint_check.specs.FirstNesting.{site_under_if_in}
 use Rattle.disjoint_check.specs.declared.fault.CheckFault.{CheckFault}
 use Rattle.disjoint_check.specs.declared.fault.CheckFault.TheVariants.{DuplicateName, UnknownName, SiteUnderIf, TooDeep, TooMuchWork, TooManySites, TooManyPieces}
-
--- A number as it is told: the greatest of 64 bits, where it is above that.
-abbrev pub capped : ℕ → ℕ
-capped n = min n (2 ^ 64 - 1)
 
 -- The greatest depth as it is told: the greatest number of 32 bits, where it is above that.
 abbrev pub told_depth : ℕ → ℕ

@@ -6,10 +6,10 @@ ghost use Rattle.array_meaning.specs.Plans.{plan_of};
 ghost use Rattle.transfer_table.specs.Plan.{IsSite, plan_fault_of};
 ghost use Rattle.disjoint_check.specs.Unrolled.{parents_in};
 
-use crate::counts::pieces_in_block;
 use crate::fault::CheckFault;
 use crate::unroll::{Site, sites_of};
 use array_tree::Program;
+use site_counts::pieces_in_block;
 use std::alloc::{AllocError, Global};
 use std::marker::Model;
 use transfer_table::{Plan, PlanFault};

@@ -5,7 +5,6 @@
 mod accepted;
 mod around;
 mod checker;
-mod counts;
 mod depth;
 mod fault;
 mod laws;
@@ -18,6 +17,5 @@ mod unroll;
 
 pub use accepted::Accepted;
 pub use checker::check;
-pub use counts::{sites_in_block, sites_in_statement, sites_in_turns};
 pub use fault::{CheckFault, Limit};
 pub use laws::{conditions_are_checked, conditions_are_tested};

@@ -4,7 +4,6 @@ ghost use Rattle.std.specs.Option.{option_map};
 ghost use Rattle.array_tree.specs.Trees.{program_of};
 ghost use Rattle.disjoint_check.specs.LimitFault.{limit_fault_of};
 
-use crate::counts::{pieces_in_block, sites_in_block};
 use crate::depth::depth_of_block;
 use crate::fault::CheckFault;
 use crate::names::{duplicate_name, unknown_name};
@@ -12,6 +11,7 @@ use crate::ranges::range_fault;
 use crate::under_if::site_under_if_in_block;
 use crate::units::units_of_block;
 use array_tree::Program;
+use site_counts::{pieces_in_block, sites_in_block};
 
 /// The greatest depth to which constructs nest.
 const MOST_LEVELS: u32 = 3;

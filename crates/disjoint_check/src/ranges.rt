@@ -1,11 +1,11 @@
 //! Lengths, bounds and counts outside their limits.
 ghost use Rattle.std.specs.Prelude.{◌≡◌, ◌≤◌, map};
 ghost use Rattle.array_tree.specs.Trees.{statement_of, sequence_of, sequences_of, declaration_of, program_of};
-ghost use Rattle.array_meaning.specs.Limits.{count_of};
 ghost use Rattle.disjoint_check.specs.FirstRanges.{declaration_fault, declarations_fault, team_fault, range_fault_in, statement_range_fault, range_fault_among, range_fault, told};
 
 use crate::fault::{CheckFault, Limit};
 use array_tree::{ArrayDecl, Block, Blocks, Program, Stmt};
+use site_counts::count_of;
 
 /// The first declaration, `for`, `par` or `team` outside a limit.
 pub(crate) fn range_fault(program: &Program) -> Option<CheckFault>
@@ -145,13 +145,6 @@ fn bad_range(line: u32, what: Limit, found: i64) -> CheckFault
     ensures { result ≡ CheckFault.BadRange line what found }
 {
     CheckFault::BadRange { line, what, found }
-}
-
-/// How many blocks stand beside one another.
-pub(crate) fn count_of(blocks: &Blocks) -> usize
-    ensures { result ≡ count_of (sequences_of blocks.now) }
-{
-    blocks.blocks.len()
 }
 
 // A number of parts as it is told.

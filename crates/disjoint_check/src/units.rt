@@ -3,7 +3,7 @@ ghost use Rattle.std.specs.Prelude.{◌≡◌, ℕ, ◌+◌, ◌*◌, unsigned_a
 ghost use Rattle.array_tree.specs.Trees.{expression_of, statement_of, sequence_of, sequences_of};
 ghost use Rattle.array_meaning.specs.Work.{span};
 ghost use Rattle.array_meaning.specs.Limits.{expression_units_of, units_of, statement_units_of, branches_units_of, phases_units_of};
-ghost use Rattle.disjoint_check.specs.LimitFault.{capped};
+ghost use Rattle.site_counts.specs.Capped.{capped};
 
 use array_eval::span;
 use array_tree::{Block, Blocks, Expr, Stmt};
@@ -82,7 +82,7 @@ fn units_of_phases(phases: &Blocks, members: u64, iterations: u64) -> u64
 }
 
 // The units of so many turns of a body of so many units: each turn is one more.
-#[tactic(auto, using(crate::proofs::Capped::capped_turns))]
+#[tactic(auto, using(site_counts::proofs::Capped::capped_turns))]
 fn units_of_turns(turns: u64, units: u64) -> u64
     ensures { (body : ℕ) → units ≡ capped body → result ≡ capped (turns * (1 + body)) }
 {

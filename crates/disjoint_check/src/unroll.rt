@@ -3,10 +3,9 @@ ghost use Rattle.std.specs.Prelude.{◌≡◌, [], IfOk, length, unsigned_abs};
 ghost use Rattle.array_tree.specs.Trees.{statement_of, sequence_of, sequences_of, program_of};
 ghost use Rattle.disjoint_check.specs.Unrolled.{with_statement, with_sequence, with_branches, with_phases, repeat, last_site, parts};
 
-use crate::counts::sites_in_block;
-use crate::ranges::count_of;
 use array_eval::span;
 use array_tree::{Block, Blocks, Program, Stmt};
+use site_counts::{count_of, sites_in_block};
 use std::alloc::{AllocError, Global};
 
 /// A site: the construct around it, and its shape. A `par` has no phases, and its branches are its members.

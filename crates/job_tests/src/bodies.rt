@@ -20,9 +20,9 @@ fn expect_writes(
     }
     let program = parse(alloc, text)?;
     let accepted = check(alloc, &program, 1)?;
-    let piece = driven(alloc, body_job(alloc, &accepted)?)?;
+    let piece = driven(alloc, body_job(alloc, accepted.program())?)?;
     assert!(rt; piece.written.pairs() == expected);
-    let direct = piece_of(alloc, body_job(alloc, &accepted)?)?;
+    let direct = piece_of(alloc, body_job(alloc, accepted.program())?)?;
     assert!(rt; direct.written.pairs() == expected);
     Ok(())
 }

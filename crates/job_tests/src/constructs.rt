@@ -22,7 +22,7 @@ fn parsed(alloc: Global, text: &[u8]) -> Result<Program, Fail> {
 
 // The first construct of a program that begins with one.
 fn first_construct<'p>(alloc: Global, accepted: &Accepted<'p>) -> Result<Nested<'p>, Fail> {
-    let mut machine = StepMachine::new(alloc, body_job(alloc, accepted)?)?;
+    let mut machine = StepMachine::new(alloc, body_job(alloc, accepted.program())?)?;
     match stepped(&mut machine) {
         Step::Nest(nested) => Ok(nested),
         Step::More | Step::Finished | Step::NoMemory => Err(Fail::new("no construct")),

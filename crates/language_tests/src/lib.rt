@@ -6,6 +6,8 @@
 #[cfg(test)]
 mod checking;
 #[cfg(test)]
+mod counts;
+#[cfg(test)]
 mod cutting;
 #[cfg(test)]
 mod evaluating;

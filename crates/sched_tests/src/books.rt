@@ -88,7 +88,7 @@ fn a_piece_of_another_job_is_a_stranger(rt: HostRuntime) -> Result<(), Fail> {
     let program = parsed(alloc, TWO_BRANCHES)?;
     let accepted = accepted(alloc, &program)?;
     let mut book = Book::new(alloc, first_jobs(alloc, &accepted)?)?;
-    let stranger = piece_of(alloc, body_job(alloc, &accepted)?)?;
+    let stranger = piece_of(alloc, body_job(alloc, accepted.program())?)?;
     assert_eq!(rt; outcome_of(book.deposit(stranger)), Came::Stranger);
     Ok(())
 }

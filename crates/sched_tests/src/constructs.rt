@@ -27,7 +27,7 @@ pub fn accepted<'p>(alloc: Global, program: &'p Program) -> Result<Accepted<'p>,
 
 // The first construct of a program that begins with one.
 fn first_construct<'p>(alloc: Global, accepted: &Accepted<'p>) -> Result<Nested<'p>, Fail> {
-    let mut machine = StepMachine::new(alloc, body_job(alloc, accepted)?)?;
+    let mut machine = StepMachine::new(alloc, body_job(alloc, accepted.program())?)?;
     match machine.step() {
         Step::Nest(nested) => Ok(nested),
         Step::More | Step::Finished | Step::NoMemory => Err(Fail::new("no construct")),

@@ -13,7 +13,7 @@ use Rattle.array_meaning.specs.Stores.{Store}
 use Rattle.array_meaning.specs.Members.{start_of}
 use Rattle.array_meaning.specs.Plans.{sites_in}
 use Rattle.array_meaning.specs.Limits.{is_up_to, count_of, have_right_ranges, statement_has_right_ranges}
-use Rattle.disjoint_check.specs.LimitFault.{capped}
+use Rattle.site_counts.specs.Capped.{capped}
 use Rattle.array_jobs.specs.declared.work.Work.{Work}
 use Rattle.array_jobs.specs.Works.{WorkTree, member_of, work_of, sites_of}
 use Rattle.array_jobs.proofs.FitLemmas.{both}

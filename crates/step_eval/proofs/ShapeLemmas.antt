@@ -9,7 +9,7 @@ use Rattle.array_tree.specs.declared.tree.Stmt.TheFolds.{fold-roll-Stmt}
 use Rattle.array_tree.specs.Trees.{Statement, Assign, For, If, Par, Team, Sequence, Sequences, no_more, beside, statement_of, sequences_of, statement_step, block_step, blocks_step}
 use Rattle.array_tree.proofs.Views.{sequences_of-blocks}
 use Rattle.array_meaning.specs.Limits.{is_up_to, count_of, have_right_ranges, statement_has_right_ranges}
-use Rattle.disjoint_check.proofs.Trees.{count_of-sequences}
+use Rattle.site_counts.proofs.Trees.{count_of-sequences}
 use Rattle.array_jobs.proofs.FitLemmas.{both}
 use Rattle.step_eval.specs.Nests.{phases_of, is_construct}
 use Rattle.step_eval.specs.Shapes.{members_of}

@@ -9,7 +9,7 @@ use Rattle.array_meaning.specs.Stores.{Arrays, arrays_of}
 use Rattle.array_meaning.specs.Plans.{statement_sites_in}
 use Rattle.array_eval.specs.Traces.{Trace}
 use Rattle.array_eval.specs.Overlays.{Laid}
-use Rattle.disjoint_check.specs.LimitFault.{capped}
+use Rattle.site_counts.specs.Capped.{capped}
 use Rattle.array_jobs.specs.Jobs.{JobParts, job_of}
 use Rattle.step_eval.specs.declared.stage.Stage.{Stage}
 use Rattle.step_eval.specs.declared.stage.Stage.TheVariants.{Going, Awaiting, Failed}

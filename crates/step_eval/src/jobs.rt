@@ -3,7 +3,7 @@ ghost use Rattle.std.specs.Prelude.{◌≡◌, ◌+◌, ◌*◌, ◌<◌, ◌≤
 ghost use Rattle.array_tree.specs.Trees.{statement_of, sequence_of, sequences_of};
 ghost use Rattle.array_meaning.specs.Work.{span};
 ghost use Rattle.array_meaning.specs.Limits.{count_of};
-ghost use Rattle.disjoint_check.specs.LimitFault.{capped};
+ghost use Rattle.site_counts.specs.Capped.{capped};
 ghost use Rattle.array_jobs.specs.Works.{work_of};
 ghost use Rattle.array_jobs.specs.Jobs.{job_of};
 ghost use Rattle.array_jobs.specs.Groups.{IsGroup};
@@ -13,7 +13,7 @@ use crate::nested::Nested;
 use array_eval::{Store, start_of_member};
 use array_jobs::{Job, Work, sites_in};
 use array_tree::{Block, Blocks, Name, Stmt};
-use disjoint_check::sites_in_turns;
+use site_counts::sites_in_turns;
 use std::alloc::{AllocError, Global};
 
 /// The jobs of the pieces of a phase, counted from 0, in the order of their places: one for each branch or member. They

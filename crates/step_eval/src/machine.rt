@@ -15,7 +15,7 @@ use array_eval::{Layout, MarkedStore, Overlay};
 use array_jobs::{Job, Piece};
 use array_tree::Stmt;
 use contexts::{Machine, Step};
-use disjoint_check::sites_in_statement;
+use site_counts::sites_in_statement;
 use std::alloc::{AllocError, Global};
 use std::marker::Model;
 

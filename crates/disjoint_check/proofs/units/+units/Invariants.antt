@@ -1,7 +1,7 @@
 use Rattle.std.proofs.Common.{◌≡◌, ◌≤◌, ◌+◌, ◌-◌, ◌^◌, drop, map}
 use Rattle.array_tree.specs.Trees.{statement_of, sequence_of, sequences_of, sequence, sequences}
 use Rattle.array_meaning.specs.Limits.{units_of, branches_units_of, phases_units_of}
-use Rattle.disjoint_check.specs.LimitFault.{capped}
+use Rattle.site_counts.specs.Capped.{capped}
 use Rattle.disjoint_check.proofs.units.+units.Given as goal
 
 abbrev pub invariant-units_of_block-loop-statement : goal.invariant-units_of_block-loop-statement

@@ -7,8 +7,8 @@ use Rattle.array_tree.proofs.Views.{sequences_of-blocks}
 use Rattle.array_meaning.specs.Work.{span}
 use Rattle.array_meaning.specs.Plans.{sites_in}
 use Rattle.array_meaning.specs.Limits.{count_of}
-use Rattle.disjoint_check.proofs.Trees.{count_of-sequences}
-use Rattle.disjoint_check.specs.LimitFault.{capped}
+use Rattle.site_counts.proofs.Trees.{count_of-sequences}
+use Rattle.site_counts.specs.Capped.{capped}
 use Rattle.step_eval.specs.Nests.{sites_before}
 use Rattle.step_eval.proofs.PieceLemmas.{none_before, capped_before}
 use Rattle.step_eval.proofs.jobs.sites_before.Goals as goal

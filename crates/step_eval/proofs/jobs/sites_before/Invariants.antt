@@ -1,7 +1,7 @@
 use Rattle.std.proofs.Common.{◌≡◌, ◌*◌}
 use Rattle.array_tree.specs.Trees.{sequences_of}
 use Rattle.array_meaning.specs.Work.{span}
-use Rattle.disjoint_check.specs.LimitFault.{capped}
+use Rattle.site_counts.specs.Capped.{capped}
 use Rattle.step_eval.specs.Nests.{sites_before}
 use Rattle.step_eval.proofs.jobs.sites_before.Given as goal
 

@@ -5,7 +5,7 @@ use Rattle.array_tree.specs.declared.tree.Blocks.{out-Blocks}
 use Rattle.array_tree.specs.Trees.{Team, sequence_of, sequences_of, statement_of}
 use Rattle.array_tree.proofs.Views.{sequences_of-blocks}
 use Rattle.array_meaning.specs.Limits.{count_of}
-use Rattle.disjoint_check.proofs.Trees.{count_of-sequences}
+use Rattle.site_counts.proofs.Trees.{count_of-sequences}
 use Rattle.step_eval.specs.Nests.{phases_of, phase_at, member_trees, piece_trees}
 use Rattle.step_eval.proofs.PieceLemmas.{team_view, phase_at_place}
 use Rattle.step_eval.proofs.jobs.works_of.Goals as goal

@@ -1,8 +1,8 @@
 use Rattle.std.proofs.Common.{◌≡◌, ◌≤◌, ◌+◌, ◌-◌, ◌^◌, drop, map}
 use Rattle.array_tree.specs.Trees.{statement_of, sequence_of, sequences_of, sequence, sequences}
 use Rattle.array_meaning.specs.Limits.{pieces_in, branches_pieces_in}
-use Rattle.disjoint_check.specs.LimitFault.{capped}
-use Rattle.disjoint_check.proofs.counts.+pieces.Given as goal
+use Rattle.site_counts.specs.Capped.{capped}
+use Rattle.site_counts.proofs.counts.+pieces.Given as goal
 
 abbrev pub invariant-pieces_in_block-loop-statement : goal.invariant-pieces_in_block-loop-statement
 invariant-pieces_in_block-loop-statement l = record {

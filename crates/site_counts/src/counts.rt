@@ -1,12 +1,11 @@
-//! How many sites a program enters, and how many pieces they have.
+//! How many sites a block enters, and how many pieces they have.
 ghost use Rattle.std.specs.Prelude.{◌≡◌, ℕ, ◌+◌, ◌*◌};
 ghost use Rattle.array_tree.specs.Trees.{statement_of, sequence_of, sequences_of};
 ghost use Rattle.array_meaning.specs.Work.{span};
 ghost use Rattle.array_meaning.specs.Plans.{sites_in, statement_sites_in, branches_sites_in};
-ghost use Rattle.array_meaning.specs.Limits.{pieces_in, statement_pieces_in, branches_pieces_in};
-ghost use Rattle.disjoint_check.specs.LimitFault.{capped};
+ghost use Rattle.array_meaning.specs.Limits.{count_of, pieces_in, statement_pieces_in, branches_pieces_in};
+ghost use Rattle.site_counts.specs.Capped.{capped};
 
-use crate::ranges::count_of;
 use array_eval::span;
 use array_tree::{Block, Blocks, Stmt};
 
@@ -84,7 +83,7 @@ fn sites_among(blocks: &Blocks) -> u64
 
 /// How many pieces the sites have that a block enters.
 #[cycle(pieces)]
-pub(crate) fn pieces_in_block(block: &Block) -> u64
+pub fn pieces_in_block(block: &Block) -> u64
     ensures { result ≡ capped (pieces_in (sequence_of block.now)) }
 {
     let mut pieces: u64 = 0;
@@ -138,6 +137,13 @@ fn pieces_among(blocks: &Blocks) -> u64
         pieces = pieces.saturating_add(pieces_in_block(block));
     }
     pieces
+}
+
+/// How many blocks stand beside one another.
+pub fn count_of(blocks: &Blocks) -> usize
+    ensures { result ≡ count_of (sequences_of blocks.now) }
+{
+    blocks.blocks.len()
 }
 
 // So many times a number.

@@ -1,7 +1,7 @@
 -- Arithmetic that stops at the greatest number of 64 bits.
 use Rattle.std.proofs.Common.{◌≡◌, ℕ, zero, suc, ◌+◌, ◌*◌, ◌-◌, ◌^◌, ◌≤◌, min, arith, refl, inl, inr}
 use Rattle.std.proofs.lemmas.Bool.{cases_lt}
-use Rattle.disjoint_check.specs.LimitFault.{capped}
+use Rattle.site_counts.specs.Capped.{capped}
 
 least : (n x m : ℕ) → m ≤ x → m ≤ suc n * x
 least n x m h = grind arith

@@ -1,8 +1,8 @@
 use Rattle.std.proofs.Common.{◌≡◌, ◌≤◌, ◌+◌, ◌-◌, ◌^◌, drop, map}
 use Rattle.array_tree.specs.Trees.{statement_of, sequence_of, sequences_of, sequence, sequences}
 use Rattle.array_meaning.specs.Plans.{sites_in, branches_sites_in}
-use Rattle.disjoint_check.specs.LimitFault.{capped}
-use Rattle.disjoint_check.proofs.counts.+sites.Given as goal
+use Rattle.site_counts.specs.Capped.{capped}
+use Rattle.site_counts.proofs.counts.+sites.Given as goal
 
 abbrev pub invariant-sites_in_block-loop-statement : goal.invariant-sites_in_block-loop-statement
 invariant-sites_in_block-loop-statement l = record {

@@ -2,8 +2,8 @@ use Rattle.std.proofs.Common.{ap, sym, ◌∙◌, rules, ◌≡◌, length}
 use Rattle.array_tree.specs.declared.tree.Blocks.{out-Blocks}
 use Rattle.array_tree.proofs.Views.{sequences_of-blocks}
 use Rattle.array_meaning.specs.Limits.{count_of}
-use Rattle.disjoint_check.proofs.Trees.{count_of-sequences}
-use Rattle.disjoint_check.proofs.ranges.count_of.Goals as goal
+use Rattle.site_counts.proofs.Trees.{count_of-sequences}
+use Rattle.site_counts.proofs.counts.count_of.Goals as goal
 
 pub returns : goal.returns
 returns c =

@@ -1,0 +1,6 @@
+//! How many sites a block enters, and how many pieces they have, without a store.
+#![tactic(auto)]
+
+mod counts;
+
+pub use counts::{count_of, pieces_in_block, sites_in_block, sites_in_statement, sites_in_turns};
