@@ -1,8 +1,7 @@
 //! Whole programs as jobs.
 
-use crate::driving::driven;
-use array_jobs::{body_job, piece_of};
-use array_lang::parse;
+use crate::driving::{driven, parsed};
+use array_jobs::{Piece, body_job, piece_of, sites_in};
 use disjoint_check::check;
 use std::alloc::Global;
 use std::process::Abort;
@@ -15,10 +14,7 @@ fn expect_writes(
     text: &[u8],
     expected: &[(u16, i64)],
 ) -> Result<(), Fail> {
-    if text.len() > 65_536 {
-        return Err(Fail::new("a longer text than any program's"));
-    }
-    let program = parse(alloc, text)?;
+    let program = parsed(alloc, text)?;
     let accepted = check(alloc, &program, 1)?;
     let piece = driven(alloc, body_job(alloc, accepted.program())?)?;
     assert!(rt; piece.written.pairs() == expected);
@@ -78,4 +74,33 @@ fn a_construct_in_each_turn_of_a_loop(rt: HostRuntime) -> Result<(), Fail> {
         text.as_slice(),
         [(0, 6), (1, 9)].as_slice(),
     )
+}
+
+#[test]
+fn a_loop_in_a_choice(rt: HostRuntime) -> Result<(), Fail> {
+    let text = b"array a[4];
+        if a[3] == 0 { for i in 1..3 { a[i] = a[i - 1] + i; } } else { a[0] = 9; }";
+    expect_writes(
+        &rt,
+        rt.alloc(),
+        text.as_slice(),
+        [(1, 1), (2, 3)].as_slice(),
+    )
+}
+
+#[test]
+fn a_job_is_copied_whole(rt: HostRuntime) -> Result<(), Fail> {
+    let alloc = rt.alloc();
+    let program = parsed(
+        alloc,
+        b"array a[4]; team i in 0..2 by 2 { a[i] = i + 5; }".as_slice(),
+    )?;
+    let accepted = check(alloc, &program, 1)?;
+    let job = body_job(alloc, accepted.program())?;
+    let copy = job.copy()?;
+    assert!(rt; copy == job);
+    assert_eq!(rt; sites_in(&copy.work), 1);
+    let Piece { written, .. } = piece_of(alloc, job)?;
+    assert_eq!(rt; Piece::new(copy, written).job.first, 1);
+    Ok(())
 }

@@ -1,24 +1,14 @@
 //! Constructs that are handed out, their jobs, and the pieces of these.
 
-use crate::driving::stepped;
+use crate::driving::{parsed, stepped};
 use array_eval::{MarkedStore, Overlay, Store};
 use array_jobs::{Job, body_job, copy_jobs, written_by};
-use array_lang::parse;
-use array_tree::Program;
 use contexts::Step;
 use disjoint_check::{Accepted, check};
-use std::alloc::Global;
+use std::alloc::{AllocError, Global};
 use std::process::Abort;
 use std::test::Fail;
 use step_eval::{Kind, Nested, StepMachine, compute, jobs_of};
-
-// The program of a text.
-fn parsed(alloc: Global, text: &[u8]) -> Result<Program, Fail> {
-    if text.len() > 65_536 {
-        return Err(Fail::new("a longer text than any program's"));
-    }
-    Ok(parse(alloc, text)?)
-}
 
 // The first construct of a program that begins with one.
 fn first_construct<'p>(alloc: Global, accepted: &Accepted<'p>) -> Result<Nested<'p>, Fail> {
@@ -108,5 +98,27 @@ fn jobs_are_copied_in_order(rt: HostRuntime) -> Result<(), Fail> {
     assert!(rt; copies.as_slice() == jobs.as_slice());
     assert_eq!(rt; copies.len(), 2);
     assert_eq!(rt; (copies[1].place, copies[1].first), (1, 2));
+    Ok(())
+}
+
+// The places of the jobs of a construct's first phase, and the numbers of their first sites.
+fn places_and_sites(alloc: Global, nested: &Nested) -> Result<Vec<(u8, u16)>, AllocError> {
+    let _phases = nested.phases();
+    let mut found = Vec::new(alloc);
+    for job in &jobs_of(alloc, nested, 0, &nested.store)? {
+        found.push((job.place, job.first))?;
+    }
+    Ok(found)
+}
+
+#[test]
+fn a_member_counts_the_sites_of_those_before_it(rt: HostRuntime) -> Result<(), Fail> {
+    let alloc = rt.alloc();
+    let text = b"array a[4]; team i in 0..4 by 2 { par { { a[i] = i + 5; } { } } }";
+    let program = parsed(alloc, text.as_slice())?;
+    let nested = first_construct(alloc, &check(alloc, &program, 1)?)?;
+    assert!(rt; nested.copy()? == nested);
+    let found = places_and_sites(alloc, &nested)?;
+    assert_eq!(rt; found.as_slice(), [(0, 2), (1, 4)].as_slice());
     Ok(())
 }

@@ -1,12 +1,22 @@
-//! Machines that are run to their ends.
+//! Texts that are parsed, and machines that are run to their ends.
 ghost use Rattle.std.specs.Prelude.{◌≡◌, false, IfOk, IsTrue};
 ghost use Rattle.step_eval.specs.Machines.{is_awaiting, Advances, IsFinished};
 
 use array_jobs::{Job, Piece};
+use array_lang::parse;
+use array_tree::Program;
 use contexts::{Machine, Step};
 use std::alloc::Global;
 use std::test::Fail;
 use step_eval::{Nested, StepMachine, compute};
+
+/// The program of a text.
+pub fn parsed(alloc: Global, text: &[u8]) -> Result<Program, Fail> {
+    if text.len() > 65_536 {
+        return Err(Fail::new("a longer text than any program's"));
+    }
+    Ok(parse(alloc, text)?)
+}
 
 /// One step.
 pub fn stepped<'p>(machine: &mut StepMachine<'p>) -> Step<Nested<'p>>

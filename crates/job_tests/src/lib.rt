@@ -7,3 +7,5 @@ mod bodies;
 mod constructs;
 #[cfg(test)]
 mod driving;
+#[cfg(test)]
+mod running;

@@ -1,4 +1,4 @@
-use Rattle.layer_tests.proofs.machines.+run_context.Given as goal
+use Rattle.job_tests.proofs.running.+run_context.Given as goal
 
 -- each further run has one step less
 abbrev pub decreases-run_context : goal.decreases-run_context

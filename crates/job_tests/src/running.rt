@@ -1,0 +1,72 @@
+//! Contexts that run the body of a program.
+ghost use Rattle.std.specs.Prelude.{◌≡◌, false, IfOk};
+ghost use Rattle.step_eval.specs.Machines.{is_awaiting, fresh_machine};
+
+use crate::driving::parsed;
+use array_jobs::{Job, Piece, body_job};
+use contexts::{
+    InitRefused, Running, Step, ctx_block, ctx_fini, ctx_init, ctx_pause, ctx_resume, ctx_run,
+    ctx_unblock,
+};
+use disjoint_check::check;
+use std::alloc::{AllocError, Global};
+use std::test::Fail;
+use step_eval::StepMachine;
+
+// A running context with a machine for the job.
+fn run<'p>(alloc: Global, job: Job<'p>) -> Result<Running<StepMachine<'p>>, AllocError>
+    ensures { IfOk result (λ c. c ≡ fresh_machine job.entry) }
+{
+    match ctx_init(alloc, StepMachine::new(alloc, job)?) {
+        Ok(fresh) => Ok(ctx_run(fresh)),
+        Err(InitRefused { machine: _ }) => Err(AllocError),
+    }
+}
+
+// What may lie between two steps: 0 is nothing, 1 a pause, 2 a wait at a mutex.
+fn put_aside<'p>(running: Running<StepMachine<'p>>, how: u8) -> Running<StepMachine<'p>>
+    ensures { result ≡ running.entry }
+{
+    match how {
+        0 => running,
+        1 => ctx_resume(ctx_pause(running)),
+        _ => ctx_resume(ctx_unblock(ctx_block(running))),
+    }
+}
+
+// Runs a context to its end, where it has at most so many steps left.
+fn run_context<'p>(running: Running<StepMachine<'p>>, steps: u8, how: u8) -> Option<Piece<'p>>
+    requires { is_awaiting running.stage ≡ false }
+{
+    let mut running = running;
+    if steps > 0 {
+        match running.step() {
+            Step::More => return run_context(put_aside(running, how), steps - 1, how),
+            Step::Finished => return Some(ctx_fini(running).into_machine().into_piece()),
+            Step::Nest(_) | Step::NoMemory => {}
+        }
+    }
+    drop(running.abandon());
+    None
+}
+
+#[test]
+fn a_context_runs_a_body(rt: HostRuntime) -> Result<(), Fail> {
+    let alloc = rt.alloc();
+    let program = parsed(alloc, b"array a[4]; a[0] = 1;".as_slice())?;
+    let accepted = check(alloc, &program, 1)?;
+    for how in 0..3 {
+        // The assignment, the end of the block, and that nothing is left.
+        for steps in 2..4 {
+            let running = run(alloc, body_job(alloc, accepted.program())?)?;
+            match run_context(running, steps, how) {
+                Some(piece) => {
+                    assert_eq!(rt; steps, 3);
+                    assert_eq!(rt; piece.written.pairs(), [(0, 1)].as_slice());
+                }
+                None => assert_eq!(rt; steps, 2),
+            }
+        }
+    }
+    Ok(())
+}
