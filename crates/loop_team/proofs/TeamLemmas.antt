@@ -1,0 +1,129 @@
+-- Teams as their phases open.
+use Rattle.std.proofs.Common.{◌≡◌, ℕ, suc, ◌+◌, ◌<◌, List, [], ◌∷◌, map, length, drop, false, Result, Ok, Err, inl, inr, sym, ap, ◌∙◌, subst, add-one}
+use Rattle.std.specs.Result.{IsErr}
+use Rattle.std.proofs.Math.Seq.{drop-drop}
+use Rattle.std.proofs.lemmas.Bool.{false≢true}
+use Rattle.std.proofs.lemmas.Simd.{map-map}
+use Rattle.array_meaning.specs.Stores.{Store, Write, after}
+use Rattle.array_meaning.specs.Pieces.{lays, merged}
+use Rattle.array_meaning.proofs.StepLemmas.{length_after}
+use Rattle.array_eval.specs.Overlays.{Laid}
+use Rattle.array_eval.specs.Traces.{Trace, noted_all}
+use Rattle.array_eval.proofs.TraceLemmas.{AreBelow, below_of, cells_after, marked_after, length_marks}
+use Rattle.array_jobs.specs.Works.{WorkTree, sites_of}
+use Rattle.array_jobs.specs.Jobs.{JobTree, job_of}
+use Rattle.array_jobs.specs.PieceParts.{PieceParts, piece_of_job}
+use Rattle.join_book.specs.Books.{BookParts, IsFull, all_writes}
+use Rattle.join_book.proofs.BookLemmas.{piece_below}
+use Rattle.lithe_barrier.specs.Arrivals.{Arrives, Fills}
+use Rattle.lithe_barrier.specs.declared.state.Arrival.{Arrival}
+use Rattle.lithe_barrier.specs.declared.state.Arrival.TheVariants.{Opened}
+use Rattle.sched_api.specs.declared.scheduler.Next.{Next}
+use Rattle.sched_api.specs.declared.scheduler.Next.TheVariants.{Run, Lend, Nothing}
+use Rattle.work_agenda.specs.Agenda.{AgendaParts, TakesNext, PutsReady}
+use Rattle.step_eval.specs.Computed.{HasReached}
+use Rattle.step_eval.specs.Nests.{NestedTree, NestedParts, nested_of, phases_of, piece_trees, numbered, jobs_in, AreFitJobs, IsFitNest}
+use Rattle.step_eval.specs.Phases.{phase_writes, store_before}
+use Rattle.step_eval.proofs.PieceLemmas.{fit_other_store}
+use Rattle.step_eval.proofs.PhaseLemmas.{phases_are_merged}
+use Rattle.step_eval.proofs.WriteLemmas.{below_lays}
+use Rattle.loop_team.specs.Teams.{TeamParts, AreJobsIn, IsOver, IsKept, GoesOn, Opens, FailsToGoOn, MovesOn, phases_in, writes_in, opened_team, failed_team, with_barrier}
+
+-- ---- what a phase writes
+
+-- all pieces of a phase's jobs, merged, are what the phase writes
+pub phase_written : (nested : NestedParts) → IsFitNest (nested_of nested) → (phase : ℕ) (book : BookParts) → AreJobsIn nested phase book.jobs →
+    all_writes book ≡ writes_in nested phase
+phase_written nested fit phase book jobs =
+    let tree = nested_of nested in
+    let store = store_before tree phase in
+    ap (λ ps. merged ps []) (sym (map-map piece_of_job job_of book.jobs) ∙ ap (map piece_of_job) jobs.same)
+    ∙ phases_are_merged tree fit phase store jobs.there (jobs_in tree phase store) (record { to = λ job is. is; from = λ job is. is })
+
+-- and lie inside the store
+merged_below : (nested : NestedTree) (phase : ℕ) (store : Store) (place first : ℕ) (works : List WorkTree) (laid : List Write) →
+    AreFitJobs (numbered nested phase store place first works) → AreBelow (length store) laid →
+    AreBelow (length store) (merged (map piece_of_job (numbered nested phase store place first works)) laid)
+merged_below nested phase store place first [] laid fit below = below
+merged_below nested phase store place first (work ∷ works) laid fit below =
+    let job : JobTree = record { arrays = nested.arrays; site = nested.site; phase = phase; place = place; first = first; work = work; vars = nested.vars; store = store } in
+    let piece = piece_of_job job in
+    merged_below nested phase store (place + 1) (first + sites_of work) works (lays piece laid) fit.1
+    (below_lays (length store) piece laid (below_of (length store) piece (piece_below job fit.0)) below)
+
+phase_below : (nested : NestedTree) → IsFitNest nested → (phase : ℕ) (store : Store) → phase < phases_of nested.construct →
+    length store ≡ length nested.store → AreBelow (length store) (phase_writes nested phase store)
+phase_below nested fit phase store there same =
+    let jobs = jobs_in nested phase store in
+    let inside : AreBelow (length store) (merged (map piece_of_job jobs) [])
+    = merged_below nested phase store 0 _ (piece_trees nested.construct phase) [] (fit_other_store nested fit phase there store same) tt in
+    subst (λ ws. AreBelow (length store) ws) (phases_are_merged nested fit phase store there jobs (record { to = λ job is. is; from = λ job is. is })) inside
+
+-- one more phase is on the store
+pub reached_more : (nested : NestedTree) → IsFitNest nested → (phase : ℕ) → phase < phases_of nested.construct → (store : Trace) → HasReached nested phase store →
+    HasReached nested (suc phase) (noted_all (phase_writes nested phase (store_before nested phase)) store)
+reached_more nested fit phase there store reached =
+    let before = store_before nested phase in
+    let ws = phase_writes nested phase before in
+    let size = ap length (cells_after ws store) ∙ length_after ws store.cells in
+    let cells : length store.cells ≡ length before = ap length reached.cells in
+    let below = phase_below nested fit phase before there (sym cells ∙ reached.same) in
+    record {
+      cells = cells_after ws store ∙ ap (after ws) reached.cells;
+      written = marked_after ws store (subst (λ n. AreBelow n ws) (sym cells) below) (sym reached.marks) ∙ ap (lays ws) reached.written;
+      marks = length_marks ws store ∙ reached.marks ∙ sym size;
+      same = size ∙ reached.same;
+    }
+
+-- ---- a team, as its fields tell it and as it is known before
+
+-- the store after one more phase
+pub reached_next : (team now : TeamParts) (store next : Trace) (ws : List Write) → team ≡ now → IsKept team store → now.opened < phases_in now.nested →
+    ws ≡ writes_in now.nested now.opened → next ≡ noted_all ws store → HasReached (nested_of team.nested) (team.opened + 1) next
+reached_next team now store next ws e kept there is merged =
+    let there_too : team.opened < phases_in team.nested = subst (λ (t : TeamParts). t.opened < phases_in t.nested) (sym e) there in
+    let same : ws ≡ writes_in team.nested team.opened = subst (λ (t : TeamParts). ws ≡ writes_in t.nested t.opened) (sym e) is in
+    let reached : HasReached (nested_of team.nested) (suc team.opened) (noted_all (writes_in team.nested team.opened) store)
+    = reached_more (nested_of team.nested) kept.fit team.opened there_too store kept.reached in
+    rw (merged, same, add-one) reached
+
+-- the last phase has opened where a team is over that isn't failed
+pub all_opened : (team now : TeamParts) → team ≡ now → IsOver now → team.failed ≡ false → team.opened ≡ phases_in team.nested
+all_opened team now e over fine = found (subst IsOver (sym e) over)
+  where
+    found : IsOver team → team.opened ≡ phases_in team.nested
+    found (inl all) = all
+    found (inr failed) = absurd (false≢true (sym fine ∙ failed))
+
+-- the piece opened the barrier
+pub moves_opened : (team now : TeamParts) (piece : PieceParts) (written : Laid) (full : BookParts) (later : TeamParts) → team ≡ now →
+    Arrives team.barrier piece (Opened written) full → written.pairs ≡ writes_in team.nested team.opened →
+    GoesOn (opened_team (with_barrier team full)) later →
+    (x : BookParts) × Opens now piece written x × GoesOn (opened_team (with_barrier now x)) later
+moves_opened team now piece written full later e arrives writes goes =
+    let P : TeamParts → Type 0 = λ t. (x : BookParts) × Opens t piece written x × GoesOn (opened_team (with_barrier t x)) later in
+    subst P e (full, record { arrives = arrives; writes = writes }, goes)
+
+-- and there was no memory for the next phase
+pub moves_failed : {E : Type 0} → (team now : TeamParts) (piece : PieceParts) (answer : Result Arrival E) (full : BookParts) (later : TeamParts) → team ≡ now →
+    IsErr answer → Fills team.barrier piece full → IsFull full → (IsOver (opened_team (with_barrier team full)) → ⊥) →
+    later ≡ failed_team (opened_team (with_barrier team full)) → MovesOn now piece answer later
+moves_failed team now piece (Ok arrival) full later e is fills none wanted failed = absurd (false≢true is)
+moves_failed team now piece (Err refused) full later e is fills none wanted failed =
+    let P : TeamParts → Type 0 = λ t. (x : BookParts) × FailsToGoOn t piece x later in
+    subst P e (full, record { fills = fills; none_left = none; wanted = wanted; failed = failed })
+
+-- ---- the members that aren't begun
+
+-- they stay in order as they are handed out
+pub next_in_order : {C : Type 0} → (all : List C) (before later : AgendaParts C) (next : Next C) → TakesNext before next later →
+    (begun : ℕ) × (before.unbegun ≡ drop begun all) → (begun : ℕ) × (later.unbegun ≡ drop begun all)
+next_in_order all before later (Run c) (inl ready) known = (known.0, ap (λ a. a.unbegun) ready.rest ∙ known.1)
+next_in_order all before later (Run c) (inr taken) known = (known.0 + 1, ap (drop 1) (sym taken.first ∙ known.1) ∙ drop-drop 1 known.0 all)
+next_in_order all before later (Lend site) taken known = (known.0, ap (λ a. a.unbegun) taken.rest ∙ known.1)
+next_in_order all before later Nothing idle known = (known.0, ap (λ a. a.unbegun) idle.1 ∙ known.1)
+
+pub ready_in_order : {C : Type 0} → (all : List C) (before later : AgendaParts C) (c : C) (answer : Result (Unit {0}) C) → PutsReady before c answer later →
+    (begun : ℕ) × (before.unbegun ≡ drop begun all) → (begun : ℕ) × (later.unbegun ≡ drop begun all)
+ready_in_order all before later c (Ok done) put known = (known.0, ap (λ a. a.unbegun) put.1 ∙ known.1)
+ready_in_order all before later c (Err back) put known = (known.0, ap (λ a. a.unbegun) put.2 ∙ known.1)

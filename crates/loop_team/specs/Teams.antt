@@ -1,0 +1,153 @@
+-- The scheduler of one `team`.
+use Rattle.std.specs.Prelude.{◌≡◌, ◌⊎◌, ℕ, suc, ◌*◌, ◌<◌, [], map, drop, true, false, Bool, Result, Ok, Err, List}
+use Rattle.array_tree.specs.Trees.{statement_of}
+use Rattle.array_meaning.specs.Stores.{Write}
+use Rattle.array_eval.specs.Overlays.{Laid}
+use Rattle.array_eval.specs.Traces.{Trace}
+use Rattle.array_jobs.specs.Jobs.{JobParts, job_of}
+use Rattle.array_jobs.specs.PieceParts.{PieceParts}
+use Rattle.join_book.specs.Books.{BookParts, Open, IsMarked, IsFull, open_book}
+use Rattle.lithe_barrier.specs.Arrivals.{Arrives, Fills}
+use Rattle.lithe_barrier.specs.declared.state.Arrival.{Arrival}
+use Rattle.lithe_barrier.specs.declared.state.Arrival.TheVariants.{Kept, Opened, Stranger}
+use Rattle.sched_api.specs.Wishes.{wishes_after}
+use Rattle.sched_api.specs.declared.hearing.Told.{Told}
+use Rattle.sched_api.specs.declared.scheduler.Next.{Next}
+use Rattle.work_agenda.specs.Agenda.{AgendaParts, TakesNext, PutsReady}
+use Rattle.step_eval.specs.Computed.{HasReached}
+use Rattle.step_eval.specs.Nests.{NestedParts, nested_of, phases_of, jobs_in, IsFitNest}
+use Rattle.step_eval.specs.Phases.{phase_writes, store_before}
+use Rattle.step_eval.specs.Shapes.{members_of}
+use Rattle.loop_team.specs.declared.team.Phase.{Phase}
+use Rattle.loop_team.specs.declared.work.TeamWork.{TeamWork}
+use Rattle.loop_team.specs.declared.work.TeamWork.TheVariants.{Begin}
+
+-- What contracts see of a team.
+pub record TeamParts : Type 0 where
+  -- its construct, with the variables and the store before it
+  pub nested : NestedParts
+  -- what it has for harts
+  pub agenda : AgendaParts TeamWork
+  -- how many phases have opened
+  pub opened : ℕ
+  -- the places of the phase that runs, or that ran last
+  pub barrier : BookParts
+  pub failed : Bool
+
+-- How many wishes there is room for, for each member: it is in one child at a time.
+abbrev pub wishes_per_member : ℕ
+wishes_per_member = 15
+
+-- How many phases a construct has, and how many members.
+abbrev pub phases_in : NestedParts → ℕ
+phases_in nested = phases_of (statement_of nested.construct)
+
+abbrev pub members_in : NestedParts → ℕ
+members_in nested = members_of (statement_of nested.construct)
+
+-- What a phase writes from the store that those before it leave.
+abbrev pub writes_in : NestedParts → ℕ → List Write
+writes_in nested phase = phase_writes (nested_of nested) phase (store_before (nested_of nested) phase)
+
+-- These are the jobs of the members in a phase, from the store that the phases before it leave.
+pub record AreJobsIn (nested : NestedParts) (phase : ℕ) (jobs : List JobParts) : Type 0 where
+  pub there : phase < phases_in nested
+  pub same : map job_of jobs ≡ jobs_in (nested_of nested) phase (store_before (nested_of nested) phase)
+
+-- The last phase has opened, or the team is failed.
+abbrev pub IsOver : TeamParts → Type 0
+IsOver team = (team.opened ≡ phases_in team.nested) ⊎ (team.failed ≡ true)
+
+-- The team before its first phase, whose members have these jobs.
+abbrev pub new_team : NestedParts → List JobParts → TeamParts
+new_team nested jobs = record {
+  nested = nested;
+  agenda = record {
+    ready = [];
+    room = members_in nested;
+    unbegun = map Begin jobs;
+    wishes = record { sites = []; room = wishes_per_member * members_in nested };
+  };
+  opened = 0;
+  barrier = open_book jobs;
+  failed = false;
+}
+
+pub record IsNew (nested : NestedParts) (team : TeamParts) : Type 0 where
+  pub jobs : AreJobsIn nested 0 team.barrier.jobs
+  pub rest : team ≡ new_team nested team.barrier.jobs
+
+-- One more phase has opened.
+abbrev pub opened_team : TeamParts → TeamParts
+opened_team team = record team { opened = suc team.opened }
+
+-- The members of a phase, with these jobs, are there to be begun, in place of any that are left.
+abbrev pub with_phase : TeamParts → List JobParts → TeamParts
+with_phase team jobs = record team { agenda = record team.agenda { unbegun = map Begin jobs }; barrier = open_book jobs }
+
+abbrev pub with_barrier : TeamParts → BookParts → TeamParts
+with_barrier team barrier = record team { barrier = barrier }
+
+abbrev pub with_agenda : TeamParts → AgendaParts TeamWork → TeamParts
+with_agenda team agenda = record team { agenda = agenda }
+
+abbrev pub failed_team : TeamParts → TeamParts
+failed_team team = record team { failed = true }
+
+-- Of a team whose phase has just opened: it is over, or its next phase is there to be begun.
+pub record GoesOn (team after : TeamParts) : Type 0 where
+  pub over : IsOver team → after ≡ team
+  pub next : ¬ IsOver team → AreJobsIn team.nested team.opened after.barrier.jobs × (after ≡ with_phase team after.barrier.jobs)
+
+-- The piece was the last one that the barrier waited for, and these are its places then.
+pub record Opens (before : TeamParts) (piece : PieceParts) (written : Laid) (full : BookParts) : Type 0 where
+  pub arrives : Arrives before.barrier piece (Opened written) full
+  pub writes : written.pairs ≡ writes_in before.nested before.opened
+
+-- The team goes on without the next phase, for which there was no memory.
+pub record FailsToGoOn (before : TeamParts) (piece : PieceParts) (full : BookParts) (after : TeamParts) : Type 0 where
+  pub fills : Fills before.barrier piece full
+  pub none_left : IsFull full
+  pub wanted : ¬ IsOver (opened_team (with_barrier before full))
+  pub failed : after ≡ failed_team (opened_team (with_barrier before full))
+
+-- Of a team and a piece, the answer and the team afterwards: the barrier's, and where it opens the team goes on. Want of memory
+-- comes only where the next phase is to begin, and fails the team.
+abbrev pub MovesOn : {E : Type 0} → TeamParts → PieceParts → Result Arrival E → TeamParts → Type 0
+MovesOn before piece (Ok Kept) after = Arrives before.barrier piece Kept after.barrier × (after ≡ with_barrier before after.barrier)
+MovesOn before piece (Ok (Opened written)) after =
+    (full : BookParts) × Opens before piece written full × GoesOn (opened_team (with_barrier before full)) after
+MovesOn before piece (Ok (Stranger back)) after = Arrives before.barrier piece (Stranger back) before.barrier × (after ≡ before)
+MovesOn before piece (Err refused) after = (full : BookParts) × FailsToGoOn before piece full after
+
+-- The members that aren't begun are the last ones, in the order of their places.
+abbrev pub AreInOrder : TeamParts → Type 0
+AreInOrder team = (begun : ℕ) × (team.agenda.unbegun ≡ drop begun (map Begin team.barrier.jobs))
+
+-- What a team does as a scheduler: it answers by its agenda, and a callback changes its wishes alone. So the member that it
+-- hands out is the lowest that isn't begun.
+pub record Answers (before : TeamParts) (next : Next TeamWork) (after : TeamParts) : Type 0 where
+  pub handed : TakesNext before.agenda next after.agenda
+  pub rest : after ≡ with_agenda before after.agenda
+  pub in_order : AreInOrder before
+
+abbrev pub Hears : TeamParts → Told → TeamParts → Type 0
+Hears before told after = after ≡ with_agenda before (record before.agenda { wishes = wishes_after told before.agenda.wishes })
+
+pub record Takes (before : TeamParts) (c : TeamWork) (answer : Result (Unit {0}) TeamWork) (after : TeamParts) : Type 0 where
+  pub ready : PutsReady before.agenda c answer after.agenda
+  pub rest : after ≡ with_agenda before after.agenda
+
+-- What the type keeps: the store has what the phases that have opened wrote; while a place is free, the places are those of
+-- the next phase's jobs; and the members are handed out in order.
+pub record IsKept (team : TeamParts) (store : Trace) : Type 0 where
+  pub fit : IsFitNest (nested_of team.nested)
+  pub reached : HasReached (nested_of team.nested) team.opened store
+  pub running : (place : ℕ) → IsMarked team.barrier place Open → AreJobsIn team.nested team.opened team.barrier.jobs
+  pub in_order : AreInOrder team
+
+-- A phase that is to begin: no piece has come, and no member has begun.
+pub record IsPhase (nested : NestedParts) (phase : ℕ) (next : Phase) : Type 0 where
+  pub jobs : AreJobsIn nested phase next.barrier.jobs
+  pub barrier : next.barrier ≡ open_book next.barrier.jobs
+  pub unbegun : next.unbegun.items ≡ map Begin next.barrier.jobs

@@ -1,0 +1,294 @@
+//! Teams.
+ghost use Rattle.std.specs.Prelude.{◌≡◌, ◌↔◌, ◌<◌, IsTrue, IfOk, IsErr, OnOk, OnErr, Some, true, map};
+ghost use Rattle.sched_api.specs.declared.hearing.Told.{Told};
+ghost use Rattle.sched_api.specs.Calls.{registered_told, unregistered_told, requested_told, yielded_told, blocked_told};
+ghost use Rattle.sched_api.specs.Wishes.{with_wishes, without_child};
+ghost use Rattle.array_tree.specs.Trees.{statement_of};
+ghost use Rattle.join_book.specs.Books.{Open, IsMarked, IsFull};
+ghost use Rattle.step_eval.specs.declared.shape.Kind.TheVariants as kind;
+ghost use Rattle.step_eval.specs.Computed.{HasReached};
+ghost use Rattle.step_eval.specs.Nests.{nested_of, phases_of, nested_writes};
+ghost use Rattle.step_eval.specs.Shapes.{kind_of};
+ghost use Rattle.loop_team.specs.declared.work.TeamWork.TheVariants.{Begin};
+ghost use Rattle.loop_team.specs.Teams.{IsNew, IsOver, MovesOn, GoesOn, Answers, Hears, Takes, IsPhase, phases_in, writes_in, opened_team, failed_team};
+
+use crate::work::TeamWork;
+use array_eval::{MarkedStore, Overlay};
+use array_jobs::{Job, Piece};
+use lithe_barrier::{Arrival, BarrierState};
+use sched_api::{Call, Hearing, Next, Scheduler, Told};
+use std::alloc::{AllocError, Global};
+use std::collections::VecDeque;
+use std::marker::Model;
+use std::mem;
+use step_eval::{Nested, jobs_of};
+use work_agenda::Agenda;
+
+/// How many wishes there is room for, for each member: it is in one child at a time.
+const WISHES_PER_MEMBER: usize = 15;
+
+/// What a callback of a team gives.
+#[derive(Drop)]
+pub struct TeamHeard {
+    told: Told,
+}
+
+impl Model for TeamHeard {
+    ghost use Rattle.sched_api.specs.declared.hearing.Told.{Told};
+
+    ghost Value = { Told };
+
+    ghost view = { λ h. h.told };
+}
+
+impl Hearing for TeamHeard {
+    ghost heard = { λ h. h };
+
+    fn told(&self) -> Told {
+        self.told
+    }
+}
+
+// Only the callbacks below call it.
+fn heard(call: Call, child: u16, count: u8) -> TeamHeard
+    ensures { result ≡ record { call = call; child = child; count = count } }
+{
+    TeamHeard {
+        told: Told { call, child, count },
+    }
+}
+
+/// The scheduler of one `team`. It has the members that haven't begun the phase that runs, the contexts that are ready to
+/// go on, the wishes of its children, the barrier of the phase, and the store that the phases before it left.
+#[derive(Drop)]
+pub struct Team<'p> {
+    alloc: Global,
+    nested: Nested<'p>,
+    agenda: Agenda<TeamWork<'p>>,
+    opened: u8,
+    barrier: BarrierState<'p>,
+    store: MarkedStore,
+    failed: bool,
+}
+
+impl<'p> Model for Team<'p> {
+    ghost use Rattle.std.specs.Coded.{codes};
+    ghost use Rattle.array_tree.specs.contracts.tree.Arrays as arrays_type;
+    ghost use Rattle.array_tree.specs.contracts.tree.Block as block_type;
+    ghost use Rattle.array_tree.specs.contracts.tree.Stmt as stmt_type;
+    ghost use Rattle.step_eval.specs.contracts.stage.Stage as stage_type;
+    ghost use Rattle.step_eval.specs.Codes.{coded_sequence};
+    ghost use Rattle.loop_team.specs.Teams.{TeamParts, IsKept};
+
+    ghost Value = { TeamParts };
+
+    ghost coded = { Prim.hlevel (codes, arrays_type.the_row.coded, block_type.the_row.coded, stmt_type.the_row.coded, stage_type.the_row.coded, coded_sequence) };
+
+    ghost view = { λ team. record { nested = team.nested; agenda = team.agenda; opened = team.opened; barrier = team.barrier; failed = team.failed } };
+
+    ghost invariant = { λ team. IsKept record { nested = team.nested; agenda = team.agenda; opened = team.opened; barrier = team.barrier; failed = team.failed } team.store };
+}
+
+impl<'p> Team<'p> {
+    /// A team whose first phase is there to be begun. The construct must be a `team`.
+    ///
+    /// It makes all room. Beside it only `arrive` and `take_all` take memory.
+    pub fn new(alloc: Global, nested: Nested<'p>) -> Result<Team<'p>, AllocError>
+        requires { kind_of (statement_of nested.construct) ≡ Some kind.Team }
+        ensures { IfOk result (λ team. IsNew nested.entry team) }
+    {
+        let store = MarkedStore::new(alloc, &nested.store)?;
+        let _phases = nested.phases();
+        let members = usize::from(nested.members());
+        let Phase { barrier, unbegun } = phase_of(alloc, &nested, 0, &store)?;
+        let agenda = Agenda::new(alloc, members, WISHES_PER_MEMBER * members, unbegun)?;
+        Ok(Team {
+            alloc,
+            nested,
+            agenda,
+            opened: 0,
+            barrier,
+            store,
+            failed: false,
+        })
+    }
+
+    /// The construct, with the variables and the store before it.
+    pub fn nested(&self) -> &Nested<'p>
+        ensures { result.now ≡ self.now.nested }
+    {
+        &self.nested
+    }
+
+    /// Takes a piece to the barrier of the phase that runs. Where it opens, what the phase wrote is put on the store, and
+    /// the members of the next phase are there to be begun.
+    ///
+    /// Where there is no memory for the next phase, the team is failed: the phase that opened was its last one.
+    pub fn arrive(&mut self, piece: Piece<'p>) -> Result<Arrival<'p>, AllocError>
+        ensures { MovesOn self.old piece.entry result self.new }
+    {
+        match self.barrier.arrive(piece) {
+            Arrival::Kept => Ok(Arrival::Kept),
+            Arrival::Stranger(piece) => Ok(Arrival::Stranger(piece)),
+            Arrival::Opened(written) => {
+                self.go_on(&written)?;
+                Ok(Arrival::Opened(written))
+            }
+        }
+    }
+
+    // Goes on after the phase that runs has opened, and wrote this.
+    fn go_on(&mut self, written: &Overlay) -> Result<(), AllocError>
+        requires full { IsFull self.old.barrier }
+        requires phase { self.old.opened < phases_in self.old.nested }
+        requires written { written.now.pairs ≡ writes_in self.old.nested self.old.opened }
+        ensures ok { OnOk result (GoesOn (opened_team self.old) self.new) }
+        ensures err { OnErr result ((¬ IsOver (opened_team self.old)) × (self.new ≡ failed_team (opened_team self.old))) }
+    {
+        let phases = self.nested.phases();
+        self.store.merge(written);
+        self.opened += 1;
+        if self.failed || self.opened == phases {
+            return Ok(());
+        }
+        match phase_of(self.alloc, &self.nested, self.opened, &self.store) {
+            Ok(Phase { barrier, unbegun }) => {
+                let _ = mem::replace(&mut self.barrier, barrier);
+                self.agenda.begin(unbegun);
+                Ok(())
+            }
+            Err(refused) => {
+                self.failed = true;
+                Err(refused)
+            }
+        }
+    }
+
+    /// Whether the place is there in the phase that runs, and its piece is still to come.
+    pub fn is_open(&self, place: u8) -> bool
+        ensures { IsTrue result ↔ IsMarked self.now.barrier place Open }
+    {
+        self.barrier.is_free(place)
+    }
+
+    /// Tells that the piece of a place found no memory. The place must be open. The team is then failed, and no member of a
+    /// later phase begins.
+    pub fn fail(&mut self, place: u8)
+        requires { IsMarked self.old.barrier place Open }
+        ensures { self.new ≡ failed_team self.old }
+    {
+        self.failed = true;
+    }
+
+    /// Whether some piece, or the jobs of a phase, found no memory.
+    pub fn has_failed(&self) -> bool
+        ensures { result ≡ self.now.failed }
+    {
+        self.failed
+    }
+
+    /// Whether the last phase has opened or the team is failed.
+    pub fn is_over(&self) -> bool
+        ensures { IsTrue result ↔ IsOver self.now }
+    {
+        self.failed || self.opened == self.nested.phases()
+    }
+
+    /// What the whole construct writes: each cell with its last value. The team must be over; where it is failed, the answer
+    /// is want of memory.
+    pub fn take_all(self) -> Result<Overlay, AllocError>
+        requires { IsOver self }
+        ensures failed { self.entry.failed ≡ true → IsErr result }
+        ensures written { IfOk result (λ overlay. overlay.pairs ≡ nested_writes (nested_of self.entry.nested)) }
+    {
+        if self.failed {
+            return Err(AllocError);
+        }
+        self.store.written(self.alloc)
+    }
+}
+
+// A phase that is to begin.
+struct Phase<'p> {
+    barrier: BarrierState<'p>,
+    unbegun: VecDeque<TeamWork<'p>>,
+}
+
+// The phase that comes after as many, over the store that these left.
+fn phase_of<'p>(
+    alloc: Global,
+    nested: &Nested<'p>,
+    phase: u8,
+    store: &MarkedStore,
+) -> Result<Phase<'p>, AllocError>
+    requires phase { phase < phases_in nested.now }
+    requires reached { HasReached (nested_of nested.now) phase store.now }
+    ensures { IfOk result (λ next. IsPhase nested.now phase next) }
+{
+    let start = store.to_store(alloc)?;
+    let jobs = jobs_of(alloc, nested, phase, &start)?;
+    let unbegun = unbegun_work(alloc, &jobs)?;
+    let barrier = BarrierState::new(alloc, jobs)?;
+    Ok(Phase { barrier, unbegun })
+}
+
+// Each job as a member that hasn't begun.
+fn unbegun_work<'p>(alloc: Global, jobs: &[Job<'p>]) -> Result<VecDeque<TeamWork<'p>>, AllocError>
+    ensures { IfOk result (λ work. work.items ≡ map Begin jobs.now) }
+{
+    let mut unbegun = VecDeque::with_capacity(alloc, jobs.len())?;
+    for job in jobs {
+        unbegun.push_back(TeamWork::Begin(job.copy()?))?;
+    }
+    Ok(unbegun)
+}
+
+impl<'p> Scheduler for Team<'p> {
+    type Hold = ();
+
+    type Heard = TeamHeard;
+
+    type Ctx = TeamWork<'p>;
+
+    ghost site_of = { λ team. team.nested.site };
+
+    ghost answers = { λ before next after. Answers before next after };
+
+    ghost hears = { λ before told after. Hears before told after };
+
+    ghost takes = { λ before c answer after. Takes before c answer after };
+
+    fn site(&self) -> u16 {
+        self.nested.site
+    }
+
+    fn register(&mut self, _hold: (), child: u16) -> TeamHeard {
+        heard(Call::Registered, child, 0)
+    }
+
+    fn unregister(&mut self, _hold: (), child: u16) -> TeamHeard {
+        self.agenda.remove_wishes(child);
+        heard(Call::Unregistered, child, 0)
+    }
+
+    fn request(&mut self, _hold: (), child: u16, count: u8) -> TeamHeard {
+        self.agenda.add_wishes(child, count);
+        heard(Call::Requested, child, count)
+    }
+
+    fn yielded(&mut self, _hold: (), child: u16) -> TeamHeard {
+        heard(Call::Yielded, child, 0)
+    }
+
+    fn enter(&mut self, _hold: ()) -> Next<TeamWork<'p>> {
+        self.agenda.take_next()
+    }
+
+    fn block(&mut self, _hold: ()) -> TeamHeard {
+        heard(Call::Blocked, 0, 0)
+    }
+
+    fn unblock(&mut self, _hold: (), c: TeamWork<'p>) -> Result<(), TeamWork<'p>> {
+        self.agenda.put_ready(c)
+    }
+}

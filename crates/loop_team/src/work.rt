@@ -1,0 +1,13 @@
+//! What a team has its harts run.
+use array_jobs::Job;
+use contexts::Paused;
+use step_eval::StepMachine;
+
+/// What a hart takes up of a team.
+#[derive(Drop)]
+pub enum TeamWork<'p> {
+    /// A member that hasn't begun its phase.
+    Begin(Job<'p>),
+    /// A context that waited, and is ready to go on.
+    Ready(Paused<StepMachine<'p>>),
+}
