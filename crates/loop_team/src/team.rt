@@ -49,8 +49,8 @@ impl Hearing for TeamHeard {
     }
 }
 
-// Only the callbacks below call it.
-fn heard(call: Call, child: u16, count: u8) -> TeamHeard
+// Only callbacks call it.
+pub(crate) fn heard(call: Call, child: u16, count: u8) -> TeamHeard
     ensures { result ≡ record { call = call; child = child; count = count } }
 {
     TeamHeard {
