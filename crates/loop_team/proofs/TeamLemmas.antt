@@ -27,7 +27,7 @@ use Rattle.step_eval.specs.Phases.{phase_writes, store_before}
 use Rattle.step_eval.proofs.PieceLemmas.{fit_other_store}
 use Rattle.step_eval.proofs.PhaseLemmas.{phases_are_merged}
 use Rattle.step_eval.proofs.WriteLemmas.{below_lays}
-use Rattle.loop_team.specs.Teams.{TeamParts, AreJobsIn, IsOver, IsKept, GoesOn, Opens, FailsToGoOn, MovesOn, phases_in, writes_in, opened_team, failed_team, with_barrier}
+use Rattle.loop_team.specs.Teams.{TeamParts, AreJobsIn, IsOver, GoesOn, Opens, FailsToGoOn, MovesOn, phases_in, writes_in, opened_team, failed_team, with_barrier}
 
 -- ---- what a phase writes
 
@@ -60,32 +60,23 @@ phase_below nested fit phase store there same =
     subst (λ ws. AreBelow (length store) ws) (phases_are_merged nested fit phase store there jobs (record { to = λ job is. is; from = λ job is. is })) inside
 
 -- one more phase is on the store
-pub reached_more : (nested : NestedTree) → IsFitNest nested → (phase : ℕ) → phase < phases_of nested.construct → (store : Trace) → HasReached nested phase store →
-    HasReached nested (suc phase) (noted_all (phase_writes nested phase (store_before nested phase)) store)
-reached_more nested fit phase there store reached =
+pub reached_more : (nested : NestedTree) (phase : ℕ) (store next : Trace) (ws : List Write) → IsFitNest nested → phase < phases_of nested.construct →
+    HasReached nested phase store → ws ≡ phase_writes nested phase (store_before nested phase) → next ≡ noted_all ws store → HasReached nested (phase + 1) next
+reached_more nested phase store next ws fit there reached written merged =
     let before = store_before nested phase in
-    let ws = phase_writes nested phase before in
-    let size = ap length (cells_after ws store) ∙ length_after ws store.cells in
+    let phase_ws = phase_writes nested phase before in
+    let size = ap length (cells_after phase_ws store) ∙ length_after phase_ws store.cells in
     let cells : length store.cells ≡ length before = ap length reached.cells in
     let below = phase_below nested fit phase before there (sym cells ∙ reached.same) in
-    record {
-      cells = cells_after ws store ∙ ap (after ws) reached.cells;
-      written = marked_after ws store (subst (λ n. AreBelow n ws) (sym cells) below) (sym reached.marks) ∙ ap (lays ws) reached.written;
-      marks = length_marks ws store ∙ reached.marks ∙ sym size;
+    let more : HasReached nested (suc phase) (noted_all phase_ws store) = record {
+      cells = cells_after phase_ws store ∙ ap (after phase_ws) reached.cells;
+      written = marked_after phase_ws store (subst (λ n. AreBelow n phase_ws) (sym cells) below) (sym reached.marks) ∙ ap (lays phase_ws) reached.written;
+      marks = length_marks phase_ws store ∙ reached.marks ∙ sym size;
       same = size ∙ reached.same;
-    }
+    } in
+    rw (merged, written, add-one) more
 
 -- ---- a team, as its fields tell it and as it is known before
-
--- the store after one more phase
-pub reached_next : (team now : TeamParts) (store next : Trace) (ws : List Write) → team ≡ now → IsKept team store → now.opened < phases_in now.nested →
-    ws ≡ writes_in now.nested now.opened → next ≡ noted_all ws store → HasReached (nested_of team.nested) (team.opened + 1) next
-reached_next team now store next ws e kept there is merged =
-    let there_too : team.opened < phases_in team.nested = subst (λ (t : TeamParts). t.opened < phases_in t.nested) (sym e) there in
-    let same : ws ≡ writes_in team.nested team.opened = subst (λ (t : TeamParts). ws ≡ writes_in t.nested t.opened) (sym e) is in
-    let reached : HasReached (nested_of team.nested) (suc team.opened) (noted_all (writes_in team.nested team.opened) store)
-    = reached_more (nested_of team.nested) kept.fit team.opened there_too store kept.reached in
-    rw (merged, same, add-one) reached
 
 -- the last phase has opened where a team is over that isn't failed
 pub all_opened : (team now : TeamParts) → team ≡ now → IsOver now → team.failed ≡ false → team.opened ≡ phases_in team.nested

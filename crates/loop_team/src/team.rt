@@ -1,5 +1,5 @@
 //! Teams.
-ghost use Rattle.std.specs.Prelude.{◌≡◌, ◌↔◌, ◌<◌, IsTrue, IfOk, IsErr, OnOk, OnErr, Some, true, map};
+ghost use Rattle.std.specs.Prelude.{◌≡◌, ◌↔◌, ◌+◌, ◌<◌, IsTrue, IfOk, IsErr, OnOk, OnErr, Some, true, map};
 ghost use Rattle.sched_api.specs.declared.hearing.Told.{Told};
 ghost use Rattle.sched_api.specs.Calls.{registered_told, unregistered_told, requested_told, yielded_told, blocked_told};
 ghost use Rattle.sched_api.specs.Wishes.{with_wishes, without_child};
@@ -7,7 +7,7 @@ ghost use Rattle.array_tree.specs.Trees.{statement_of};
 ghost use Rattle.join_book.specs.Books.{Open, IsMarked, IsFull};
 ghost use Rattle.step_eval.specs.declared.shape.Kind.TheVariants as kind;
 ghost use Rattle.step_eval.specs.Computed.{HasReached};
-ghost use Rattle.step_eval.specs.Nests.{nested_of, phases_of, nested_writes};
+ghost use Rattle.step_eval.specs.Nests.{nested_of, phases_of, nested_writes, IsFitNest};
 ghost use Rattle.step_eval.specs.Shapes.{kind_of};
 ghost use Rattle.loop_team.specs.declared.work.TeamWork.TheVariants.{Begin};
 ghost use Rattle.loop_team.specs.Teams.{IsNew, IsOver, MovesOn, GoesOn, Answers, Hears, Takes, IsPhase, phases_in, writes_in, opened_team, failed_team};
@@ -146,7 +146,7 @@ impl<'p> Team<'p> {
         ensures err { OnErr result ((¬ IsOver (opened_team self.old)) × (self.new ≡ failed_team (opened_team self.old))) }
     {
         let phases = self.nested.phases();
-        self.store.merge(written);
+        lay_phase(&self.nested, self.opened, &mut self.store, written);
         self.opened += 1;
         if self.failed || self.opened == phases {
             return Ok(());
@@ -206,6 +206,17 @@ impl<'p> Team<'p> {
         }
         self.store.written(self.alloc)
     }
+}
+
+// Puts what a phase wrote on the store that the phases before it left.
+fn lay_phase(nested: &Nested, phase: u8, store: &mut MarkedStore, written: &Overlay)
+    requires fit { IsFitNest (nested_of nested.now) }
+    requires phase { phase < phases_in nested.now }
+    requires reached { HasReached (nested_of nested.now) phase store.old }
+    requires written { written.now.pairs ≡ writes_in nested.now phase }
+    ensures { HasReached (nested_of nested.now) (phase + 1) store.new }
+{
+    store.merge(written);
 }
 
 // A phase that is to begin.

@@ -2,22 +2,15 @@ use Rattle.std.proofs.Common.{◌+◌, map, sym, ap, ◌∙◌, subst}
 use Rattle.join_book.specs.Books.{BookParts, IsFull}
 use Rattle.loop_team.specs.declared.work.TeamWork.TheVariants.{Begin}
 use Rattle.loop_team.specs.Teams.{TeamParts, AreJobsIn, IsPhase}
-use Rattle.loop_team.proofs.TeamLemmas.{reached_next}
 use Rattle.loop_team.proofs.team.Team.go_on.Goals as goal
 
 pub invariant_of-self : goal.invariant_of-self
 invariant_of-self c = record {
   fit = c.self.invariant.fit;
-  reached = reached_next _ c.args.self.now c.self.inside.store c.merge.new.self c.args.written.now.pairs c.self.view_is c.self.invariant
-      c.requires.phase c.requires.written c.merge.ensures;
+  reached = c.lay_phase.ensures;
   running = λ place at. absurd (subst (λ (t : TeamParts). IsFull t.barrier) (sym c.self.view_is) c.requires.full place at);
   in_order = c.self.invariant.in_order;
 }
-
-pub phase_of-requires-clause-reached : goal.phase_of-requires-clause-reached
-phase_of-requires-clause-reached c =
-    reached_next _ c.args.self.now c.self.inside.store c.merge.new.self c.args.written.now.pairs c.self.view_is c.self.invariant
-    c.requires.phase c.requires.written c.merge.ensures
 
 pub invariant_of-self-in-Ok : goal.invariant_of-self-in-Ok
 invariant_of-self-in-Ok c =
@@ -25,8 +18,7 @@ invariant_of-self-in-Ok c =
     let barrier = c.replace.ensures.after in
     record {
       fit = c.self.invariant.fit;
-      reached = reached_next _ c.args.self.now c.self.inside.store c.merge.new.self c.args.written.now.pairs c.self.view_is c.self.invariant
-          c.requires.phase c.requires.written c.merge.ensures;
+      reached = c.lay_phase.ensures;
       running = λ place at. subst (λ (b : BookParts). AreJobsIn c.self.inside.nested (c.self.inside.opened + 1) b.jobs) (sym barrier) is.jobs;
       in_order = (0, ap (λ a. a.unbegun) c.begin.ensures ∙ is.unbegun ∙ ap (λ (b : BookParts). map Begin b.jobs) (sym barrier));
     }
@@ -34,8 +26,7 @@ invariant_of-self-in-Ok c =
 pub invariant_of-self-in-Err : goal.invariant_of-self-in-Err
 invariant_of-self-in-Err c = record {
   fit = c.self.invariant.fit;
-  reached = reached_next _ c.args.self.now c.self.inside.store c.merge.new.self c.args.written.now.pairs c.self.view_is c.self.invariant
-      c.requires.phase c.requires.written c.merge.ensures;
+  reached = c.lay_phase.ensures;
   running = λ place at. absurd (subst (λ (t : TeamParts). IsFull t.barrier) (sym c.self.view_is) c.requires.full place at);
   in_order = c.self.invariant.in_order;
 }
