@@ -8,4 +8,6 @@ mod books;
 #[cfg(test)]
 mod constructs;
 #[cfg(test)]
+mod hands;
+#[cfg(test)]
 mod pools;

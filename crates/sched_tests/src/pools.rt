@@ -12,17 +12,18 @@ use std::alloc::Global;
 use std::test::Fail;
 use step_eval::StepMachine;
 
-// What a pool answers: a piece is told by its place.
+/// What a pool answers: a piece is told by its place.
 #[derive(Debug, PartialEq, Eq, Drop)]
-enum Answer {
+pub enum Answer {
     Begins(u8),
     GoesOn,
     Lends(u16),
     Nothing,
 }
 
-fn next_of(pool: &mut Pool) -> Answer {
-    match pool.enter(()) {
+/// The same of what `enter` gives.
+pub fn answer_of(next: Next<PoolWork>) -> Answer {
+    match next {
         Next::Run(PoolWork::Begin(job)) => Answer::Begins(job.place),
         Next::Run(PoolWork::Ready(_)) => Answer::GoesOn,
         Next::Lend(site) => Answer::Lends(site),
@@ -30,8 +31,8 @@ fn next_of(pool: &mut Pool) -> Answer {
     }
 }
 
-// A context that waits.
-fn waiting<'p>(alloc: Global, jobs: &[Job<'p>]) -> Result<Paused<StepMachine<'p>>, Fail> {
+/// A context that waits.
+pub fn waiting<'p>(alloc: Global, jobs: &[Job<'p>]) -> Result<Paused<StepMachine<'p>>, Fail> {
     let Some(job) = jobs.first() else {
         return Err(Fail::new("no job"));
     };
@@ -41,8 +42,8 @@ fn waiting<'p>(alloc: Global, jobs: &[Job<'p>]) -> Result<Paused<StepMachine<'p>
     }
 }
 
-// A pool of the two branches.
-fn pool_of<'p>(alloc: Global, program: &'p Program) -> Result<Pool<'p>, Fail> {
+/// A pool of the two branches.
+pub fn pool_of<'p>(alloc: Global, program: &'p Program) -> Result<Pool<'p>, Fail> {
     let jobs = first_jobs(alloc, &accepted(alloc, program)?)?;
     Ok(Pool::new(alloc, jobs)?)
 }
@@ -66,8 +67,8 @@ fn bring<'p>(
     Ok(outcome_of(pool.deposit(piece)))
 }
 
-// What a full pool gives.
-fn taken(pool: Pool) -> Result<Overlay, Fail> {
+/// What a full pool gives.
+pub fn taken(pool: Pool) -> Result<Overlay, Fail> {
     if !pool.is_full() || pool.has_failed() {
         return Err(Fail::new("it isn't full"));
     }
@@ -81,11 +82,11 @@ fn pieces_go_before_wishes(rt: HostRuntime) -> Result<(), Fail> {
     let mut pool = pool_of(alloc, &program)?;
     let told = pool.request((), 2, 2).told();
     assert!(rt; told.call == Call::Requested && told.child == 2 && told.count == 2);
-    assert_eq!(rt; next_of(&mut pool), Answer::Begins(0));
-    assert_eq!(rt; next_of(&mut pool), Answer::Begins(1));
-    assert_eq!(rt; next_of(&mut pool), Answer::Lends(2));
-    assert_eq!(rt; next_of(&mut pool), Answer::Lends(2));
-    assert_eq!(rt; next_of(&mut pool), Answer::Nothing);
+    assert_eq!(rt; answer_of(pool.enter(())), Answer::Begins(0));
+    assert_eq!(rt; answer_of(pool.enter(())), Answer::Begins(1));
+    assert_eq!(rt; answer_of(pool.enter(())), Answer::Lends(2));
+    assert_eq!(rt; answer_of(pool.enter(())), Answer::Lends(2));
+    assert_eq!(rt; answer_of(pool.enter(())), Answer::Nothing);
     Ok(())
 }
 
@@ -100,9 +101,9 @@ fn ready_contexts_go_before_pieces(rt: HostRuntime) -> Result<(), Fail> {
     assert!(rt; unblocked(&mut pool, waiting(alloc, &copies)?));
     assert!(rt; unblocked(&mut pool, waiting(alloc, &copies)?));
     assert!(rt; !unblocked(&mut pool, waiting(alloc, &copies)?));
-    assert_eq!(rt; next_of(&mut pool), Answer::GoesOn);
-    assert_eq!(rt; next_of(&mut pool), Answer::GoesOn);
-    assert_eq!(rt; next_of(&mut pool), Answer::Begins(0));
+    assert_eq!(rt; answer_of(pool.enter(())), Answer::GoesOn);
+    assert_eq!(rt; answer_of(pool.enter(())), Answer::GoesOn);
+    assert_eq!(rt; answer_of(pool.enter(())), Answer::Begins(0));
     Ok(())
 }
 
