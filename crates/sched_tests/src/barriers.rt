@@ -10,10 +10,12 @@ use std::sync::Wait;
 use std::test::Fail;
 use std::thread::Threads;
 
-const TWO_PHASES: &[u8] = b"array a[6]; array b[6];
+/// The program of a team with two phases.
+pub const TWO_PHASES: &[u8] = b"array a[6]; array b[6];
     team i in 0..6 by 3 { a[i] = i + 1; } barrier { b[i] = a[5 - i]; }";
 
-const FIRST_PHASE: [(u16, i64); 6] = [(0, 1), (1, 2), (2, 3), (3, 4), (4, 5), (5, 6)];
+/// What its first phase writes.
+pub const FIRST_PHASE: [(u16, i64); 6] = [(0, 1), (1, 2), (2, 3), (3, 4), (4, 5), (5, 6)];
 
 // What came of an arrival: the writes of the phase where it opened, else whether the piece was kept.
 fn outcome_of(arrival: Arrival) -> Result<Overlay, bool> {
