@@ -1,1 +1,1 @@
-mod PhaseBooks
+pub mod PhaseBooks

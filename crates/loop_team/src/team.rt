@@ -115,7 +115,8 @@ impl<'p> Team<'p> {
 
     /// The construct, with the variables and the store before it.
     pub fn nested(&self) -> &Nested<'p>
-        ensures { result.now ≡ self.now.nested }
+        ensures same { result.now ≡ self.now.nested }
+        ensures fit { IsFitNest (nested_of self.now.nested) }
     {
         &self.nested
     }

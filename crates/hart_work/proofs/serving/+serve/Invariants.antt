@@ -1,0 +1,48 @@
+use Rattle.std.proofs.Common.{◌≡◌, ◌≤◌, ◌+◌, ◌-◌, ◌*◌}
+use Rattle.transfer_table.specs.Plan.{site_count}
+use Rattle.site_steps.specs.Back.{IsBack}
+use Rattle.hart_work.specs.Tasks.{StaysSettled}
+use Rattle.hart_work.proofs.serving.+serve.Given as goal
+
+-- each site is above the one around it; at one site a hart is a guest, serves, runs a job, runs its piece, and then a construct in it
+abbrev pub decreases-be_guest : goal.decreases-be_guest
+decreases-be_guest g l = 5 * (site_count l.tree.now - (g.P.Port.seen l.port.now).owner) + 4
+
+abbrev pub decreases-serve : goal.decreases-serve
+decreases-serve g l = 5 * (site_count l.tree.now - (g.P.Port.seen l.port.now).owner) + 3
+
+abbrev pub decreases-run_job : goal.decreases-run_job
+decreases-run_job g l = 5 * (site_count l.tree.now - (g.P.Port.seen l.port.now).owner) + 2
+
+abbrev pub decreases-run_piece : goal.decreases-run_piece
+decreases-run_piece g l = 5 * (site_count l.tree.now - (g.P.Port.seen l.port.now).owner) + 1
+
+abbrev pub decreases-run_construct : goal.decreases-run_construct
+decreases-run_construct g l = 5 * (site_count l.tree.now - (g.P.Port.seen l.port.now).owner)
+
+abbrev pub decreases-visit : goal.decreases-visit
+decreases-visit g l = 5 * (site_count l.tree.now - (g.P.Port.seen l.port.now).owner)
+
+abbrev pub invariant-serve-tasks : goal.invariant-serve-tasks
+invariant-serve-tasks g l = record {
+  back : IsBack (g.P.Port.seen l.fn.port) (g.P.Port.seen l.port);
+  construct : g.H.Schedulers.construct l.site ≡ g.H.Schedulers.construct l.fn.site;
+  settled : g.H.Schedulers.settled l.site;
+  left : g.H.Schedulers.left l.site ≤ g.H.Schedulers.left l.fn.site;
+}
+
+abbrev pub decreases-serve-tasks : goal.decreases-serve-tasks
+decreases-serve-tasks g l = g.H.Schedulers.left l.site
+
+abbrev pub invariant-run_piece-steps : goal.invariant-run_piece-steps
+invariant-run_piece-steps g l = record {
+  back : IsBack (g.P.Port.seen l.fn.port) (g.P.Port.seen l.port);
+  construct : g.H.Schedulers.construct l.around ≡ g.H.Schedulers.construct l.fn.around;
+  stays : StaysSettled (g.H.Schedulers.settled l.fn.around) (g.H.Schedulers.owed l.fn.around) (g.H.Schedulers.settled l.around) (g.H.Schedulers.owed l.around);
+  left : g.H.Schedulers.left l.around ≤ g.H.Schedulers.left l.fn.around;
+  job : g.H.Schedulers.job_of l.running ≡ l.fn.job;
+  ready : g.H.Schedulers.ready l.running;
+}
+
+abbrev pub decreases-run_piece-steps : goal.decreases-run_piece-steps
+decreases-run_piece-steps g l = g.H.Schedulers.steps_left l.running

@@ -1,0 +1,251 @@
+//! The procedure of a hart at a site.
+ghost use Rattle.std.specs.Prelude.{◌≡◌, ◌≤◌, ◌<◌, ◌+◌, ◌-◌, IfOk, OnOk, true, false};
+ghost use Rattle.transfer_table.specs.Plan.{IsSite, parent};
+ghost use Rattle.transfer_table.specs.Entry.{requested, unregisters};
+ghost use Rattle.hart_port.specs.PortView.{IsPortView, is_in};
+ghost use Rattle.site_steps.specs.Back.{IsSettled, IsBack};
+ghost use Rattle.hart_work.specs.Tasks.{StaysSettled, HasAccount};
+
+use crate::schedulers::{Schedulers, Task};
+use contexts::{Running, Step, ctx_pause, ctx_resume};
+use hart_port::Port;
+use site_steps::{PatientPort, SiteTree, finish_site, sweep_failed};
+use std::alloc::{AllocError, Global};
+
+
+/// Runs a job of the site that the hart is in, and brings the hart back to it.
+#[cycle(serve)]
+pub fn run_piece<P: PatientPort, H: Schedulers>(
+    alloc: Global,
+    tree: &SiteTree,
+    port: &mut P,
+    hold: P::Hold,
+    schedulers: &mut H,
+    around: &mut H::Site,
+    job: H::Job,
+) -> Result<H::Piece, AllocError>
+    requires plan { (P.seen port.old).plan ≡ tree.now }
+    requires inner { IsSettled (P.seen port.old) }
+    ensures back { IsBack (P.seen port.old) (P.seen port.new) }
+    ensures piece { IfOk result (λ piece. H.job_in piece ≡ job) }
+    ensures stays { StaysSettled (H.settled around.old) (H.owed around.old) (H.settled around.new) (H.owed around.new) }
+    ensures construct { H.construct around.new ≡ H.construct around.old }
+    ensures left { H.left around.new ≤ H.left around.old }
+{
+    let mut running = schedulers.start(alloc, job)?;
+    'steps: loop {
+        match schedulers.step(&mut running) {
+            Step::More => {}
+            Step::Nest(nested) => {
+                let paused = ctx_pause(running);
+                let written = run_construct(alloc, tree, port, hold, schedulers, around, nested);
+                running = ctx_resume(paused);
+                if supply(schedulers, &mut running, written).is_err() {
+                    schedulers.abandon(running);
+                    return Err(AllocError);
+                }
+            }
+            Step::Finished => return Ok(schedulers.end(running)),
+            Step::NoMemory => {
+                schedulers.abandon(running);
+                return Err(AllocError);
+            }
+        }
+    }
+}
+
+/// Runs a construct as a site inside the one that the hart is in, and brings the hart back.
+#[cycle(serve)]
+pub fn run_construct<P: PatientPort, H: Schedulers>(
+    alloc: Global,
+    tree: &SiteTree,
+    port: &mut P,
+    hold: P::Hold,
+    schedulers: &mut H,
+    around: &mut H::Site,
+    nested: H::Nested,
+) -> Result<H::Written, AllocError>
+    requires plan { (P.seen port.old).plan ≡ tree.now }
+    requires inner { IsSettled (P.seen port.old) }
+    ensures back { IsBack (P.seen port.old) (P.seen port.new) }
+    ensures written { IfOk result (λ written. H.written_in written ≡ H.writes_of nested) }
+    ensures own { OnOk result (IsSite tree.now (H.number_of nested) → parent tree.now (H.number_of nested) ≡ (P.seen port.old).owner → (P.seen port.new).alone ≡ true → 1 ≤ unregisters (H.number_of nested) (P.seen port.new).mine) }
+    ensures stays { StaysSettled (H.settled around.old) (H.owed around.old) (H.settled around.new) (H.owed around.new) }
+    ensures construct { H.construct around.new ≡ H.construct around.old }
+    ensures left { H.left around.new ≤ H.left around.old }
+{
+    let number = schedulers.number(&nested);
+    if !tree.is_child(port.owner(), number) {
+        return schedulers.compute(alloc, nested);
+    }
+    let mut site = schedulers.open(alloc, nested)?;
+    match schedulers.register(port, hold, around, number) {
+        Ok(()) => {
+            ask(tree, port, hold, schedulers, around, number, schedulers.wishes(&site));
+            serve(alloc, tree, port, hold, schedulers, &mut site, true);
+            sweep_failed(tree, port, hold, schedulers.has_failed(&site));
+            finish_site(tree, port, hold);
+            schedulers.unregister(port, hold, around);
+            schedulers.take(alloc, site)
+        }
+        Err(_) => {
+            port.until_gone(hold, number);
+            schedulers.give_up(alloc, site)
+        }
+    }
+}
+
+/// Does what the site that the hart is in has to do, as its home until its work is over, as a guest until there is
+/// nothing to do.
+#[cycle(serve)]
+pub fn serve<P: PatientPort, H: Schedulers>(
+    alloc: Global,
+    tree: &SiteTree,
+    port: &mut P,
+    hold: P::Hold,
+    schedulers: &mut H,
+    site: &mut H::Site,
+    is_home: bool,
+)
+    requires plan { (P.seen port.old).plan ≡ tree.now }
+    requires inner { IsSettled (P.seen port.old) }
+    requires settled { H.settled site.old }
+    ensures back { IsBack (P.seen port.old) (P.seen port.new) }
+    ensures settled { H.settled site.new }
+    ensures over { is_home ≡ true → H.over site.new }
+    ensures construct { H.construct site.new ≡ H.construct site.old }
+    ensures left { H.left site.new ≤ H.left site.old }
+{
+    'tasks: loop {
+        match schedulers.next(site, is_home) {
+            Task::Piece(job) => run_job(alloc, tree, port, hold, schedulers, site, job),
+            Task::Visit(child) => visit(alloc, tree, port, hold, schedulers, site, child),
+            Task::Nothing => return,
+        }
+    }
+}
+
+// Runs a job, and puts its piece into the site's book.
+#[cycle(serve)]
+fn run_job<P: PatientPort, H: Schedulers>(
+    alloc: Global,
+    tree: &SiteTree,
+    port: &mut P,
+    hold: P::Hold,
+    schedulers: &mut H,
+    site: &mut H::Site,
+    job: H::Job,
+)
+    requires plan { (P.seen port.old).plan ≡ tree.now }
+    requires inner { IsSettled (P.seen port.old) }
+    requires owed { H.owed site.old job }
+    ensures back { IsBack (P.seen port.old) (P.seen port.new) }
+    ensures settled { H.settled site.new }
+    ensures construct { H.construct site.new ≡ H.construct site.old }
+    ensures left { H.left site.new ≤ H.left site.old }
+{
+    let place = schedulers.place(&job);
+    match run_piece(alloc, tree, port, hold, schedulers, site, job) {
+        Ok(piece) => schedulers.deposit(alloc, site, piece),
+        Err(AllocError) => schedulers.fail(site, place),
+    }
+}
+
+// Enters a child that wants a hart, does what it has to do, and comes back.
+#[cycle(serve)]
+fn visit<P: PatientPort, H: Schedulers>(
+    alloc: Global,
+    tree: &SiteTree,
+    port: &mut P,
+    hold: P::Hold,
+    schedulers: &mut H,
+    around: &mut H::Site,
+    child: u16,
+)
+    requires plan { (P.seen port.old).plan ≡ tree.now }
+    requires inner { IsSettled (P.seen port.old) }
+    ensures back { IsBack (P.seen port.old) (P.seen port.new) }
+    ensures stays { StaysSettled (H.settled around.old) (H.owed around.old) (H.settled around.new) (H.owed around.new) }
+    ensures construct { H.construct around.new ≡ H.construct around.old }
+    ensures left { H.left around.new ≤ H.left around.old }
+{
+    if !tree.is_child(port.owner(), child) {
+        return;
+    }
+    let Some(mut site) = schedulers.find(child) else {
+        return;
+    };
+    match schedulers.enter(port, hold, &mut site, child) {
+        Some(task) => {
+            be_guest(alloc, tree, port, hold, schedulers, &mut site, task);
+            schedulers.give_back(port, hold, around);
+        }
+        None => {}
+    }
+}
+
+// Does the task that the site gave to the hart as it entered, and then what else the site has to do.
+#[cycle(serve)]
+fn be_guest<P: PatientPort, H: Schedulers>(
+    alloc: Global,
+    tree: &SiteTree,
+    port: &mut P,
+    hold: P::Hold,
+    schedulers: &mut H,
+    site: &mut H::Site,
+    task: Task<H::Job>,
+)
+    requires plan { (P.seen port.old).plan ≡ tree.now }
+    requires inner { IsSettled (P.seen port.old) }
+    requires account { HasAccount (H.settled site.old) (H.owed site.old) task }
+    ensures back { IsBack (P.seen port.old) (P.seen port.new) }
+{
+    match task {
+        Task::Piece(job) => run_job(alloc, tree, port, hold, schedulers, site, job),
+        Task::Visit(child) => visit(alloc, tree, port, hold, schedulers, site, child),
+        Task::Nothing => {}
+    }
+    serve(alloc, tree, port, hold, schedulers, site, false);
+}
+
+// Asks for as many harts as the site has work for and the plan has besides this one.
+fn ask<P: PatientPort, H: Schedulers>(
+    tree: &SiteTree,
+    port: &mut P,
+    hold: P::Hold,
+    schedulers: &mut H,
+    around: &mut H::Site,
+    site: u16,
+    most: u8,
+)
+    requires plan { (P.seen port.old).plan ≡ tree.now }
+    requires known { IsSite tree.now site }
+    requires inside { (P.seen port.old).owner ≡ site }
+    requires home { is_in (P.seen port.old).homes site ≡ true }
+    requires is_open { is_in (P.seen port.old).closed site ≡ false }
+    requires none_yet { requested site (P.seen port.old).mine ≡ 0 }
+    requires inner { IsSettled (P.seen port.old) }
+    ensures back { IsBack (P.seen port.old) (P.seen port.new) }
+    ensures stays { StaysSettled (H.settled around.old) (H.owed around.old) (H.settled around.new) (H.owed around.new) }
+    ensures construct { H.construct around.new ≡ H.construct around.old }
+    ensures left { H.left around.new ≤ H.left around.old }
+{
+    let count = most.min(tree.plan().harts() - 1);
+    if count >= 1 {
+        schedulers.request(port, hold, around, site, count);
+    }
+}
+
+// Hands a machine what its construct wrote.
+fn supply<H: Schedulers>(
+    schedulers: &mut H,
+    running: &mut Running<H::Machine>,
+    written: Result<H::Written, AllocError>,
+) -> Result<(), AllocError>
+    requires { IfOk written (λ written. H.awaits running.old (H.written_in written)) }
+    ensures job { OnOk result (H.job_of running.new ≡ H.job_of running.old) }
+    ensures ready { OnOk result (H.ready running.new) }
+    ensures left { OnOk result (H.steps_left running.new ≡ H.steps_left running.old) }
+{
+    schedulers.supply(running, written?)
+}

@@ -1,0 +1,164 @@
+-- How a hart comes back, step by step.
+use Rattle.std.proofs.Common.{◌≡◌, ◌≢◌, ℕ, ◌+◌, ◌<◌, ◌≤◌, Bool, true, false, List, [], ◌∷◌, ◌++◌, refl, sym, ap, ◌∙◌, subst, arith, inl, inr, Option, Some, None}
+use Rattle.std.proofs.lemmas.Bool.{cases_eq, cases_lt}
+use Rattle.transfer_table.specs.Plan.{Plan, IsPlan, IsSite, parent, site_count}
+use Rattle.transfer_table.specs.Entry.{registers, unregisters}
+use Rattle.transfer_table.specs.declared.entry.Entry.TheVariants.{Register, Enter, Yield, Unregister}
+use Rattle.transfer_table.proofs.Balance.{unregisters-here}
+use Rattle.hart_port.specs.PortView.{PortView, IsPortView, is_in, with_site, without, registered, unregistered, entered, yielded, closes, sees_gone, sees_empty, MayUnregister, ChildrenSeenGone}
+use Rattle.site_steps.specs.Back.{IsSettled, IsBack, ChildrenOver, HasLooked}
+use Rattle.site_steps.specs.Visits.{IsBefore, ChildrenOverBefore, SeenGoneBefore}
+use Rattle.site_steps.proofs.Flags.{with_here, with_other, with_stays, without_other, without_here}
+use Rattle.site_steps.specs.Children.{NextChild}
+use Rattle.site_steps.proofs.Overs.{over_stays, taken_over}
+use Rattle.site_steps.proofs.Children.{before_next}
+
+pub back_refl : (h : PortView) → IsSettled h → IsBack h h
+back_refl h inner = record { plan = refl; hart = refl; alone = refl; owner = refl; homes = λ s le. refl; inner = inner; closed = λ s le. refl; gone = λ s is. is; over = λ s. omega arith }
+
+pub back_then : (a b c : PortView) → IsBack a b → IsBack b c → IsBack a c
+back_then a b c f g = record {
+  plan = g.plan ∙ f.plan;
+  hart = g.hart ∙ f.hart;
+  alone = g.alone ∙ f.alone;
+  owner = g.owner ∙ f.owner;
+  homes = λ s le. g.homes s (let o = f.owner in omega arith) ∙ f.homes s le;
+  inner = g.inner;
+  closed = λ s le. g.closed s (let o = f.owner in omega arith) ∙ f.closed s le;
+  gone = λ s is. g.gone s (f.gone s is);
+  over = λ s. let x = f.over s in let y = g.over s in omega arith;
+}
+
+-- the hart registers a child, comes back to it, looks until it is empty, and unregisters it
+pub back_over : (h a b c : PortView) (s : ℕ) → IsPlan h.plan → IsSite h.plan s → h.owner ≡ parent h.plan s → IsSettled h → a ≡ registered h s → IsBack a b → HasLooked b c →
+    IsBack h (unregistered c) × (1 ≤ unregisters s (unregistered c).mine)
+back_over h a b c s is_plan site around settled is back looked = (
+  record {
+    plan = ap (λ (x : PortView). x.plan) looked.same ∙ plan;
+    hart = ap (λ (x : PortView). x.hart) looked.same ∙ back.hart ∙ ap (λ (x : PortView). x.hart) is;
+    alone = ap (λ (x : PortView). x.alone) looked.same ∙ back.alone ∙ ap (λ (x : PortView). x.alone) is;
+    owner = own;
+    homes = λ x le. without_other c.homes c.owner x (λ e. omega (arith, e, here)) ∙ homes x (omega arith) ∙ with_other h.homes s x (λ e. omega arith);
+    inner = λ x above. elim (cases_eq x s) [
+      | inl e ↦ subst (λ y. is_in (without c.homes c.owner) y ≡ false) (here ∙ sym e) (without_here c.homes c.owner)
+      | inr n ↦ let up : h.owner < x = omega (arith, own, above) in without_other c.homes c.owner x (λ e. n (e ∙ here)) ∙ elim (cases_lt s x) [
+        | inl over ↦ ap (λ (y : PortView). is_in y.homes x) looked.same ∙ back.inner x (omega (arith, there))
+        | inr below ↦ homes x (omega arith) ∙ with_other h.homes s x n ∙ settled x up
+      ]
+    ];
+    closed = λ x le. without_other c.closed c.owner x (λ e. omega (arith, e, here)) ∙ looked.closed x (λ e. omega (arith, e, there)) ∙ back.closed x (omega (arith, owner_is))
+        ∙ ap (λ (y : PortView). is_in y.closed x) is ∙ without_other h.closed s x (λ e. omega arith);
+    gone = λ x g. looked.gone x (back.gone x (ap (λ (y : PortView). is_in y.gone x) is ∙ g));
+    over = λ x. omega (arith, over_stays x h.mine (Register h.hart s), ap (λ (y : PortView). unregisters x y.mine) is, back.over x, ap (λ (y : PortView). unregisters x y.mine) looked.same, over_stays x c.mine (Unregister c.hart c.owner));
+  },
+  (let one = unregisters-here c.mine (Unregister c.hart c.owner) in
+      subst (λ y. 1 ≤ unregisters y (c.mine ++ Unregister c.hart c.owner ∷ [])) here (omega arith)),
+)
+  where
+    less : h.owner < s
+    less = let below = is_plan.below s site.0 site.1 in omega arith
+
+    owner_is : a.owner ≡ s
+    owner_is = ap (λ (x : PortView). x.owner) is
+
+    there : b.owner ≡ s
+    there = back.owner ∙ owner_is
+
+    here : c.owner ≡ s
+    here = ap (λ (x : PortView). x.owner) looked.same ∙ there
+
+    plan : b.plan ≡ h.plan
+    plan = back.plan ∙ ap (λ (x : PortView). x.plan) is
+
+    homes : (x : ℕ) → x ≤ s → is_in c.homes x ≡ is_in (with_site h.homes s) x
+    homes x le = ap (λ (y : PortView). is_in y.homes x) looked.same ∙ back.homes x (omega (arith, owner_is)) ∙ ap (λ (y : PortView). is_in y.homes x) is
+
+    own : parent c.plan c.owner ≡ h.owner
+    own = ap (λ (p : Plan). parent p c.owner) (ap (λ (x : PortView). x.plan) looked.same ∙ plan) ∙ ap (parent h.plan) here ∙ sym around
+
+pub looked_refl : (h : PortView) → HasLooked h h
+looked_refl h = record { same = refl; closed = λ s n. refl; gone = λ s is. is }
+
+pub looked_then : (a b c : PortView) → HasLooked a b → HasLooked b c → HasLooked a c
+looked_then a b c f g = record {
+  same = g.same ∙ ap (λ (x : PortView). record x { closed = c.closed; empty = c.empty; gone = c.gone }) f.same;
+  closed = λ s n. g.closed s (λ e. n (e ∙ ap (λ (x : PortView). x.owner) f.same)) ∙ f.closed s n;
+  gone = λ s is. g.gone s (f.gone s is);
+}
+
+pub looked_gone : (h : PortView) (s : ℕ) → HasLooked h (sees_gone h s)
+looked_gone h s = record { same = refl; closed = λ x n. refl; gone = λ x is. with_stays h.gone s x is }
+
+pub looked_closed : (h : PortView) → HasLooked h (closes h)
+looked_closed h = record { same = refl; closed = λ x n. with_other h.closed h.owner x n; gone = λ x is. is }
+
+pub looked_empty : (h : PortView) → HasLooked h (sees_empty h)
+looked_empty h = record { same = refl; closed = λ x n. refl; gone = λ x is. is }
+
+pub over_looked : (h a : PortView) → HasLooked h a → ChildrenOver h → ChildrenOver a
+over_looked h a looked over = subst ChildrenOver (sym looked.same) over
+
+-- one child more was seen gone
+pub seen_more : (h a : PortView) (n : ℕ) (next : Option ℕ) → HasLooked h a → SeenGoneBefore h (Some n) → NextChild h.plan h.owner n next → is_in a.gone n ≡ true → SeenGoneBefore a next
+seen_more h a n next looked seen is more c site up below =
+    let plan : a.plan ≡ h.plan = ap (λ (x : PortView). x.plan) looked.same in
+    let own : a.owner ≡ h.owner = ap (λ (x : PortView). x.owner) looked.same in
+    let site' = subst (λ p. IsSite p c) plan site in
+    let up' : parent h.plan c ≡ h.owner = subst (λ p. parent p c ≡ h.owner) plan (up ∙ own) in
+    let most = before_next h.plan h.owner n c next is site' up' below in
+    elim (cases_eq c n) [
+      | inl e ↦ subst (λ x. is_in a.gone x ≡ true) (sym e) more
+      | inr m ↦ looked.gone c (seen c site' up' (omega arith))
+    ]
+
+-- one child more is over
+pub over_more : (h a : PortView) (n : ℕ) (next : Option ℕ) → IsBack h a → ChildrenOverBefore h (Some n) → NextChild h.plan h.owner n next → (a.alone ≡ true → 1 ≤ unregisters n a.mine) → ChildrenOverBefore a next
+over_more h a n next back over is more alone c site up below =
+    let site' = subst (λ p. IsSite p c) back.plan site in
+    let up' : parent h.plan c ≡ h.owner = subst (λ p. parent p c ≡ h.owner) back.plan (up ∙ back.owner) in
+    let most = before_next h.plan h.owner n c next is site' up' below in
+    elim (cases_eq c n) [
+      | inl e ↦ subst (λ x. 1 ≤ unregisters x a.mine) (sym e) (more alone)
+      | inr m ↦ let was = over (sym back.alone ∙ alone) c site' up' (omega arith) in let still = back.over c in omega arith
+    ]
+
+-- the hart enters a child, comes back to it, and yields
+pub back_visited : (h a b : PortView) (s : ℕ) → IsPlan h.plan → IsSite h.plan s → h.owner ≡ parent h.plan s → IsSettled h → a ≡ entered h s → IsBack a b → IsBack h (yielded b)
+back_visited h a b s is_plan site around settled is back = record {
+  plan = plan;
+  hart = back.hart ∙ ap (λ (x : PortView). x.hart) is;
+  alone = back.alone ∙ ap (λ (x : PortView). x.alone) is;
+  owner = own;
+  homes = λ x le. homes x (omega arith);
+  inner = λ x above. let up : h.owner < x = omega (arith, own, above) in elim (cases_lt s x) [
+    | inl over ↦ back.inner x (omega (arith, there))
+    | inr below ↦ homes x (omega arith) ∙ settled x up
+  ];
+  closed = λ x le. back.closed x (omega (arith, owner_is)) ∙ ap (λ (y : PortView). is_in y.closed x) is;
+  gone = λ x g. back.gone x (ap (λ (y : PortView). is_in y.gone x) is ∙ g);
+  over = λ x. omega (arith, over_stays x h.mine (Enter h.hart s), ap (λ (y : PortView). unregisters x y.mine) is, back.over x, over_stays x b.mine (Yield b.hart b.owner));
+}
+  where
+    less : h.owner < s
+    less = let below = is_plan.below s site.0 site.1 in omega arith
+
+    owner_is : a.owner ≡ s
+    owner_is = ap (λ (x : PortView). x.owner) is
+
+    there : b.owner ≡ s
+    there = back.owner ∙ owner_is
+
+    plan : b.plan ≡ h.plan
+    plan = back.plan ∙ ap (λ (x : PortView). x.plan) is
+
+    homes : (x : ℕ) → x ≤ s → is_in b.homes x ≡ is_in h.homes x
+    homes x le = back.homes x (omega (arith, owner_is)) ∙ ap (λ (y : PortView). is_in y.homes x) is
+
+    own : parent b.plan b.owner ≡ h.owner
+    own = ap (λ (p : Plan). parent p b.owner) plan ∙ ap (parent h.plan) there ∙ sym around
+
+-- where the register of a child is refused, the child is over, if no other hart shares the table
+pub refused_over : (h a : PortView) (s : ℕ) → IsPortView a → IsSite h.plan s → h.owner ≡ parent h.plan s → a ≡ h → (h.alone ≡ true → 1 ≤ registers s h.mine)
+    → a.alone ≡ true → 1 ≤ unregisters s a.mine
+refused_over h a s kept site child is came = subst (λ (x : PortView). x.alone ≡ true → 1 ≤ unregisters s x.mine) (sym is)
+    (λ alone. taken_over h s (subst IsPortView is kept) site child alone (came alone))

@@ -1,0 +1,4 @@
+pub mod Children
+pub mod Flags
+pub mod Overs
+pub mod Backs

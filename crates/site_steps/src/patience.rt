@@ -1,0 +1,41 @@
+//! Ports that wait.
+ghost use Rattle.std.specs.Prelude.{◌≡◌, ◌≤◌, true};
+ghost use Rattle.transfer_table.specs.Plan.{IsSite};
+ghost use Rattle.transfer_table.specs.Entry.{unregisters};
+ghost use Rattle.hart_port.specs.PortView.{IsPortView, is_in, sees_gone, sees_empty};
+
+use hart_port::{PlainPort, Port, Seen};
+
+/// A port whose hart can wait for what other harts do. A wait that returns has seen what it waited for.
+pub trait PatientPort: Port {
+    /// Looks at the site until it is gone. Where no other hart shares the table, the hart has unregistered it.
+    fn until_gone(&mut self, hold: Self::Hold, site: u16)
+        requires known { IsSite (Self.seen self.old).plan site }
+        requires over { (Self.seen self.old).alone ≡ true → 1 ≤ unregisters site (Self.seen self.old).mine }
+        ensures does { Self.seen self.new ≡ sees_gone (Self.seen self.old) site }
+        ensures kept { IsPortView (Self.seen self.new) };
+
+    /// Looks at the owner, which the hart has closed, until it is empty.
+    fn until_empty(&mut self, hold: Self::Hold)
+        requires home { is_in (Self.seen self.old).homes (Self.seen self.old).owner ≡ true }
+        requires closed { is_in (Self.seen self.old).closed (Self.seen self.old).owner ≡ true }
+        ensures does { Self.seen self.new ≡ sees_empty (Self.seen self.old) }
+        ensures kept { IsPortView (Self.seen self.new) };
+}
+
+/// A single hart waits for nothing: it sees at once what it waits for.
+impl PatientPort for PlainPort {
+    fn until_gone(&mut self, hold: (), site: u16) {
+        let _ = self.owner();
+        if !self.see_gone(hold, site) {
+            unreachable!()
+        }
+    }
+
+    fn until_empty(&mut self, hold: ()) {
+        match self.see_empty(hold) {
+            Seen::Empty => {}
+            _ => unreachable!(),
+        }
+    }
+}

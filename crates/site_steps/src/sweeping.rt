@@ -1,0 +1,57 @@
+//! How the sites that nobody entered come and go.
+ghost use Rattle.std.specs.Prelude.{◌≡◌, ◌≤◌, true};
+ghost use Rattle.transfer_table.specs.Plan.{IsSite, parent};
+ghost use Rattle.transfer_table.specs.Entry.{unregisters};
+ghost use Rattle.site_steps.specs.Back.{IsSettled, IsBack, ChildrenOver};
+
+use crate::ending::finish_site;
+use crate::patience::PatientPort;
+use crate::tree::SiteTree;
+
+/// Sweeps the owner where a piece of it has failed, or where the hart is alone and nothing else tells that each child came
+/// and went.
+pub fn sweep_failed<P: PatientPort>(tree: &SiteTree, port: &mut P, hold: P::Hold, has_failed: bool)
+    requires plan { (P.seen port.old).plan ≡ tree.now }
+    requires inner { IsSettled (P.seen port.old) }
+    ensures back { IsBack (P.seen port.old) (P.seen port.new) }
+    ensures over { ChildrenOver (P.seen port.new) }
+{
+    if has_failed || port.is_alone() {
+        sweep_children(tree, port, hold);
+    }
+}
+
+/// Makes each child of the owner that nobody registered come and go, in rising order, with all that is inside it.
+#[cycle(sweep)]
+pub fn sweep_children<P: PatientPort>(tree: &SiteTree, port: &mut P, hold: P::Hold)
+    requires plan { (P.seen port.old).plan ≡ tree.now }
+    requires inner { IsSettled (P.seen port.old) }
+    ensures back { IsBack (P.seen port.old) (P.seen port.new) }
+    ensures over { ChildrenOver (P.seen port.new) }
+{
+    let mut next = tree.first_child(port.owner());
+    'children: while let Some(child) = next {
+        sweep_site(tree, port, hold, child);
+        next = tree.next_sibling(child);
+    }
+}
+
+// Makes a child of the owner come and go, unless it is registered already.
+#[cycle(sweep)]
+fn sweep_site<P: PatientPort>(tree: &SiteTree, port: &mut P, hold: P::Hold, site: u16)
+    requires plan { (P.seen port.old).plan ≡ tree.now }
+    requires inner { IsSettled (P.seen port.old) }
+    requires known { IsSite tree.now site }
+    requires child { (P.seen port.old).owner ≡ parent tree.now site }
+    ensures back { IsBack (P.seen port.old) (P.seen port.new) }
+    ensures over { (P.seen port.new).alone ≡ true → 1 ≤ unregisters site (P.seen port.new).mine }
+{
+    match port.register(hold, site) {
+        Ok(()) => {
+            sweep_children(tree, port, hold);
+            finish_site(tree, port, hold);
+            port.unregister(hold);
+        }
+        Err(_) => {}
+    }
+}

@@ -1,0 +1,86 @@
+//! The sites of a small plan: sites 1 and 5 at the top, 2 and 4 inside 1, 3 inside 2.
+ghost use Rattle.std.specs.Prelude.{◌≡◌, IfOk, ◌∷◌, []};
+
+use crate::{SiteTree, finish_base, sweep_children, sweep_failed};
+use hart_port::PlainPort;
+use std::alloc::Global;
+use std::test::Fail;
+use transfer_table::{Entry, Plan};
+
+fn small_plan(alloc: Global) -> Result<Plan, Fail>
+    ensures { IfOk result (λ p. p ≡ record { harts = 1; parents = 0 ∷ 1 ∷ 2 ∷ 1 ∷ 0 ∷ [] }) }
+{
+    Ok(Plan::new(alloc, 1, &[0, 1, 2, 1, 0])?)
+}
+
+fn register(site: u16) -> Entry {
+    Entry::Register { hart: 0, site }
+}
+
+fn unregister(site: u16) -> Entry {
+    Entry::Unregister { hart: 0, site }
+}
+
+#[test]
+fn children_come_in_rising_order(rt: HostRuntime) -> Result<(), Fail> {
+    let plan = small_plan(rt.alloc())?;
+    let tree = SiteTree::new(rt.alloc(), &plan)?;
+    assert_eq!(rt; tree.first_child(0), Some(1));
+    assert_eq!(rt; tree.first_child(1), Some(2));
+    assert_eq!(rt; tree.first_child(3), None);
+    assert_eq!(rt; tree.next_sibling(1), Some(5));
+    assert_eq!(rt; tree.next_sibling(2), Some(4));
+    assert_eq!(rt; tree.next_sibling(4), None);
+    Ok(())
+}
+
+#[test]
+fn a_child_is_told_from_other_sites(rt: HostRuntime) -> Result<(), Fail> {
+    let plan = small_plan(rt.alloc())?;
+    let tree = SiteTree::new(rt.alloc(), &plan)?;
+    assert!(rt; tree.is_child(2, 3));
+    assert!(rt; !tree.is_child(1, 3));
+    assert!(rt; !tree.is_child(0, 0));
+    assert!(rt; !tree.is_child(0, 6));
+    assert_eq!(rt; tree.plan().sites(), 5);
+    Ok(())
+}
+
+// The entries of a hart that sweeps the base.
+#[test]
+fn each_site_comes_and_goes(rt: HostRuntime) -> Result<(), Fail> {
+    let plan = small_plan(rt.alloc())?;
+    let tree = SiteTree::new(rt.alloc(), &plan)?;
+    let mut port = PlainPort::new(rt.alloc(), &plan)?;
+    sweep_children(&tree, &mut port, ());
+    finish_base(&tree, &mut port, ());
+    let entries = port.finish();
+    let expected = [
+        register(1),
+        register(2),
+        register(3),
+        unregister(3),
+        unregister(2),
+        register(4),
+        unregister(4),
+        unregister(1),
+        register(5),
+        unregister(5),
+    ];
+    assert!(rt; entries.as_slice() == expected.as_slice());
+    Ok(())
+}
+
+// What came and went is passed over by the next sweep.
+#[test]
+fn a_second_sweep_adds_nothing(rt: HostRuntime) -> Result<(), Fail> {
+    let plan = Plan::new(rt.alloc(), 1, &[0, 0])?;
+    let tree = SiteTree::new(rt.alloc(), &plan)?;
+    let mut port = PlainPort::new(rt.alloc(), &plan)?;
+    sweep_failed(&tree, &mut port, (), false);
+    sweep_failed(&tree, &mut port, (), true);
+    let entries = port.finish();
+    let expected = [register(1), unregister(1), register(2), unregister(2)];
+    assert!(rt; entries.as_slice() == expected.as_slice());
+    Ok(())
+}
