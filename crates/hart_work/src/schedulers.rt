@@ -4,6 +4,8 @@ ghost use Rattle.std.specs.Option.{ForSome};
 ghost use Rattle.transfer_table.specs.Plan.{IsSite, parent as parent_of};
 ghost use Rattle.hart_port.specs.PortView.{IsPortView, is_in, Registers, MayRequest, requested_by, yielded, MayUnregister, unregistered};
 ghost use Rattle.contexts.specs.declared.machine.Step.TheVariants.{Finished};
+ghost use Rattle.sched_api.specs.declared.hearing.Told.{Told};
+ghost use Rattle.sched_api.specs.Calls.{registered_told, requested_told, unregistered_told, yielded_told};
 ghost use Rattle.hart_work.specs.Tasks.{HasNext, HasEntered, HasAccount, StaysSettled, Goes};
 
 use contexts::{Running, Step};
@@ -56,6 +58,9 @@ pub trait Schedulers {
     ghost owed: { Self.Site → Self.Job → Type 0 };
 
     ghost over: { Self.Site → Type 0 };
+
+    /// What a callback of the site's scheduler did that told this.
+    ghost hears: { Self.Site → Told → Self.Site → Type 0 };
 
     /// The job of a machine and of a piece, and the place of a job.
     ghost job_of: { Self.Machine → Self.Job };
@@ -143,6 +148,7 @@ pub trait Schedulers {
         requires child { (P.seen port.old).owner ≡ parent_of (P.seen port.old).plan child }
         ensures does { Registers (P.seen port.old) child result (P.seen port.new) }
         ensures kept { IsPortView (P.seen port.new) }
+        ensures hears { OnOk result (hears around.old (registered_told child) around.new) }
         ensures construct { construct around.new ≡ construct around.old }
         ensures stays { StaysSettled (settled around.old) (owed around.old) (settled around.new) (owed around.new) }
         ensures left { left around.new ≤ left around.old };
@@ -160,6 +166,7 @@ pub trait Schedulers {
         requires may { MayRequest (P.seen port.old) child count }
         ensures does { P.seen port.new ≡ requested_by (P.seen port.old) child count }
         ensures kept { IsPortView (P.seen port.new) }
+        ensures hears { hears around.old (requested_told child count) around.new }
         ensures construct { construct around.new ≡ construct around.old }
         ensures stays { StaysSettled (settled around.old) (owed around.old) (settled around.new) (owed around.new) }
         ensures left { left around.new ≤ left around.old };
@@ -169,6 +176,7 @@ pub trait Schedulers {
         requires { MayUnregister (P.seen port.old) }
         ensures does { P.seen port.new ≡ unregistered (P.seen port.old) }
         ensures kept { IsPortView (P.seen port.new) }
+        ensures hears { hears around.old (unregistered_told (P.seen port.old).owner) around.new }
         ensures construct { construct around.new ≡ construct around.old }
         ensures stays { StaysSettled (settled around.old) (owed around.old) (settled around.new) (owed around.new) }
         ensures left { left around.new ≤ left around.old };
@@ -194,6 +202,7 @@ pub trait Schedulers {
         requires guest { is_in (P.seen port.old).homes (P.seen port.old).owner ≡ false }
         ensures does { P.seen port.new ≡ yielded (P.seen port.old) }
         ensures kept { IsPortView (P.seen port.new) }
+        ensures hears { hears around.old (yielded_told (P.seen port.old).owner) around.new }
         ensures construct { construct around.new ≡ construct around.old }
         ensures stays { StaysSettled (settled around.old) (owed around.old) (settled around.new) (owed around.new) }
         ensures left { left around.new ≤ left around.old };

@@ -12,7 +12,6 @@ use hart_port::Port;
 use site_steps::{PatientPort, SiteTree, finish_site, sweep_failed};
 use std::alloc::{AllocError, Global};
 
-
 /// Runs a job of the site that the hart is in, and brings the hart back to it.
 #[cycle(serve)]
 pub fn run_piece<P: PatientPort, H: Schedulers>(
@@ -81,7 +80,15 @@ pub fn run_construct<P: PatientPort, H: Schedulers>(
     let mut site = schedulers.open(alloc, nested)?;
     match schedulers.register(port, hold, around, number) {
         Ok(()) => {
-            ask(tree, port, hold, schedulers, around, number, schedulers.wishes(&site));
+            ask(
+                tree,
+                port,
+                hold,
+                schedulers,
+                around,
+                number,
+                schedulers.wishes(&site),
+            );
             serve(alloc, tree, port, hold, schedulers, &mut site, true);
             sweep_failed(tree, port, hold, schedulers.has_failed(&site));
             finish_site(tree, port, hold);

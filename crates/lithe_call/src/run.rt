@@ -17,8 +17,8 @@ use array_lang::{SyntaxFault, parse};
 use array_tree::Program;
 use disjoint_check::{Accepted, CheckFault, check};
 use error_text::{refusal_line, syntax_line};
+use hart_loop::run_alone;
 use journal_text::write_entries;
-use serial_journal::serial_journal;
 use std::alloc::{AllocError, Global};
 
 /// The number of harts that a run has.
@@ -90,15 +90,14 @@ fn arrays(alloc: Global, accepted: &Accepted<'_>) -> Result<Vec<u8>, AllocError>
     write_arrays(alloc, program, &store)
 }
 
-// The arrays, and the serial journal of the program's plan.
+// The arrays and the journal that a run on one hart leaves.
 fn run(alloc: Global, accepted: &Accepted<'_>) -> Result<Vec<u8>, AllocError>
     requires { accepted.now.plan.harts ≡ 1 }
     ensures { IfOk result (λ text. IsRunOutput (program_of accepted.now.program) 1 text.items) }
 {
-    let plan = accepted.plan();
-    let journal = serial_journal(alloc, plan)?;
-    let mut text = arrays(alloc, accepted)?;
-    let entries = write_entries(alloc, plan, journal.as_slice())?;
+    let outcome = run_alone(alloc, accepted)?;
+    let mut text = write_arrays(alloc, accepted.program(), &outcome.store)?;
+    let entries = write_entries(alloc, accepted.plan(), outcome.journal.entries())?;
     text.extend_from_slice(&entries)?;
     Ok(text)
 }

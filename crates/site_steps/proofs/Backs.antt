@@ -1,14 +1,14 @@
 -- How a hart comes back, step by step.
-use Rattle.std.proofs.Common.{◌≡◌, ◌≢◌, ℕ, ◌+◌, ◌<◌, ◌≤◌, Bool, true, false, List, [], ◌∷◌, ◌++◌, refl, sym, ap, ◌∙◌, subst, arith, inl, inr, Option, Some, None}
+use Rattle.std.proofs.Common.{◌≡◌, ℕ, ◌<◌, ◌≤◌, true, false, [], ◌∷◌, ◌++◌, refl, sym, ap, ◌∙◌, subst, arith, inl, inr, Option, Some}
 use Rattle.std.proofs.lemmas.Bool.{cases_eq, cases_lt}
-use Rattle.transfer_table.specs.Plan.{Plan, IsPlan, IsSite, parent, site_count}
+use Rattle.transfer_table.specs.Plan.{Plan, IsPlan, IsSite, parent}
 use Rattle.transfer_table.specs.Entry.{registers, unregisters}
 use Rattle.transfer_table.specs.declared.entry.Entry.TheVariants.{Register, Enter, Yield, Unregister}
 use Rattle.transfer_table.proofs.Balance.{unregisters-here}
-use Rattle.hart_port.specs.PortView.{PortView, IsPortView, is_in, with_site, without, registered, unregistered, entered, yielded, closes, sees_gone, sees_empty, MayUnregister, ChildrenSeenGone}
+use Rattle.hart_port.specs.PortView.{PortView, IsPortView, is_in, with_site, without, registered, unregistered, entered, yielded, closes, sees_gone, sees_empty}
 use Rattle.site_steps.specs.Back.{IsSettled, IsBack, ChildrenOver, HasLooked}
-use Rattle.site_steps.specs.Visits.{IsBefore, ChildrenOverBefore, SeenGoneBefore}
-use Rattle.site_steps.proofs.Flags.{with_here, with_other, with_stays, without_other, without_here}
+use Rattle.site_steps.specs.Visits.{ChildrenOverBefore, SeenGoneBefore}
+use Rattle.site_steps.proofs.Flags.{with_other, with_stays, without_other, without_here}
 use Rattle.site_steps.specs.Children.{NextChild}
 use Rattle.site_steps.proofs.Overs.{over_stays, taken_over}
 use Rattle.site_steps.proofs.Children.{before_next}

@@ -1,9 +1,9 @@
 -- The children of a site in rising order.
-use Rattle.std.proofs.Common.{◌≡◌, ◌≢◌, ℕ, zero, suc, ◌+◌, ◌-◌, ◌<◌, ◌≤◌, List, length, Option, Some, None, refl, sym, ap, ◌∙◌, subst, arith, inl, inr}
+use Rattle.std.proofs.Common.{◌≡◌, ◌≢◌, ℕ, zero, suc, ◌-◌, ◌<◌, ◌≤◌, Option, Some, None, refl, subst, arith, inl, inr}
 use Rattle.std.proofs.lemmas.Bool.{cases_eq, cases_lt}
-use Rattle.transfer_table.specs.Plan.{Plan, IsPlan, IsSite, parent, site_count}
+use Rattle.transfer_table.specs.Plan.{Plan, IsSite, parent, site_count}
 use Rattle.site_steps.specs.Visits.{IsBefore, IsChildIf, sites_from}
-use Rattle.site_steps.specs.Children.{IsNextChild, NextChild, site_if, AreLinkedFrom}
+use Rattle.site_steps.specs.Children.{NextChild, site_if}
 
 -- a child before the next one above n isn't above n
 pub before_next : (p : Plan) (around n c : ℕ) (next : Option ℕ) → NextChild p around n next → IsSite p c → parent p c ≡ around → IsBefore next c → c ≤ n

@@ -1,9 +1,9 @@
 -- Where no other hart shares the table: what the hart registered is over, unless the hart is inside it.
-use Rattle.std.proofs.Common.{◌≡◌, ◌≢◌, ◌⊎◌, ℕ, ◌+◌, ◌<◌, ◌≤◌, Bool, true, false, List, [], ◌∷◌, ◌++◌, if◌then◌else◌, refl, sym, ap, ◌∙◌, subst, arith, inl, inr}
+use Rattle.std.proofs.Common.{◌≡◌, ◌⊎◌, ℕ, ◌≤◌, Bool, true, false, List, [], ◌∷◌, ◌++◌, if◌then◌else◌, refl, sym, ap, ◌∙◌, subst, arith, inl, inr}
 use Rattle.transfer_table.specs.Plan.{Plan, IsPlan, IsHart, IsSite, parent}
 use Rattle.transfer_table.specs.Table.{TableState, owner, row, is_new, is_gone}
 use Rattle.transfer_table.specs.Journal.{Reaches}
-use Rattle.transfer_table.specs.Entry.{registers, unregisters, site_of}
+use Rattle.transfer_table.specs.Entry.{registers, unregisters}
 use Rattle.transfer_table.specs.Laws.{IsWithin}
 use Rattle.transfer_table.specs.Laws.IsWithin.{itself, child}
 use Rattle.transfer_table.specs.declared.entry.Entry.{Entry}

@@ -1,10 +1,10 @@
-use Rattle.std.proofs.Common.{◌≡◌, ◌≤◌, ◌<◌, ◌+◌, ℕ, true, false, refl, sym, ap, ◌∙◌, subst, arith, rules, Result, Ok, Err}
+use Rattle.std.proofs.Common.{◌≡◌, ◌≤◌, ℕ, true, sym, ◌∙◌, subst, arith, rules, Result, Ok, Err}
 use Rattle.std.specs.Prelude.{OnOk}
 use Rattle.std.proofs.lemmas.Grind.{common_steps}
-use Rattle.transfer_table.specs.Plan.{IsSite, IsPlan, parent, Plan}
+use Rattle.transfer_table.specs.Plan.{IsSite, parent, Plan}
 use Rattle.transfer_table.specs.Entry.{unregisters}
-use Rattle.hart_port.specs.PortView.{PortView, IsPortView, registered, entered}
-use Rattle.site_steps.specs.Back.{IsBack, IsSettled}
+use Rattle.hart_port.specs.PortView.{PortView}
+use Rattle.site_steps.specs.Back.{IsBack}
 use Rattle.site_steps.proofs.Backs.{back_refl, back_then, back_over, back_visited, refused_over}
 use Rattle.hart_work.proofs.serving.+serve.Goals as goal
 use Rattle.hart_work.proofs.serving.+serve.Goals.{be_guest-in-Piece, be_guest-in-Visit, be_guest-in-Nothing}

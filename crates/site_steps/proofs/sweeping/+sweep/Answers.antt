@@ -1,6 +1,5 @@
-use Rattle.std.proofs.Common.{◌≡◌, ◌≤◌, ◌<◌, ℕ, true, Option, Some, refl, sym, ap, ◌∙◌, subst}
+use Rattle.std.proofs.Common.{◌≡◌, sym, ap, ◌∙◌, subst}
 use Rattle.transfer_table.specs.Plan.{IsSite, IsPlan, parent, Plan}
-use Rattle.transfer_table.specs.Entry.{unregisters}
 use Rattle.hart_port.specs.PortView.{PortView, registered}
 use Rattle.site_steps.specs.Back.{IsBack}
 use Rattle.site_steps.specs.Children.{NextChild}

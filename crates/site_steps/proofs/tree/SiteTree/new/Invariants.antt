@@ -1,5 +1,5 @@
 use Rattle.std.proofs.Common.{◌-◌}
-use Rattle.transfer_table.specs.Plan.{IsPlan, site_count}
+use Rattle.transfer_table.specs.Plan.{site_count}
 use Rattle.site_steps.specs.Children.{AreLinkedFrom}
 use Rattle.site_steps.proofs.tree.SiteTree.new.Given as goal
 

@@ -1,5 +1,0 @@
-pub mod Chains
-pub mod PlanNests
-pub mod Standing
-pub mod Leaves
-pub mod Steps
