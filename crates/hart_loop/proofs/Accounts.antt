@@ -55,31 +55,37 @@ replicate_size (suc n) x = ap suc (replicate_size n x)
 -- no job of an open book was handed out
 pub none_out : {C : Type 0} (begin : JobParts → C) (jobs : List JobParts) (agenda : AgendaParts C) → IsGroup (map job_of jobs) → agenda.ready ≡ [] → agenda.unbegun ≡ map begin jobs →
     AllCameBack begin (open_book jobs) agenda
-none_out begin jobs agenda group none all = (0, record {
-  none_ready = none;
-  unbegun = all;
-  back = λ i less. absurd (omega arith);
-  away = λ i up within.
-  let at = there (replicate (length jobs) Open) i (subst (λ n. i < n) (sym (replicate_size (length jobs) Open)) within) in
-  at.1 ∙ ap Some (at_replicate (length jobs) i Open at.0 at.1);
-  each = replicate_size (length jobs) Open;
-  own = λ i job is. group.places i (job_of job) (slice_get-map job_of jobs i ∙ ap (option_map job_of) is);
-})
+none_out begin jobs agenda group none all = (
+  0,
+  record {
+    none_ready = none;
+    unbegun = all;
+    back = λ i less. absurd (omega arith);
+    away = λ i up within.
+        let at = there (replicate (length jobs) Open) i (subst (λ n. i < n) (sym (replicate_size (length jobs) Open)) within) in
+        at.1 ∙ ap Some (at_replicate (length jobs) i Open at.0 at.1);
+    each = replicate_size (length jobs) Open;
+    own = λ i job is. group.places i (job_of job) (slice_get-map job_of jobs i ∙ ap (option_map job_of) is);
+  },
+)
 
 -- the job that is handed out next is the first that isn't begun
 pub hand_out : {C : Type 0} (begin : JobParts → C) → IsOneToOne begin → (book : BookParts) (before after : AgendaParts C) (job : JobParts) → AllCameBack begin book before →
     TakesNext before (Run (begin job)) after → AllButOneCameBack begin book after job
 hand_out begin one book before after job (k, stands) (inl taken) = absurd (no_first before.ready after.ready (begin job) stands.none_ready taken.first)
 hand_out begin one book before after job (k, stands) (inr taken) =
-    let found = drop_first begin one k book.jobs job after.unbegun (sym stands.unbegun ∙ taken.first) in
-    (k, found.0, record {
-      none_ready = ap (λ (a : AgendaParts _). a.ready) taken.rest ∙ stands.none_ready;
-      unbegun = found.1;
-      back = stands.back;
-      away = stands.away;
-      each = stands.each;
-      own = stands.own;
-    })
+    let found = drop_first begin one k book.jobs job after.unbegun (sym stands.unbegun ∙ taken.first) in (
+      k,
+      found.0,
+      record {
+        none_ready = ap (λ (a : AgendaParts _). a.ready) taken.rest ∙ stands.none_ready;
+        unbegun = found.1;
+        back = stands.back;
+        away = stands.away;
+        each = stands.each;
+        own = stands.own;
+      },
+    )
 
 -- fewer jobs are left then
 pub hand_out_less : {C : Type 0} (c : C) (before after : AgendaParts C) → before.ready ≡ [] → TakesNext before (Run c) after → length after.unbegun < length before.unbegun
@@ -145,9 +151,10 @@ pub deposited : {C : Type 0} (begin : JobParts → C) (before after : BookParts)
     AllButOneCameBack begin before agenda piece.job → Deposits before piece answer after → (after.jobs ≡ before.jobs) × AllCameBack begin after agenda
 deposited begin before after agenda piece Kept (k, is, stands) does =
     let place = out_place begin before agenda piece.job k is stands in
-    let here : after ≡ marked_book before k Filled = subst (λ i. after ≡ marked_book before i Filled) place.0 does.2 in
-    (ap (λ (b : BookParts). b.jobs) here,
-      (suc k, subst (λ (b : BookParts). Stands begin b agenda (suc k) (suc k)) (sym here) (came_back begin before agenda k Filled (λ e. unlike e) stands)))
+    let here : after ≡ marked_book before k Filled = subst (λ i. after ≡ marked_book before i Filled) place.0 does.2 in (
+      ap (λ (b : BookParts). b.jobs) here,
+      (suc k, subst (λ (b : BookParts). Stands begin b agenda (suc k) (suc k)) (sym here) (came_back begin before agenda k Filled (λ e. unlike e) stands)),
+    )
   where
     unlike : Filled ≡ Open → ⊥
     unlike e = cc

@@ -86,7 +86,7 @@ next_opened before after full fit none are is =
     subst (HasArrived before) (sym is) (record {
       nested = refl;
       left = subst (λ n. n + (phases_in before.nested - suc (suc before.opened)) * members_in before.nested ≤ team_jobs_left before) (sym size)
-      (next_taken (phases_in before.nested) before.opened (members_in before.nested) (length before.agenda.unbegun) are.there);
+          (next_taken (phases_in before.nested) before.opened (members_in before.nested) (length before.agenda.unbegun) are.there);
       account = inr (begins before.nested fit (suc before.opened) jobs are next refl none refl);
     })
 

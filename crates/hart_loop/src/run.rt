@@ -57,7 +57,15 @@ fn run_body<'p>(
 {
     let job = body_job(alloc, accepted.program())?;
     let mut base = LoneSite::Base(Base::new(alloc, tree.plan().sites())?);
-    run_piece(alloc, tree, port, (), &mut LoneSchedulers::new(), &mut base, job)
+    run_piece(
+        alloc,
+        tree,
+        port,
+        (),
+        &mut LoneSchedulers::new(),
+        &mut base,
+        job,
+    )
 }
 
 // The store after the piece of a program's body.

@@ -10,10 +10,7 @@ pub enum LoneSite<'p> {
     /// That of the base.
     Base(Base),
     /// That of a `par`, with the construct.
-    Pool {
-        nested: Nested<'p>,
-        pool: Pool<'p>,
-    },
+    Pool { nested: Nested<'p>, pool: Pool<'p> },
     /// That of a `team`.
     Team(Team<'p>),
 }

@@ -11,7 +11,8 @@ use transfer_table::Entry;
 const NESTED: &[u8] =
     b"array a[4]; par { { team i in 0..2 by 2 { a[i] = i + 5; } } { a[3] = 9; } }";
 
-const PHASES: &[u8] = b"array a[2]; array b[2]; team i in 0..2 by 2 { a[i] = i + 1; } barrier { b[i] = a[1 - i]; }";
+const PHASES: &[u8] =
+    b"array a[2]; array b[2]; team i in 0..2 by 2 { a[i] = i + 1; } barrier { b[i] = a[1 - i]; }";
 
 // The program of a text.
 fn parsed(alloc: Global, text: &[u8]) -> Result<Program, Fail> {
