@@ -1,5 +1,5 @@
 -- Where the hart is back in the base and each top site is over, every site is gone.
-use Rattle.std.proofs.Common.{◌≡◌, ℕ, zero, suc, ◌<◌, ◌≤◌, ◌*◌, ◌-◌, true, List, length, refl, sym, ap, ◌∙◌, subst, arith, inl, inr}
+use Rattle.std.proofs.Common.{◌≡◌, ℕ, zero, suc, ◌≤◌, ◌*◌, ◌-◌, true, List, length, refl, sym, ◌∙◌, subst, arith, inl, inr}
 use Rattle.std.proofs.lemmas.Bool.{cases_eq}
 use Rattle.transfer_table.specs.Plan.{Plan, IsPlan, IsSite, parent, site_count}
 use Rattle.transfer_table.specs.Table.{TableState, row}

@@ -2,17 +2,15 @@
 use Rattle.std.proofs.Common.{◌≡◌, sym, subst, inl, inr}
 use Rattle.sched_api.specs.Wishes.{WishList, wishes_after}
 use Rattle.sched_api.specs.declared.hearing.Told.{Told}
-use Rattle.array_jobs.specs.Jobs.{JobParts}
 use Rattle.step_eval.specs.Nests.{NestedParts}
 use Rattle.forkjoin_sched.specs.Pools as pools
 use Rattle.forkjoin_sched.specs.declared.work.PoolWork.TheVariants as pool
 use Rattle.loop_team.specs.Teams as teams
 use Rattle.loop_team.specs.declared.work.TeamWork.TheVariants as team
 use Rattle.hart_work.specs.Tasks.{StaysSettled}
-use Rattle.hart_loop.specs.Accounts.{AllCameBack, AllButOneCameBack}
-use Rattle.hart_loop.specs.Sites.{IsPoolOf, IsRunning, IsSettledSite, IsOwed}
+use Rattle.hart_loop.specs.Sites.{IsSettledSite, IsOwed}
 use Rattle.hart_loop.specs.declared.site.LoneSite.{LoneSite}
-use Rattle.hart_loop.specs.declared.site.LoneSite.TheVariants.{Base, Pool, Team}
+use Rattle.hart_loop.specs.declared.site.LoneSite.TheVariants.{Pool, Team}
 use Rattle.hart_loop.proofs.Accounts.{heard}
 
 abbrev Stays : LoneSite → LoneSite → Type 0

@@ -1,14 +1,14 @@
 -- A step of a machine, as the procedure sees it.
-use Rattle.std.proofs.Common.{◌≡◌, ◌<◌, ℕ, ℤ, false, true, List, [], ◌∷◌, Option, Some, None, refl, sym, ap, ◌∙◌, subst}
+use Rattle.std.proofs.Common.{◌≡◌, ℕ, ℤ, false, List, [], ◌∷◌, Option, Some, None, refl, sym, ap, subst}
 use Rattle.array_tree.specs.Trees.{Statement}
 use Rattle.contexts.specs.Machine.{Steps}
 use Rattle.contexts.specs.declared.machine.Step.{Step}
 use Rattle.contexts.specs.declared.machine.Step.TheVariants as step
 use Rattle.step_eval.specs.Rest.{WorkAt}
 use Rattle.step_eval.specs.Nests.{NestedParts, nested_of, nested_writes}
-use Rattle.step_eval.specs.Machines.{Progress, rest_writes, is_awaiting, left_of, construct_of, handed_out, nest_in, next_nest, HasMoved, Advances, awaited_by, AreAwaited}
+use Rattle.step_eval.specs.Machines.{Progress, rest_writes, is_awaiting, left_of, construct_of, handed_out, nest_in, next_nest, HasMoved, Advances, awaited_by}
 use Rattle.step_eval.specs.declared.stage.Stage.{Stage}
-use Rattle.step_eval.specs.declared.stage.Stage.TheVariants.{Going, Awaiting, Failed}
+use Rattle.step_eval.specs.declared.stage.Stage.TheVariants.{Awaiting}
 use Rattle.hart_loop.specs.Sites.{IsAwaitingWrites}
 use Rattle.hart_work.specs.Tasks.{Goes}
 

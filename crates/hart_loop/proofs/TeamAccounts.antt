@@ -1,5 +1,5 @@
 -- Teams whose pieces come back one after another.
-use Rattle.std.proofs.Common.{◌≡◌, ◌⊎◌, ℕ, zero, suc, ◌+◌, ◌-◌, ◌*◌, ◌<◌, ◌≤◌, Bool, true, false, List, [], ◌∷◌, map, length, Result, Ok, Err, refl, sym, ap, ◌∙◌, subst, arith, inl, inr}
+use Rattle.std.proofs.Common.{◌≡◌, ◌⊎◌, ℕ, suc, ◌+◌, ◌-◌, ◌*◌, ◌<◌, ◌≤◌, Bool, true, false, List, [], ◌∷◌, map, length, Result, Ok, Err, refl, sym, ap, ◌∙◌, subst, arith, inl, inr}
 use Rattle.std.proofs.lemmas.Bool.{cases_eq}
 use Rattle.std.proofs.lemmas.List.{length-map}
 use Rattle.std.proofs.lemmas.Nat.{mul-le}
@@ -7,16 +7,13 @@ use Rattle.std.proofs.Math.Nat.{suc-mul}
 use Rattle.array_jobs.specs.Jobs.{JobParts, job_of}
 use Rattle.array_jobs.specs.Groups.{IsGroup}
 use Rattle.array_jobs.specs.PieceParts.{PieceParts}
-use Rattle.join_book.specs.Books.{BookParts, Open, Filled, IsMarked, IsFull, marked_book, open_book}
-use Rattle.lithe_barrier.specs.Arrivals.{Fills}
+use Rattle.join_book.specs.Books.{BookParts, Open, Filled, IsFull, marked_book, open_book}
 use Rattle.lithe_barrier.specs.declared.state.Arrival.{Arrival}
 use Rattle.lithe_barrier.specs.declared.state.Arrival.TheVariants.{Kept, Opened, Stranger}
-use Rattle.work_agenda.specs.Agenda.{AgendaParts}
 use Rattle.step_eval.specs.Nests.{NestedParts, nested_of, IsFitNest}
 use Rattle.step_eval.specs.Phases.{store_before}
 use Rattle.step_eval.proofs.PhaseLemmas.{jobs_are_groups, jobs_are_counted}
-use Rattle.loop_team.specs.Teams.{TeamParts, IsOver, AreJobsIn, GoesOn, MovesOn, opened_team, with_phase, with_barrier, failed_team, phases_in, members_in}
-use Rattle.loop_team.specs.declared.work.TeamWork.{TeamWork}
+use Rattle.loop_team.specs.Teams.{TeamParts, IsOver, AreJobsIn, GoesOn, MovesOn, opened_team, with_phase, with_barrier, phases_in, members_in}
 use Rattle.loop_team.specs.declared.work.TeamWork.TheVariants.{Begin}
 use Rattle.hart_loop.specs.Accounts.{Stands, AllCameBack, AllButOneCameBack}
 use Rattle.hart_loop.specs.Sites.{IsRunning, team_jobs_left}

@@ -1,5 +1,5 @@
 -- Which jobs a site has handed out, and which of them came back.
-use Rattle.std.specs.Prelude.{◌≡◌, ℕ, suc, ◌<◌, ◌≤◌, List, [], length, map, drop, slice_get, Some}
+use Rattle.std.specs.Prelude.{◌≡◌, ℕ, suc, ◌<◌, ◌≤◌, [], length, map, drop, slice_get, Some}
 use Rattle.array_jobs.specs.Jobs.{JobParts}
 use Rattle.join_book.specs.Books.{BookParts, Open, IsMarked}
 use Rattle.work_agenda.specs.Agenda.{AgendaParts}

@@ -1,8 +1,8 @@
 -- The schedulers of the sites, as the only hart has them.
-use Rattle.std.specs.Prelude.{◌≡◌, ◌⊎◌, ℕ, ℤ, suc, ◌+◌, ◌-◌, ◌*◌, List, [], length, map, Option, Some, None}
+use Rattle.std.specs.Prelude.{◌≡◌, ◌⊎◌, ℕ, ℤ, suc, ◌+◌, ◌-◌, ◌*◌, List, length, map, Option, Some, None}
 use Rattle.array_tree.specs.Trees.{statement_of}
 use Rattle.array_jobs.specs.Jobs.{JobParts, job_of}
-use Rattle.join_book.specs.Books.{BookParts, IsFull}
+use Rattle.join_book.specs.Books.{IsFull}
 use Rattle.step_eval.specs.Nests.{NestedParts, nested_of, phases_of, jobs_in, IsFitNest}
 use Rattle.step_eval.specs.Machines.{Progress, AreAwaited}
 use Rattle.step_eval.specs.declared.stage.Stage.TheVariants.{Awaiting}

@@ -11,7 +11,7 @@ use std::test::Fail;
 use step_eval::{Kind, Nested, StepMachine, compute, jobs_of};
 
 // The first construct of a program that begins with one.
-fn first_construct<'p>(alloc: Global, accepted: &Accepted<'p>) -> Result<Nested<'p>, Fail> {
+pub fn first_construct<'p>(alloc: Global, accepted: &Accepted<'p>) -> Result<Nested<'p>, Fail> {
     let mut machine = StepMachine::new(alloc, body_job(alloc, accepted.program())?)?;
     match stepped(&mut machine) {
         Step::Nest(nested) => Ok(nested),

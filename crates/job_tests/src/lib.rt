@@ -9,3 +9,5 @@ mod constructs;
 mod driving;
 #[cfg(test)]
 mod running;
+#[cfg(test)]
+mod threads;

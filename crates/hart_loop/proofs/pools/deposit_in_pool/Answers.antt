@@ -1,4 +1,4 @@
-use Rattle.std.proofs.Common.{◌≡◌, sym, ap, subst}
+use Rattle.std.proofs.Common.{sym, ap, subst}
 use Rattle.work_agenda.specs.Agenda.{AgendaParts}
 use Rattle.forkjoin_sched.specs.Pools.{PoolParts}
 use Rattle.forkjoin_sched.specs.declared.work.PoolWork.{PoolWork}

@@ -1,8 +1,8 @@
 use Rattle.std.proofs.Common.{◌≡◌, suc, sym, subst, ◌∙◌}
-use Rattle.join_book.specs.Books.{BookParts, Mark, Open, Failed, marked_book}
+use Rattle.join_book.specs.Books.{Open, Failed, marked_book}
 use Rattle.forkjoin_sched.specs.Pools.{PoolParts, with_book}
 use Rattle.forkjoin_sched.specs.declared.work.PoolWork.TheVariants.{Begin}
-use Rattle.hart_loop.specs.Accounts.{AllCameBack, Stands}
+use Rattle.hart_loop.specs.Accounts.{AllCameBack}
 use Rattle.hart_loop.proofs.Accounts.{came_back, out_place}
 use Rattle.hart_loop.proofs.pools.fail_in_pool.Goals as goal
 

@@ -1,12 +1,10 @@
-use Rattle.std.proofs.Common.{◌≡◌, ◌≢◌, refl, sym, ap, ◌∙◌, subst}
+use Rattle.std.proofs.Common.{sym, ap, ◌∙◌, subst}
 use Rattle.array_jobs.specs.Jobs.{JobParts}
-use Rattle.sched_api.specs.declared.scheduler.Next.{Next}
-use Rattle.sched_api.specs.declared.scheduler.Next.TheVariants.{Run, Lend, Nothing}
+use Rattle.sched_api.specs.declared.scheduler.Next.TheVariants.{Run}
 use Rattle.join_book.specs.Books.{BookParts}
 use Rattle.work_agenda.specs.Agenda.{TakesNext}
 use Rattle.forkjoin_sched.specs.declared.work.PoolWork.{PoolWork}
 use Rattle.forkjoin_sched.specs.declared.work.PoolWork.TheVariants.{Begin, Ready}
-use Rattle.forkjoin_sched.specs.Pools.{PoolParts, Answers}
 use Rattle.hart_loop.specs.Accounts.{AllButOneCameBack}
 use Rattle.hart_loop.proofs.Accounts.{IsOneToOne, hand_out, full, none_to_go_on}
 use Rattle.hart_loop.proofs.pools.next_of_pool.Goals as goal

@@ -1,9 +1,8 @@
-use Rattle.std.proofs.Common.{◌≡◌, [], refl, sym, ap, ◌∙◌, subst}
+use Rattle.std.proofs.Common.{refl, sym, subst}
 use Rattle.std.proofs.lemmas.Result.{IfOk-weaker}
 use Rattle.forkjoin_sched.specs.Pools.{PoolParts, new_pool}
 use Rattle.forkjoin_sched.specs.declared.work.PoolWork.TheVariants.{Begin}
 use Rattle.hart_loop.specs.Accounts.{AllCameBack}
-use Rattle.hart_loop.specs.Sites.{IsPoolOf}
 use Rattle.hart_loop.proofs.Accounts.{none_out}
 use Rattle.hart_loop.proofs.pools.open_pool.Goals as goal
 

@@ -1,4 +1,4 @@
-use Rattle.std.proofs.Common.{◌≡◌, ◌∙◌}
+use Rattle.std.proofs.Common.{◌∙◌}
 use Rattle.std.proofs.lemmas.Result.{IfOk-weaker}
 use Rattle.step_eval.specs.Nests.{nested_of}
 use Rattle.forkjoin_sched.proofs.PhaseBooks.{pools_give_constructs}

@@ -1,5 +1,5 @@
 -- The body is the program's, and the hart has come back from it to the base.
-use Rattle.std.proofs.Common.{◌≡◌, ◌≤◌, ℕ, List, true, length, refl, sym, ap, ◌∙◌, subst}
+use Rattle.std.proofs.Common.{◌≡◌, ◌≤◌, List, true, length, sym, ap, ◌∙◌, subst}
 use Rattle.array_tree.specs.Trees.{program_of}
 use Rattle.transfer_table.specs.Plan.{Plan, IsPlan}
 use Rattle.transfer_table.specs.declared.entry.Entry.{Entry}

@@ -1,7 +1,7 @@
-use Rattle.std.proofs.Common.{◌≡◌, ◌⊎◌, true, false, refl, sym, ap, ◌∙◌, subst, inl, inr}
+use Rattle.std.proofs.Common.{◌≡◌, ◌⊎◌, false, sym, ap, ◌∙◌, subst, inl, inr}
 use Rattle.std.specs.Prelude.{IsTrue}
 use Rattle.array_jobs.specs.Jobs.{JobParts}
-use Rattle.sched_api.specs.declared.scheduler.Next.TheVariants.{Run, Lend, Nothing}
+use Rattle.sched_api.specs.declared.scheduler.Next.TheVariants.{Run}
 use Rattle.join_book.specs.Books.{BookParts}
 use Rattle.work_agenda.specs.Agenda.{TakesNext}
 use Rattle.loop_team.specs.declared.work.TeamWork.{TeamWork}

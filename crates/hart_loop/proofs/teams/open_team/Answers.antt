@@ -1,4 +1,4 @@
-use Rattle.std.proofs.Common.{◌≡◌, refl, sym, ap, ◌∙◌, subst}
+use Rattle.std.proofs.Common.{◌≡◌, ap, subst}
 use Rattle.step_eval.specs.Nests.{NestedParts, nested_of, IsFitNest}
 use Rattle.loop_team.specs.Teams.{TeamParts}
 use Rattle.hart_loop.proofs.TeamAccounts.{begins}

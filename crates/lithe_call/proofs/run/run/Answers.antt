@@ -1,19 +1,50 @@
-use Rattle.std.proofs.Common.{◌≡◌, ◌∙◌, ◌++◌, ℕ, List, ap, sym, subst}
+use Rattle.std.proofs.Common.{◌≡◌, ◌∙◌, ◌++◌, ℕ, List, length, [], ap, sym, subst, pos}
+use Rattle.std.proofs.lemmas.List.{length-replicate}
 use Rattle.transfer_table.specs.Plan.{Plan}
 use Rattle.transfer_table.specs.Journal.{IsComplete}
-use Rattle.transfer_table.specs.declared.entry.Entry.{Entry}
 use Rattle.journal_text.specs.JournalText.{journal_text}
 use Rattle.array_tree.specs.declared.tree.Program.{Program}
-use Rattle.array_tree.specs.Trees.{program_of, declarations_of}
+use Rattle.array_tree.specs.Trees.{ProgramTree, program_of, declarations_of}
+use Rattle.array_meaning.specs.Stores.{arrays_of, cells_of, AreSized}
+use Rattle.array_meaning.specs.Steps.{writes_of}
+use Rattle.array_meaning.specs.Work.{final_store, first_store, sequence_work}
+use Rattle.array_meaning.proofs.StepLemmas.{length_after}
 use Rattle.array_eval.specs.ArrayText.{array_text}
-use Rattle.array_meaning.specs.Stores.{Store, arrays_of, AreSized}
-use Rattle.array_meaning.specs.Work.{final_store}
 use Rattle.hart_loop.specs.Journals.{entries_in}
 use Rattle.lithe_call.specs.Output.{table_plan}
 use Rattle.lithe_call.proofs.Sizes.{accepted_sized}
 use Rattle.lithe_call.proofs.run.run.Goals as goal
 
+-- the store that a program ends with has its cells
+final_cells : (program : ProgramTree) → length (final_store program) ≡ cells_of (arrays_of program.arrays)
+final_cells program =
+    let arrays = arrays_of program.arrays in
+    length_after (writes_of arrays (sequence_work program.body []) (first_store arrays)) (first_store arrays) ∙ length-replicate (cells_of arrays) (pos 0)
+
 pub write_arrays-requires-clause-sized : goal.write_arrays-requires-clause-sized
 write_arrays-requires-clause-sized c =
     subst (λ (p : Program). AreSized (arrays_of (declarations_of p.arrays))) (sym c.program.ensures.same)
     (accepted_sized (program_of c.args.accepted.now.program) c.program.ensures.kept.accepted)
+
+pub write_arrays-requires-clause-whole : goal.write_arrays-requires-clause-whole
+write_arrays-requires-clause-whole c =
+    ap length c.in_ok-outcome.ensures.store ∙ final_cells (program_of c.args.accepted.now.program)
+    ∙ ap (λ (p : Program). cells_of (arrays_of (declarations_of p.arrays))) (sym c.program.ensures.same)
+
+pub returns : goal.returns
+returns c =
+    let program = program_of c.args.accepted.now.program in
+    let journal = entries_in c.in_ok-outcome.outcome.journal in
+    let with_harts : ℕ → Plan = λ harts. record { harts = harts; parents = c.args.accepted.now.plan.parents } in
+    let with_parents : List ℕ → Plan = λ parents. record { harts = 1; parents = parents } in
+    let told : c.args.accepted.now.plan ≡ table_plan program 1 = ap with_harts c.requires ∙ ap with_parents c.program.ensures.kept.parents in
+    let plan : c.plan.result.now ≡ table_plan program 1 = c.plan.ensures.same ∙ told in
+    let lines = c.deref.ensures.value ∙ c.in_ok-entries.ensures ∙ ap (journal_text c.plan.result.now) c.entries.ensures ∙ ap (λ p. journal_text p journal) plan in
+    let text = c.in_ok-text.ensures ∙ ap (λ (p : Program). array_text (program_of p) c.in_ok-outcome.outcome.store) c.program.ensures.same
+    ∙ ap (array_text program) c.in_ok-outcome.ensures.store in
+    record {
+      journal = journal;
+      complete = subst (λ (p : Plan). IsComplete p journal) told c.in_ok-outcome.ensures.journal;
+      whole = c.in_ok-extend_from_slice.ensures.items ∙ ap (λ text. text ++ c.deref.result.now) text
+          ∙ ap (λ rest. array_text program (final_store program) ++ rest) lines;
+    }

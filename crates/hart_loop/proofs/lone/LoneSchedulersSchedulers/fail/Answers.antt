@@ -1,4 +1,4 @@
-use Rattle.std.proofs.Common.{◌≡◌, subst}
+use Rattle.std.proofs.Common.{subst}
 use Rattle.hart_loop.specs.Sites.{IsOwed}
 use Rattle.hart_loop.proofs.lone.LoneSchedulersSchedulers.fail.Goals as goal
 
