@@ -25,8 +25,8 @@ pub fn accepted<'p>(alloc: Global, program: &'p Program) -> Result<Accepted<'p>,
     Ok(check(alloc, program, 1)?)
 }
 
-/// The first construct of a program that begins with one.
-pub fn first_construct<'p>(alloc: Global, accepted: &Accepted<'p>) -> Result<Nested<'p>, Fail> {
+// The first construct of a program that begins with one.
+fn first_construct<'p>(alloc: Global, accepted: &Accepted<'p>) -> Result<Nested<'p>, Fail> {
     let mut machine = StepMachine::new(alloc, body_job(alloc, accepted.program())?)?;
     match machine.step() {
         Step::Nest(nested) => Ok(nested),

@@ -11,7 +11,7 @@ use sched_api::{Call, Hearing, Scheduler, Told};
 use std::alloc::Global;
 use std::sync::Wait;
 use std::test::Fail;
-use std::thread::{Threads, join};
+use std::thread::Threads;
 use step_eval::StepMachine;
 
 // A shared pool of the two branches.
@@ -185,32 +185,5 @@ fn a_hand_tells_what_it_hears(rt: HostRuntime) -> Result<(), Fail> {
     assert!(rt; tells(&rt, &shared) == expected());
     assert!(rt; failed(&rt, &shared) && handed_out(&rt, &shared).is_some());
     assert!(rt; tells(&rt, &shared) == expected());
-    Ok(())
-}
-
-// Two harts bring a piece each.
-fn brought_at_once<'p, R: Threads + Wait + Sync>(
-    rt: &R,
-    shared: &SharedPool<'p>,
-    one: Piece<'p>,
-    other: Piece<'p>,
-) -> (Came, Came) {
-    join(
-        rt,
-        move || deposited(rt, shared, one),
-        move || deposited(rt, shared, other),
-    )
-}
-
-#[test]
-fn two_threads_fill_a_pool(rt: HostRuntime) -> Result<(), Fail> {
-    let alloc = rt.alloc();
-    let program = parsed(alloc, TWO_BRANCHES)?;
-    let shared = shared_pool(alloc, &program)?;
-    let one = piece_at(alloc, shared.jobs(), 0)?;
-    let other = piece_at(alloc, shared.jobs(), 1)?;
-    let came = brought_at_once(&rt, &shared, one, other);
-    assert!(rt; came == (Came::Kept, Came::Kept));
-    assert!(rt; handed_out(&rt, &shared) == Some(false));
     Ok(())
 }

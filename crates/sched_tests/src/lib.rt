@@ -1,4 +1,4 @@
-//! Tests of the book, the barrier, the pool and the team over the jobs of small programs, through public calls alone.
+//! Tests of the book, the barrier and the pool over the jobs of small programs, through public calls alone.
 #![tactic(auto)]
 
 #[cfg(test)]
@@ -11,7 +11,3 @@ mod constructs;
 mod hands;
 #[cfg(test)]
 mod pools;
-#[cfg(test)]
-mod team_hands;
-#[cfg(test)]
-mod teams;

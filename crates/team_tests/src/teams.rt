@@ -1,9 +1,9 @@
 //! Teams.
 
-use crate::barriers::{FIRST_PHASE, TWO_PHASES};
-use crate::books::piece_at;
-use crate::constructs::{accepted, first_construct, first_jobs, parsed};
-use crate::pools::{Answer, waiting};
+use crate::programs::{
+    Answer, FIRST_PHASE, TWO_PHASES, accepted, first_construct, first_jobs, parsed, piece_at,
+    waiting,
+};
 use array_eval::Overlay;
 use array_jobs::{Piece, piece_of};
 use array_tree::Program;

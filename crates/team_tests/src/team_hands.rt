@@ -1,9 +1,8 @@
 //! Teams that harts share.
 
-use crate::barriers::{FIRST_PHASE, TWO_PHASES};
-use crate::books::piece_at;
-use crate::constructs::{accepted, first_jobs, parsed};
-use crate::pools::{Answer, waiting};
+use crate::programs::{
+    Answer, FIRST_PHASE, TWO_PHASES, accepted, first_jobs, parsed, piece_at, waiting,
+};
 use crate::teams::{
     BOTH_PHASES, SECOND_PHASE, answer_of, opened_by, piece_of_next, taken, team_of,
 };
@@ -17,7 +16,7 @@ use sched_api::{Call, Hearing, Scheduler};
 use std::alloc::Global;
 use std::sync::Wait;
 use std::test::Fail;
-use std::thread::{Threads, join};
+use std::thread::Threads;
 use step_eval::StepMachine;
 
 // A shared team of a program that begins with one.
@@ -192,47 +191,5 @@ fn a_hand_tells_what_it_hears(rt: HostRuntime) -> Result<(), Fail> {
     assert!(rt; tells(&rt, &shared));
     assert!(rt; failed(&rt, &shared) && handed_out(&rt, &shared).is_some());
     assert!(rt; tells(&rt, &shared));
-    Ok(())
-}
-
-// Whether a piece opens the barrier.
-fn opens<'a, 'p, R: Threads + Wait + Sync + 'a>(
-    rt: &'a R,
-    shared: &'a SharedTeam<'p>,
-    piece: Piece<'p>,
-) -> bool {
-    let hand = TeamHand::new(shared);
-    matches!(hand.arrive(rt, piece), Ok(Arrival::Opened(_)))
-}
-
-// Two harts bring a piece each. Whether just one of them opens the barrier.
-fn one_opens<'p, R: Threads + Wait + Sync>(
-    rt: &R,
-    shared: &SharedTeam<'p>,
-    one: Piece<'p>,
-    other: Piece<'p>,
-) -> bool {
-    let (first, second) = join(
-        rt,
-        move || opens(rt, shared, one),
-        move || opens(rt, shared, other),
-    );
-    first != second
-}
-
-#[test]
-fn two_threads_end_a_phase(rt: HostRuntime) -> Result<(), Fail> {
-    let alloc = rt.alloc();
-    let program = parsed(alloc, TWO_PHASES)?;
-    let jobs = first_jobs(alloc, &accepted(alloc, &program)?)?;
-    let shared = shared_team(alloc, &program)?;
-    assert!(rt; brought(&rt, &shared, piece_at(alloc, &jobs, 2)?)?.is_none());
-    let one = piece_at(alloc, &jobs, 0)?;
-    let other = piece_at(alloc, &jobs, 1)?;
-    assert!(rt; one_opens(&rt, &shared, one, other));
-    assert_eq!(rt;
-        run_phase(&rt, &shared, alloc)?.pairs(),
-        SECOND_PHASE.as_slice()
-    );
     Ok(())
 }
