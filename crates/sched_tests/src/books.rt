@@ -19,7 +19,7 @@ pub enum Came {
 }
 
 /// The same, without the piece.
-pub fn outcome_of(deposit: Deposit) -> Came {
+fn outcome_of(deposit: Deposit) -> Came {
     match deposit {
         Deposit::Kept => Came::Kept,
         Deposit::Double(_) => Came::Double,

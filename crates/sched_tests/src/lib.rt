@@ -1,4 +1,4 @@
-//! Tests of the book, the barrier and the pool over the jobs of small programs, through public calls alone.
+//! Tests of the book and the barrier over the jobs of small programs, through public calls alone.
 #![tactic(auto)]
 
 #[cfg(test)]
@@ -7,7 +7,3 @@ mod barriers;
 mod books;
 #[cfg(test)]
 mod constructs;
-#[cfg(test)]
-mod hands;
-#[cfg(test)]
-mod pools;

@@ -1,7 +1,6 @@
 //! Pools.
 
-use crate::books::{Came, TWO_BRANCHES, outcome_of, piece_at};
-use crate::constructs::{accepted, first_jobs, parsed};
+use crate::programs::{Came, TWO_BRANCHES, accepted, first_jobs, outcome_of, parsed, piece_at};
 use array_eval::Overlay;
 use array_jobs::{Job, copy_jobs};
 use array_tree::Program;

@@ -1,4 +1,4 @@
-//! The program of two phases, its first construct, and the pieces of its jobs.
+//! The program of two branches, and the jobs and pieces of its construct.
 ghost use Rattle.std.specs.Prelude.{IfOk, map};
 ghost use Rattle.array_jobs.specs.Jobs.{job_of};
 ghost use Rattle.array_jobs.specs.Groups.{IsGroup};
@@ -6,26 +6,31 @@ ghost use Rattle.array_jobs.specs.Groups.{IsGroup};
 use array_jobs::{Job, Piece, body_job, piece_of};
 use array_lang::parse;
 use array_tree::Program;
-use contexts::{InitRefused, Machine, Paused, Step, ctx_init, ctx_pause, ctx_run};
+use contexts::{Machine, Step};
 use disjoint_check::{Accepted, check};
+use join_book::Deposit;
 use std::alloc::Global;
 use std::test::Fail;
 use step_eval::{Nested, StepMachine, jobs_of};
 
-/// A program of one team with two phases.
-pub const TWO_PHASES: &[u8] = b"array a[6]; array b[6];
-    team i in 0..6 by 3 { a[i] = i + 1; } barrier { b[i] = a[5 - i]; }";
+/// The program of two branches.
+pub const TWO_BRANCHES: &[u8] = b"array a[4]; par { { a[0] = 1; } { a[1] = 2; } }";
 
-/// What its first phase writes.
-pub const FIRST_PHASE: [(u16, i64); 6] = [(0, 1), (1, 2), (2, 3), (3, 4), (4, 5), (5, 6)];
-
-/// What a team answers: a piece is told by its place.
+/// What came of a deposit.
 #[derive(Debug, PartialEq, Eq, Drop)]
-pub enum Answer {
-    Begins(u8),
-    GoesOn,
-    Lends(u16),
-    Nothing,
+pub enum Came {
+    Kept,
+    Double,
+    Stranger,
+}
+
+/// The same, without the piece.
+pub fn outcome_of(deposit: Deposit) -> Came {
+    match deposit {
+        Deposit::Kept => Came::Kept,
+        Deposit::Double(_) => Came::Double,
+        Deposit::Stranger(_) => Came::Stranger,
+    }
 }
 
 /// The program of a text.
@@ -41,8 +46,8 @@ pub fn accepted<'p>(alloc: Global, program: &'p Program) -> Result<Accepted<'p>,
     Ok(check(alloc, program, 1)?)
 }
 
-/// The first construct of a program that begins with one.
-pub fn first_construct<'p>(alloc: Global, accepted: &Accepted<'p>) -> Result<Nested<'p>, Fail> {
+// The first construct of a program that begins with one.
+fn first_construct<'p>(alloc: Global, accepted: &Accepted<'p>) -> Result<Nested<'p>, Fail> {
     let mut machine = StepMachine::new(alloc, body_job(alloc, accepted.program())?)?;
     match machine.step() {
         Step::Nest(nested) => Ok(nested),
@@ -64,16 +69,5 @@ pub fn piece_at<'p>(alloc: Global, jobs: &[Job<'p>], place: usize) -> Result<Pie
     match jobs.get(place) {
         Some(job) => Ok(piece_of(alloc, job.copy()?)?),
         None => Err(Fail::new("no such place")),
-    }
-}
-
-/// A context that waits.
-pub fn waiting<'p>(alloc: Global, jobs: &[Job<'p>]) -> Result<Paused<StepMachine<'p>>, Fail> {
-    let Some(job) = jobs.first() else {
-        return Err(Fail::new("no job"));
-    };
-    match ctx_init(alloc, StepMachine::new(alloc, job.copy()?)?) {
-        Ok(fresh) => Ok(ctx_pause(ctx_run(fresh))),
-        Err(InitRefused { machine: _ }) => Err(Fail::new("want of memory")),
     }
 }

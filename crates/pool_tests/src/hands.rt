@@ -1,8 +1,7 @@
 //! Pools that harts share.
 
-use crate::books::{Came, TWO_BRANCHES, outcome_of, piece_at};
-use crate::constructs::parsed;
 use crate::pools::{Answer, answer_of, pool_of, taken, waiting};
+use crate::programs::{Came, TWO_BRANCHES, outcome_of, parsed, piece_at};
 use array_jobs::Piece;
 use array_tree::Program;
 use contexts::Paused;
@@ -68,16 +67,24 @@ fn a_hand_answers_as_the_pool_does(rt: HostRuntime) -> Result<(), Fail> {
     Ok(())
 }
 
+// Puts three contexts back; whether there was room for each.
+fn put_back<'a, R: Threads + Wait + Sync + 'a>(
+    rt: &'a R,
+    shared: &'a SharedPool,
+    alloc: Global,
+) -> Result<[bool; 3], Fail> {
+    let first = unblocked(rt, shared, waiting(alloc, shared.jobs())?);
+    let second = unblocked(rt, shared, waiting(alloc, shared.jobs())?);
+    let third = unblocked(rt, shared, waiting(alloc, shared.jobs())?);
+    Ok([first, second, third])
+}
+
 #[test]
 fn a_hand_puts_contexts_back(rt: HostRuntime) -> Result<(), Fail> {
     let alloc = rt.alloc();
     let program = parsed(alloc, TWO_BRANCHES)?;
     let shared = shared_pool(alloc, &program)?;
-    let jobs = shared.jobs();
-    assert_eq!(rt; jobs.len(), 2);
-    assert!(rt; unblocked(&rt, &shared, waiting(alloc, jobs)?));
-    assert!(rt; unblocked(&rt, &shared, waiting(alloc, jobs)?));
-    assert!(rt; !unblocked(&rt, &shared, waiting(alloc, jobs)?));
+    assert!(rt; put_back(&rt, &shared, alloc)? == [true, true, false]);
     assert_eq!(rt; entered(&rt, &shared), Answer::GoesOn);
     assert_eq!(rt; entered(&rt, &shared), Answer::GoesOn);
     assert_eq!(rt; entered(&rt, &shared), Answer::Begins(0));
