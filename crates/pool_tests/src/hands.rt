@@ -1,12 +1,14 @@
 //! Pools that harts share.
 
-use crate::pools::{Answer, answer_of, pool_of, taken, waiting};
-use crate::programs::{Came, TWO_BRANCHES, outcome_of, parsed, piece_at};
+use crate::pools::{answer_of, pool_of, taken};
 use array_jobs::Piece;
 use array_tree::Program;
 use contexts::Paused;
 use forkjoin_sched::{PoolHand, PoolWork, SharedPool};
-use sched_api::{Call, Hearing, Scheduler, Told};
+use sample_programs::{
+    Answer, BOTH_BRANCHES, Came, TOLD, TWO_BRANCHES, outcome_of, parsed, piece_at, tells, waiting,
+};
+use sched_api::{Scheduler, Told};
 use std::alloc::Global;
 use std::sync::Wait;
 use std::test::Fail;
@@ -128,7 +130,7 @@ fn a_full_pool_is_handed_out_once(rt: HostRuntime) -> Result<(), Fail> {
     let Some(pool) = PoolHand::<HostRuntime>::new(&shared).take_out(&rt) else {
         return Err(Fail::new("it isn't full"));
     };
-    assert_eq!(rt; taken(pool)?.pairs(), [(0, 1), (1, 2)].as_slice());
+    assert_eq!(rt; taken(pool)?.pairs(), BOTH_BRANCHES.as_slice());
     assert!(rt; handed_out(&rt, &shared) == None);
     Ok(())
 }
@@ -153,35 +155,9 @@ fn nothing_is_left_of_a_pool_that_is_handed_out(rt: HostRuntime) -> Result<(), F
 }
 
 // What a hand tells of each call that a scheduler hears.
-fn tells<'a, R: Threads + Wait + Sync + 'a>(rt: &'a R, shared: &'a SharedPool) -> [Told; 5] {
+fn hand_tells<'a, R: Threads + Wait + Sync + 'a>(rt: &'a R, shared: &'a SharedPool) -> [Told; 5] {
     let mut hand = PoolHand::new(shared);
-    [
-        hand.register(rt, 3).told(),
-        hand.request(rt, 3, 1).told(),
-        hand.yielded(rt, 3).told(),
-        hand.unregister(rt, 3).told(),
-        hand.block(rt).told(),
-    ]
-}
-
-// The same of child 3.
-fn expected() -> [Told; 5] {
-    let told = |call, count| Told {
-        call,
-        child: 3,
-        count,
-    };
-    [
-        told(Call::Registered, 0),
-        told(Call::Requested, 1),
-        told(Call::Yielded, 0),
-        told(Call::Unregistered, 0),
-        Told {
-            call: Call::Blocked,
-            child: 0,
-            count: 0,
-        },
-    ]
+    tells(&mut hand, rt)
 }
 
 #[test]
@@ -189,8 +165,8 @@ fn a_hand_tells_what_it_hears(rt: HostRuntime) -> Result<(), Fail> {
     let alloc = rt.alloc();
     let program = parsed(alloc, TWO_BRANCHES)?;
     let shared = shared_pool(alloc, &program)?;
-    assert!(rt; tells(&rt, &shared) == expected());
+    assert!(rt; hand_tells(&rt, &shared) == TOLD);
     assert!(rt; failed(&rt, &shared) && handed_out(&rt, &shared).is_some());
-    assert!(rt; tells(&rt, &shared) == expected());
+    assert!(rt; hand_tells(&rt, &shared) == TOLD);
     Ok(())
 }

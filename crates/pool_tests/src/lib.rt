@@ -5,5 +5,3 @@
 mod hands;
 #[cfg(test)]
 mod pools;
-#[cfg(test)]
-mod programs;

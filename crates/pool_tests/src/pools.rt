@@ -1,26 +1,19 @@
 //! Pools.
 
-use crate::programs::{Came, TWO_BRANCHES, accepted, first_jobs, outcome_of, parsed, piece_at};
 use array_eval::Overlay;
 use array_jobs::{Job, copy_jobs};
 use array_tree::Program;
-use contexts::{InitRefused, Paused, ctx_init, ctx_pause, ctx_run};
+use contexts::Paused;
 use forkjoin_sched::{Pool, PoolWork};
+use sample_programs::{
+    Answer, BOTH_BRANCHES, Came, TWO_BRANCHES, first_jobs, outcome_of, parsed, piece_at, waiting,
+};
 use sched_api::{Call, Hearing, Next, Scheduler};
 use std::alloc::Global;
 use std::test::Fail;
 use step_eval::StepMachine;
 
-/// What a pool answers: a piece is told by its place.
-#[derive(Debug, PartialEq, Eq, Drop)]
-pub enum Answer {
-    Begins(u8),
-    GoesOn,
-    Lends(u16),
-    Nothing,
-}
-
-/// The same of what `enter` gives.
+/// What `enter` of a pool gives: a piece is told by its place.
 pub fn answer_of(next: Next<PoolWork>) -> Answer {
     match next {
         Next::Run(PoolWork::Begin(job)) => Answer::Begins(job.place),
@@ -30,20 +23,9 @@ pub fn answer_of(next: Next<PoolWork>) -> Answer {
     }
 }
 
-/// A context that waits.
-pub fn waiting<'p>(alloc: Global, jobs: &[Job<'p>]) -> Result<Paused<StepMachine<'p>>, Fail> {
-    let Some(job) = jobs.first() else {
-        return Err(Fail::new("no job"));
-    };
-    match ctx_init(alloc, StepMachine::new(alloc, job.copy()?)?) {
-        Ok(fresh) => Ok(ctx_pause(ctx_run(fresh))),
-        Err(InitRefused { machine: _ }) => Err(Fail::new("want of memory")),
-    }
-}
-
 /// A pool of the two branches.
 pub fn pool_of<'p>(alloc: Global, program: &'p Program) -> Result<Pool<'p>, Fail> {
-    let jobs = first_jobs(alloc, &accepted(alloc, program)?)?;
+    let jobs = first_jobs(alloc, program)?;
     Ok(Pool::new(alloc, jobs)?)
 }
 
@@ -115,6 +97,6 @@ fn a_full_pool_gives_the_writes_of_all(rt: HostRuntime) -> Result<(), Fail> {
     assert_eq!(rt; pool.site(), 1);
     assert_eq!(rt; bring(&mut pool, alloc, &copies, 1)?, Came::Kept);
     assert_eq!(rt; bring(&mut pool, alloc, &copies, 0)?, Came::Kept);
-    assert_eq!(rt; taken(pool)?.pairs(), [(0, 1), (1, 2)].as_slice());
+    assert_eq!(rt; taken(pool)?.pairs(), BOTH_BRANCHES.as_slice());
     Ok(())
 }

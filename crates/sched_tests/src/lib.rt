@@ -5,5 +5,3 @@
 mod barriers;
 #[cfg(test)]
 mod books;
-#[cfg(test)]
-mod constructs;

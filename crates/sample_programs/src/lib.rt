@@ -1,0 +1,15 @@
+//! Small programs for the tests of schedulers, with their constructs, jobs and pieces.
+//!
+//! What goes wrong is a test's failure: a text that spells no program, one that isn't accepted, or want of memory.
+#![tactic(auto)]
+
+mod answers;
+mod constructs;
+mod programs;
+
+pub use answers::{Answer, Came, TOLD, outcome_of, tells};
+pub use constructs::{first_construct, first_jobs, piece_at, waiting};
+pub use programs::{
+    BOTH_BRANCHES, BOTH_PHASES, FIRST_PHASE, SECOND_PHASE, TWO_BRANCHES, TWO_PHASES, accepted,
+    parsed,
+};
