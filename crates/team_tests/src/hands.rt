@@ -1,7 +1,8 @@
 //! Teams that harts share.
 
 use crate::samples::{
-    answers, begun, gives, gives_nothing, one_of_two_leaves, opened_by, put_back, team_of,
+    CONTEXTS_THEN_MEMBERS, MEMBERS_THEN_WISH, answers, begun, gives, gives_nothing,
+    one_of_two_leaves, opened_by, put_back, team_of,
 };
 use array_eval::Overlay;
 use array_jobs::Job;
@@ -49,6 +50,11 @@ fn taken_out<'a, 'p, R: Threads + Wait + Sync + 'a>(
     hand.take_out(rt)
 }
 
+// Hands the team out, if it can be. Whether it could.
+fn hands_out<'a, R: Threads + Wait + Sync + 'a>(rt: &'a R, shared: &'a SharedTeam) -> bool {
+    taken_out(rt, shared).is_some()
+}
+
 // Runs two phases. Whether each wrote what it should, and the team wasn't handed out after the first.
 fn runs_two<'a, R: Threads + Wait + Sync + 'a>(
     rt: &'a R,
@@ -56,7 +62,7 @@ fn runs_two<'a, R: Threads + Wait + Sync + 'a>(
     alloc: Global,
 ) -> Result<bool, Fail> {
     let first = run_phase(rt, shared, alloc, 0)?.pairs() == FIRST_PHASE.as_slice();
-    let goes_on = taken_out(rt, shared).is_none();
+    let goes_on = !hands_out(rt, shared);
     let second = run_phase(rt, shared, alloc, 1)?.pairs() == SECOND_PHASE.as_slice();
     Ok(first && goes_on && second)
 }
@@ -79,7 +85,7 @@ fn phases_run_by_hands(rt: HostRuntime) -> Result<(), Fail> {
     let shared = shared_team(alloc, &program)?;
     assert!(rt; runs_two(&rt, &shared, alloc)?);
     assert!(rt; gives_all(&rt, &shared)?);
-    assert!(rt; taken_out(&rt, &shared).is_none());
+    assert!(rt; !hands_out(&rt, &shared));
     Ok(())
 }
 
@@ -104,14 +110,7 @@ fn a_hand_answers_as_the_team_does(rt: HostRuntime) -> Result<(), Fail> {
     let program = parsed(alloc, TWO_PHASES)?;
     let shared = shared_team(alloc, &program)?;
     hand_hears(&rt, &shared);
-    let expected = [
-        Answer::Begins(0),
-        Answer::Begins(1),
-        Answer::Begins(2),
-        Answer::Lends(5),
-        Answer::Nothing,
-    ];
-    assert!(rt; hand_answers(&rt, &shared) == expected);
+    assert!(rt; hand_answers(&rt, &shared) == MEMBERS_THEN_WISH);
     Ok(())
 }
 
@@ -133,14 +132,7 @@ fn a_hand_puts_contexts_back(rt: HostRuntime) -> Result<(), Fail> {
     let jobs = first_jobs(alloc, &program)?;
     let shared = shared_team(alloc, &program)?;
     assert!(rt; hand_puts_back(&rt, &shared, alloc, &jobs)? == [true, true, true, false]);
-    let expected = [
-        Answer::GoesOn,
-        Answer::GoesOn,
-        Answer::GoesOn,
-        Answer::Begins(0),
-        Answer::Begins(1),
-    ];
-    assert!(rt; hand_answers(&rt, &shared) == expected);
+    assert!(rt; hand_answers(&rt, &shared) == CONTEXTS_THEN_MEMBERS);
     Ok(())
 }
 
@@ -180,7 +172,7 @@ fn is_stranger<'a, 'p, R: Threads + Wait + Sync + 'a>(
 fn stays_over<'a, R: Threads + Wait + Sync + 'a>(rt: &'a R, shared: &'a SharedTeam) -> bool {
     let hand = TeamHand::new(shared);
     hand.fail(rt, 0);
-    hand.take_out(rt).is_none() && hand.is_over(rt) && !hand.has_failed(rt)
+    !hands_out(rt, shared) && hand.is_over(rt) && !hand.has_failed(rt)
 }
 
 #[test]

@@ -22,6 +22,33 @@ pub const THIRD_PHASE: [(u16, i64); 2] = [(4, 11), (5, 12)];
 /// What all three write.
 pub const ALL_PHASES: [(u16, i64); 6] = [(0, 1), (1, 2), (2, 2), (3, 1), (4, 11), (5, 12)];
 
+/// What a hart finds of three members, and nothing else.
+pub const MEMBERS: [Answer; 5] = [
+    Answer::Begins(0),
+    Answer::Begins(1),
+    Answer::Begins(2),
+    Answer::Nothing,
+    Answer::Nothing,
+];
+
+/// The same where child 5 wishes for a hart.
+pub const MEMBERS_THEN_WISH: [Answer; 5] = [
+    Answer::Begins(0),
+    Answer::Begins(1),
+    Answer::Begins(2),
+    Answer::Lends(5),
+    Answer::Nothing,
+];
+
+/// The same where three contexts are ready.
+pub const CONTEXTS_THEN_MEMBERS: [Answer; 5] = [
+    Answer::GoesOn,
+    Answer::GoesOn,
+    Answer::GoesOn,
+    Answer::Begins(0),
+    Answer::Begins(1),
+];
+
 /// The team of a program that begins with one.
 pub fn team_of<'p>(alloc: Global, program: &'p Program) -> Result<Team<'p>, Fail> {
     let nested = first_construct(alloc, program)?;
