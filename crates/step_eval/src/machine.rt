@@ -226,6 +226,6 @@ fn hand_out<'p>(
         site: next,
         construct,
         vars: frames.vars_around(alloc, &job.vars)?,
-        store: store.to_store_after(alloc, &job.store)?,
+        store: store.to_store(alloc)?,
     })
 }

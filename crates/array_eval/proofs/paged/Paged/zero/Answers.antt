@@ -1,7 +1,7 @@
 use Rattle.std.proofs.Common.{◌≡◌, List, [], ℤ, pos, replicate, take, sym, ap, ◌∙◌, subst}
 use Rattle.array_eval.specs.Pages.{cells_on, padded, pages_for, ArePages}
 use Rattle.array_eval.proofs.PageLemmas.{zero_pages, zero_cells}
-use Rattle.array_eval.proofs.store.Store.zero.Goals as goal
+use Rattle.array_eval.proofs.paged.Paged.zero.Goals as goal
 
 pub invariant_of-result : goal.invariant_of-result
 invariant_of-result c =

@@ -1,6 +1,6 @@
 use Rattle.std.proofs.Common.{take, ap, ◌∙◌}
 use Rattle.std.proofs.lemmas.List.{take_min}
-use Rattle.array_eval.proofs.store.cells_of_page.Goals as goal
+use Rattle.array_eval.proofs.paged.cells_of_page.Goals as goal
 
 pub returns-clause-same : goal.returns-clause-same
 returns-clause-same c =

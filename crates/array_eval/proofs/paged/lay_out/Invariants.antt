@@ -1,7 +1,7 @@
 use Rattle.std.proofs.Common.{◌≡◌, ◌*◌, take, length}
 use Rattle.array_eval.specs.Pages.{cells_on}
 use Rattle.array_eval.proofs.PageLemmas.{AreWhole, filled}
-use Rattle.array_eval.proofs.store.lay_out.Given as goal
+use Rattle.array_eval.proofs.paged.lay_out.Given as goal
 
 abbrev pub invariant-loop-number : goal.invariant-loop-number
 invariant-loop-number l = record {

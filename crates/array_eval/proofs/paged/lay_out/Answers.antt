@@ -2,7 +2,7 @@ use Rattle.std.proofs.Common.{◌≡◌, ◌*◌, ◌+◌, ◌<◌, ◌∷◌, [
 use Rattle.std.proofs.lemmas.List.{length-append}
 use Rattle.array_eval.specs.Pages.{cells_on, padded, pages_for}
 use Rattle.array_eval.proofs.PageLemmas.{AreWhole, filled, page_begins, laid_next, whole_push, laid_pages, laid_cells}
-use Rattle.array_eval.proofs.store.lay_out.Goals as goal
+use Rattle.array_eval.proofs.paged.lay_out.Goals as goal
 
 pub cells_of_page-own-requires : goal.cells_of_page-own-requires
 cells_of_page-own-requires c =

@@ -2,7 +2,7 @@ use Rattle.std.proofs.Common.{◌/◌, ◌%◌, w64, get_or, pos, ap, ◌∙◌}
 use Rattle.std.proofs.lemmas.Int.{to_z-of_z}
 use Rattle.array_eval.specs.Pages.{cells_on}
 use Rattle.array_eval.proofs.PageLemmas.{below_count, cell_of_page}
-use Rattle.array_eval.proofs.store.Store.get.Goals as goal
+use Rattle.array_eval.proofs.paged.Paged.get.Goals as goal
 
 pub returns : goal.returns
 returns c =

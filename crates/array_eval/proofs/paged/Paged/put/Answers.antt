@@ -3,7 +3,7 @@ use Rattle.std.proofs.lemmas.Int.{to_z-of_z}
 use Rattle.std.proofs.lemmas.Result.{on_ok_weaker, on_err_weaker}
 use Rattle.array_eval.specs.Pages.{cells_on}
 use Rattle.array_eval.proofs.PageLemmas.{below_count, put_in_page, put_or_not}
-use Rattle.array_eval.proofs.store.Store.put.Goals as goal
+use Rattle.array_eval.proofs.paged.Paged.put.Goals as goal
 
 pub invariant_of-self : goal.invariant_of-self
 invariant_of-self c =

@@ -4,7 +4,7 @@ use Rattle.std.proofs.lemmas.Slice.Eq.{slice_eq-Decides}
 use Rattle.array_eval.specs.EqualLaws.{store_decides}
 use Rattle.array_eval.specs.Pages.{cells_on, ArePages}
 use Rattle.array_eval.proofs.PageLemmas.{pages_decide, length_seen}
-use Rattle.array_eval.proofs.store.has_same_cells.Goals as goal
+use Rattle.array_eval.proofs.paged.has_same_cells.Goals as goal
 
 pub returns-then-a-b : goal.returns-then-a-b
 returns-then-a-b c =

@@ -1,7 +1,7 @@
 use Rattle.std.proofs.Common.{◌++◌, take, sym, ap, ◌∙◌}
 use Rattle.array_eval.specs.Pages.{cells_on}
 use Rattle.array_eval.proofs.PageLemmas.{one_more}
-use Rattle.array_eval.proofs.store.Store.to_cells.Goals as goal
+use Rattle.array_eval.proofs.paged.Paged.to_cells.Goals as goal
 
 pub loop-page-preserved : goal.loop-page-preserved
 loop-page-preserved c =

@@ -1,7 +1,7 @@
 use Rattle.std.specs.Bool.{one_answer}
 use Rattle.array_eval.specs.Equal.{store_eq}
 use Rattle.array_eval.specs.EqualLaws.{store_decides}
-use Rattle.array_eval.proofs.store.StorePartialEq.eq.Goals as goal
+use Rattle.array_eval.proofs.paged.PagedPartialEq.eq.Goals as goal
 
 pub returns-clause-tested : goal.returns-clause-tested
 returns-clause-tested c =
