@@ -1,8 +1,7 @@
 -- A walk through statements with known names visits known arrays alone, so what they write lies inside the arrays.
-use Rattle.std.proofs.Common.{◌≡◌, ℕ, zero, suc, ◌<◌, Bool, true, false, cond, List, [], ◌∷◌, ◌++◌, ℤ, pos, ◌+ℤ◌, refl, arith, inl, inr}
-use Rattle.std.specs.Prelude.{◌&&◌, All, nat_lt, nat_eq}
+use Rattle.std.proofs.Common.{◌≡◌, ℕ, zero, suc, ◌<◌, Bool, true, false, List, [], ◌∷◌, ◌++◌, ℤ, pos, ◌+ℤ◌, refl, inl, inr}
+use Rattle.std.specs.Prelude.{◌&&◌, All}
 use Rattle.std.proofs.lemmas.Bool.{false≢true}
-use Rattle.std.proofs.lemmas.List.Elements.{All-cons, All-nil}
 use Rattle.array_tree.specs.Trees.{Expression, Number, Var, Read, Neg, Binary, Statement, Assign, For, If, Par, Team, Sequence, ended, followed, Sequences, no_more, beside}
 use Rattle.array_meaning.specs.Stores.{Arrays, Vars, Store, Write, cells_of, HaveCells, length_of}
 use Rattle.array_meaning.specs.Steps.{Steps, Done, Set, Choose, followed_by, writes_of}
@@ -10,10 +9,11 @@ use Rattle.array_meaning.specs.Work.{turns, span, loop, statement_work, sequence
 use Rattle.array_meaning.specs.Touch.{Visit, reads_in, walk, Touches}
 use Rattle.array_meaning.specs.Names.{is_among, are_known, uses_known_names, has_known_names, statement_has_known_names, have_known_names}
 use Rattle.array_meaning.specs.Accepted.{is_inside, are_inside}
-use Rattle.array_meaning.specs.Pieces.{lay, lays, piece_of}
+use Rattle.array_meaning.specs.Pieces.{piece_of}
 use Rattle.array_meaning.proofs.FrameLemmas.{IsWritten, writes_within, walk_followed_by}
 use Rattle.array_meaning.proofs.CellLemmas.{some_cell}
 use Rattle.array_meaning.proofs.OverlapLemmas.{and_both}
+use Rattle.array_meaning.proofs.BelowLemmas.{AreBelow, all_of, below_lays}
 use Rattle.array_meaning.proofs.InsideLemmas.{names_in, covers_inside}
 
 and : (a b : Bool) → a ≡ true → b ≡ true → (a && b) ≡ true
@@ -120,52 +120,28 @@ touched_inside arrays w (v ∷ vs) cell known inside (inr h) =
     touched_inside arrays w vs cell (and_both (is_among v.array (names_in arrays)) (are_known (names_in arrays) vs) known).1
     (and_both (is_inside (length_of arrays v.array) v.index) (are_inside arrays vs) inside).1 h
 
--- every cell is below n
-abbrev AreBelow : ℕ → List Write → Type 0
-AreBelow n ws = All (λ w. w.0 < n) ws
-
-first_below : (n : ℕ) (w : Write) (ws : List Write) → AreBelow n (w ∷ ws) → w.0 < n
-first_below n w ws all = all zero w (omega arith)
-
-rest_below : (n : ℕ) (w : Write) (ws : List Write) → AreBelow n (w ∷ ws) → AreBelow n ws
-rest_below n w ws all = λ k d h. all (suc k) d (omega (arith, h))
-
-none_below : (n : ℕ) → AreBelow n []
-none_below n = All-nil (λ w. w.0 < n)
-
-one_below : (n : ℕ) (w : Write) (ws : List Write) → w.0 < n → AreBelow n ws → AreBelow n (w ∷ ws)
-one_below n w ws lt rest = All-cons (λ w. w.0 < n) w ws lt rest
-
 all_below : (n : ℕ) (ws : List Write) → ((cell : ℕ) → IsWritten ws cell → cell < n) → AreBelow n ws
-all_below n [] h = none_below n
-all_below n (w ∷ ws) h = one_below n w ws (h w.0 (inl refl)) (all_below n ws (λ cell k. h cell (inr k)))
+all_below n [] h = tt
+all_below n (w ∷ ws) h = (h w.0 (inl refl), all_below n ws (λ cell k. h cell (inr k)))
+
+pub writes_below : (arrays : Arrays) → HaveCells arrays → (steps : Steps) (store : Store) →
+    are_known (names_in arrays) (walk arrays steps) ≡ true → are_inside arrays (walk arrays steps) ≡ true →
+    AreBelow (cells_of arrays) (writes_of arrays steps store)
+writes_below arrays have steps store known inside =
+    all_below (cells_of arrays) (writes_of arrays steps store)
+    (λ cell h. touched_inside arrays true (walk arrays steps) cell known inside (writes_within arrays (some_cell arrays have) steps store cell h))
 
 -- what steps with known names and indices inside write lies inside the arrays
 pub writes_inside : (arrays : Arrays) → HaveCells arrays → (steps : Steps) (store : Store) →
     are_known (names_in arrays) (walk arrays steps) ≡ true → are_inside arrays (walk arrays steps) ≡ true →
     All (λ w. w.0 < cells_of arrays) (writes_of arrays steps store)
 writes_inside arrays have steps store known inside =
-    all_below (cells_of arrays) (writes_of arrays steps store)
-    (λ cell h. touched_inside arrays true (walk arrays steps) cell known inside (writes_within arrays (some_cell arrays have) steps store cell h))
-
-below_lay : (n cell : ℕ) (v : ℤ) (ws : List Write) → cell < n → AreBelow n ws → AreBelow n (lay cell v ws)
-below_lay n cell v [] lt all = one_below n (cell, v) [] lt all
-below_lay n cell v (w ∷ ws) lt all =
-    cases (nat_lt cell w.0) (nat_eq cell w.0) (below_lay n cell v ws lt (rest_below n w ws all))
-  where
-    cases : (a b : Bool) → AreBelow n (lay cell v ws) → AreBelow n (cond a ((cell, v) ∷ w ∷ ws) (cond b ((cell, v) ∷ ws) (w ∷ lay cell v ws)))
-    cases true b rest = one_below n (cell, v) (w ∷ ws) lt all
-    cases false true rest = one_below n (cell, v) ws lt (rest_below n w ws all)
-    cases false false rest = one_below n w (lay cell v ws) (first_below n w ws all) rest
-
-below_lays : (n : ℕ) (ws laid : List Write) → AreBelow n ws → AreBelow n laid → AreBelow n (lays ws laid)
-below_lays n [] laid all rest = rest
-below_lays n (w ∷ ws) laid all rest =
-    below_lays n ws (lay w.0 w.1 laid) (rest_below n w ws all) (below_lay n w.0 w.1 laid (first_below n w ws all) rest)
+    all_of (cells_of arrays) (writes_of arrays steps store) (writes_below arrays have steps store known inside)
 
 -- and so does their piece
 pub piece_inside : (arrays : Arrays) → HaveCells arrays → (steps : Steps) (store : Store) →
     are_known (names_in arrays) (walk arrays steps) ≡ true → are_inside arrays (walk arrays steps) ≡ true →
     All (λ w. w.0 < cells_of arrays) (piece_of arrays steps store)
 piece_inside arrays have steps store known inside =
-    below_lays (cells_of arrays) (writes_of arrays steps store) [] (writes_inside arrays have steps store known inside) (none_below (cells_of arrays))
+    all_of (cells_of arrays) (piece_of arrays steps store)
+    (below_lays (cells_of arrays) (writes_of arrays steps store) [] (writes_below arrays have steps store known inside) tt)

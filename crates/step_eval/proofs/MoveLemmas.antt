@@ -18,14 +18,15 @@ use Rattle.array_jobs.specs.Works.{WorkTree, branch_of, member_of, steps_of, sta
 use Rattle.array_jobs.specs.Jobs.{JobTree, IsFit}
 use Rattle.array_jobs.proofs.FitLemmas.{both}
 use Rattle.array_eval.specs.Traces.{Trace, fresh, noted_all, marked}
-use Rattle.array_eval.proofs.TraceLemmas.{AreBelow, cells_after, marked_after, none_marked}
+use Rattle.array_meaning.proofs.BelowLemmas.{AreBelow}
+use Rattle.array_eval.proofs.TraceLemmas.{cells_after, marked_after, none_marked, length_marks}
 use Rattle.step_eval.specs.Rest.{WorkAt, at, rest_steps, rest_sites, instead}
 use Rattle.step_eval.specs.Moves.{moved, moved_writes, moved_sites}
 use Rattle.step_eval.specs.Machines.{IsRight, construct_of}
 use Rattle.step_eval.proofs.LeftLemmas.{span_times}
 use Rattle.step_eval.proofs.FitParts.{no_sites}
 use Rattle.step_eval.proofs.FitMoves.{fit_moved}
-use Rattle.step_eval.proofs.WriteLemmas.{rising_marked, last_writes_rising, length_marks, moved_below}
+use Rattle.step_eval.proofs.WriteLemmas.{rising_marked, last_writes_rising, moved_below}
 
 -- ---- sites
 
