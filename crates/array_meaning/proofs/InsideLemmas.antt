@@ -4,7 +4,8 @@ use Rattle.std.specs.Prelude.{◌&&◌, ◌||◌, int_le, int_lt, nat_le, unsign
 use Rattle.std.proofs.lemmas.Bool.{false≢true}
 use Rattle.std.proofs.lemmas.Bool.Decides.{nat_tests}
 use Rattle.array_tree.specs.Trees.{Declaration, ProgramTree}
-use Rattle.array_meaning.specs.Stores.{Arrays, arrays_of, cells_of, HaveCells, AreSized, is_name, base_of, length_of}
+use Rattle.array_tree.specs.Equal.{name_eq}
+use Rattle.array_meaning.specs.Stores.{Arrays, arrays_of, cells_of, HaveCells, AreSized, base_of, length_of}
 use Rattle.array_meaning.specs.Touch.{Covers}
 use Rattle.array_meaning.specs.Names.{is_among, names_of}
 use Rattle.array_meaning.specs.Limits.{is_up_to, have_right_lengths, has_right_ranges, is_in_range}
@@ -46,7 +47,7 @@ names_in_of (d ∷ ds) = ap (λ names. d.name ∷ names) (names_in_of ds)
 pub array_inside : (arrays : Arrays) (name : List ℕ) → is_among name (names_in arrays) ≡ true →
     base_of arrays name + length_of arrays name ≤ cells_of arrays
 array_inside [] name e = absurd (false≢true e)
-array_inside (a ∷ more) name e = cases (is_name a.0 name) (array_inside more name) e
+array_inside (a ∷ more) name e = cases (name_eq a.0 name) (array_inside more name) e
   where
     cases : (b : Bool) → (is_among name (names_in more) ≡ true → base_of more name + length_of more name ≤ cells_of more) →
         (b || is_among name (names_in more)) ≡ true →

@@ -20,7 +20,8 @@ use Rattle.array_meaning.proofs.FrameLemmas.{walk_followed_by}
 use Rattle.array_meaning.proofs.MemberLemmas.{members_loop}
 use Rattle.array_meaning.proofs.OverlapLemmas.{and_both, apart_of_clear, clear_of_apart}
 use Rattle.site_walk.specs.declared.fault.WalkFault.{WalkFault}
-use Rattle.site_walk.specs.Outside.{or_else, out_of_range_of}
+use Rattle.std.specs.Option.{option_or}
+use Rattle.site_walk.specs.Outside.{out_of_range_of}
 use Rattle.site_walk.specs.FirstOverlap.{cell_fault, rounds_fault, first_overlap, overlap_of, walk_fault_of}
 use Rattle.site_walk.proofs.OutsideLemmas.{inside_of_none}
 
@@ -199,7 +200,7 @@ no_cell : (line : ℕ) (o : Option ℕ) → cell_fault line o ≡ None → o ≡
 no_cell line None h = refl
 no_cell line (Some c) h = absurd (cc)
 
-pub no_fault : (a b : Option WalkFault) → or_else a b ≡ None → (a ≡ None) × (b ≡ None)
+pub no_fault : (a b : Option WalkFault) → option_or a b ≡ None → (a ≡ None) × (b ≡ None)
 no_fault None b h = (refl, h)
 no_fault (Some f) b h = absurd (cc)
 
@@ -220,13 +221,13 @@ sites_apart arrays (s ∷ sites) fit h =
 rounds_clear : (arrays : Arrays) (line : ℕ) (rs : List (List Steps)) → AreRoundsApart arrays rs → rounds_fault arrays line rs ≡ None
 rounds_clear arrays line [] h = refl
 rounds_clear arrays line (r ∷ rs) h =
-    ap (λ o. or_else (cell_fault line o) (rounds_fault arrays line rs)) (all_none (overlaps arrays false false r) 0 (cells_of arrays) (clear_of_apart arrays r h.0))
+    ap (λ o. option_or (cell_fault line o) (rounds_fault arrays line rs)) (all_none (overlaps arrays false false r) 0 (cells_of arrays) (clear_of_apart arrays r h.0))
     ∙ rounds_clear arrays line rs h.1
 
 sites_clear : (arrays : Arrays) (sites : List Site) → AreSitesApart arrays sites → first_overlap arrays sites ≡ None
 sites_clear arrays [] h = refl
 sites_clear arrays (s ∷ sites) h =
-    ap (λ o. or_else o (first_overlap arrays sites)) (rounds_clear arrays s.line s.rounds h.0) ∙ sites_clear arrays sites h.1
+    ap (λ o. option_or o (first_overlap arrays sites)) (rounds_clear arrays s.line s.rounds h.0) ∙ sites_clear arrays sites h.1
 
 -- ---- of a program
 
