@@ -1,7 +1,7 @@
 -- The jobs of all phases of a construct have the sites inside it.
 use Rattle.std.proofs.Common.{◌≡◌, ℕ, zero, suc, ◌+◌, ◌-◌, ◌*◌, ◌<◌, ◌≤◌, true, ℤ, pos, negsuc, List, [], ◌∷◌, ◌++◌, refl, sym, ap, ◌∙◌, arith, unsigned_abs}
 use Rattle.std.specs.Prelude.{IsTrue, ◌&&◌, int_le}
-use Rattle.std.proofs.lemmas.Bool.{false≢true}
+use Rattle.std.proofs.lemmas.Bool.{false≢true, and_parts}
 use Rattle.std.proofs.lemmas.List.{append-nil}
 use Rattle.std.proofs.lemmas.Bool.Decides.{nat_tests}
 use Rattle.std.proofs.Math.Nat.{add-mul, mul-add}
@@ -13,7 +13,6 @@ use Rattle.array_meaning.specs.Plans.{sites_in, branches_sites_in, statement_sit
 use Rattle.array_meaning.specs.Limits.{is_up_to, count_of, have_right_ranges, statement_has_right_ranges}
 use Rattle.array_meaning.proofs.MemberLemmas.{span_cut}
 use Rattle.array_jobs.specs.Works.{WorkTree, sites_of}
-use Rattle.array_jobs.proofs.FitLemmas.{both}
 use Rattle.step_eval.specs.Nests.{NestedTree, phases_of, branch_trees, member_trees, phase_at, sites_before, numbered, jobs_in, is_construct}
 use Rattle.step_eval.proofs.NestLemmas.{sites_before_phase}
 use Rattle.step_eval.proofs.NestParts.{first_of_grows, first_of_none, first_of_all}
@@ -124,7 +123,7 @@ phases_range nested stores line var low high members phases k (suc c) some count
 -- ---- the construct
 
 some_members : (most : ℤ) (n : ℤ) → is_up_to most n ≡ true → 0 < unsigned_abs n
-some_members most (pos n) h = let low = (both (int_le (pos 1) (pos n)) (int_le (pos n) most) h).0 in grind (arith, nat_tests)
+some_members most (pos n) h = let low = (and_parts (int_le (pos 1) (pos n)) (int_le (pos n) most) h).0 in grind (arith, nat_tests)
 some_members most (negsuc n) h = absurd (false≢true h)
 
 in_construct : (nested : NestedTree) (stores : ℕ → Store) (construct : Statement) → IsTrue (is_construct construct) → IsTrue (statement_has_right_ranges construct) →
@@ -142,8 +141,8 @@ in_construct nested stores (Par line branches) is right =
     ∙ sym (joined 1 (branches_sites_in branches) (1 + branches_sites_in branches) nested.site refl)
 in_construct nested stores (Team line var low high members phases) is right =
     let n = span low high in
-    let limits = (both (int_le low high && is_up_to (pos 64) members) (is_up_to (pos 8) (pos (count_of phases)) && have_right_ranges phases) right).0 in
-    let some = some_members (pos 64) members (both (int_le low high) (is_up_to (pos 64) members) limits).1 in
+    let limits = (and_parts (int_le low high && is_up_to (pos 64) members) (is_up_to (pos 8) (pos (count_of phases)) && have_right_ranges phases) right).0 in
+    let some = some_members (pos 64) members (and_parts (int_le low high) (is_up_to (pos 64) members) limits).1 in
     let none = none_before phases in
     let place : nested.site + 1 + n * sites_before phases 0 ≡ nested.site + 1
     = ap (λ b. nested.site + 1 + n * b) none ∙ omega arith in
