@@ -7,7 +7,8 @@ use Rattle.std.proofs.lemmas.Bool.Decides.{nat_tests}
 use Rattle.std.proofs.lemmas.List.{get_or-replicate, get_or-set_same, get_or-set_other, length-replicate, length-set, drop_more, get_or_default}
 use Rattle.array_tree.specs.Trees.{declaration_of}
 use Rattle.array_tree.specs.declared.tree.ArrayDecl.{ArrayDecl}
-use Rattle.array_meaning.specs.Stores.{Arrays, HaveCells, AreSized, arrays_of, is_name, base_of, length_of, cells_of}
+use Rattle.array_tree.specs.Equal.{name_eq}
+use Rattle.array_meaning.specs.Stores.{Arrays, HaveCells, AreSized, arrays_of, base_of, length_of, cells_of}
 use Rattle.array_eval.specs.declared.layout.First.{First}
 use Rattle.array_eval.specs.Layouts.{number_of, slot_of, first_in, cells_before, at_slot, AreFirsts, IsLaidOut}
 
@@ -35,7 +36,7 @@ cells_left zero arrays h = h
 cells_left (suc n) [] h = h
 cells_left (suc n) (a ∷ more) h = cells_left n more h.1
 
-other_slot : (a name : List ℕ) → nat_eq (slot_of a) (slot_of name) ≡ false → is_name a name ≡ true → ⊥
+other_slot : (a name : List ℕ) → nat_eq (slot_of a) (slot_of name) ≡ false → name_eq a name ≡ true → ⊥
 other_slot a name e h =
     let same : slot_of a ≡ slot_of name = ap slot_of (same_text a name (sym h)) in
     false≢true (sym e ∙ let yes' : nat_eq (slot_of a) (slot_of name) ≡ true = grind (arith, nat_tests) in yes')
@@ -50,9 +51,9 @@ pub found_from_first : (arrays : Arrays) (name : List ℕ) →
     IsFound arrays name (first_in (slot_of name) arrays) (cells_before (slot_of name) arrays) (drop (first_in (slot_of name) arrays) arrays)
 found_from_first [] name = record { number = omega arith; base = omega arith; length = refl }
 found_from_first (a ∷ more) name =
-    cases (nat_eq (slot_of a.0) (slot_of name)) (is_name a.0 name) refl refl (found_from_first more name)
+    cases (nat_eq (slot_of a.0) (slot_of name)) (name_eq a.0 name) refl refl (found_from_first more name)
   where
-    cases : (b d : Bool) → nat_eq (slot_of a.0) (slot_of name) ≡ b → is_name a.0 name ≡ d →
+    cases : (b d : Bool) → nat_eq (slot_of a.0) (slot_of name) ≡ b → name_eq a.0 name ≡ d →
         IsFound more name (first_in (slot_of name) more) (cells_before (slot_of name) more) (drop (first_in (slot_of name) more) more) →
         IsFound (a ∷ more) name (cond b 0 (suc (first_in (slot_of name) more))) (cond b 0 (a.1 + cells_before (slot_of name) more))
         (drop (cond b 0 (suc (first_in (slot_of name) more))) (a ∷ more))

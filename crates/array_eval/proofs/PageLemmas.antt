@@ -1,11 +1,12 @@
 -- Cells on pages.
-use Rattle.std.proofs.Common.{◌≡◌, ℕ, zero, suc, ◌+◌, ◌-◌, ◌*◌, ◌/◌, ◌%◌, ◌<◌, ◌≤◌, List, [], ◌∷◌, ◌++◌, length, set, take, drop, get_or, ℤ, pos, refl, sym, ap, ◌∙◌, arith, length-set}
+use Rattle.std.proofs.Common.{inl, inr, ◌≡◌, ℕ, zero, suc, ◌+◌, ◌-◌, ◌*◌, ◌/◌, ◌%◌, ◌<◌, ◌≤◌, ◌≢◌, Bool, true, false, List, [], ◌∷◌, ◌++◌, length, set, take, drop, get_or, ℤ, pos, refl, sym, ap, ◌∙◌, arith, length-set}
 use Rattle.std.specs.Prelude.{All, replicate, Result, Ok, Err, OnOk, OnErr}
 use Rattle.std.proofs.Math.Nat.{div-add-mod, mod-lt}
 use Rattle.std.proofs.Math.Seq.{take-set-lt, take-append_seam, drop-append_seam, take-add}
-use Rattle.std.proofs.lemmas.List.{length-append, length-replicate, length-take, length-take-le, length-drop, take_all, take-replicate, drop-append-le, set-get_or, get_or_append_left, get_or-append-add, set-append_left, set-append_right, drop-set-lt, append_assoc, append-nil, take-append-drop, replicate-append-replicate, get_or-take, drop-replicate, take_more, replicate_more}
+use Rattle.std.proofs.lemmas.List.{length-append, length-replicate, length-take, length-take-le, length-drop, take_all, take-replicate, drop-append-le, set-get_or, get_or_append_left, get_or-append-add, set-append_left, set-append_right, drop-set-lt, append_assoc, append-nil, take-append-drop, replicate-append-replicate, get_or-take, drop-replicate, take_more, drop-drop, drop-take, take-set-le, get_or-set_same, get_or-set_other}
+use Rattle.std.proofs.lemmas.Bool.{cases_lt, false≢true}
 use Rattle.std.proofs.lemmas.Grind.{div_ceil_times}
-use Rattle.array_eval.specs.Pages.{padded, cells_on, pages_for, ArePages}
+use Rattle.array_eval.specs.Pages.{padded, cells_on, pages_for, ArePages, page_at, AreChanged, AreChangedPages}
 
 -- Each page has 64 cells.
 abbrev pub AreWhole : List (List ℤ) → Type 0
@@ -114,10 +115,6 @@ still_pages count cell pages page v right h =
 
 pub zeros_behind : (n m : ℕ) → drop n (replicate m (pos 0)) ≡ replicate (m - n) (pos 0)
 zeros_behind n m = drop-replicate n m (pos 0)
-
-pub zeros_more : (cells : List ℤ) (i : ℕ) (d : ℤ) → i < length cells → take i cells ≡ replicate i (pos 0) → get_or cells i d ≡ pos 0 →
-    take (i + 1) cells ≡ replicate (i + 1) (pos 0)
-zeros_more cells i d h before here = take_more cells i d h ∙ ap (λ xs. xs ++ get_or cells i d ∷ []) before ∙ ap (λ x. replicate i (pos 0) ++ x ∷ []) here ∙ replicate_more i (pos 0)
 
 -- a cell of what is seen lies before the end
 pub below_count : (count : ℕ) (cells view : List ℤ) (cell : ℕ) → take count cells ≡ view → cell < length view → cell < count
@@ -292,19 +289,86 @@ zero_cells count =
     let few = (div_ceil_times count 64 (omega arith)).0 in
     ap (take count) (zeros_on (pages_for count)) ∙ take-replicate count (64 * pages_for count) (pos 0) (omega (arith, few))
 
--- ---- a page of cells with zeros behind them
+-- ---- the cells of one page
 
-pub page_is : (page cells : List ℤ) → length page ≡ 64 → take (length cells) page ≡ cells → drop (length cells) page ≡ replicate (length (drop (length cells) page)) (pos 0) →
-    page ≡ padded cells
-page_is page cells whole front back =
-    let long = length-drop (length cells) page in
-    let left : length (drop (length cells) page) ≡ 64 - length cells = omega (arith, long, whole) in
-    sym (take-append-drop (length cells) page) ∙ ap (λ xs. xs ++ drop (length cells) page) front ∙ ap (λ xs. cells ++ xs) (back ∙ ap (λ n. replicate n (pos 0)) left)
+-- the page at a place has the cells there
+page_in : (pages : List (List ℤ)) (number : ℕ) (d : List ℤ) → AreWhole pages → number < length pages → page_at number (cells_on pages) ≡ get_or pages number d
+page_in [] number d whole h = absurd (omega (arith, h))
+page_in (p ∷ ps) zero d whole h =
+    let front = first_whole p ps whole in
+    ap (λ n. take n (p ++ cells_on ps)) (sym front) ∙ take-append_seam p (cells_on ps)
+page_in (p ∷ ps) (suc number) d whole h =
+    let front = first_whole p ps whole in
+    let place : 64 * suc number ≡ 64 + 64 * number = omega arith in
+    let behind : drop 64 (p ++ cells_on ps) ≡ cells_on ps = ap (λ n. drop n (p ++ cells_on ps)) (sym front) ∙ drop-append_seam p (cells_on ps) in
+    ap (take 64) (ap (λ n. drop n (p ++ cells_on ps)) place ∙ sym (drop-drop (64 * number) 64 (p ++ cells_on ps)) ∙ ap (drop (64 * number)) behind)
+    ∙ page_in ps number d (others_whole p ps whole) (omega (arith, h))
 
-pub front_of_page : (page cells : List ℤ) → page ≡ padded cells → take (length cells) page ≡ cells
-front_of_page page cells e = ap (take (length cells)) e ∙ take-append_seam cells (replicate (64 - length cells) (pos 0))
+-- so has the page of what is seen, with zeros behind them
+page_seen : (count number : ℕ) (pages : List (List ℤ)) (d : List ℤ) → ArePages count pages → number < length pages →
+    get_or pages number d ≡ padded (page_at number (take count (cells_on pages)))
+page_seen count number pages d right h =
+    let view = take count (cells_on pages) in
+    let behind = 64 * pages_for count - count in
+    let many = right.fewest in
+    let start = page_begins count number (omega (arith, h, many)) in
+    let seen = length_seen count pages right in
+    let long = length-drop (64 * number) view in
+    let room = (div_ceil_times count 64 (omega arith)).0 in
+    sym (page_in pages number d right.whole h)
+    ∙ ap (page_at number) (all_cells count pages right)
+    ∙ ap (take 64) (drop-append-le (64 * number) view (replicate behind (pos 0)) (omega (arith, start, seen)))
+    ∙ take_filled 64 behind (drop (64 * number) view) (omega (arith, start, seen, long, room, h, many))
 
-pub back_of_page : (page cells : List ℤ) → page ≡ padded cells → drop (length cells) page ≡ replicate (length (drop (length cells) page)) (pos 0)
-back_of_page page cells e =
-    let zeros = ap (drop (length cells)) e ∙ drop-append_seam cells (replicate (64 - length cells) (pos 0)) in
-    zeros ∙ ap (λ n. replicate n (pos 0)) (sym (ap length zeros ∙ length-replicate (64 - length cells) (pos 0)))
+-- pages that are shared have the cells that are to be on them
+pub changed_pages : (count : ℕ) (pages : List (List ℤ)) (changed : List Bool) (view after : List ℤ) → ArePages count pages → take count (cells_on pages) ≡ view →
+    AreChanged changed view after → AreChangedPages changed pages after
+changed_pages count pages changed view after right e all =
+    let seen = length_seen count pages right in
+    let same : count ≡ length after = sym seen ∙ ap length e ∙ all.as_many in
+    record {
+      as_many = right.fewest ∙ ap pages_for same;
+      marks = all.marks;
+      kept = λ number h mark. page_seen count number pages [] right h ∙ ap (λ cells. padded (page_at number cells)) e ∙ ap padded (all.kept number mark);
+    }
+
+-- no page is changed yet
+pub none_changed : (cells : List ℤ) → AreChanged (replicate (pages_for (length cells)) false) cells cells
+none_changed cells = record { as_many = refl; marks = length-replicate (pages_for (length cells)) false; kept = λ number mark. refl }
+
+-- a cell that is written leaves the other pages
+other_page : (cells : List ℤ) (cell number : ℕ) (v : ℤ) → number ≢ cell / 64 → page_at number (set cells cell v) ≡ page_at number cells
+other_page cells cell number v other =
+    let whole = div-add-mod cell 64 in
+    let rest : cell % 64 < 64 = mod-lt cell (omega arith) in
+    let apart : cell / 64 ≡ number → ⊥ = λ e. other (sym e) in
+    elim (cases_lt number (cell / 64)) [
+      | inl before ↦
+          (sym (drop-take (64 * number) 64 (set cells cell v))
+          ∙ ap (drop (64 * number)) (take-set-le (64 * number + 64) cells cell v (omega (arith, before, whole)))
+          ∙ drop-take (64 * number) 64 cells)
+      | inr behind ↦
+          (let less : cell / 64 < number = omega (arith, behind, apart) in
+          ap (take 64) (drop-set-lt (64 * number) cells cell v (omega (arith, less, whole, rest))))
+    ]
+
+-- the page of a cell has its mark
+pub mark_there : (changed : List Bool) (before cells : List ℤ) (cell : ℕ) → AreChanged changed before cells → cell < length cells → cell / 64 < length changed
+mark_there changed before cells cell all h =
+    let many = all.marks in
+    let few = (div_ceil_times (length cells) 64 (omega arith)).0 in
+    let whole = div-add-mod cell 64 in
+    omega (arith, many, few, whole, h)
+
+-- a cell is written, and its page is marked
+pub one_changed : (changed : List Bool) (before cells : List ℤ) (cell : ℕ) (v : ℤ) → AreChanged changed before cells → cell < length cells →
+    AreChanged (set changed (cell / 64) true) before (set cells cell v)
+one_changed changed before cells cell v all h =
+    let there = mark_there changed before cells cell all h in
+    record {
+      as_many = all.as_many ∙ sym (length-set cells cell v);
+      marks = length-set changed (cell / 64) true ∙ all.marks ∙ ap pages_for (sym (length-set cells cell v));
+      kept = λ number mark.
+          let other : number ≢ cell / 64 = λ e. false≢true (sym mark ∙ ap (λ n. get_or (set changed (cell / 64) true) n true) e ∙ get_or-set_same changed (cell / 64) true true there) in
+          all.kept number (sym (get_or-set_other changed (cell / 64) number true true other) ∙ mark) ∙ sym (other_page cells cell number v other);
+    }

@@ -2,7 +2,8 @@
 use Rattle.std.proofs.Common.{◌≡◌, ℕ, ◌+◌, ◌<◌, Bool, true, false, cond, List, [], ◌∷◌, ◌++◌, map, length, take, reverse, get_or, Some, None, ℤ, pos, refl, ap, ◌∙◌}
 use Rattle.std.specs.Option.{unwrap_or}
 use Rattle.std.proofs.lemmas.List.{take_more, map-append, reverse-append}
-use Rattle.array_meaning.specs.Stores.{Vars, var_of, is_name}
+use Rattle.array_tree.specs.Equal.{name_eq}
+use Rattle.array_meaning.specs.Stores.{Vars, var_of}
 use Rattle.array_eval.specs.declared.scope.LoopVar.{LoopVar}
 use Rattle.array_eval.specs.Overlays.{bound_to}
 use Rattle.array_eval.specs.Views.{loop_var, stacked}
@@ -10,7 +11,7 @@ use Rattle.array_eval.specs.Views.{loop_var, stacked}
 -- what is found is the value, which is 0 where nothing is found
 pub bound_or_zero : (vars : Vars) (name : List ℕ) → unwrap_or (bound_to vars name) (pos 0) ≡ var_of vars name
 bound_or_zero [] name = refl
-bound_or_zero (v ∷ more) name = cases (is_name v.0 name) (bound_or_zero more name)
+bound_or_zero (v ∷ more) name = cases (name_eq v.0 name) (bound_or_zero more name)
   where
     cases : (b : Bool) → unwrap_or (bound_to more name) (pos 0) ≡ var_of more name → unwrap_or (cond b (Some v.1) (bound_to more name)) (pos 0) ≡ cond b v.1 (var_of more name)
     cases true e = refl
@@ -19,7 +20,7 @@ bound_or_zero (v ∷ more) name = cases (is_name v.0 name) (bound_or_zero more n
 -- what is found among the inner variables is the value
 pub bound_inside : (inner outer : Vars) (name : List ℕ) (x : ℤ) → bound_to inner name ≡ Some x → x ≡ var_of (inner ++ outer) name
 bound_inside [] outer name x e = cc
-bound_inside (v ∷ more) outer name x e = cases (is_name v.0 name) (bound_inside more outer name x) e
+bound_inside (v ∷ more) outer name x e = cases (name_eq v.0 name) (bound_inside more outer name x) e
   where
     cases : (b : Bool) → (bound_to more name ≡ Some x → x ≡ var_of (more ++ outer) name) →
         cond b (Some v.1) (bound_to more name) ≡ Some x → x ≡ cond b v.1 (var_of (more ++ outer) name)
@@ -29,7 +30,7 @@ bound_inside (v ∷ more) outer name x e = cases (is_name v.0 name) (bound_insid
 -- where nothing is found it is that of the outer ones
 pub bound_outside : (inner outer : Vars) (name : List ℕ) → bound_to inner name ≡ None → var_of outer name ≡ var_of (inner ++ outer) name
 bound_outside [] outer name e = refl
-bound_outside (v ∷ more) outer name e = cases (is_name v.0 name) (bound_outside more outer name) e
+bound_outside (v ∷ more) outer name e = cases (name_eq v.0 name) (bound_outside more outer name) e
   where
     cases : (b : Bool) → (bound_to more name ≡ None → var_of outer name ≡ var_of (more ++ outer) name) →
         cond b (Some v.1) (bound_to more name) ≡ None → var_of outer name ≡ cond b v.1 (var_of (more ++ outer) name)

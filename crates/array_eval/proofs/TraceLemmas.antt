@@ -6,6 +6,7 @@ use Rattle.std.proofs.lemmas.List.{length-replicate}
 use Rattle.array_meaning.specs.Stores.{Arrays, Store, Write, after}
 use Rattle.array_meaning.specs.Steps.{Steps, followed_by, writes_of}
 use Rattle.array_meaning.specs.Pieces.{lay, lays, last_writes, IsAbove}
+use Rattle.array_meaning.proofs.BelowLemmas.{AreBelow, below_of}
 use Rattle.array_meaning.proofs.StepLemmas.{writes_followed_by, length_after}
 use Rattle.array_meaning.proofs.LastLemmas.{same_last, last_value_last}
 use Rattle.array_eval.specs.Traces.{Trace, fresh, noted, noted_all, traced, marked_from, marked, marks_in}
@@ -86,11 +87,6 @@ none_marked i [] n = refl
 none_marked i (x ∷ cells) zero = refl
 none_marked i (x ∷ cells) (suc n) = none_marked (suc i) cells n
 
--- Each write is to a cell below this one.
-abbrev pub AreBelow : ℕ → List Write → Type 0
-AreBelow n [] = Unit {0}
-AreBelow n (w ∷ ws) = (w.0 < n) × AreBelow n ws
-
 pub marked_after : (ws : List Write) (t : Trace) → AreBelow (length t.cells) ws → length t.cells ≡ length t.marks →
     marked (noted_all ws t) ≡ lays ws (marked t)
 marked_after [] t h e = refl
@@ -100,10 +96,6 @@ marked_after (w ∷ ws) t h e =
     let zero_more : 0 + w.0 ≡ w.0 = omega arith in
     marked_after ws (noted w.0 w.1 t) (rw cells h.1) (cells ∙ e ∙ sym marks)
     ∙ ap (lays ws) (noted_from 0 w.0 w.1 t.cells t.marks h.0 e ∙ ap (λ c. lay c w.1 (marked t)) zero_more)
-
-pub below_of : (n : ℕ) (ws : List Write) → All (λ w. w.0 < n) ws → AreBelow n ws
-below_of n [] all = tt
-below_of n (w ∷ ws) all = (all zero w (omega arith), below_of n ws (λ k d h. all (suc k) d (omega (arith, h))))
 
 -- an overlay is laid over what is marked
 pub laid_marks : (ws : List Write) (before after : Trace) → after ≡ noted_all ws before → length before.cells ≡ length before.marks →

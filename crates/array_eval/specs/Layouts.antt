@@ -1,13 +1,14 @@
 -- Where arrays lie, and where a name is sought.
 use Rattle.std.specs.Prelude.{◌≡◌, ℕ, suc, ◌+◌, ◌%◌, ◌<◌, cond, nat_eq, List, [], ◌∷◌, length, slice_index_or}
 use Rattle.array_tree.specs.Digest.{digest_of}
-use Rattle.array_meaning.specs.Stores.{Arrays, AreSized, is_name, cells_of}
+use Rattle.array_tree.specs.Equal.{name_eq}
+use Rattle.array_meaning.specs.Stores.{Arrays, AreSized, cells_of}
 use Rattle.array_eval.specs.declared.layout.First.{First}
 
 -- The place of the array of a name, counted from 0; the number of arrays where there is none.
 abbrev pub number_of : Arrays → List ℕ → ℕ
 number_of [] name = 0
-number_of (a ∷ more) name = cond (is_name a.0 name) 0 (1 + number_of more name)
+number_of (a ∷ more) name = cond (name_eq a.0 name) 0 (1 + number_of more name)
 
 -- The slot of a name: names with one digest share it, and others may.
 abbrev pub slot_of : List ℕ → ℕ

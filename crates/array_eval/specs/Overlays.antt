@@ -1,7 +1,8 @@
 -- What overlays and variables stand for.
 use Rattle.std.specs.Prelude.{◌≡◌, ◌<◌, ◌≤◌, ◌⊎◌, ℕ, suc, cond, List, [], ◌∷◌, ℤ, pos, nat_lt, Option, Some, None, IsSome, length, slice_index_or, slice_set, insert}
 use Rattle.array_meaning.specs.Pieces.{lay, value_at}
-use Rattle.array_meaning.specs.Stores.{Vars, Write, is_name}
+use Rattle.array_tree.specs.Equal.{name_eq}
+use Rattle.array_meaning.specs.Stores.{Vars, Write}
 
 -- Pairs of a cell and a value, with rising cells, and for how many there is room.
 pub record Laid : Type 0 where
@@ -16,7 +17,7 @@ place_in cell (w ∷ more) = cond (nat_lt w.0 cell) (suc (place_in cell more)) 0
 -- The value of the first variable with the name.
 abbrev pub bound_to : Vars → List ℕ → Option ℤ
 bound_to [] name = None
-bound_to (v ∷ more) name = cond (is_name v.0 name) (Some v.1) (bound_to more name)
+bound_to (v ∷ more) name = cond (name_eq v.0 name) (Some v.1) (bound_to more name)
 
 -- One more pair of the cell fits without memory: the cell has one, or there are fewer pairs than room.
 abbrev pub HasRoom : ℕ → List Write → ℕ → Type 0

@@ -1,6 +1,6 @@
 -- Cells on pages of 64.
 use Rattle.std.specs.Int.{div_ceil}
-use Rattle.std.specs.Prelude.{◌≡◌, ℕ, ◌-◌, ◌*◌, List, [], ◌∷◌, ◌++◌, ℤ, pos, All, length, replicate, drop}
+use Rattle.std.specs.Prelude.{◌≡◌, ℕ, ◌-◌, ◌*◌, ◌<◌, List, [], ◌∷◌, ◌++◌, ℤ, pos, All, length, replicate, take, drop, Bool, true, false, slice_index_or}
 
 -- Cells with zeros behind them, to the end of a page.
 abbrev pub padded : List ℤ → List ℤ
@@ -20,3 +20,19 @@ pub record ArePages (count : ℕ) (pages : List (List ℤ)) : Type 0 where
   pub whole : All (λ page. length page ≡ 64) pages
   pub fewest : length pages ≡ pages_for count
   pub zeros : drop count (cells_on pages) ≡ replicate (64 * length pages - count) (pos 0)
+
+-- The cells of the page with this number.
+abbrev pub page_at : ℕ → List ℤ → List ℤ
+page_at number cells = take 64 (drop (64 * number) cells)
+
+-- Cells that were changed, and for each page whether one of its cells may have been: those of the other pages are as before.
+pub record AreChanged (changed : List Bool) (before after : List ℤ) : Type 0 where
+  pub as_many : length before ≡ length after
+  pub marks : length changed ≡ pages_for (length after)
+  pub kept : (number : ℕ) → slice_index_or changed number true ≡ false → page_at number before ≡ page_at number after
+
+-- The same of pages and the cells that are to lie on them.
+pub record AreChangedPages (changed : List Bool) (pages : List (List ℤ)) (after : List ℤ) : Type 0 where
+  pub as_many : length pages ≡ pages_for (length after)
+  pub marks : length changed ≡ pages_for (length after)
+  pub kept : (number : ℕ) → number < length pages → slice_index_or changed number true ≡ false → slice_index_or pages number [] ≡ padded (page_at number after)

@@ -9,6 +9,7 @@ mod marked_store;
 mod members;
 mod overlay;
 mod page;
+mod paged;
 mod run;
 mod scope;
 mod store;

@@ -4,6 +4,7 @@ ghost use Rattle.array_meaning.specs.Pieces.{lays, last_writes};
 ghost use Rattle.array_eval.specs.Traces.{fresh, noted, noted_all, marked, marked_from, marks_in};
 
 use crate::overlay::Overlay;
+use crate::page::CELLS;
 use crate::store::Store;
 use std::alloc::{AllocError, Global};
 use std::marker::Model;
@@ -15,17 +16,21 @@ use std::marker::Model;
 pub struct MarkedStore {
     cells: Vec<i64>,
     marks: Vec<bool>,
+    // What it was made from, and which of its pages were written since: a store that is taken shares the others.
+    start: Store,
+    changed: Vec<bool>,
 }
 
 impl Model for MarkedStore {
     ghost use Rattle.std.specs.Prelude.{◌≡◌, length};
     ghost use Rattle.array_eval.specs.Traces.{Trace};
+    ghost use Rattle.array_eval.specs.Pages.{AreChanged};
 
     ghost Value = { Trace };
 
     ghost view = { λ store. record { cells = store.cells.items; marks = store.marks.items } };
 
-    ghost invariant = { λ store. length store.cells.items ≡ length store.marks.items };
+    ghost invariant = { λ store. (length store.cells.items ≡ length store.marks.items) × AreChanged store.changed.items store.start store.cells.items };
 }
 
 impl MarkedStore {
@@ -35,7 +40,14 @@ impl MarkedStore {
     {
         let cells = store.to_cells(alloc)?;
         let marks = vec![in alloc; false; cells.len()]?;
-        Ok(MarkedStore { cells, marks })
+        let start = store.copy()?;
+        let changed = vec![in alloc; false; cells.len().div_ceil(CELLS)]?;
+        Ok(MarkedStore {
+            cells,
+            marks,
+            start,
+            changed,
+        })
     }
 
     /// The value of each cell.
@@ -52,6 +64,7 @@ impl MarkedStore {
         if cell < self.cells.len() {
             self.cells[cell] = value;
             self.marks[cell] = true;
+            self.changed[cell / CELLS] = true;
         }
     }
 
@@ -69,18 +82,11 @@ impl MarkedStore {
         }
     }
 
-    /// A store of these values.
+    /// A store of these values. It shares with the one that this was made from each page of which no cell was written.
     pub fn to_store(&self, alloc: Global) -> Result<Store, AllocError>
         ensures { IfOk result (λ store. store ≡ self.now.cells) }
     {
-        Store::of_cells(alloc, &self.cells)
-    }
-
-    /// A store of these values, as `to_store` gives it. It shares memory with an earlier one where they have the same.
-    pub fn to_store_after(&self, alloc: Global, earlier: &Store) -> Result<Store, AllocError>
-        ensures { IfOk result (λ store. store ≡ self.now.cells) }
-    {
-        earlier.changed_to(alloc, &self.cells)
+        self.start.changed_to(alloc, &self.cells, &self.changed)
     }
 
     /// The cells that were written, each with its value. There must be at most 65,535 cells.

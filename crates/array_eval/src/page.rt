@@ -1,5 +1,5 @@
 //! Pages of cells, which several stores can share.
-ghost use Rattle.std.specs.Prelude.{◌≡◌, ◌<◌, ◌≤◌, ◌↔◌, IsTrue, IfOk, OnOk, OnErr, length, replicate, pos};
+ghost use Rattle.std.specs.Prelude.{◌≡◌, ◌<◌, ◌≤◌, IfOk, OnOk, OnErr, length, replicate, pos};
 ghost use Rattle.array_meaning.specs.Stores.{at_cell, written};
 ghost use Rattle.array_eval.specs.Equal.{store_eq};
 ghost use Rattle.array_eval.specs.Pages.{padded};
@@ -85,15 +85,6 @@ impl Page {
         }
         Ok(())
     }
-
-    /// Whether it has these cells, with zeros behind them.
-    pub(crate) fn has(&self, cells: &[i64]) -> bool
-        requires { length cells.now ≤ 64 }
-        ensures { IsTrue result ↔ (self.now ≡ padded cells.now) }
-    {
-        let (own, behind) = self.cells().split_at(cells.len());
-        own == cells && are_zeros(behind)
-    }
 }
 
 impl PartialEq for Page {
@@ -109,17 +100,4 @@ impl PartialEq for Page {
     fn eq(&self, other: &Page) -> bool {
         self.cells() == other.cells()
     }
-}
-
-// Whether each value is 0.
-#[tactic(auto, using(crate::proofs::PageLemmas::zeros_more))]
-fn are_zeros(cells: &[i64]) -> bool
-    ensures { IsTrue result ↔ (cells.now ≡ replicate (length cells.now) (pos 0)) }
-{
-    for value in cells {
-        if *value != 0 {
-            return false;
-        }
-    }
-    true
 }

@@ -1,34 +1,32 @@
 //! Stores: the value of each cell.
-ghost use Rattle.std.specs.Prelude.{◌≡◌, ◌↔◌, ◌*◌, ◌<◌, ◌≤◌, IsTrue, All, IfOk, OnOk, OnErr, length, replicate, take, drop, pos};
+ghost use Rattle.std.specs.Prelude.{◌≡◌, ◌↔◌, ◌<◌, IsTrue, All, IfOk, OnOk, OnErr, length, replicate, pos};
 ghost use Rattle.array_meaning.specs.Stores.{after, at_cell, written};
 ghost use Rattle.array_eval.specs.Equal.{store_eq};
-ghost use Rattle.array_eval.specs.Pages.{cells_on, padded, pages_for, ArePages};
+ghost use Rattle.array_eval.specs.Pages.{AreChanged};
 
 use crate::overlay::Overlay;
-use crate::page::{CELLS, Page};
+use crate::paged::Paged;
 use std::alloc::{AllocError, Global};
 use std::marker::Model;
+use std::sync::Arc;
 
 /// The value of each cell. The cells of the arrays are numbered from 0 in order of declaration.
 ///
-/// Contracts see a store as the list of its values. They lie on pages, which a copy shares until a cell of a page is
-/// written.
+/// Contracts see a store as the list of its values. A copy shares them all until one of the two is written, and then
+/// each page of cells in which nothing is written.
 #[derive(Debug, Drop)]
 pub struct Store {
     alloc: Global,
-    count: usize,
-    pages: Vec<Page>,
+    paged: Arc<Paged>,
 }
 
 impl Model for Store {
-    ghost use Rattle.std.specs.Prelude.{List, ℤ, take};
-    ghost use Rattle.array_eval.specs.Pages.{cells_on, ArePages};
+    ghost use Rattle.std.specs.Prelude.{List, ℤ};
+    ghost use Rattle.std.specs.Arc.{arc_value};
 
     ghost Value = { List ℤ };
 
-    ghost view = { λ store. take store.count (cells_on store.pages.items) };
-
-    ghost invariant = { λ store. ArePages store.count store.pages.items };
+    ghost view = { λ store. arc_value store.paged };
 }
 
 impl Store {
@@ -36,12 +34,9 @@ impl Store {
     pub fn zero(alloc: Global, cells: u16) -> Result<Store, AllocError>
         ensures { IfOk result (λ store. store ≡ replicate cells (pos 0)) }
     {
-        let count = usize::from(cells);
-        let page = Page::new(alloc, &[])?;
         Ok(Store {
             alloc,
-            count,
-            pages: repeat(alloc, &page, count.div_ceil(CELLS))?,
+            paged: Arc::new(alloc, Paged::zero(alloc, cells)?)?,
         })
     }
 
@@ -50,8 +45,7 @@ impl Store {
         requires { cell < length self.now }
         ensures { result ≡ at_cell self.now cell }
     {
-        let cell = usize::from(cell);
-        self.pages[cell / CELLS].get(cell % CELLS)
+        self.paged.get(cell)
     }
 
     /// Writes a cell. Where memory is wanting, nothing changes.
@@ -60,18 +54,24 @@ impl Store {
         ensures written { OnOk result (self.new ≡ written self.old cell value) }
         ensures unchanged { OnErr result (self.new ≡ self.old) }
     {
-        let cell = usize::from(cell);
-        self.pages[cell / CELLS].put(self.alloc, cell % CELLS, value)
+        match Arc::get_mut(&mut self.paged) {
+            Some(own) => own.put(self.alloc, cell, value),
+            None => {
+                let mut own = self.paged.copy(self.alloc)?;
+                own.put(self.alloc, cell, value)?;
+                self.paged = Arc::new(self.alloc, own)?;
+                Ok(())
+            }
+        }
     }
 
-    /// An equal store.
+    /// An equal store. It takes no memory of its own.
     pub fn copy(&self) -> Result<Store, AllocError>
         ensures { IfOk result (λ store. store ≡ self.now) }
     {
         Ok(Store {
             alloc: self.alloc,
-            count: self.count,
-            pages: share(self.alloc, &self.pages)?,
+            paged: Arc::try_clone(&self.paged)?,
         })
     }
 
@@ -98,25 +98,19 @@ impl Store {
         Ok(())
     }
 
-    /// A store of these cells.
-    pub(crate) fn of_cells(alloc: Global, cells: &[i64]) -> Result<Store, AllocError>
+    /// A store of these cells. It shares each page of this one that isn't marked as changed.
+    pub(crate) fn changed_to(
+        &self,
+        alloc: Global,
+        cells: &[i64],
+        changed: &[bool],
+    ) -> Result<Store, AllocError>
+        requires { AreChanged changed.now self.now cells.now }
         ensures { IfOk result (λ store. store ≡ cells.now) }
     {
         Ok(Store {
             alloc,
-            count: cells.len(),
-            pages: lay_out(alloc, cells, &[])?,
-        })
-    }
-
-    /// A store of these cells, which shares each page that it has in common with this one.
-    pub(crate) fn changed_to(&self, alloc: Global, cells: &[i64]) -> Result<Store, AllocError>
-        ensures { IfOk result (λ store. store ≡ cells.now) }
-    {
-        Ok(Store {
-            alloc,
-            count: cells.len(),
-            pages: lay_out(alloc, cells, &self.pages)?,
+            paged: Arc::new(alloc, self.paged.changed_to(alloc, cells, changed)?)?,
         })
     }
 
@@ -124,12 +118,7 @@ impl Store {
     pub(crate) fn to_cells(&self, alloc: Global) -> Result<Vec<i64>, AllocError>
         ensures { IfOk result (λ cells. cells.items ≡ self.now) }
     {
-        let mut cells = Vec::with_capacity(alloc, self.pages.len().saturating_mul(CELLS))?;
-        for page in &self.pages {
-            cells.extend_from_slice(page.cells())?;
-        }
-        cells.truncate(self.count);
-        Ok(cells)
+        self.paged.to_cells(alloc)
     }
 }
 
@@ -147,7 +136,7 @@ impl PartialEq for Store {
         ensures tested { result ≡ store_eq self.now other.now }
         ensures same { IsTrue result ↔ (self.now ≡ other.now) }
     {
-        has_same_cells(self, other)
+        *self.paged == *other.paged
     }
 }
 
@@ -160,69 +149,4 @@ fn put_pairs(store: &mut Store, pairs: &[(u16, i64)]) -> Result<(), AllocError>
         store.put(*cell, *value)?;
     }
     Ok(())
-}
-
-// Equality itself, apart from the impl.
-fn has_same_cells(a: &Store, b: &Store) -> bool
-    ensures { IsTrue result ↔ (a.now ≡ b.now) }
-{
-    a.count == b.count && a.pages == b.pages
-}
-
-// So many times the same page.
-fn repeat(alloc: Global, page: &Page, count: usize) -> Result<Vec<Page>, AllocError>
-    ensures { IfOk result (λ pages. pages.items ≡ replicate count page.now) }
-{
-    let mut pages = Vec::with_capacity(alloc, count)?;
-    for _ in 0..count {
-        pages.push(page.copy()?)?;
-    }
-    Ok(pages)
-}
-
-// The same pages, shared.
-fn share(alloc: Global, pages: &[Page]) -> Result<Vec<Page>, AllocError>
-    ensures { IfOk result (λ shared. shared.items ≡ pages.now) }
-{
-    let mut shared = Vec::with_capacity(alloc, pages.len())?;
-    for page in pages {
-        shared.push(page.copy()?)?;
-    }
-    Ok(shared)
-}
-
-// Cells on pages; where an earlier page at the place has the same, it is shared.
-fn lay_out(alloc: Global, cells: &[i64], earlier: &[Page]) -> Result<Vec<Page>, AllocError>
-    ensures pages { IfOk result (λ pages. ArePages (length cells.now) pages.items) }
-    ensures same { IfOk result (λ pages. take (length cells.now) (cells_on pages.items) ≡ cells.now) }
-{
-    let count = cells.len().div_ceil(CELLS);
-    let mut pages = Vec::with_capacity(alloc, count)?;
-    for number in 0..count {
-        let own = cells_of_page(cells, number);
-        pages.push(page_of(alloc, own, earlier.get(number))?)?;
-    }
-    Ok(pages)
-}
-
-// The cells of the page with this number, of which the last may be short.
-fn cells_of_page(cells: &[i64], number: usize) -> &[i64]
-    requires { 64 * number ≤ length cells.now }
-    ensures same { result.now ≡ take 64 (drop (64 * number) cells.now) }
-    ensures few { length result.now ≤ 64 }
-{
-    let (_, rest) = cells.split_at(CELLS * number);
-    let (own, _) = rest.split_at(CELLS.min(rest.len()));
-    own
-}
-
-// A page of these cells; the earlier one, where it has the same.
-fn page_of(alloc: Global, cells: &[i64], earlier: Option<&Page>) -> Result<Page, AllocError>
-    requires { length cells.now ≤ 64 }
-    ensures { IfOk result (λ page. page ≡ padded cells.now) }
-{
-    match earlier {
-        Some(page) if page.has(cells) => page.copy(),
-        _ => Page::new(alloc, cells),
-    }
 }

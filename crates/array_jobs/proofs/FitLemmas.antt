@@ -1,7 +1,7 @@
 -- What is known of a job that is fit.
-use Rattle.std.proofs.Common.{◌≡◌, ◌<◌, Bool, true, false, ◌∷◌, length, refl, ap, ◌∙◌}
-use Rattle.std.specs.Prelude.{◌&&◌, All}
-use Rattle.std.proofs.lemmas.Bool.{false≢true}
+use Rattle.std.proofs.Common.{◌≡◌, ◌<◌, true, ◌∷◌, length, ap, ◌∙◌}
+use Rattle.std.specs.Prelude.{All}
+use Rattle.std.proofs.lemmas.Bool.{and_parts}
 use Rattle.array_meaning.specs.Stores.{AreSized, arrays_of, cells_of}
 use Rattle.array_meaning.specs.Steps.{writes_of}
 use Rattle.array_meaning.specs.Touch.{walk}
@@ -16,10 +16,6 @@ use Rattle.array_jobs.specs.PieceParts.{piece_of_job}
 use Rattle.array_eval.specs.Traces.{fresh, traced, marked}
 use Rattle.array_eval.proofs.TraceLemmas.{cells_after, marked_last}
 
-pub both : (a b : Bool) → (a && b) ≡ true → (a ≡ true) × (b ≡ true)
-both true b e = (refl, e)
-both false b e = absurd (false≢true e)
-
 -- the arrays have cells, and not too many
 pub sized : (job : JobTree) → IsFit job → AreSized (arrays_of job.arrays)
 sized job fit = sized_in_range (program_in job) fit.ranges
@@ -29,7 +25,7 @@ pub known : (arrays : _) (names around : _) (work : WorkTree) (vars : _) → has
     are_known names (walk arrays (steps_of work vars)) ≡ true
 known arrays names around (branch_of body) vars h = sequence_known arrays names body around vars h
 known arrays names around (member_of var low high body) vars h =
-    loop_known arrays names body var low high around vars (both (has_known_names body names (var ∷ around)) true h).0
+    loop_known arrays names body var low high around vars (and_parts (has_known_names body names (var ∷ around)) true h).0
 
 -- so what is written lies inside the arrays
 pub inside : (job : JobTree) → IsFit job →

@@ -1,12 +1,12 @@
 -- The cells that pass the test of an overlap are those on which two different pieces clash.
 use Rattle.std.proofs.Common.{◌≡◌, ℕ, zero, suc, ◌+◌, ◌<◌, ◌≤◌, Bool, true, false, List, [], ◌∷◌, Option, Some, None, refl, sym, ap, ◌∙◌, ◌⊎◌, inl, inr, ⊎_elim, arith, subst}
 use Rattle.std.specs.Prelude.{◌≢◌, ◌&&◌, ◌||◌, slice_get, if◌then◌else◌}
-use Rattle.std.proofs.lemmas.Bool.{false≢true}
+use Rattle.std.proofs.lemmas.Bool.{false≢true, and_parts}
 use Rattle.array_meaning.specs.Stores.{Arrays}
 use Rattle.array_meaning.specs.Steps.{Steps}
 use Rattle.array_meaning.specs.Touch.{walk, reads_of, changes_of}
 use Rattle.array_meaning.specs.Overlap.{changed, read, overlaps, overlap, first_from, IsClash, IsLeastClash}
-use Rattle.array_meaning.proofs.OverlapLemmas.{or_either, or_none, and_both, and_none, more, fewer, changed_to, changed_from, read_to, read_from}
+use Rattle.array_meaning.proofs.OverlapLemmas.{or_either, or_none, and_none, more, fewer, changed_to, changed_from, read_to, read_from}
 
 either : (b : Bool) → (b ≡ true) ⊎ (b ≡ false)
 either true = inl refl
@@ -46,7 +46,7 @@ module _ (arrays : Arrays) (cell : ℕ) where
 
   between : (p q : Steps) (ps : List Steps) (j : ℕ) → slice_get ps j ≡ Some q → Meets (changes p) (reads p) q → IsClash arrays (p ∷ ps) cell
   between p q ps j e h = ⊎_elim
-      (λ k. let both = and_both (changes q) (reads p || changes p) k in record {
+      (λ k. let both = and_parts (changes q) (reads p || changes p) k in record {
         i = suc j;
         j = 0;
         one = q;
@@ -57,7 +57,7 @@ module _ (arrays : Arrays) (cell : ℕ) where
         changes = changed_to arrays (walk arrays q) cell both.0;
         touches = ⊎_elim (λ r. inl (read_to arrays (walk arrays p) cell r)) (λ c. inr (changed_to arrays (walk arrays p) cell c)) (or_either (reads p) (changes p) both.1);
       })
-      (λ k. let both = and_both (reads q) (changes p) k in record {
+      (λ k. let both = and_parts (reads q) (changes p) k in record {
         i = 0;
         j = suc j;
         one = p;

@@ -1,8 +1,7 @@
 -- A walk through statements with known names visits known arrays alone, so what they write lies inside the arrays.
-use Rattle.std.proofs.Common.{◌≡◌, ℕ, zero, suc, ◌<◌, Bool, true, false, cond, List, [], ◌∷◌, ◌++◌, ℤ, pos, ◌+ℤ◌, refl, arith, inl, inr}
-use Rattle.std.specs.Prelude.{◌&&◌, All, nat_lt, nat_eq}
-use Rattle.std.proofs.lemmas.Bool.{false≢true}
-use Rattle.std.proofs.lemmas.List.Elements.{All-cons, All-nil}
+use Rattle.std.proofs.Common.{◌≡◌, ℕ, zero, suc, ◌<◌, Bool, true, false, List, [], ◌∷◌, ◌++◌, ℤ, pos, ◌+ℤ◌, refl, inl, inr}
+use Rattle.std.specs.Prelude.{◌&&◌, All}
+use Rattle.std.proofs.lemmas.Bool.{false≢true, and_parts}
 use Rattle.array_tree.specs.Trees.{Expression, Number, Var, Read, Neg, Binary, Statement, Assign, For, If, Par, Team, Sequence, ended, followed, Sequences, no_more, beside}
 use Rattle.array_meaning.specs.Stores.{Arrays, Vars, Store, Write, cells_of, HaveCells, length_of}
 use Rattle.array_meaning.specs.Steps.{Steps, Done, Set, Choose, followed_by, writes_of}
@@ -10,10 +9,10 @@ use Rattle.array_meaning.specs.Work.{turns, span, loop, statement_work, sequence
 use Rattle.array_meaning.specs.Touch.{Visit, reads_in, walk, Touches}
 use Rattle.array_meaning.specs.Names.{is_among, are_known, uses_known_names, has_known_names, statement_has_known_names, have_known_names}
 use Rattle.array_meaning.specs.Accepted.{is_inside, are_inside}
-use Rattle.array_meaning.specs.Pieces.{lay, lays, piece_of}
+use Rattle.array_meaning.specs.Pieces.{piece_of}
 use Rattle.array_meaning.proofs.FrameLemmas.{IsWritten, writes_within, walk_followed_by}
 use Rattle.array_meaning.proofs.CellLemmas.{some_cell}
-use Rattle.array_meaning.proofs.OverlapLemmas.{and_both}
+use Rattle.array_meaning.proofs.BelowLemmas.{AreBelow, all_of, below_lays}
 use Rattle.array_meaning.proofs.InsideLemmas.{names_in, covers_inside}
 
 and : (a b : Bool) → a ≡ true → b ≡ true → (a && b) ≡ true
@@ -25,7 +24,7 @@ and false b e f = absurd (false≢true e)
 pub known_append : (names : List (List ℕ)) (xs ys : List Visit) → are_known names xs ≡ true → are_known names ys ≡ true → are_known names (xs ++ ys) ≡ true
 known_append names [] ys e f = f
 known_append names (v ∷ xs) ys e f =
-    let parts = and_both (is_among v.array names) (are_known names xs) e in
+    let parts = and_parts (is_among v.array names) (are_known names xs) e in
     and (is_among v.array names) (are_known names (xs ++ ys)) parts.0 (known_append names xs ys parts.1 f)
 
 module _ (arrays : Arrays) (names : List (List ℕ)) where
@@ -34,11 +33,11 @@ module _ (arrays : Arrays) (names : List (List ℕ)) where
   reads_known line vars (Number n) around h = refl
   reads_known line vars (Var name) around h = refl
   reads_known line vars (Read array index) around h =
-      let parts = and_both (is_among array names) (uses_known_names index names around) h in
+      let parts = and_parts (is_among array names) (uses_known_names index names around) h in
       known_append names (reads_in arrays line vars index) _ (reads_known line vars index around parts.1) (and (is_among array names) true parts.0 refl)
   reads_known line vars (Neg e) around h = reads_known line vars e around h
   reads_known line vars (Binary op a b) around h =
-      let parts = and_both (uses_known_names a names around) (uses_known_names b names around) h in
+      let parts = and_parts (uses_known_names a names around) (uses_known_names b names around) h in
       known_append names (reads_in arrays line vars a) (reads_in arrays line vars b) (reads_known line vars a around parts.0) (reads_known line vars b around parts.1)
 
   abbrev IsKnown : Steps → Type 0
@@ -54,8 +53,8 @@ module _ (arrays : Arrays) (names : List (List ℕ)) where
   set_known : (line : ℕ) (vars : Vars) (array : List ℕ) (index value : Expression) (around : List (List ℕ)) →
       (is_among array names && (uses_known_names index names around && uses_known_names value names around)) ≡ true → IsKnown (Set line vars array index value Done)
   set_known line vars array index value around h =
-      let one = and_both (is_among array names) (uses_known_names index names around && uses_known_names value names around) h in
-      let two = and_both (uses_known_names index names around) (uses_known_names value names around) one.1 in
+      let one = and_parts (is_among array names) (uses_known_names index names around && uses_known_names value names around) h in
+      let two = and_parts (uses_known_names index names around) (uses_known_names value names around) one.1 in
       known_append names (reads_in arrays line vars index) _ (reads_known line vars index around two.0)
       (known_append names (reads_in arrays line vars value) _ (reads_known line vars value around two.1) (and (is_among array names) true one.0 refl))
 
@@ -72,8 +71,8 @@ module _ (arrays : Arrays) (names : List (List ℕ)) where
     statement_known (For line var low high body) around vars h =
         turns_known (λ x. sequence_work body ((var, x) ∷ vars)) low (span low high) (λ x. sequence_known body (var ∷ around) ((var, x) ∷ vars) h)
     statement_known (If line test then_block else_block) around vars h =
-        let one = and_both (uses_known_names test names around) (has_known_names then_block names around && has_known_names else_block names around) h in
-        let two = and_both (has_known_names then_block names around) (has_known_names else_block names around) one.1 in
+        let one = and_parts (uses_known_names test names around) (has_known_names then_block names around && has_known_names else_block names around) h in
+        let two = and_parts (has_known_names then_block names around) (has_known_names else_block names around) one.1 in
         choose_known line vars test (sequence_work then_block vars) (sequence_work else_block vars) around one.0
         (sequence_known then_block around vars two.0) (sequence_known else_block around vars two.1)
     statement_known (Par line branches) around vars h = branches_known branches around vars h
@@ -83,21 +82,21 @@ module _ (arrays : Arrays) (names : List (List ℕ)) where
         are_known names (walk arrays (sequence_work s vars)) ≡ true
     sequence_known ended around vars h = refl
     sequence_known (followed first rest) around vars h =
-        let parts = and_both (statement_has_known_names first names around) (has_known_names rest names around) h in
+        let parts = and_parts (statement_has_known_names first names around) (has_known_names rest names around) h in
         then_known (statement_work first vars) (sequence_work rest vars) (statement_known first around vars parts.0) (sequence_known rest around vars parts.1)
 
     pub branches_known : (bs : Sequences) (around : List (List ℕ)) (vars : Vars) → have_known_names bs names around ≡ true →
         are_known names (walk arrays (branches_work bs vars)) ≡ true
     branches_known no_more around vars h = refl
     branches_known (beside first rest) around vars h =
-        let parts = and_both (has_known_names first names around) (have_known_names rest names around) h in
+        let parts = and_parts (has_known_names first names around) (have_known_names rest names around) h in
         then_known (sequence_work first vars) (branches_work rest vars) (sequence_known first around vars parts.0) (branches_known rest around vars parts.1)
 
     pub phases_known : (bs : Sequences) (var : List ℕ) (low high : ℤ) (around : List (List ℕ)) (vars : Vars) → have_known_names bs names (var ∷ around) ≡ true →
         are_known names (walk arrays (phases_work bs var low high vars)) ≡ true
     phases_known no_more var low high around vars h = refl
     phases_known (beside first rest) var low high around vars h =
-        let parts = and_both (has_known_names first names (var ∷ around)) (have_known_names rest names (var ∷ around)) h in
+        let parts = and_parts (has_known_names first names (var ∷ around)) (have_known_names rest names (var ∷ around)) h in
         then_known (loop var low high (sequence_work first) vars) (phases_work rest var low high vars)
         (turns_known (λ x. sequence_work first ((var, x) ∷ vars)) low (span low high) (λ x. sequence_known first (var ∷ around) ((var, x) ∷ vars) parts.0))
         (phases_known rest var low high around vars parts.1)
@@ -114,58 +113,34 @@ pub touched_inside : (arrays : Arrays) (w : Bool) (vs : List Visit) (cell : ℕ)
     Touches arrays w vs cell → cell < cells_of arrays
 touched_inside arrays w [] cell known inside h = absurd h
 touched_inside arrays w (v ∷ vs) cell known inside (inl h) =
-    covers_inside arrays v.array v.index cell (and_both (is_among v.array (names_in arrays)) (are_known (names_in arrays) vs) known).0
-    (and_both (is_inside (length_of arrays v.array) v.index) (are_inside arrays vs) inside).0 h.1
+    covers_inside arrays v.array v.index cell (and_parts (is_among v.array (names_in arrays)) (are_known (names_in arrays) vs) known).0
+    (and_parts (is_inside (length_of arrays v.array) v.index) (are_inside arrays vs) inside).0 h.1
 touched_inside arrays w (v ∷ vs) cell known inside (inr h) =
-    touched_inside arrays w vs cell (and_both (is_among v.array (names_in arrays)) (are_known (names_in arrays) vs) known).1
-    (and_both (is_inside (length_of arrays v.array) v.index) (are_inside arrays vs) inside).1 h
-
--- every cell is below n
-abbrev AreBelow : ℕ → List Write → Type 0
-AreBelow n ws = All (λ w. w.0 < n) ws
-
-first_below : (n : ℕ) (w : Write) (ws : List Write) → AreBelow n (w ∷ ws) → w.0 < n
-first_below n w ws all = all zero w (omega arith)
-
-rest_below : (n : ℕ) (w : Write) (ws : List Write) → AreBelow n (w ∷ ws) → AreBelow n ws
-rest_below n w ws all = λ k d h. all (suc k) d (omega (arith, h))
-
-none_below : (n : ℕ) → AreBelow n []
-none_below n = All-nil (λ w. w.0 < n)
-
-one_below : (n : ℕ) (w : Write) (ws : List Write) → w.0 < n → AreBelow n ws → AreBelow n (w ∷ ws)
-one_below n w ws lt rest = All-cons (λ w. w.0 < n) w ws lt rest
+    touched_inside arrays w vs cell (and_parts (is_among v.array (names_in arrays)) (are_known (names_in arrays) vs) known).1
+    (and_parts (is_inside (length_of arrays v.array) v.index) (are_inside arrays vs) inside).1 h
 
 all_below : (n : ℕ) (ws : List Write) → ((cell : ℕ) → IsWritten ws cell → cell < n) → AreBelow n ws
-all_below n [] h = none_below n
-all_below n (w ∷ ws) h = one_below n w ws (h w.0 (inl refl)) (all_below n ws (λ cell k. h cell (inr k)))
+all_below n [] h = tt
+all_below n (w ∷ ws) h = (h w.0 (inl refl), all_below n ws (λ cell k. h cell (inr k)))
+
+pub writes_below : (arrays : Arrays) → HaveCells arrays → (steps : Steps) (store : Store) →
+    are_known (names_in arrays) (walk arrays steps) ≡ true → are_inside arrays (walk arrays steps) ≡ true →
+    AreBelow (cells_of arrays) (writes_of arrays steps store)
+writes_below arrays have steps store known inside =
+    all_below (cells_of arrays) (writes_of arrays steps store)
+    (λ cell h. touched_inside arrays true (walk arrays steps) cell known inside (writes_within arrays (some_cell arrays have) steps store cell h))
 
 -- what steps with known names and indices inside write lies inside the arrays
 pub writes_inside : (arrays : Arrays) → HaveCells arrays → (steps : Steps) (store : Store) →
     are_known (names_in arrays) (walk arrays steps) ≡ true → are_inside arrays (walk arrays steps) ≡ true →
     All (λ w. w.0 < cells_of arrays) (writes_of arrays steps store)
 writes_inside arrays have steps store known inside =
-    all_below (cells_of arrays) (writes_of arrays steps store)
-    (λ cell h. touched_inside arrays true (walk arrays steps) cell known inside (writes_within arrays (some_cell arrays have) steps store cell h))
-
-below_lay : (n cell : ℕ) (v : ℤ) (ws : List Write) → cell < n → AreBelow n ws → AreBelow n (lay cell v ws)
-below_lay n cell v [] lt all = one_below n (cell, v) [] lt all
-below_lay n cell v (w ∷ ws) lt all =
-    cases (nat_lt cell w.0) (nat_eq cell w.0) (below_lay n cell v ws lt (rest_below n w ws all))
-  where
-    cases : (a b : Bool) → AreBelow n (lay cell v ws) → AreBelow n (cond a ((cell, v) ∷ w ∷ ws) (cond b ((cell, v) ∷ ws) (w ∷ lay cell v ws)))
-    cases true b rest = one_below n (cell, v) (w ∷ ws) lt all
-    cases false true rest = one_below n (cell, v) ws lt (rest_below n w ws all)
-    cases false false rest = one_below n w (lay cell v ws) (first_below n w ws all) rest
-
-below_lays : (n : ℕ) (ws laid : List Write) → AreBelow n ws → AreBelow n laid → AreBelow n (lays ws laid)
-below_lays n [] laid all rest = rest
-below_lays n (w ∷ ws) laid all rest =
-    below_lays n ws (lay w.0 w.1 laid) (rest_below n w ws all) (below_lay n w.0 w.1 laid (first_below n w ws all) rest)
+    all_of (cells_of arrays) (writes_of arrays steps store) (writes_below arrays have steps store known inside)
 
 -- and so does their piece
 pub piece_inside : (arrays : Arrays) → HaveCells arrays → (steps : Steps) (store : Store) →
     are_known (names_in arrays) (walk arrays steps) ≡ true → are_inside arrays (walk arrays steps) ≡ true →
     All (λ w. w.0 < cells_of arrays) (piece_of arrays steps store)
 piece_inside arrays have steps store known inside =
-    below_lays (cells_of arrays) (writes_of arrays steps store) [] (writes_inside arrays have steps store known inside) (none_below (cells_of arrays))
+    all_of (cells_of arrays) (piece_of arrays steps store)
+    (below_lays (cells_of arrays) (writes_of arrays steps store) [] (writes_below arrays have steps store known inside) tt)

@@ -4,27 +4,28 @@ use Rattle.std.specs.Prelude.{nat_eq, nat_lt}
 use Rattle.std.proofs.lemmas.Bool.Decides.{nat_tests}
 use Rattle.std.proofs.lemmas.Bool.{cases_lt}
 use Rattle.array_meaning.specs.Stores.{Write}
-use Rattle.array_meaning.specs.Pieces.{lay, lays, last_writes, or_else, value_at, last_value, IsAbove, IsRising}
+use Rattle.std.specs.Option.{option_or}
+use Rattle.array_meaning.specs.Pieces.{lay, lays, last_writes, value_at, last_value, IsAbove, IsRising}
 
-pub or_else_assoc : (x y z : Option ℤ) → or_else (or_else x y) z ≡ or_else x (or_else y z)
-or_else_assoc None y z = refl
-or_else_assoc (Some x) y z = refl
+pub or_assoc : {T : Type 0} (x y z : Option T) → option_or (option_or x y) z ≡ option_or x (option_or y z)
+or_assoc None y z = refl
+or_assoc (Some x) y z = refl
 
-pub last_value_append : (a b : List Write) (k : ℕ) → last_value (a ++ b) k ≡ or_else (last_value b k) (last_value a k)
-last_value_append [] b k = or_none (last_value b k)
-  where
-    or_none : (x : Option ℤ) → x ≡ or_else x None
-    or_none None = refl
-    or_none (Some x) = refl
-last_value_append (w ∷ a) b k = rw (last_value_append a b k) (or_else_assoc (last_value b k) (last_value a k) _)
+pub or_none : {T : Type 0} (x : Option T) → option_or x None ≡ x
+or_none None = refl
+or_none (Some x) = refl
 
-pub value_at_lay : (c : ℕ) (v : ℤ) (o : List Write) (k : ℕ) → value_at (lay c v o) k ≡ or_else (cond (nat_eq c k) (Some v) None) (value_at o k)
+pub last_value_append : (a b : List Write) (k : ℕ) → last_value (a ++ b) k ≡ option_or (last_value b k) (last_value a k)
+last_value_append [] b k = sym (or_none (last_value b k))
+last_value_append (w ∷ a) b k = rw (last_value_append a b k) (or_assoc (last_value b k) (last_value a k) _)
+
+pub value_at_lay : (c : ℕ) (v : ℤ) (o : List Write) (k : ℕ) → value_at (lay c v o) k ≡ option_or (cond (nat_eq c k) (Some v) None) (value_at o k)
 value_at_lay c v [] k = grind (arith, nat_tests)
 value_at_lay c v (w ∷ o) k = let ih = value_at_lay c v o k in grind (arith, nat_tests)
 
-pub value_at_lays : (ws o : List Write) (k : ℕ) → value_at (lays ws o) k ≡ or_else (last_value ws k) (value_at o k)
+pub value_at_lays : (ws o : List Write) (k : ℕ) → value_at (lays ws o) k ≡ option_or (last_value ws k) (value_at o k)
 value_at_lays [] o k = refl
-value_at_lays (w ∷ ws) o k = value_at_lays ws (lay w.0 w.1 o) k ∙ rw (value_at_lay w.0 w.1 o k) (sym (or_else_assoc (last_value ws k) _ (value_at o k)))
+value_at_lays (w ∷ ws) o k = value_at_lays ws (lay w.0 w.1 o) k ∙ rw (value_at_lay w.0 w.1 o k) (sym (or_assoc (last_value ws k) _ (value_at o k)))
 
 -- ---- rising lists
 
@@ -93,21 +94,13 @@ rising_last_value [] k q = refl
 rising_last_value (w ∷ o) k q =
     rw (rising_last_value o k q.1) (cases (nat_eq w.0 k) refl)
   where
-    cases : (x : Bool) → nat_eq w.0 k ≡ x → or_else (value_at o k) (cond x (Some w.1) None) ≡ cond x (Some w.1) (value_at o k)
+    cases : (x : Bool) → nat_eq w.0 k ≡ x → option_or (value_at o k) (cond x (Some w.1) None) ≡ cond x (Some w.1) (value_at o k)
     cases true e = let same : k ≤ w.0 = grind (arith, nat_tests) in rw (value_at_above w.0 o k same q.0) refl
     cases false e = or_none (value_at o k)
-      where
-        or_none : (x : Option ℤ) → or_else x None ≡ x
-        or_none None = refl
-        or_none (Some x) = refl
 
 -- a piece leaves what its writes leave
 pub last_value_last : (ws : List Write) (k : ℕ) → last_value (last_writes ws) k ≡ last_value ws k
 last_value_last ws k = rising_last_value (last_writes ws) k (rising_lays ws [] tt) ∙ value_at_lays ws [] k ∙ or_none (last_value ws k)
-  where
-    or_none : (x : Option ℤ) → or_else x None ≡ x
-    or_none None = refl
-    or_none (Some x) = refl
 
 pub lays_append : (a b o : List Write) → lays (a ++ b) o ≡ lays b (lays a o)
 lays_append [] b o = refl

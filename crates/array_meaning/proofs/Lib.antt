@@ -11,4 +11,5 @@ pub mod MergeLemmas
 pub mod PlanLemmas
 pub mod CellLemmas
 pub mod InsideLemmas
+pub mod BelowLemmas
 pub mod KnownLemmas

@@ -5,14 +5,15 @@ use Rattle.std.proofs.lemmas.Bool.Decides.{nat_tests}
 use Rattle.std.proofs.lemmas.List.{same_lists}
 use Rattle.array_meaning.specs.Stores.{Arrays, Store, Write, after}
 use Rattle.array_meaning.specs.Steps.{Steps, followed_by, writes_of}
-use Rattle.array_meaning.specs.Pieces.{lays, last_writes, piece_of, or_else, value_at, last_value, IsRising}
+use Rattle.std.specs.Option.{option_or}
+use Rattle.array_meaning.specs.Pieces.{lays, last_writes, piece_of, value_at, last_value, IsRising}
 use Rattle.array_meaning.proofs.StepLemmas.{length_after, writes_followed_by}
 use Rattle.array_meaning.proofs.LastLemmas.{value_at_lays, last_value_last, same_rising, rising_lays, lays_append}
 
 -- a piece laid over what was written does what its writes do
 pub lays_last : (ws w : List Write) → IsRising w → lays (last_writes ws) w ≡ lays ws w
 lays_last ws w q = same_rising (lays (last_writes ws) w) (lays ws w) (rising_lays (last_writes ws) w q) (rising_lays ws w q)
-    (λ k. value_at_lays (last_writes ws) w k ∙ ap (λ x. or_else x (value_at w k)) (last_value_last ws k) ∙ sym (value_at_lays ws w k))
+    (λ k. value_at_lays (last_writes ws) w k ∙ ap (λ x. option_or x (value_at w k)) (last_value_last ws k) ∙ sym (value_at_lays ws w k))
 
 abbrev or_kept : Option ℤ → ℤ → ℤ
 or_kept None y = y
@@ -32,7 +33,7 @@ at_after (w ∷ ws) s k d h =
     ∙ ap (or_kept (last_value ws k)) (at_set s w.0 k w.1 d h)
     ∙ both (last_value ws k) (cond (nat_eq w.0 k) (Some w.1) None) (get_or s k d)
   where
-    both : (x y : Option ℤ) (z : ℤ) → or_kept x (or_kept y z) ≡ or_kept (or_else x y) z
+    both : (x y : Option ℤ) (z : ℤ) → or_kept x (or_kept y z) ≡ or_kept (option_or x y) z
     both None y z = refl
     both (Some x) y z = refl
 

@@ -5,7 +5,8 @@ use Rattle.std.proofs.lemmas.Bool.Decides.{nat_tests}
 use Rattle.array_meaning.specs.Stores.{Arrays, Store, Write, after, length_of}
 use Rattle.array_meaning.specs.Steps.{Steps, join, writes_of}
 use Rattle.array_meaning.specs.Touch.{walk, Touches, reads_of, changes_of, IsSeparate, IsSeparateFrom, IsApart}
-use Rattle.array_meaning.specs.Pieces.{lays, last_writes, merged, piece_of, IsMember, HaveSameMembers, or_else, last_value}
+use Rattle.std.specs.Option.{option_or}
+use Rattle.array_meaning.specs.Pieces.{lays, last_writes, merged, piece_of, IsMember, HaveSameMembers, last_value}
 use Rattle.array_meaning.proofs.StepLemmas.{length_after, writes_followed_by}
 use Rattle.array_meaning.proofs.LastLemmas.{last_value_append, lays_append, same_last, last_value_last}
 use Rattle.array_meaning.proofs.FrameLemmas.{IsWritten, kept, touched_either, writes_same, writes_within, walk_followed_by}
@@ -49,7 +50,7 @@ from_some [] k u e = absurd (cc)
 from_some (p ∷ ps) k u e = cases (from_some ps k) (last_value (concat ps) k) refl (sym (last_value_append p (concat ps) k) ∙ e)
   where
     cases : ((u : ℤ) → last_value (concat ps) k ≡ Some u → (p : List Write) × IsMember p ps × (last_value p k ≡ Some u)) →
-        (x : Option ℤ) → last_value (concat ps) k ≡ x → or_else x (last_value p k) ≡ Some u → (q : List Write) × IsMember q (p ∷ ps) × (last_value q k ≡ Some u)
+        (x : Option ℤ) → last_value (concat ps) k ≡ x → option_or x (last_value p k) ≡ Some u → (q : List Write) × IsMember q (p ∷ ps) × (last_value q k ≡ Some u)
     cases ih None f g = (p, inl refl, g)
     cases ih (Some x) f g = let r = ih u (f ∙ g) in (r.0, inr r.1, r.2)
 
@@ -59,7 +60,7 @@ to_some [] k p u m e = absurd m
 to_some (q ∷ ps) k p u (inl same) e =
     rw (last_value_append q (concat ps) k) (cases (last_value (concat ps) k) (last_value q k) (ap (λ x. last_value x k) same ∙ e))
   where
-    cases : (x y : Option ℤ) → y ≡ Some u → (v : ℤ) × (or_else x y ≡ Some v)
+    cases : (x y : Option ℤ) → y ≡ Some u → (v : ℤ) × (option_or x y ≡ Some v)
     cases None y f = (u, f)
     cases (Some x) y f = (x, refl)
 to_some (q ∷ ps) k p u (inr m) e =
@@ -105,7 +106,7 @@ last_value_written : (ws : List Write) (k : ℕ) (u : ℤ) → last_value ws k �
 last_value_written [] k u e = absurd (cc)
 last_value_written (w ∷ ws) k u e = cases (last_value_written ws k) (last_value ws k) (nat_eq w.0 k) refl refl e
   where
-    cases : ((u : ℤ) → last_value ws k ≡ Some u → IsWritten ws k) → (x : Option ℤ) (y : Bool) → last_value ws k ≡ x → nat_eq w.0 k ≡ y → or_else x (cond y (Some w.1) None) ≡ Some u → IsWritten (w ∷ ws) k
+    cases : ((u : ℤ) → last_value ws k ≡ Some u → IsWritten ws k) → (x : Option ℤ) (y : Bool) → last_value ws k ≡ x → nat_eq w.0 k ≡ y → option_or x (cond y (Some w.1) None) ≡ Some u → IsWritten (w ∷ ws) k
     cases ih (Some x) y f g h = inr (ih x f)
     cases ih None true f g h = inl (grind (arith, nat_tests))
     cases ih None false f g h = absurd (cc)

@@ -1,7 +1,7 @@
 -- No cell passes the test of an overlap exactly where each two pieces are separate.
 use Rattle.std.proofs.Common.{◌≡◌, ℕ, ◌+◌, ◌<◌, ◌≤◌, Bool, true, false, List, [], ◌∷◌, Option, Some, None, ℤ, refl, sym, ap, ◌∙◌, ◌⊎◌, inl, inr, ⊎_elim, arith}
 use Rattle.std.specs.Prelude.{not, ◌&&◌, ◌||◌, nat_lt, nat_le}
-use Rattle.std.proofs.lemmas.Bool.{false≢true}
+use Rattle.std.proofs.lemmas.Bool.{false≢true, and_parts}
 use Rattle.std.proofs.lemmas.Bool.Decides.{nat_tests}
 use Rattle.array_meaning.specs.Stores.{Arrays, base_of, length_of}
 use Rattle.array_meaning.specs.Steps.{Steps}
@@ -36,10 +36,6 @@ pub is_false : (a : Bool) → (a ≡ true → ⊥) → a ≡ false
 is_false true h = absurd (h refl)
 is_false false h = refl
 
-pub and_both : (a b : Bool) → (a && b) ≡ true → (a ≡ true) × (b ≡ true)
-and_both true b e = (refl, e)
-and_both false b e = absurd (false≢true e)
-
 pub both_and : (a b : Bool) → a ≡ true → b ≡ true → (a && b) ≡ true
 both_and true b e f = f
 both_and false b e f = absurd (false≢true e)
@@ -49,7 +45,7 @@ not_true true e = absurd (false≢true e)
 not_true false e = refl
 
 in_range : (a b c : ℕ) → (nat_le a c && nat_lt c b) ≡ true → (a ≤ c) × (c < b)
-in_range a b c e = let both = and_both (nat_le a c) (nat_lt c b) e in let le = both.0 in let lt = both.1 in (grind (arith, nat_tests), grind (arith, nat_tests))
+in_range a b c e = let both = and_parts (nat_le a c) (nat_lt c b) e in let le = both.0 in let lt = both.1 in (grind (arith, nat_tests), grind (arith, nat_tests))
 
 range_in : (a b c : ℕ) → a ≤ c → c < b → (nat_le a c && nat_lt c b) ≡ true
 range_in a b c le lt = both_and (nat_le a c) (nat_lt c b) (grind (arith, nat_tests)) (grind (arith, nat_tests))
@@ -93,7 +89,7 @@ module _ (arrays : Arrays) where
   pub changed_to : (vs : List Visit) (c : ℕ) → changed arrays vs c ≡ true → Touches arrays true vs c
   changed_to [] c e = absurd (false≢true e)
   changed_to (v ∷ vs) c e = ⊎_elim
-      (λ h. let both = and_both v.writes (covers arrays v.array v.index c) h in inl (both.0, covers_to v.array v.index c both.1))
+      (λ h. let both = and_parts v.writes (covers arrays v.array v.index c) h in inl (both.0, covers_to v.array v.index c both.1))
       (λ t. inr (changed_to vs c t))
       (or_either (v.writes && covers arrays v.array v.index c) (changed arrays vs c) e)
 
@@ -105,7 +101,7 @@ module _ (arrays : Arrays) where
   pub read_to : (vs : List Visit) (c : ℕ) → read arrays vs c ≡ true → Touches arrays false vs c
   read_to [] c e = absurd (false≢true e)
   read_to (v ∷ vs) c e = ⊎_elim
-      (λ h. let both = and_both (not v.writes) (covers arrays v.array v.index c) h in inl (not_true v.writes both.0, covers_to v.array v.index c both.1))
+      (λ h. let both = and_parts (not v.writes) (covers arrays v.array v.index c) h in inl (not_true v.writes both.0, covers_to v.array v.index c both.1))
       (λ t. inr (read_to vs c t))
       (or_either (not v.writes && covers arrays v.array v.index c) (read arrays vs c) e)
 

@@ -1,13 +1,13 @@
 -- Names: used once, and known where they are used.
 use Rattle.std.specs.Prelude.{ℕ, Bool, true, false, not, ◌&&◌, ◌||◌, List, [], ◌∷◌, map}
 use Rattle.array_tree.specs.Trees.{Expression, Number, Var, Read, Neg, Binary, Statement, Assign, For, If, Par, Team, Sequence, ended, followed, Sequences, no_more, beside, Declaration, ProgramTree}
-use Rattle.array_meaning.specs.Stores.{is_name}
+use Rattle.array_tree.specs.Equal.{name_eq}
 use Rattle.array_meaning.specs.Touch.{Visit}
 
 -- Whether the name is one of these.
 abbrev pub is_among : List ℕ → List (List ℕ) → Bool
 is_among name [] = false
-is_among name (other ∷ more) = is_name other name || is_among name more
+is_among name (other ∷ more) = name_eq other name || is_among name more
 
 -- Whether no declaration's name is one of those before.
 abbrev pub are_declared_once : List Declaration → List (List ℕ) → Bool

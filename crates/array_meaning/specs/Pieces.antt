@@ -1,5 +1,6 @@
 -- The last value of each cell among writes, in rising order; and pieces merged.
 use Rattle.std.specs.Prelude.{◌≡◌, ℕ, ◌<◌, cond, Option, Some, None, List, [], ◌∷◌, nat_lt, nat_eq, ℤ, ◌⊎◌}
+use Rattle.std.specs.Option.{option_or}
 use Rattle.array_meaning.specs.Stores.{Arrays, Store, Write}
 use Rattle.array_meaning.specs.Steps.{Steps, writes_of}
 
@@ -27,11 +28,6 @@ abbrev pub merged : List (List Write) → List Write → List Write
 merged [] laid = laid
 merged (piece ∷ more) laid = merged more (lays piece laid)
 
--- The first, or else the second.
-abbrev pub or_else : Option ℤ → Option ℤ → Option ℤ
-or_else None second = second
-or_else (Some x) second = Some x
-
 -- What a list that has each cell once has at a cell.
 abbrev pub value_at : List Write → ℕ → Option ℤ
 value_at [] cell = None
@@ -40,7 +36,7 @@ value_at (w ∷ more) cell = cond (nat_eq w.0 cell) (Some w.1) (value_at more ce
 -- What writes leave at a cell: the last value written there.
 abbrev pub last_value : List Write → ℕ → Option ℤ
 last_value [] cell = None
-last_value (w ∷ more) cell = or_else (last_value more cell) (cond (nat_eq w.0 cell) (Some w.1) None)
+last_value (w ∷ more) cell = option_or (last_value more cell) (cond (nat_eq w.0 cell) (Some w.1) None)
 
 -- Each cell of the list is above this one.
 abbrev pub IsAbove : ℕ → List Write → Type 0

@@ -1,7 +1,7 @@
 -- Arrays, loop variables and stores, and what an expression gives with them.
-use Rattle.std.specs.Prelude.{ℕ, ◌+◌, ◌<◌, ◌≤◌, Bool, true, false, cond, nat_eq, ◌||◌, List, [], ◌∷◌, map, ℤ, pos, unsigned_abs, slice_index_or, slice_set}
+use Rattle.std.specs.Prelude.{ℕ, ◌+◌, ◌<◌, ◌≤◌, Bool, true, false, cond, ◌||◌, List, [], ◌∷◌, map, ℤ, pos, unsigned_abs, slice_index_or, slice_set}
 use Rattle.std.specs.Int.{int_rem_euclid}
-use Rattle.std.specs.Cmp.Lexicographic.{pointwise}
+use Rattle.array_tree.specs.Equal.{name_eq}
 use Rattle.array_tree.specs.Trees.{Expression, Number, Var, Read, Neg, Binary, Declaration}
 use Rattle.array_meaning.specs.Values.{wrapping_minus, applied}
 
@@ -20,9 +20,6 @@ Store = List ℤ
 -- A cell, and what is written to it.
 abbrev pub Write : Type 0
 Write = ℕ × ℤ
-
-abbrev pub is_name : List ℕ → List ℕ → Bool
-is_name a b = pointwise nat_eq a b
 
 abbrev pub arrays_of : List Declaration → Arrays
 arrays_of declarations = map (λ d. (d.name, unsigned_abs d.length)) declarations
@@ -45,17 +42,17 @@ pub record AreSized (arrays : Arrays) : Type 0 where
 -- The value of a variable: of the innermost loop with the name.
 abbrev pub var_of : Vars → List ℕ → ℤ
 var_of [] name = pos 0
-var_of (v ∷ more) name = cond (is_name v.0 name) v.1 (var_of more name)
+var_of (v ∷ more) name = cond (name_eq v.0 name) v.1 (var_of more name)
 
 -- The first cell of an array.
 abbrev pub base_of : Arrays → List ℕ → ℕ
 base_of [] name = 0
-base_of (a ∷ more) name = cond (is_name a.0 name) 0 (a.1 + base_of more name)
+base_of (a ∷ more) name = cond (name_eq a.0 name) 0 (a.1 + base_of more name)
 
 -- The length of an array, 1 where there is none of the name.
 abbrev pub length_of : Arrays → List ℕ → ℕ
 length_of [] name = 1
-length_of (a ∷ more) name = cond (is_name a.0 name) a.1 (length_of more name)
+length_of (a ∷ more) name = cond (name_eq a.0 name) a.1 (length_of more name)
 
 -- An index is dynamic where it holds an array read.
 abbrev pub is_dynamic : Expression → Bool

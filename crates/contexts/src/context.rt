@@ -170,7 +170,6 @@ impl<M> Running<M> {
 
 impl<M: Machine> Running<M> {
     /// The machine's own step. Nothing is awaited.
-    #[inline(always)]
     pub fn step(&mut self) -> Step<M::Nested>
         requires { (M.work self.old).awaits ≡ false }
         ensures exact { M.steps self.old result self.new }

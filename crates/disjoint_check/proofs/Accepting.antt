@@ -7,7 +7,8 @@ use Rattle.array_meaning.specs.Work.{sequence_work}
 use Rattle.array_meaning.specs.Touch.{walk}
 use Rattle.array_meaning.specs.Accepted.{IsAccepted, has_indices_inside}
 use Rattle.site_walk.specs.declared.fault.WalkFault.{WalkFault}
-use Rattle.site_walk.specs.Outside.{or_else, out_of_range_of}
+use Rattle.std.specs.Option.{option_or}
+use Rattle.site_walk.specs.Outside.{out_of_range_of}
 use Rattle.site_walk.specs.FirstOverlap.{overlap_of, walk_fault_of}
 use Rattle.site_walk.proofs.OutsideLemmas.{inside_of_none, none_of_inside}
 use Rattle.site_walk.proofs.ApartLemmas.{apart_of_none, none_of_apart}
@@ -18,24 +19,24 @@ use Rattle.disjoint_check.specs.FaultOf.{of_walk, check_fault_of}
 use Rattle.disjoint_check.proofs.Conditions.{limits_from, limits_to, limits_of, sized_from}
 
 -- the walk's fault is the first of its two
-either_of_walk : (a b : Option WalkFault) → first_fault (option_map of_walk a ∷ option_map of_walk b ∷ []) ≡ option_map of_walk (or_else a b)
+either_of_walk : (a b : Option WalkFault) → first_fault (option_map of_walk a ∷ option_map of_walk b ∷ []) ≡ option_map of_walk (option_or a b)
 either_of_walk None None = refl
 either_of_walk None (Some g) = refl
 either_of_walk (Some f) b = refl
 
-none_first : (a b : Option WalkFault) → or_else a b ≡ None → (a ≡ None) × (b ≡ None)
+none_first : (a b : Option WalkFault) → option_or a b ≡ None → (a ≡ None) × (b ≡ None)
 none_first None b h = (refl, h)
 none_first (Some f) b h = cc
 
-none_both : (a b : Option WalkFault) → a ≡ None → b ≡ None → or_else a b ≡ None
-none_both a b h k = ap (λ o. or_else o b) h ∙ k
+none_both : (a b : Option WalkFault) → a ≡ None → b ≡ None → option_or a b ≡ None
+none_both a b h k = ap (λ o. option_or o b) h ∙ k
 
 none_of_walk : (o : Option WalkFault) → option_map of_walk o ≡ None → o ≡ None
 none_of_walk None h = refl
 none_of_walk (Some f) h = cc
 
 after_limits : (limit : Option CheckFault) (a b : Option WalkFault) → limit ≡ None →
-    first_fault (limit ∷ option_map of_walk a ∷ option_map of_walk b ∷ []) ≡ option_map of_walk (or_else a b)
+    first_fault (limit ∷ option_map of_walk a ∷ option_map of_walk b ∷ []) ≡ option_map of_walk (option_or a b)
 after_limits limit a b h = ap (λ o. first_fault (o ∷ option_map of_walk a ∷ option_map of_walk b ∷ [])) h ∙ either_of_walk a b
 
 no_limit : (limit : Option CheckFault) (more : List (Option CheckFault)) → first_fault (limit ∷ more) ≡ None → limit ≡ None

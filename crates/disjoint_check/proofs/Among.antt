@@ -3,7 +3,7 @@ use Rattle.std.proofs.lemmas.List.{reverse-append, take_more}
 use Rattle.std.proofs.Common.{◌≡◌, ℕ, suc, ◌+◌, ◌<◌, Bool, true, false, not, ◌||◌, List, [], ◌∷◌, ◌++◌, length, map, reverse, take, drop, get_or, drop-cons, add-one, ap, refl, sym, ◌∙◌}
 use Rattle.array_tree.specs.declared.tree.ArrayDecl.{ArrayDecl}
 use Rattle.array_tree.specs.Trees.{declaration_of}
-use Rattle.array_meaning.specs.Stores.{is_name}
+use Rattle.array_tree.specs.Equal.{name_eq}
 use Rattle.array_meaning.specs.Names.{is_among, names_of}
 use Rattle.disjoint_check.specs.Faults.{unless, first_fault}
 use Rattle.disjoint_check.specs.FirstNames.{duplicate_declaration}
@@ -25,16 +25,16 @@ or_none false = refl
 pub among_append : (name : List ℕ) (xs ys : List (List ℕ)) → is_among name (xs ++ ys) ≡ (is_among name xs || is_among name ys)
 among_append name [] ys = refl
 among_append name (x ∷ xs) ys =
-    ap (λ b. is_name x name || b) (among_append name xs ys) ∙ or_assoc (is_name x name) (is_among name xs) (is_among name ys)
+    ap (λ b. name_eq x name || b) (among_append name xs ys) ∙ or_assoc (name_eq x name) (is_among name xs) (is_among name ys)
 
 among_reverse : (name : List ℕ) (xs : List (List ℕ)) → is_among name (reverse xs) ≡ is_among name xs
 among_reverse name [] = refl
 among_reverse name (x ∷ xs) =
     ap (is_among name) (reverse-append (x ∷ []) xs)
     ∙ among_append name (reverse xs) (x ∷ [])
-    ∙ ap (λ b. b || (is_name x name || false)) (among_reverse name xs)
-    ∙ ap (λ b. is_among name xs || b) (or_none (is_name x name))
-    ∙ or_comm (is_among name xs) (is_name x name)
+    ∙ ap (λ b. b || (name_eq x name || false)) (among_reverse name xs)
+    ∙ ap (λ b. is_among name xs || b) (or_none (name_eq x name))
+    ∙ or_comm (is_among name xs) (name_eq x name)
 
 abbrev names : List ArrayDecl → List (List ℕ)
 names ds = names_of (map declaration_of ds)

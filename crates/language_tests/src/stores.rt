@@ -7,6 +7,7 @@ use array_eval::{
 };
 use array_tree::{Expr, Name};
 use std::alloc::{AllocError, Global};
+use std::process::Abort;
 use std::test::Fail;
 
 #[test]
@@ -141,6 +142,41 @@ fn a_store_knows_what_was_written(rt: HostRuntime) -> Result<(), Fail> {
     let mut room = Overlay::roomy(alloc, 4)?;
     store.lay_written(&mut room);
     assert_eq!(rt; room.pairs(), expected.as_slice());
+    Ok(())
+}
+
+// A store that was made from this one, with a cell written.
+fn written_at(rt: &impl Abort, alloc: Global, start: &Store, cell: u16) -> Result<Store, AllocError>
+    ensures { IfOk result (λ store. length store ≡ 130) }
+{
+    let mut marked = MarkedStore::new(alloc, start)?;
+    let mut supply = Overlay::empty(alloc);
+    supply.put(cell, 9)?;
+    marked.merge(&supply);
+    assert_eq!(rt; marked.cells().len(), 130);
+    marked.to_store(alloc)
+}
+
+#[test]
+fn a_store_that_is_taken_has_both_pages(rt: HostRuntime) -> Result<(), Fail> {
+    let alloc = rt.alloc();
+    let start = store_of_three_pages(alloc)?;
+    let second = written_at(&rt, alloc, &start, 65)?;
+    let third = written_at(&rt, alloc, &second, 128)?;
+    assert_eq!(rt;
+        [
+            second.get(63),
+            second.get(64),
+            second.get(65),
+            second.get(129)
+        ],
+        [7, 7, 9, 7]
+    );
+    assert_eq!(rt;
+        [third.get(63), third.get(65), third.get(128), third.get(129)],
+        [7, 9, 9, 7]
+    );
+    assert_eq!(rt; [start.get(65), second.get(128)], [0, 0]);
     Ok(())
 }
 

@@ -9,7 +9,8 @@ use Rattle.array_meaning.specs.Pieces.{lays, merged}
 use Rattle.array_meaning.proofs.StepLemmas.{length_after}
 use Rattle.array_eval.specs.Overlays.{Laid}
 use Rattle.array_eval.specs.Traces.{Trace, noted_all}
-use Rattle.array_eval.proofs.TraceLemmas.{AreBelow, below_of, cells_after, marked_after, length_marks}
+use Rattle.array_meaning.proofs.BelowLemmas.{AreBelow, below_of, below_lays}
+use Rattle.array_eval.proofs.TraceLemmas.{cells_after, marked_after, length_marks}
 use Rattle.array_jobs.specs.Works.{WorkTree, sites_of}
 use Rattle.array_jobs.specs.Jobs.{JobTree, job_of}
 use Rattle.array_jobs.specs.PieceParts.{PieceParts, piece_of_job}
@@ -26,7 +27,6 @@ use Rattle.step_eval.specs.Nests.{NestedTree, NestedParts, nested_of, phases_of,
 use Rattle.step_eval.specs.Phases.{phase_writes, store_before}
 use Rattle.step_eval.proofs.PieceLemmas.{fit_other_store}
 use Rattle.step_eval.proofs.PhaseLemmas.{phases_are_merged}
-use Rattle.step_eval.proofs.WriteLemmas.{below_lays}
 use Rattle.loop_team.specs.Teams.{TeamParts, AreJobsIn, IsOver, GoesOn, Opens, FailsToGoOn, MovesOn, phases_in, writes_in, opened_team, failed_team, with_barrier}
 
 -- ---- what a phase writes

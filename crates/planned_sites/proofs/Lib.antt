@@ -1,3 +1,4 @@
 pub mod ParentLemmas
 pub mod WorkLemmas
 pub mod JobLemmas
+pub mod NumberLemmas

@@ -2,6 +2,7 @@
 use Rattle.std.proofs.Common.{◌≡◌, ℕ, suc, ◌+◌, ◌*◌, Bool, true, false, cond, List, [], ◌∷◌, ◌++◌, length, Some, pos, ◌+ℤ◌, ◌<ℤ◌, refl, sym, ap, ◌∙◌, subst, arith, add-zero, length-append}
 use Rattle.std.specs.Prelude.{◌&&◌, int_lt}
 use Rattle.std.proofs.lemmas.Int.{ints}
+use Rattle.std.proofs.lemmas.Bool.{and_parts}
 use Rattle.array_tree.specs.Trees.{Statement, Assign, For, If, Par, Team, Sequence, ended, followed}
 use Rattle.array_meaning.specs.Values.{holds}
 use Rattle.array_meaning.specs.Stores.{Arrays, Vars, Store, value_of}
@@ -11,7 +12,6 @@ use Rattle.array_meaning.specs.Limits.{has_no_site_under_if}
 use Rattle.array_meaning.proofs.PlanLemmas.{sequence_length}
 use Rattle.array_meaning.proofs.StepLemmas.{span_next}
 use Rattle.array_jobs.specs.Works.{WorkTree, branch_of, member_of, statements_of}
-use Rattle.array_jobs.proofs.FitLemmas.{both}
 use Rattle.step_eval.specs.Rest.{WorkAt, at}
 use Rattle.step_eval.specs.Moves.{moved, moved_sites}
 use Rattle.step_eval.specs.Machines.{HasMoved, construct_of}
@@ -61,7 +61,7 @@ work_moves ps around next arrays store (branch_of (followed (For line var low hi
     )
 work_moves ps around next arrays store (branch_of (followed (If line test left right) rest)) vars more h p =
     let sides : (has_no_site_under_if left true ≡ true) × (has_no_site_under_if right true ≡ true) =
-    both (has_no_site_under_if left true) (has_no_site_under_if right true) (both (has_no_site_under_if left true && has_no_site_under_if right true) (has_no_site_under_if rest false) h).0 in
+    and_parts (has_no_site_under_if left true) (has_no_site_under_if right true) (and_parts (has_no_site_under_if left true && has_no_site_under_if right true) (has_no_site_under_if rest false) h).0 in
     let cut = rest_planned ps around next (If line test left right) rest vars more p in
     let none = (no_sites left sides.0).0 in
     let nor = (no_sites right sides.1).0 in

@@ -5,6 +5,7 @@
 #![tactic(auto)]
 
 ghost use Rattle.planned_sites.specs.Planned.{WorksStayPlanned, ConstructsArePlanned, JobsArePlanned, JobsAreNumberedAbove, StepsRaiseNumbers};
+ghost use Rattle.planned_sites.specs.Numbers.{JobsHaveTheSitesInside};
 
 /// A step leaves a machine's works planned.
 pub fn works_stay_planned()
@@ -24,6 +25,11 @@ pub fn jobs_are_planned()
 /// The sites inside a job of a construct are numbered above the construct's own.
 pub fn jobs_are_numbered_above()
     ensures { JobsAreNumberedAbove }
+{}
+
+/// The jobs of all phases of a construct together have exactly the sites inside it, each once.
+pub fn jobs_have_the_sites_inside()
+    ensures { JobsHaveTheSitesInside }
 {}
 
 /// A step of a machine that goes on doesn't lower the number of the next site, which begins at the job's first.

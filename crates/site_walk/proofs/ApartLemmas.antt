@@ -1,7 +1,7 @@
 -- Where each index is inside its array and each name known, no least cell of an overlap means that pieces are apart.
 use Rattle.std.proofs.Common.{◌≡◌, ℕ, zero, suc, ◌+◌, ◌<◌, ◌≤◌, cond, Bool, true, false, List, [], ◌∷◌, ◌++◌, Option, Some, None, ℤ, pos, negsuc, ◌+ℤ◌, refl, sym, ap, subst, ◌∙◌, arith}
 use Rattle.std.specs.Prelude.{◌&&◌, ◌||◌, not, unsigned_abs, nat_eq, nat_lt}
-use Rattle.std.proofs.lemmas.Bool.{false≢true}
+use Rattle.std.proofs.lemmas.Bool.{false≢true, and_parts}
 use Rattle.std.proofs.lemmas.Bool.Decides.{nat_tests}
 use Rattle.std.proofs.lemmas.Int.{ints}
 use Rattle.array_tree.specs.Trees.{Statement, Assign, For, If, Par, Team, Sequence, ended, followed, Sequences, no_more, beside, ProgramTree}
@@ -18,9 +18,10 @@ use Rattle.array_meaning.proofs.InsideLemmas.{names_in, names_in_of, array_insid
 use Rattle.array_meaning.proofs.KnownLemmas.{sequence_known}
 use Rattle.array_meaning.proofs.FrameLemmas.{walk_followed_by}
 use Rattle.array_meaning.proofs.MemberLemmas.{members_loop}
-use Rattle.array_meaning.proofs.OverlapLemmas.{and_both, apart_of_clear, clear_of_apart}
+use Rattle.array_meaning.proofs.OverlapLemmas.{apart_of_clear, clear_of_apart}
 use Rattle.site_walk.specs.declared.fault.WalkFault.{WalkFault}
-use Rattle.site_walk.specs.Outside.{or_else, out_of_range_of}
+use Rattle.std.specs.Option.{option_or}
+use Rattle.site_walk.specs.Outside.{out_of_range_of}
 use Rattle.site_walk.specs.FirstOverlap.{cell_fault, rounds_fault, first_overlap, overlap_of, walk_fault_of}
 use Rattle.site_walk.proofs.OutsideLemmas.{inside_of_none}
 
@@ -199,7 +200,7 @@ no_cell : (line : ℕ) (o : Option ℕ) → cell_fault line o ≡ None → o ≡
 no_cell line None h = refl
 no_cell line (Some c) h = absurd (cc)
 
-pub no_fault : (a b : Option WalkFault) → or_else a b ≡ None → (a ≡ None) × (b ≡ None)
+pub no_fault : (a b : Option WalkFault) → option_or a b ≡ None → (a ≡ None) × (b ≡ None)
 no_fault None b h = (refl, h)
 no_fault (Some f) b h = absurd (cc)
 
@@ -220,13 +221,13 @@ sites_apart arrays (s ∷ sites) fit h =
 rounds_clear : (arrays : Arrays) (line : ℕ) (rs : List (List Steps)) → AreRoundsApart arrays rs → rounds_fault arrays line rs ≡ None
 rounds_clear arrays line [] h = refl
 rounds_clear arrays line (r ∷ rs) h =
-    ap (λ o. or_else (cell_fault line o) (rounds_fault arrays line rs)) (all_none (overlaps arrays false false r) 0 (cells_of arrays) (clear_of_apart arrays r h.0))
+    ap (λ o. option_or (cell_fault line o) (rounds_fault arrays line rs)) (all_none (overlaps arrays false false r) 0 (cells_of arrays) (clear_of_apart arrays r h.0))
     ∙ rounds_clear arrays line rs h.1
 
 sites_clear : (arrays : Arrays) (sites : List Site) → AreSitesApart arrays sites → first_overlap arrays sites ≡ None
 sites_clear arrays [] h = refl
 sites_clear arrays (s ∷ sites) h =
-    ap (λ o. or_else o (first_overlap arrays sites)) (rounds_clear arrays s.line s.rounds h.0) ∙ sites_clear arrays sites h.1
+    ap (λ o. option_or o (first_overlap arrays sites)) (rounds_clear arrays s.line s.rounds h.0) ∙ sites_clear arrays sites h.1
 
 -- ---- of a program
 
@@ -234,8 +235,8 @@ fit_visits : (arrays : Arrays) (vs : List Visit) → are_known (names_in arrays)
 unfolding IsFit
 fit_visits arrays [] known inside = tt
 fit_visits arrays (v ∷ vs) known inside =
-    let named = and_both (is_among v.array (names_in arrays)) (are_known (names_in arrays) vs) known in
-    let parts = and_both (is_inside (length_of arrays v.array) v.index) (are_inside arrays vs) inside in
+    let named = and_parts (is_among v.array (names_in arrays)) (are_known (names_in arrays) vs) known in
+    let parts = and_parts (is_inside (length_of arrays v.array) v.index) (are_inside arrays vs) inside in
     ((parts.0, array_inside arrays v.array named.0), fit_visits arrays vs named.1 parts.1)
 
 pub apart_of_none : (program : ProgramTree) → has_only_known_names program ≡ true → has_indices_inside program ≡ true → overlap_of program ≡ None → HasApartSites program

@@ -4,7 +4,8 @@ use Rattle.std.specs.Prelude.{nat_eq, nat_lt}
 use Rattle.std.proofs.lemmas.Bool.{false≢true}
 use Rattle.std.proofs.lemmas.Bool.Decides.{nat_tests}
 use Rattle.std.proofs.lemmas.Int.{ints}
-use Rattle.array_meaning.specs.Stores.{Arrays, is_name, base_of, length_of, cells_of, cell_of}
+use Rattle.array_tree.specs.Equal.{name_eq}
+use Rattle.array_meaning.specs.Stores.{Arrays, base_of, length_of, cells_of, cell_of}
 use Rattle.array_meaning.specs.Overlap.{covers}
 use Rattle.array_meaning.specs.Accepted.{is_inside}
 use Rattle.array_eval.specs.Layouts.{number_of}
@@ -29,7 +30,7 @@ pub number_within : (arrays : Arrays) (name : List ℕ) (c : ℕ) → c < cells_
     base_of arrays name ≤ c → c < base_of arrays name + length_of arrays name → array_at arrays c ≡ number_of arrays name
 number_within [] name c small low high = absurd (omega arith)
 number_within (a ∷ more) name c small low high =
-    cases (is_name a.0 name) (λ s l h. number_within more name (c - a.1) s l h) low high
+    cases (name_eq a.0 name) (λ s l h. number_within more name (c - a.1) s l h) low high
   where
     cases : (b : Bool) →
         (c - a.1 < cells_of more → base_of more name ≤ c - a.1 → c - a.1 < base_of more name + length_of more name → array_at more (c - a.1) ≡ number_of more name) →
@@ -44,7 +45,7 @@ number_within (a ∷ more) name c small low high =
 pub within_number : (arrays : Arrays) (name : List ℕ) (c : ℕ) → c < cells_of arrays → array_at arrays c ≡ number_of arrays name →
     (base_of arrays name ≤ c) × (c < base_of arrays name + length_of arrays name)
 within_number [] name c small e = absurd (omega arith)
-within_number (a ∷ more) name c small e = cases (is_name a.0 name) (λ s l. within_number more name (c - a.1) s l) e
+within_number (a ∷ more) name c small e = cases (name_eq a.0 name) (λ s l. within_number more name (c - a.1) s l) e
   where
     cases : (b : Bool) →
         (c - a.1 < cells_of more → array_at more (c - a.1) ≡ number_of more name → (base_of more name ≤ c - a.1) × (c - a.1 < base_of more name + length_of more name)) →

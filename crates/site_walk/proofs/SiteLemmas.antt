@@ -14,21 +14,21 @@ use Rattle.array_meaning.proofs.StepLemmas.{span_next}
 use Rattle.site_walk.specs.declared.fault.WalkFault.{WalkFault}
 use Rattle.site_walk.specs.declared.fault.WalkFault.TheVariants.{Overlap}
 use Rattle.site_walk.specs.declared.table.Table.{Table}
-use Rattle.site_walk.specs.Outside.{or_else}
+use Rattle.std.specs.Option.{option_or}
 use Rattle.site_walk.specs.FirstOverlap.{cell_fault, rounds_fault, first_overlap, or_overlap}
 use Rattle.site_walk.specs.Marks.{with_piece, with_pieces}
-use Rattle.site_walk.proofs.OutsideLemmas.{or_else_assoc, or_else_none}
+use Rattle.array_meaning.proofs.LastLemmas.{or_assoc, or_none}
 
-overlap_append : (arrays : Arrays) (xs ys : List Site) → first_overlap arrays (xs ++ ys) ≡ or_else (first_overlap arrays xs) (first_overlap arrays ys)
+overlap_append : (arrays : Arrays) (xs ys : List Site) → first_overlap arrays (xs ++ ys) ≡ option_or (first_overlap arrays xs) (first_overlap arrays ys)
 overlap_append arrays [] ys = refl
 overlap_append arrays (x ∷ xs) ys =
-    ap (or_else (rounds_fault arrays x.line x.rounds)) (overlap_append arrays xs ys)
-    ∙ sym (or_else_assoc (rounds_fault arrays x.line x.rounds) (first_overlap arrays xs) (first_overlap arrays ys))
+    ap (option_or (rounds_fault arrays x.line x.rounds)) (overlap_append arrays xs ys)
+    ∙ sym (or_assoc (rounds_fault arrays x.line x.rounds) (first_overlap arrays xs) (first_overlap arrays ys))
 
 pub or_overlap_append : (arrays : Arrays) (xs ys : List Site) (s : Option WalkFault) →
     or_overlap arrays (xs ++ ys) s ≡ or_overlap arrays ys (or_overlap arrays xs s)
 or_overlap_append arrays xs ys s =
-    ap (or_else s) (overlap_append arrays xs ys) ∙ sym (or_else_assoc s (first_overlap arrays xs) (first_overlap arrays ys))
+    ap (option_or s) (overlap_append arrays xs ys) ∙ sym (or_assoc s (first_overlap arrays xs) (first_overlap arrays ys))
 
 pub statement_next : (arrays : Arrays) (ss : List Stmt) (i : ℕ) (d : Stmt) (vars : Vars) (s : Option WalkFault) → i < length ss →
     or_overlap arrays (sequence_sites (sequence (map statement_of (drop i ss))) vars) s
@@ -58,14 +58,14 @@ turn_next arrays var x high body vars s h =
     ∙ or_overlap_append arrays (body ((var, x) ∷ vars)) (loop_sites var (x +ℤ pos 1) high body vars) s
 
 pub round_next : (arrays : Arrays) (line : ℕ) (bs : List Block) (i : ℕ) (d : Block) (var : List ℕ) (low high : ℤ) (m : ℕ) (vars : Vars) (s : Option WalkFault) → i < length bs →
-    or_else s (rounds_fault arrays line (phase_rounds (sequences (map sequence_of (drop i bs))) var low high m vars))
-    ≡ or_else (or_else s (rounds_fault arrays line (team_works var low high m (sequence_work (sequence_of (get_or bs i d))) vars ∷ [])))
+    option_or s (rounds_fault arrays line (phase_rounds (sequences (map sequence_of (drop i bs))) var low high m vars))
+    ≡ option_or (option_or s (rounds_fault arrays line (team_works var low high m (sequence_work (sequence_of (get_or bs i d))) vars ∷ [])))
     (rounds_fault arrays line (phase_rounds (sequences (map sequence_of (drop (i + 1) bs))) var low high m vars))
 round_next arrays line bs i d var low high m vars s h =
     let here = cell_fault line (overlap arrays (cells_of arrays) (team_works var low high m (sequence_work (sequence_of (get_or bs i d))) vars)) in
     let rest = rounds_fault arrays line (phase_rounds (sequences (map sequence_of (drop (suc i) bs))) var low high m vars) in
-    ap (λ ps. or_else s (rounds_fault arrays line (phase_rounds (sequences (map sequence_of ps)) var low high m vars))) (drop-cons bs i d h)
-    ∙ rw add-one (sym (or_else_assoc s here rest) ∙ ap (λ f. or_else (or_else s f) rest) (sym (or_else_none here)))
+    ap (λ ps. option_or s (rounds_fault arrays line (phase_rounds (sequences (map sequence_of ps)) var low high m vars))) (drop-cons bs i d h)
+    ∙ rw add-one (sym (or_assoc s here rest) ∙ ap (λ f. option_or (option_or s f) rest) (sym (or_none here)))
 
 pub piece_next : (arrays : Arrays) (bs : List Block) (i : ℕ) (d : Block) (vars : Vars) (t : Table) → i < length bs →
     with_pieces arrays i (branch_works (sequences (map sequence_of (drop i bs))) vars) t
@@ -83,11 +83,11 @@ member_next arrays var low high m body j vars t h =
 -- ---- an overlap that is kept, or none
 
 pub keep_cell : (found : Option WalkFault) (line cell : ℕ) (o : Option ℕ) → is_some found ≡ false → o ≡ Some cell →
-    Some (Overlap line cell) ≡ or_else found (or_else (cell_fault line o) None)
-keep_cell None line cell o h e = sym (ap (λ x. or_else (cell_fault line x) None) e)
+    Some (Overlap line cell) ≡ option_or found (option_or (cell_fault line o) None)
+keep_cell None line cell o h e = sym (ap (λ x. option_or (cell_fault line x) None) e)
 keep_cell (Some f) line cell o h e = absurd (false≢true (sym h))
 
 pub keep_none : (found : Option WalkFault) (line : ℕ) (o : Option ℕ) → is_some found ≡ false → o ≡ None →
-    found ≡ or_else found (or_else (cell_fault line o) None)
-keep_none None line o h e = sym (ap (λ x. or_else (cell_fault line x) None) e)
+    found ≡ option_or found (option_or (cell_fault line o) None)
+keep_none None line o h e = sym (ap (λ x. option_or (cell_fault line x) None) e)
 keep_none (Some f) line o h e = refl

@@ -7,7 +7,8 @@ use Rattle.array_meaning.specs.Overlap.{overlap}
 use Rattle.array_meaning.specs.Sites.{Site, sequence_sites}
 use Rattle.site_walk.specs.declared.fault.WalkFault.{WalkFault}
 use Rattle.site_walk.specs.declared.fault.WalkFault.TheVariants.{Overlap}
-use Rattle.site_walk.specs.Outside.{or_else, out_of_range_of}
+use Rattle.std.specs.Option.{option_or}
+use Rattle.site_walk.specs.Outside.{out_of_range_of}
 
 -- The fault of an overlap on a cell, by its construct's line.
 abbrev pub cell_fault : ℕ → Option ℕ → Option WalkFault
@@ -17,16 +18,16 @@ cell_fault line (Some cell) = Some (Overlap line cell)
 -- The first of the rounds in which two pieces overlap, and the least cell on which they do.
 abbrev pub rounds_fault : Arrays → ℕ → List (List Steps) → Option WalkFault
 rounds_fault arrays line [] = None
-rounds_fault arrays line (round ∷ more) = or_else (cell_fault line (overlap arrays (cells_of arrays) round)) (rounds_fault arrays line more)
+rounds_fault arrays line (round ∷ more) = option_or (cell_fault line (overlap arrays (cells_of arrays) round)) (rounds_fault arrays line more)
 
 -- The first of the sites with an overlap.
 abbrev pub first_overlap : Arrays → List Site → Option WalkFault
 first_overlap arrays [] = None
-first_overlap arrays (site ∷ more) = or_else (rounds_fault arrays site.line site.rounds) (first_overlap arrays more)
+first_overlap arrays (site ∷ more) = option_or (rounds_fault arrays site.line site.rounds) (first_overlap arrays more)
 
 -- What was found, or else the first overlap of sites.
 abbrev pub or_overlap : Arrays → List Site → Option WalkFault → Option WalkFault
-or_overlap arrays sites found = or_else found (first_overlap arrays sites)
+or_overlap arrays sites found = option_or found (first_overlap arrays sites)
 
 -- The first overlap of a program's sites, in the order in which it enters them: by the construct's line and, in a
 -- `team` in its first phase with one, the least cell.
@@ -35,4 +36,4 @@ overlap_of program = first_overlap (arrays_of program.arrays) (sequence_sites pr
 
 -- What the walk finds: an index outside its array, or else an overlap.
 abbrev pub walk_fault_of : ProgramTree → Option WalkFault
-walk_fault_of program = or_else (out_of_range_of program) (overlap_of program)
+walk_fault_of program = option_or (out_of_range_of program) (overlap_of program)

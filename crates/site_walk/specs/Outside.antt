@@ -1,5 +1,6 @@
 -- The first static index outside its array.
 use Rattle.std.specs.Prelude.{ℕ, List, [], ◌∷◌, Option, Some, None, ℤ, if◌then◌else◌}
+use Rattle.std.specs.Option.{option_or}
 use Rattle.array_tree.specs.Trees.{ProgramTree}
 use Rattle.array_meaning.specs.Stores.{Arrays, arrays_of, length_of}
 use Rattle.array_meaning.specs.Steps.{Steps}
@@ -9,11 +10,6 @@ use Rattle.array_meaning.specs.Accepted.{is_inside}
 use Rattle.site_walk.specs.declared.fault.WalkFault.{WalkFault}
 use Rattle.site_walk.specs.declared.fault.WalkFault.TheVariants.{OutOfRange}
 
--- A fault, or where there is none another.
-abbrev pub or_else : Option WalkFault → Option WalkFault → Option WalkFault
-or_else None other = other
-or_else (Some fault) other = Some fault
-
 -- What is wrong with an index of an array of this length.
 abbrev pub index_fault : ℕ → ℕ → Option ℤ → Option WalkFault
 index_fault line length None = None
@@ -22,11 +18,11 @@ index_fault line length (Some index) = if is_inside length (Some index) then Non
 -- The first fault of an index in a walk.
 abbrev pub first_outside : Arrays → List Visit → Option WalkFault
 first_outside arrays [] = None
-first_outside arrays (v ∷ more) = or_else (index_fault v.line (length_of arrays v.array) v.index) (first_outside arrays more)
+first_outside arrays (v ∷ more) = option_or (index_fault v.line (length_of arrays v.array) v.index) (first_outside arrays more)
 
 -- What was found, or else the first fault of an index in the walk through steps.
 abbrev pub or_outside : Arrays → Steps → Option WalkFault → Option WalkFault
-or_outside arrays steps found = or_else found (first_outside arrays (walk arrays steps))
+or_outside arrays steps found = option_or found (first_outside arrays (walk arrays steps))
 
 -- The first static index of a program outside its array, by the line of the assignment or `if` in whose own
 -- expressions it stands.

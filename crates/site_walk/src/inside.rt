@@ -5,7 +5,8 @@ ghost use Rattle.array_meaning.specs.Stores.{length_of};
 ghost use Rattle.array_meaning.specs.Work.{statement_work, sequence_work, branches_work, phases_work, loop};
 ghost use Rattle.array_meaning.specs.Touch.{reads_in, visit};
 ghost use Rattle.array_eval.specs.Views.{vars_of};
-ghost use Rattle.site_walk.specs.Outside.{or_else, index_fault, first_outside, or_outside};
+ghost use Rattle.std.specs.Option.{option_or};
+ghost use Rattle.site_walk.specs.Outside.{index_fault, first_outside, or_outside};
 
 use crate::fault::WalkFault;
 use array_eval::{Layout, Scope, evaluate, is_dynamic};
@@ -47,7 +48,7 @@ fn keep_index(
     index: &Expr,
     found: &mut Option<WalkFault>,
 )
-    ensures { found.new ≡ or_else found.old (index_fault line (length_of layout.now array.now)
+    ensures { found.new ≡ option_or found.old (index_fault line (length_of layout.now array.now)
         (visit layout.now line false (vars_of scope.now) array.now (expression_of index.now)).index) }
 {
     if found.is_none() {
@@ -56,9 +57,9 @@ fn keep_index(
 }
 
 // Keeps the first fault among the reads of an expression.
-#[tactic(auto, using(crate::proofs::OutsideLemmas::first_append, crate::proofs::OutsideLemmas::or_else_assoc, crate::proofs::OutsideLemmas::or_else_none))]
+#[tactic(auto, using(crate::proofs::OutsideLemmas::first_append, array_meaning::proofs::LastLemmas::or_assoc, array_meaning::proofs::LastLemmas::or_none))]
 fn keep_reads(layout: &Layout, line: u32, scope: &Scope, expr: &Expr, found: &mut Option<WalkFault>)
-    ensures { found.new ≡ or_else found.old (first_outside layout.now
+    ensures { found.new ≡ option_or found.old (first_outside layout.now
         (reads_in layout.now line (vars_of scope.now) (expression_of expr.now))) }
 {
     match expr {
@@ -92,7 +93,7 @@ pub(crate) fn keep_block<'s>(
 
 // The same of a statement.
 #[cycle(keep)]
-#[tactic(auto, using(crate::proofs::OutsideLemmas::first_append, crate::proofs::OutsideLemmas::or_else_assoc, crate::proofs::OutsideLemmas::or_else_none))]
+#[tactic(auto, using(crate::proofs::OutsideLemmas::first_append, array_meaning::proofs::LastLemmas::or_assoc, array_meaning::proofs::LastLemmas::or_none))]
 fn keep_statement<'s>(
     layout: &Layout,
     statement: &'s Stmt,

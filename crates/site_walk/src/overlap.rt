@@ -5,7 +5,7 @@ ghost use Rattle.array_meaning.specs.Work.{sequence_work};
 ghost use Rattle.array_meaning.specs.Members.{team_works};
 ghost use Rattle.array_meaning.specs.Sites.{branch_works, phase_rounds, statement_sites, sequence_sites, branches_sites, phases_sites, loop_sites};
 ghost use Rattle.array_eval.specs.Views.{vars_of};
-ghost use Rattle.site_walk.specs.Outside.{or_else};
+ghost use Rattle.std.specs.Option.{option_or};
 ghost use Rattle.site_walk.specs.FirstOverlap.{rounds_fault, or_overlap};
 ghost use Rattle.site_walk.specs.Marks.{HasPlaces};
 
@@ -26,7 +26,7 @@ fn keep_par<'s>(
 )
     requires places { HasPlaces layout.now table.old }
     ensures places { HasPlaces layout.now table.new }
-    ensures found { found.new ≡ or_else found.old (rounds_fault layout.now line (branch_works (sequences_of branches.now) (vars_of scope.now) ∷ [])) }
+    ensures found { found.new ≡ option_or found.old (rounds_fault layout.now line (branch_works (sequences_of branches.now) (vars_of scope.now) ∷ [])) }
 {
     if found.is_none() {
         if let Some(cell) = overlap_of_branches(layout, branches, scope, table) {
@@ -53,7 +53,7 @@ fn keep_team<'s>(
 )
     requires places { HasPlaces layout.now table.old }
     ensures places { HasPlaces layout.now table.new }
-    ensures found { found.new ≡ or_else found.old (rounds_fault layout.now line (phase_rounds (sequences_of phases.now) var.now low high members (vars_of scope.now))) }
+    ensures found { found.new ≡ option_or found.old (rounds_fault layout.now line (phase_rounds (sequences_of phases.now) var.now low high members (vars_of scope.now))) }
 {
     for phase in &phases.blocks {
         keep_phase(
@@ -77,7 +77,7 @@ fn keep_phase<'s>(
 )
     requires places { HasPlaces layout.now table.old }
     ensures places { HasPlaces layout.now table.new }
-    ensures found { found.new ≡ or_else found.old (rounds_fault layout.now line (team_works var.now low high members (sequence_work (sequence_of phase.now)) (vars_of scope.now) ∷ [])) }
+    ensures found { found.new ≡ option_or found.old (rounds_fault layout.now line (team_works var.now low high members (sequence_work (sequence_of phase.now)) (vars_of scope.now) ∷ [])) }
 {
     if found.is_none() {
         if let Some(cell) = overlap_of_members(

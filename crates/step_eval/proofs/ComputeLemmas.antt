@@ -9,7 +9,8 @@ use Rattle.array_meaning.proofs.StepLemmas.{length_after}
 use Rattle.array_meaning.proofs.LastLemmas.{lays_append}
 use Rattle.array_meaning.proofs.MergeLemmas.{lays_last, after_last}
 use Rattle.array_eval.specs.Traces.{Trace, fresh, noted_all, marked}
-use Rattle.array_eval.proofs.TraceLemmas.{AreBelow, below_of, cells_after, marked_after, none_marked, noted_append}
+use Rattle.array_meaning.proofs.BelowLemmas.{AreBelow, below_of, below_lays}
+use Rattle.array_eval.proofs.TraceLemmas.{cells_after, marked_after, none_marked, noted_append, length_marks}
 use Rattle.array_jobs.specs.Works.{WorkTree, sites_of, steps_of}
 use Rattle.array_jobs.specs.Jobs.{JobParts, JobTree, job_of}
 use Rattle.array_jobs.specs.PieceParts.{piece_of_job}
@@ -17,7 +18,7 @@ use Rattle.array_jobs.proofs.FitLemmas.{inside, sized}
 use Rattle.step_eval.specs.Nests.{NestedTree, phases_of, piece_trees, earlier_sites, numbered, jobs_in, AreFitJobs, IsFitNest, nested_writes}
 use Rattle.step_eval.specs.Phases.{phase_writes, store_before, writes_before}
 use Rattle.step_eval.specs.Computed.{writes_of_jobs, HasReached}
-use Rattle.step_eval.proofs.WriteLemmas.{below_lays, rising_marked, last_writes_rising, length_marks}
+use Rattle.step_eval.proofs.WriteLemmas.{rising_marked, last_writes_rising}
 use Rattle.step_eval.proofs.PieceLemmas.{fit_other_store, some_piece}
 use Rattle.step_eval.proofs.ShapeLemmas.{some_phases}
 use Rattle.step_eval.proofs.PhaseLemmas.{phases_are_merged, phases_are_constructs}

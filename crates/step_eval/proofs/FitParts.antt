@@ -1,7 +1,7 @@
 -- How the fitness of a work is taken apart, by the work's shape.
 use Rattle.std.proofs.Common.{◌≡◌, ℕ, ◌+◌, ◌≤◌, Bool, true, false, List, [], ◌∷◌, ◌++◌, ℤ, pos, ◌+ℤ◌, ◌<ℤ◌, refl, sym, ap, subst, ◌∙◌, arith}
 use Rattle.std.specs.Prelude.{◌&&◌, length, nat_le, int_lt, int_le}
-use Rattle.std.proofs.lemmas.Bool.{false≢true}
+use Rattle.std.proofs.lemmas.Bool.{false≢true, and_parts}
 use Rattle.std.proofs.lemmas.Int.{ints}
 use Rattle.array_tree.specs.Trees.{Expression, Statement, Assign, For, If, Par, Team, Sequence, ended, followed, Declaration}
 use Rattle.array_meaning.specs.Stores.{Arrays, Vars, arrays_of, cells_of}
@@ -17,22 +17,21 @@ use Rattle.array_meaning.proofs.FrameLemmas.{walk_followed_by}
 use Rattle.array_meaning.proofs.StepLemmas.{loop_next, span_next}
 use Rattle.array_jobs.specs.Works.{steps_of, statements_of, sites_of}
 use Rattle.array_jobs.specs.Jobs.{JobTree, IsFit, names_around}
-use Rattle.array_jobs.proofs.FitLemmas.{both}
 use Rattle.step_eval.specs.Rest.{WorkAt, instead}
 
--- What is true of both makes the whole true.
+-- What is true of and_parts makes the whole true.
 pub and_true : (a b : Bool) → a ≡ true → b ≡ true → (a && b) ≡ true
 and_true true b e f = f
 and_true false b e f = absurd (false≢true e)
 
 -- ---- lists that are taken apart
 
--- The indices of visits one after another are inside where those of both parts are.
+-- The indices of visits one after another are inside where those of and_parts parts are.
 pub inside_parts : (arrays : Arrays) (xs ys : List Visit) → are_inside arrays (xs ++ ys) ≡ true →
     (are_inside arrays xs ≡ true) × (are_inside arrays ys ≡ true)
 inside_parts arrays [] ys h = (refl, h)
 inside_parts arrays (v ∷ xs) ys h =
-    let here = both _ (are_inside arrays (xs ++ ys)) h in
+    let here = and_parts _ (are_inside arrays (xs ++ ys)) h in
     let parts = inside_parts arrays xs ys here.1 in
     (and_true _ (are_inside arrays xs) here.0 parts.0, parts.1)
 
@@ -41,10 +40,10 @@ pub inside_append : (arrays : Arrays) (xs ys : List Visit) → are_inside arrays
     are_inside arrays (xs ++ ys) ≡ true
 inside_append arrays [] ys h k = k
 inside_append arrays (v ∷ xs) ys h k =
-    let here = both _ (are_inside arrays xs) h in
+    let here = and_parts _ (are_inside arrays xs) h in
     and_true _ (are_inside arrays (xs ++ ys)) here.0 (inside_append arrays xs ys here.1 k)
 
--- The indices of steps one after another are inside where those of both are.
+-- The indices of steps one after another are inside where those of and_parts are.
 pub inside_followed : (arrays : Arrays) (a b : Steps) → are_inside arrays (walk arrays (followed_by a b)) ≡ true →
     (are_inside arrays (walk arrays a) ≡ true) × (are_inside arrays (walk arrays b) ≡ true)
 inside_followed arrays a b h =
@@ -60,7 +59,7 @@ inside_sides arrays line vars test left right rest h =
     let second = inside_parts arrays (walk arrays right) (walk arrays rest) first.1 in
     (first.0, second.0)
 
--- Sites one after another are apart where those of both parts are.
+-- Sites one after another are apart where those of and_parts parts are.
 pub apart_parts : (arrays : Arrays) (xs ys : List Site) → AreSitesApart arrays (xs ++ ys) → AreSitesApart arrays xs × AreSitesApart arrays ys
 apart_parts arrays [] ys h = (tt, h)
 apart_parts arrays (x ∷ xs) ys h = let parts = apart_parts arrays xs ys h.1 in ((h.0, parts.0), parts.1)
@@ -77,7 +76,7 @@ mutual
   pub no_sites : (s : Sequence) → has_no_site_under_if s true ≡ true → (sites_in s ≡ 0) × (has_no_site_under_if s false ≡ true)
   no_sites ended h = (refl, refl)
   no_sites (followed first rest) h =
-      let parts = both (statement_has_no_site_under_if first true) (has_no_site_under_if rest true) h in
+      let parts = and_parts (statement_has_no_site_under_if first true) (has_no_site_under_if rest true) h in
       let one = no_sites_first first parts.0 in
       let more = no_sites rest parts.1 in
       (rw (one.0, more.0) refl, and_true (statement_has_no_site_under_if first false) (has_no_site_under_if rest false) one.1 more.1)
@@ -90,7 +89,7 @@ mutual
       let none = inner.0 in
       (rw none (omega arith), inner.1)
   no_sites_first (If line cond then_block else_block) h =
-      let parts = both (has_no_site_under_if then_block true) (has_no_site_under_if else_block true) h in
+      let parts = and_parts (has_no_site_under_if then_block true) (has_no_site_under_if else_block true) h in
       let one = no_sites then_block parts.0 in
       let more = no_sites else_block parts.1 in
       (rw (one.0, more.0) refl, h)
@@ -122,7 +121,7 @@ pub parts_of : (job : JobTree) (next : ℕ) (w : WorkAt) → IsFit (instead job 
 parts_of job next w fit = record {
   new_variables = fit.new_variables;
   known_names = fit.known_names;
-  ranges = (both (right_arrays job) (has_right_ranges (statements_of w.work)) fit.ranges).1;
+  ranges = (and_parts (right_arrays job) (has_right_ranges (statements_of w.work)) fit.ranges).1;
   no_site_under_if = fit.no_site_under_if;
   indices = fit.indices;
   apart = fit.apart;
@@ -136,7 +135,7 @@ refit job before old next new fit parts room = record {
   new_variables = parts.new_variables;
   known_names = parts.known_names;
   ranges = and_true (right_arrays job) (has_right_ranges (statements_of new.work))
-      (both (right_arrays job) (has_right_ranges (statements_of old.work)) fit.ranges).0 parts.ranges;
+      (and_parts (right_arrays job) (has_right_ranges (statements_of old.work)) fit.ranges).0 parts.ranges;
   no_site_under_if = parts.no_site_under_if;
   indices = parts.indices;
   apart = parts.apart;
@@ -154,12 +153,12 @@ pub sequence_parts : (arrays : List Declaration) (vars : Vars) (first : Statemen
     AreFitParts arrays vars (followed first ended) (statement_work first vars) × AreFitParts arrays vars rest (sequence_work rest vars)
 sequence_parts arrays vars first rest parts =
     let taken = names_around vars ++ names_of arrays in
-    let new_ones = both (statement_has_new_variables first taken) (has_new_variables rest taken) parts.new_variables in
+    let new_ones = and_parts (statement_has_new_variables first taken) (has_new_variables rest taken) parts.new_variables in
     let names = names_of arrays in
     let around = names_around vars in
-    let known_ones = both (statement_has_known_names first names around) (has_known_names rest names around) parts.known_names in
-    let ranges = both (statement_has_right_ranges first) (has_right_ranges rest) parts.ranges in
-    let no_site = both (statement_has_no_site_under_if first false) (has_no_site_under_if rest false) parts.no_site_under_if in
+    let known_ones = and_parts (statement_has_known_names first names around) (has_known_names rest names around) parts.known_names in
+    let ranges = and_parts (statement_has_right_ranges first) (has_right_ranges rest) parts.ranges in
+    let no_site = and_parts (statement_has_no_site_under_if first false) (has_no_site_under_if rest false) parts.no_site_under_if in
     let indices = inside_followed (arrays_of arrays) (statement_work first vars) (sequence_work rest vars) parts.indices in
     let apart = apart_parts (arrays_of arrays) (statement_sites first vars) (sequence_sites rest vars) parts.apart in (
       record {
@@ -212,10 +211,10 @@ turn_parts arrays vars line var low high body below parts =
     let around = names_around vars in
     let cells = arrays_of arrays in
     let more = loop var (low +ℤ pos 1) high (sequence_work body) vars in
-    let new_ones = both _ (has_new_variables body (var ∷ taken)) (both _ true parts.new_variables).0 in
-    let known_one = both (has_known_names body names (var ∷ around)) true parts.known_names in
-    let ranges = both (int_le low high) (has_right_ranges body) (both _ true parts.ranges).0 in
-    let no_site = both (has_no_site_under_if body false) true parts.no_site_under_if in
+    let new_ones = and_parts _ (has_new_variables body (var ∷ taken)) (and_parts _ true parts.new_variables).0 in
+    let known_one = and_parts (has_known_names body names (var ∷ around)) true parts.known_names in
+    let ranges = and_parts (int_le low high) (has_right_ranges body) (and_parts _ true parts.ranges).0 in
+    let no_site = and_parts (has_no_site_under_if body false) true parts.no_site_under_if in
     let indices = inside_followed cells (sequence_work body ((var, low) ∷ vars)) more
     (sym (ap (λ steps. are_inside cells (walk cells steps)) (loop_next var low high (sequence_work body) vars (below_of_test low high below)))
     ∙ parts.indices) in
@@ -253,11 +252,11 @@ side_parts arrays vars line cond then_block else_block parts =
     let names = names_of arrays in
     let around = names_around vars in
     let cells = arrays_of arrays in
-    let new_ones = both (has_new_variables then_block taken) (has_new_variables else_block taken) (both _ true parts.new_variables).0 in
-    let known_ones = both (has_known_names then_block names around) (has_known_names else_block names around)
-    (both (uses_known_names cond names around) _ (both _ true parts.known_names).0).1 in
-    let ranges = both (has_right_ranges then_block) (has_right_ranges else_block) (both _ true parts.ranges).0 in
-    let no_site = both (has_no_site_under_if then_block true) (has_no_site_under_if else_block true) (both _ true parts.no_site_under_if).0 in
+    let new_ones = and_parts (has_new_variables then_block taken) (has_new_variables else_block taken) (and_parts _ true parts.new_variables).0 in
+    let known_ones = and_parts (has_known_names then_block names around) (has_known_names else_block names around)
+    (and_parts (uses_known_names cond names around) _ (and_parts _ true parts.known_names).0).1 in
+    let ranges = and_parts (has_right_ranges then_block) (has_right_ranges else_block) (and_parts _ true parts.ranges).0 in
+    let no_site = and_parts (has_no_site_under_if then_block true) (has_no_site_under_if else_block true) (and_parts _ true parts.no_site_under_if).0 in
     let left = no_sites then_block no_site.0 in
     let right = no_sites else_block no_site.1 in
     let indices = inside_sides cells line vars cond (sequence_work then_block vars) (sequence_work else_block vars) Done parts.indices in

@@ -3,6 +3,7 @@ use Rattle.std.proofs.Common.{◌≡◌, ℕ, ◌+◌, ◌*◌, Bool, true, fals
 use Rattle.std.specs.Prelude.{◌&&◌, int_lt}
 use Rattle.std.proofs.lemmas.Int.{ints}
 use Rattle.std.proofs.lemmas.List.{length-replicate}
+use Rattle.std.proofs.lemmas.Bool.{and_parts}
 use Rattle.array_tree.specs.Trees.{Assign, For, If, Par, Team, ended, followed}
 use Rattle.array_meaning.specs.Values.{holds}
 use Rattle.array_meaning.specs.Stores.{Arrays, Vars, Store, Write, after, arrays_of, value_of}
@@ -16,16 +17,16 @@ use Rattle.array_meaning.proofs.LastLemmas.{lays_append}
 use Rattle.array_meaning.proofs.MergeLemmas.{supplied}
 use Rattle.array_jobs.specs.Works.{WorkTree, branch_of, member_of, steps_of, statements_of, sites_of}
 use Rattle.array_jobs.specs.Jobs.{JobTree, IsFit}
-use Rattle.array_jobs.proofs.FitLemmas.{both}
 use Rattle.array_eval.specs.Traces.{Trace, fresh, noted_all, marked}
-use Rattle.array_eval.proofs.TraceLemmas.{AreBelow, cells_after, marked_after, none_marked}
+use Rattle.array_meaning.proofs.BelowLemmas.{AreBelow}
+use Rattle.array_eval.proofs.TraceLemmas.{cells_after, marked_after, none_marked, length_marks}
 use Rattle.step_eval.specs.Rest.{WorkAt, at, rest_steps, rest_sites, instead}
 use Rattle.step_eval.specs.Moves.{moved, moved_writes, moved_sites}
 use Rattle.step_eval.specs.Machines.{IsRight, construct_of}
 use Rattle.step_eval.proofs.LeftLemmas.{span_times}
 use Rattle.step_eval.proofs.FitParts.{no_sites}
 use Rattle.step_eval.proofs.FitMoves.{fit_moved}
-use Rattle.step_eval.proofs.WriteLemmas.{rising_marked, last_writes_rising, length_marks, moved_below}
+use Rattle.step_eval.proofs.WriteLemmas.{rising_marked, last_writes_rising, moved_below}
 
 -- ---- sites
 
@@ -39,8 +40,8 @@ work_sites arrays store (branch_of (followed (If line test left right) rest)) va
     cases (holds (value_of arrays vars test store)) (no_sites left sides.0).0 (no_sites right sides.1).0
   where
     sides : (has_no_site_under_if left true ≡ true) × (has_no_site_under_if right true ≡ true)
-    sides = both (has_no_site_under_if left true) (has_no_site_under_if right true)
-        (both (has_no_site_under_if left true && has_no_site_under_if right true) (has_no_site_under_if rest false) h).0
+    sides = and_parts (has_no_site_under_if left true) (has_no_site_under_if right true)
+        (and_parts (has_no_site_under_if left true && has_no_site_under_if right true) (has_no_site_under_if rest false) h).0
 
     cases : (b : Bool) → sites_in left ≡ 0 → sites_in right ≡ 0 →
         0 + rest_sites (at (branch_of (cond b left right)) vars ∷ at (branch_of rest) vars ∷ more)

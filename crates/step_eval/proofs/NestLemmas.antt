@@ -1,7 +1,7 @@
 -- A construct that is next may be handed out: its pieces are fit jobs in each phase.
 use Rattle.std.proofs.Common.{◌≡◌, ℕ, zero, suc, ◌+◌, ◌-◌, ◌*◌, ◌<◌, ◌≤◌, true, List, ℤ, pos, negsuc, refl, ap, ◌∙◌, length, arith}
 use Rattle.std.specs.Prelude.{IsTrue, int_le, unsigned_abs}
-use Rattle.std.proofs.lemmas.Bool.{false≢true}
+use Rattle.std.proofs.lemmas.Bool.{false≢true, and_parts}
 use Rattle.std.proofs.lemmas.Bool.Decides.{nat_tests}
 use Rattle.std.proofs.Math.Nat.{add-mul, mul-add, mul-le-mul_left}
 use Rattle.array_tree.specs.Trees.{Statement, Assign, For, If, Par, Team, Sequence, followed, Sequences, no_more, beside}
@@ -12,7 +12,6 @@ use Rattle.array_meaning.specs.Plans.{sites_in, branches_sites_in}
 use Rattle.array_meaning.specs.Limits.{is_up_to, count_of, statement_has_right_ranges}
 use Rattle.array_jobs.specs.Works.{branch_of, member_of, sites_of}
 use Rattle.array_jobs.specs.Jobs.{JobTree, IsFit}
-use Rattle.array_jobs.proofs.FitLemmas.{both}
 use Rattle.step_eval.specs.Rest.{WorkAt, at, instead}
 use Rattle.step_eval.specs.Nests.{NestedTree, branch_trees, member_trees, phase_at, sites_before, numbered, jobs_in, AreFitJobs, is_construct, IsFitNest}
 use Rattle.array_meaning.proofs.MemberLemmas.{span_cut}
@@ -108,7 +107,7 @@ sites_before_phase (beside first rest) (suc phase) small = let more = sites_befo
 
 -- What the test allows is no larger than its limit.
 pub up_to_number : (most : ℕ) (n : ℤ) → is_up_to (pos most) n ≡ true → unsigned_abs n ≤ most
-up_to_number most (pos n) h = let high = (both (int_le (pos 1) (pos n)) (int_le (pos n) (pos most)) h).1 in grind (arith, nat_tests)
+up_to_number most (pos n) h = let high = (and_parts (int_le (pos 1) (pos n)) (int_le (pos n) (pos most)) h).1 in grind (arith, nat_tests)
 up_to_number most (negsuc n) h = absurd (false≢true h)
 
 -- The construct that is the first statement of a fit work may be handed out.
@@ -127,7 +126,7 @@ fit_nest job next (Par line branches) rest vars store is fit same =
     let room = fit.sites in
     record {
       construct = refl;
-      limits = (both (statement_has_right_ranges construct) true parts.ranges).0;
+      limits = (and_parts (statement_has_right_ranges construct) true parts.ranges).0;
       apart = parts.apart.0;
       jobs = λ phase small. fit_branches job next old next construct vars store phase 0 (next + 1 + 0) branches fit same (omega arith) inner.0
           (omega (arith, few)) (omega (arith, room));
@@ -139,7 +138,7 @@ fit_nest job next (Team line var low high members phases) rest vars store is fit
     let inner = team_parts job.arrays vars line var low high members phases parts in
     record {
       construct = refl;
-      limits = (both (statement_has_right_ranges construct) true parts.ranges).0;
+      limits = (and_parts (statement_has_right_ranges construct) true parts.ranges).0;
       apart = parts.apart.0;
       jobs = jobs inner.0 (up_to_number 64 members inner.1) (up_to_number 8 (pos (count_of phases)) inner.2);
     }

@@ -4,6 +4,7 @@ use Rattle.std.proofs.Common.{◌≡◌, ℕ, zero, suc, ◌+◌, ◌-◌, ◌*�
 use Rattle.std.specs.Prelude.{◌&&◌, not, int_le}
 use Rattle.std.proofs.lemmas.Int.{ints}
 use Rattle.std.proofs.Math.Nat.{mul-div_cancel, zero-div}
+use Rattle.std.proofs.lemmas.Bool.{and_parts}
 use Rattle.array_tree.specs.Trees.{For, Par, Team, Sequence, ended, followed, Sequences, no_more, beside, Declaration}
 use Rattle.array_meaning.specs.Stores.{Arrays, Vars, arrays_of}
 use Rattle.array_meaning.specs.Steps.{Steps}
@@ -17,7 +18,6 @@ use Rattle.array_meaning.specs.Accepted.{are_inside}
 use Rattle.array_meaning.proofs.FrameLemmas.{walk_followed_by}
 use Rattle.array_meaning.proofs.MemberLemmas.{span_cut, first_of_far}
 use Rattle.array_jobs.specs.Jobs.{names_around}
-use Rattle.array_jobs.proofs.FitLemmas.{both}
 use Rattle.step_eval.specs.Nests.{phase_at}
 use Rattle.step_eval.proofs.FitParts.{AreFitParts, and_true, inside_append, inside_followed, apart_parts, apart_append}
 
@@ -37,12 +37,12 @@ pub par_parts : (arrays : List Declaration) (vars : Vars) (line : ℕ) (bs : Seq
     AreFitParts arrays vars (followed (Par line bs) ended) (branches_work bs vars) →
     AreFitBranches arrays vars bs × (is_up_to (pos 64) (pos (count_of bs)) ≡ true)
 par_parts arrays vars line bs parts =
-    let ranges = both (is_up_to (pos 64) (pos (count_of bs))) (have_right_ranges bs) (both _ true parts.ranges).0 in (
+    let ranges = and_parts (is_up_to (pos 64) (pos (count_of bs))) (have_right_ranges bs) (and_parts _ true parts.ranges).0 in (
       record {
-        new_variables = (both _ true parts.new_variables).0;
-        known_names = (both _ true parts.known_names).0;
+        new_variables = (and_parts _ true parts.new_variables).0;
+        known_names = (and_parts _ true parts.known_names).0;
         ranges = ranges.1;
-        no_site_under_if = (both _ true parts.no_site_under_if).0;
+        no_site_under_if = (and_parts _ true parts.no_site_under_if).0;
         indices = parts.indices;
         apart = (apart_parts (arrays_of arrays) (branches_sites bs vars) [] parts.apart.1).0;
       },
@@ -56,10 +56,10 @@ branch_parts arrays vars first rest parts =
     let taken = names_around vars ++ names_of arrays in
     let names = names_of arrays in
     let around = names_around vars in
-    let new_ones = both (has_new_variables first taken) (have_new_variables rest taken) parts.new_variables in
-    let known_ones = both (has_known_names first names around) (have_known_names rest names around) parts.known_names in
-    let ranges = both (has_right_ranges first) (have_right_ranges rest) parts.ranges in
-    let no_site = both (has_no_site_under_if first false) (have_no_site_under_if rest false) parts.no_site_under_if in
+    let new_ones = and_parts (has_new_variables first taken) (have_new_variables rest taken) parts.new_variables in
+    let known_ones = and_parts (has_known_names first names around) (have_known_names rest names around) parts.known_names in
+    let ranges = and_parts (has_right_ranges first) (have_right_ranges rest) parts.ranges in
+    let no_site = and_parts (has_no_site_under_if first false) (have_no_site_under_if rest false) parts.no_site_under_if in
     let indices = inside_followed (arrays_of arrays) (sequence_work first vars) (branches_work rest vars) parts.indices in
     let apart = apart_parts (arrays_of arrays) (sequence_sites first vars) (branches_sites rest vars) parts.apart in (
       record {
@@ -99,18 +99,18 @@ pub team_parts : (arrays : List Declaration) (vars : Vars) (line : ℕ) (var : L
     AreFitPhases arrays vars var low high ps × (is_up_to (pos 64) members ≡ true) × (is_up_to (pos 8) (pos (count_of ps)) ≡ true)
 team_parts arrays vars line var low high members ps parts =
     let taken = names_around vars ++ names_of arrays in
-    let new_ones = both (not (is_among var taken)) (have_new_variables ps (var ∷ taken)) (both _ true parts.new_variables).0 in
-    let ranges = both (int_le low high && is_up_to (pos 64) members) (is_up_to (pos 8) (pos (count_of ps)) && have_right_ranges ps)
-    (both _ true parts.ranges).0 in
-    let bounds = both (int_le low high) (is_up_to (pos 64) members) ranges.0 in
-    let counts = both (is_up_to (pos 8) (pos (count_of ps))) (have_right_ranges ps) ranges.1 in (
+    let new_ones = and_parts (not (is_among var taken)) (have_new_variables ps (var ∷ taken)) (and_parts _ true parts.new_variables).0 in
+    let ranges = and_parts (int_le low high && is_up_to (pos 64) members) (is_up_to (pos 8) (pos (count_of ps)) && have_right_ranges ps)
+    (and_parts _ true parts.ranges).0 in
+    let bounds = and_parts (int_le low high) (is_up_to (pos 64) members) ranges.0 in
+    let counts = and_parts (is_up_to (pos 8) (pos (count_of ps))) (have_right_ranges ps) ranges.1 in (
       record {
         new_variable = new_ones.0;
         new_variables = new_ones.1;
-        known_names = (both _ true parts.known_names).0;
+        known_names = (and_parts _ true parts.known_names).0;
         bounds = bounds.0;
         ranges = counts.1;
-        no_site_under_if = (both _ true parts.no_site_under_if).0;
+        no_site_under_if = (and_parts _ true parts.no_site_under_if).0;
         indices = parts.indices;
         apart = (apart_parts (arrays_of arrays) (phases_sites ps var low high vars) [] parts.apart.1).0;
       },
@@ -132,10 +132,10 @@ phase_parts arrays vars var low high first rest parts =
     let names = names_of arrays in
     let around = names_around vars in
     let cells = arrays_of arrays in
-    let new_ones = both (has_new_variables first (var ∷ taken)) (have_new_variables rest (var ∷ taken)) parts.new_variables in
-    let known_ones = both (has_known_names first names (var ∷ around)) (have_known_names rest names (var ∷ around)) parts.known_names in
-    let ranges = both (has_right_ranges first) (have_right_ranges rest) parts.ranges in
-    let no_site = both (has_no_site_under_if first false) (have_no_site_under_if rest false) parts.no_site_under_if in
+    let new_ones = and_parts (has_new_variables first (var ∷ taken)) (have_new_variables rest (var ∷ taken)) parts.new_variables in
+    let known_ones = and_parts (has_known_names first names (var ∷ around)) (have_known_names rest names (var ∷ around)) parts.known_names in
+    let ranges = and_parts (has_right_ranges first) (have_right_ranges rest) parts.ranges in
+    let no_site = and_parts (has_no_site_under_if first false) (have_no_site_under_if rest false) parts.no_site_under_if in
     let indices = inside_followed cells (loop var low high (sequence_work first) vars) (phases_work rest var low high vars) parts.indices in
     let sites = loop_sites var low high (sequence_sites first) vars in
     let apart = apart_parts cells sites (phases_sites rest var low high vars) parts.apart in (
@@ -224,7 +224,7 @@ loop_parts arrays vars var low high body a b ordered within parts =
     let indices = inside_turns cells steps low n a (b - a) room parts.indices in
     let all = apart_parts cells (turn_sites sites low n) [] parts.apart in
     let apart = subst (λ k. AreSitesApart cells (turn_sites sites (low +ℤ pos a) k)) count (apart_turns cells sites low n a (b - a) room all.0) in
-    let ranges = both (int_le low high) (has_right_ranges body) (both _ true parts.ranges).0 in
+    let ranges = and_parts (int_le low high) (has_right_ranges body) (and_parts _ true parts.ranges).0 in
     record {
       new_variables = parts.new_variables;
       known_names = parts.known_names;

@@ -1,6 +1,7 @@
 -- The phases of a construct, and the jobs of their pieces.
 use Rattle.std.proofs.Common.{◌≡◌, ℕ, zero, suc, ◌+◌, ◌<◌, ◌≤◌, List, [], ◌∷◌, ◌++◌, map, length, Option, Some, ℤ, pos, true, refl, sym, ap, ◌∙◌, subst, inl, inr, arith}
 use Rattle.std.specs.Prelude.{◌&&◌, slice_get, unwrap_or, unsigned_abs, int_le}
+use Rattle.std.proofs.lemmas.Bool.{and_parts}
 use Rattle.array_tree.specs.Trees.{Statement, Assign, For, If, Par, Team, Sequence, Sequences, no_more, beside, Declaration}
 use Rattle.array_meaning.specs.Stores.{Arrays, Vars, Store, HaveCells, arrays_of, after}
 use Rattle.array_meaning.specs.Steps.{Steps, Done, followed_by, join, writes_of}
@@ -20,7 +21,7 @@ use Rattle.array_jobs.specs.Works.{WorkTree, sites_of, steps_of}
 use Rattle.array_jobs.specs.Jobs.{JobTree}
 use Rattle.array_jobs.specs.Groups.{IsGroup, HaveSameJobs}
 use Rattle.array_jobs.specs.PieceParts.{piece_of_job}
-use Rattle.array_jobs.proofs.FitLemmas.{both, sized}
+use Rattle.array_jobs.proofs.FitLemmas.{sized}
 use Rattle.step_eval.specs.Nests.{NestedTree, phases_of, rounds_of, branch_trees, member_trees, phase_at, piece_trees, earlier_sites, numbered, jobs_in, AreFitJobs, IsFitNest}
 use Rattle.step_eval.specs.Phases.{round_at, round_of, phase_writes, store_before, writes_before, steps_of_job, IsWhole}
 use Rattle.step_eval.specs.Shapes.{members_of}
@@ -104,8 +105,8 @@ all_rounds (For line var low high body) vars e h = absurd (omega arith)
 all_rounds (If line cond then_block else_block) vars e h = absurd (omega arith)
 all_rounds (Par line branches) vars e h = join_branches branches vars
 all_rounds (Team line var low high members phases) vars e h =
-    let parts = both (int_le low high && is_up_to (pos 64) members) (is_up_to (pos 8) (pos (count_of phases)) && have_right_ranges phases) e in
-    let some = some_members members (both (int_le low high) (is_up_to (pos 64) members) parts.0).1 in
+    let parts = and_parts (int_le low high && is_up_to (pos 64) members) (is_up_to (pos 8) (pos (count_of phases)) && have_right_ranges phases) e in
+    let some = some_members members (and_parts (int_le low high) (is_up_to (pos 64) members) parts.0).1 in
     join_phases phases var low high (unsigned_abs members) vars some
 
 -- so many phases write what their steps write

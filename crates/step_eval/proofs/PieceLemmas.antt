@@ -1,7 +1,7 @@
 -- The jobs of the pieces of a construct, one after another.
 use Rattle.std.proofs.Common.{◌≡◌, ℕ, zero, suc, ◌+◌, ◌-◌, ◌*◌, ◌<◌, ◌≤◌, true, List, [], ◌∷◌, ◌++◌, map, length, get_or, append_assoc, ℤ, pos, negsuc, refl, sym, ap, subst, ◌∙◌, arith}
 use Rattle.std.specs.Prelude.{◌&&◌, unsigned_abs, int_le}
-use Rattle.std.proofs.lemmas.Bool.{false≢true}
+use Rattle.std.proofs.lemmas.Bool.{false≢true, and_parts}
 use Rattle.std.proofs.lemmas.List.{map-append}
 use Rattle.array_tree.specs.declared.tree.Block.{Block}
 use Rattle.array_tree.specs.declared.tree.Blocks.{Blocks}
@@ -16,7 +16,6 @@ use Rattle.array_meaning.specs.Limits.{is_up_to, count_of, have_right_ranges, st
 use Rattle.site_counts.specs.Capped.{capped}
 use Rattle.array_jobs.specs.declared.work.Work.{Work}
 use Rattle.array_jobs.specs.Works.{WorkTree, member_of, work_of, sites_of}
-use Rattle.array_jobs.proofs.FitLemmas.{both}
 use Rattle.step_eval.specs.Nests.{NestedParts, NestedTree, nested_of, phases_of, member_trees, phase_at, piece_trees, sites_before, earlier_sites, numbered, jobs_in, AreFitJobs, IsFitNest}
 
 -- The view of a team, one level deep.
@@ -142,8 +141,8 @@ some_piece (If line cond then_block else_block) phase e h = absurd (omega arith)
 some_piece (Par line no_more) phase e h = absurd (false≢true e)
 some_piece (Par line (beside first rest)) phase e h = omega arith
 some_piece (Team line var low high members phases) phase e h =
-    let parts = both (int_le low high && is_up_to (pos 64) members) (is_up_to (pos 8) (pos (count_of phases)) && have_right_ranges phases) e in
-    let some = some_members members (both (int_le low high) (is_up_to (pos 64) members) parts.0).1 in
+    let parts = and_parts (int_le low high && is_up_to (pos 64) members) (is_up_to (pos 8) (pos (count_of phases)) && have_right_ranges phases) e in
+    let some = some_members members (and_parts (int_le low high) (is_up_to (pos 64) members) parts.0).1 in
     let count = count_trees var low high (unsigned_abs members) (phase_at phases phase) 0 (unsigned_abs members) in
     omega (arith, some, count)
 

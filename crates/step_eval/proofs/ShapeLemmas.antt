@@ -1,7 +1,7 @@
 -- The shapes of constructs in their limits.
 use Rattle.std.proofs.Common.{◌≡◌, ℕ, ◌<◌, ◌≤◌, ℤ, pos, true, ap, sym, ◌∙◌, arith, length}
 use Rattle.std.specs.Prelude.{◌&&◌, int_le}
-use Rattle.std.proofs.lemmas.Bool.{false≢true}
+use Rattle.std.proofs.lemmas.Bool.{false≢true, and_parts}
 use Rattle.array_tree.specs.declared.tree.Blocks.{Blocks, out-Blocks}
 use Rattle.array_tree.specs.declared.tree.Stmt.TheVariants as stmt
 use Rattle.array_tree.specs.declared.tree.Stmt.TheVariants.{rolls-Par}
@@ -10,7 +10,6 @@ use Rattle.array_tree.specs.Trees.{Statement, Assign, For, If, Par, Team, Sequen
 use Rattle.array_tree.proofs.Views.{sequences_of-blocks}
 use Rattle.array_meaning.specs.Limits.{is_up_to, count_of, have_right_ranges, statement_has_right_ranges}
 use Rattle.site_counts.proofs.Trees.{count_of-sequences}
-use Rattle.array_jobs.proofs.FitLemmas.{both}
 use Rattle.step_eval.specs.Nests.{phases_of, is_construct}
 use Rattle.step_eval.specs.Shapes.{members_of}
 use Rattle.step_eval.proofs.NestLemmas.{up_to_number}
@@ -31,15 +30,15 @@ team_limits : (low high members : ℤ) (phases : Sequences) →
     ((int_le low high && is_up_to (pos 64) members) && (is_up_to (pos 8) (pos (count_of phases)) && have_right_ranges phases)) ≡ true →
     (is_up_to (pos 64) members ≡ true) × (is_up_to (pos 8) (pos (count_of phases)) ≡ true)
 team_limits low high members phases e =
-    let parts = both (int_le low high && is_up_to (pos 64) members) (is_up_to (pos 8) (pos (count_of phases)) && have_right_ranges phases) e in
-    ((both (int_le low high) (is_up_to (pos 64) members) parts.0).1, (both (is_up_to (pos 8) (pos (count_of phases))) (have_right_ranges phases) parts.1).0)
+    let parts = and_parts (int_le low high && is_up_to (pos 64) members) (is_up_to (pos 8) (pos (count_of phases)) && have_right_ranges phases) e in
+    ((and_parts (int_le low high) (is_up_to (pos 64) members) parts.0).1, (and_parts (is_up_to (pos 8) (pos (count_of phases))) (have_right_ranges phases) parts.1).0)
 
 -- A construct in its limits has at most 64 pieces in each phase.
 pub few_pieces : (construct : Statement) → statement_has_right_ranges construct ≡ true → members_of construct ≤ 64
 few_pieces (Assign line array index value) e = omega arith
 few_pieces (For line var low high body) e = omega arith
 few_pieces (If line cond then_block else_block) e = omega arith
-few_pieces (Par line branches) e = up_to_number 64 (pos (count_of branches)) (both (is_up_to (pos 64) (pos (count_of branches))) (have_right_ranges branches) e).0
+few_pieces (Par line branches) e = up_to_number 64 (pos (count_of branches)) (and_parts (is_up_to (pos 64) (pos (count_of branches))) (have_right_ranges branches) e).0
 few_pieces (Team line var low high members phases) e = up_to_number 64 members (team_limits low high members phases e).0
 
 -- It has at most 8 phases.

@@ -1,5 +1,5 @@
 -- Writes laid over what is marked, and where they lie.
-use Rattle.std.proofs.Common.{◌≡◌, ℕ, suc, ◌<◌, Bool, true, false, cond, List, [], ◌∷◌, ◌++◌, length, ℤ, refl, ap, ◌∙◌, arith, length-set}
+use Rattle.std.proofs.Common.{◌≡◌, ℕ, suc, Bool, true, false, List, [], ◌∷◌, ◌++◌, length, ℤ, refl, ap, ◌∙◌, arith}
 use Rattle.std.specs.Prelude.{nat_lt, nat_eq}
 use Rattle.std.proofs.lemmas.Bool.Decides.{nat_tests}
 use Rattle.array_tree.specs.Trees.{Statement, Assign, For, If, Par, Team, ended, followed}
@@ -10,13 +10,14 @@ use Rattle.array_meaning.specs.Touch.{walk}
 use Rattle.array_meaning.specs.Names.{names_of, are_known}
 use Rattle.array_meaning.specs.Pieces.{lay, lays, last_writes, IsAbove, IsRising}
 use Rattle.array_meaning.proofs.InsideLemmas.{names_in, names_in_of}
-use Rattle.array_meaning.proofs.KnownLemmas.{writes_inside}
+use Rattle.array_meaning.proofs.BelowLemmas.{AreBelow, below_lays}
+use Rattle.array_meaning.proofs.KnownLemmas.{writes_below}
 use Rattle.array_meaning.proofs.StepLemmas.{writes_followed_by}
 use Rattle.array_jobs.specs.Works.{WorkTree, branch_of, member_of, steps_of}
 use Rattle.array_jobs.specs.Jobs.{JobTree, IsFit, names_around}
 use Rattle.array_jobs.proofs.FitLemmas.{sized, known}
-use Rattle.array_eval.specs.Traces.{Trace, noted, noted_all, marked_from, marked}
-use Rattle.array_eval.proofs.TraceLemmas.{AreBelow, below_of, above_marked}
+use Rattle.array_eval.specs.Traces.{Trace, marked_from, marked}
+use Rattle.array_eval.proofs.TraceLemmas.{above_marked}
 use Rattle.step_eval.specs.Moves.{begun_writes, moved_writes}
 
 -- ---- what is marked rises
@@ -48,32 +49,12 @@ last_writes_rising (w ∷ ws) q = lays_above w ws [] q.0 ∙ ap (λ x. w ∷ x) 
 
 -- ---- marks
 
--- Writes keep the number of marks.
-pub length_marks : (ws : List Write) (t : Trace) → length (noted_all ws t).marks ≡ length t.marks
-length_marks [] t = refl
-length_marks (w ∷ ws) t = length_marks ws (noted w.0 w.1 t) ∙ length-set t.marks w.0 true
-
 -- ---- where writes lie
 
 -- of writes below a cell the first ones are
 below_front : (n : ℕ) (a b : List Write) → AreBelow n (a ++ b) → AreBelow n a
 below_front n [] b h = tt
 below_front n (w ∷ a) b h = (h.0, below_front n a b h.1)
-
--- one more that is laid
-below_lay : (n cell : ℕ) (v : ℤ) (ws : List Write) → cell < n → AreBelow n ws → AreBelow n (lay cell v ws)
-below_lay n cell v [] lt h = (lt, tt)
-below_lay n cell v (w ∷ ws) lt h = cases (nat_lt cell w.0) (nat_eq cell w.0) (below_lay n cell v ws lt h.1)
-  where
-    cases : (a b : Bool) → AreBelow n (lay cell v ws) → AreBelow n (cond a ((cell, v) ∷ w ∷ ws) (cond b ((cell, v) ∷ ws) (w ∷ lay cell v ws)))
-    cases true b rest = (lt, h)
-    cases false true rest = (lt, h.1)
-    cases false false rest = (h.0, rest)
-
--- and several
-pub below_lays : (n : ℕ) (ws laid : List Write) → AreBelow n ws → AreBelow n laid → AreBelow n (lays ws laid)
-below_lays n [] laid h k = k
-below_lays n (w ∷ ws) laid h k = below_lays n ws (lay w.0 w.1 laid) h.1 (below_lay n w.0 w.1 laid h.0 k)
 
 -- what the first of two writes is among what both write
 first_below : (arrays : Arrays) (n : ℕ) (a b : Steps) (cells : Store) →
@@ -108,5 +89,5 @@ moved_below job fit cells e =
     let steps = steps_of job.work job.vars in
     let visited : are_known (names_in arrays) (walk arrays steps) ≡ true
     = rw (names_in_of job.arrays) (known arrays (names_of job.arrays) (names_around job.vars) job.work job.vars fit.known_names) in
-    let below = below_of (cells_of arrays) (writes_of arrays steps cells) (writes_inside arrays (sized job fit).each steps cells visited fit.indices) in
+    let below = writes_below arrays (sized job fit).each steps cells visited fit.indices in
     rw e (work_below arrays (cells_of arrays) job.work job.vars cells below)

@@ -35,7 +35,7 @@ fn run_phase(
     requires reached { HasReached (nested_of nested.now) phase store.old }
     ensures { OnOk result (HasReached (nested_of nested.now) (phase + 1) store.new) }
 {
-    let start = store.to_store_after(alloc, &nested.store)?;
+    let start = store.to_store(alloc)?;
     let jobs = jobs_of(alloc, nested, phase, &start)?;
     merge_pieces(alloc, &jobs, store)
 }

@@ -123,8 +123,6 @@ impl<'p> Machine for StepMachine<'p> {
     ghost steps = { Advances };
 
     /// Begins or ends one statement or one turn of a loop, or hands out the construct that is next.
-    // A step is laid into its caller, with all that it calls each time: a call would move the room of its large answer.
-    #[inline(always)]
     fn step(&mut self) -> Step<Nested<'p>>
         requires { is_awaiting self.old.stage ≡ false }
         ensures exact { Advances self.old result self.new }
@@ -226,6 +224,6 @@ fn hand_out<'p>(
         site: next,
         construct,
         vars: frames.vars_around(alloc, &job.vars)?,
-        store: store.to_store_after(alloc, &job.store)?,
+        store: store.to_store(alloc)?,
     })
 }

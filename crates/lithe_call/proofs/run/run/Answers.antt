@@ -8,11 +8,11 @@ use Rattle.array_tree.specs.Trees.{ProgramTree, program_of, declarations_of}
 use Rattle.array_meaning.specs.Stores.{arrays_of, cells_of, AreSized}
 use Rattle.array_meaning.specs.Steps.{writes_of}
 use Rattle.array_meaning.specs.Work.{final_store, first_store, sequence_work}
+use Rattle.array_meaning.proofs.InsideLemmas.{sized_in_range}
 use Rattle.array_meaning.proofs.StepLemmas.{length_after}
 use Rattle.array_eval.specs.ArrayText.{array_text}
 use Rattle.hart_loop.specs.Journals.{entries_in}
 use Rattle.lithe_call.specs.Output.{table_plan}
-use Rattle.lithe_call.proofs.Sizes.{accepted_sized}
 use Rattle.lithe_call.proofs.run.run.Goals as goal
 
 -- the store that a program ends with has its cells
@@ -24,7 +24,7 @@ final_cells program =
 pub write_arrays-requires-clause-sized : goal.write_arrays-requires-clause-sized
 write_arrays-requires-clause-sized c =
     subst (λ (p : Program). AreSized (arrays_of (declarations_of p.arrays))) (sym c.program.ensures.same)
-    (accepted_sized (program_of c.args.accepted.now.program) c.program.ensures.kept.accepted)
+    (sized_in_range (program_of c.args.accepted.now.program) c.program.ensures.kept.accepted.ranges)
 
 pub write_arrays-requires-clause-whole : goal.write_arrays-requires-clause-whole
 write_arrays-requires-clause-whole c =

@@ -4,7 +4,8 @@ use mir.Val.{SFits}
 use Rattle.std.proofs.lemmas.Int.{to_z-of_z, ints}
 use Rattle.array_tree.specs.Trees.{expression_of, statement_of, sequence_of, sequence, sequences}
 use Rattle.array_meaning.specs.Stores.{length_of}
-use Rattle.site_walk.specs.Outside.{or_else, index_fault, first_outside, or_outside}
+use Rattle.std.specs.Option.{option_or}
+use Rattle.site_walk.specs.Outside.{index_fault, first_outside, or_outside}
 use Rattle.array_meaning.specs.Work.{statement_work, sequence_work, branches_work, phases_work, loop}
 use Rattle.site_walk.proofs.OutsideLemmas.{outside_followed_by, outside_set, outside_choose}
 use Rattle.array_meaning.proofs.ThreadLemmas.{statements_left, branches_left, phases_left, turns_left}
@@ -72,8 +73,8 @@ keep_statement-returns-in-Assign t c =
     let line = c.in-Assign.line in
     rw (c.in-Assign.is, statement-assign)
     (c.keep_index.ensures
-    ∙ ap (λ s. or_else s (index_fault line (length_of arrays c.in-Assign.array) (visit arrays line false vars c.in-Assign.array index).index))
-    (c.keep_reads-in-Assign.ensures ∙ ap (λ s. or_else s (first_outside arrays (reads_in arrays line vars value))) c.keep_reads.ensures)
+    ∙ ap (λ s. option_or s (index_fault line (length_of arrays c.in-Assign.array) (visit arrays line false vars c.in-Assign.array index).index))
+    (c.keep_reads-in-Assign.ensures ∙ ap (λ s. option_or s (first_outside arrays (reads_in arrays line vars value))) c.keep_reads.ensures)
     ∙ sym (outside_set arrays line vars c.in-Assign.array index value c.args.found.now))
 
 pub keep_statement-returns-in-If : goal.keep_statement-returns-in-If

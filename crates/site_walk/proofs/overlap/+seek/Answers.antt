@@ -5,7 +5,7 @@ use Rattle.array_tree.specs.Trees.{statement_of, sequence_of, sequences_of, sequ
 use Rattle.array_meaning.specs.Sites.{branch_works, statement_sites, sequence_sites, branches_sites, phases_sites, loop_sites}
 use Rattle.array_eval.specs.Views.{vars_of}
 use Rattle.site_walk.specs.FirstOverlap.{rounds_fault, first_overlap, or_overlap}
-use Rattle.site_walk.proofs.OutsideLemmas.{or_else_assoc}
+use Rattle.array_meaning.proofs.LastLemmas.{or_assoc}
 use Rattle.site_walk.proofs.TreeLemmas.{statement-if, statement-par}
 use Rattle.site_walk.proofs.SiteLemmas.{or_overlap_append, statement_next, branch_next, phase_next, turn_next}
 use Rattle.site_walk.proofs.overlap.+seek.Goals as goal
@@ -88,4 +88,4 @@ seek_statement-returns-in-Par-clause-found t c =
     let own = rounds_fault arrays c.in-Par.line (branch_works (sequences_of c.in-Par.branches) vars ∷ []) in
     let inner = branches_sites (sequences_of c.in-Par.branches) vars in
     rw (c.in-Par.is, statement-par)
-    (c.seek_branches.ensures.found ∙ ap (or_overlap arrays inner) c.keep_par.ensures.found ∙ or_else_assoc c.args.found.now own (first_overlap arrays inner))
+    (c.seek_branches.ensures.found ∙ ap (or_overlap arrays inner) c.keep_par.ensures.found ∙ or_assoc c.args.found.now own (first_overlap arrays inner))

@@ -4,7 +4,7 @@ use Rattle.array_meaning.specs.Work.{sequence_work}
 use Rattle.array_meaning.specs.Members.{team_works}
 use Rattle.array_meaning.specs.Sites.{phase_rounds}
 use Rattle.array_eval.specs.Views.{vars_of}
-use Rattle.site_walk.specs.Outside.{or_else}
+use Rattle.std.specs.Option.{option_or}
 use Rattle.site_walk.specs.FirstOverlap.{rounds_fault}
 use Rattle.site_walk.proofs.SiteLemmas.{round_next}
 use Rattle.site_walk.proofs.overlap.keep_team.Goals as goal
@@ -21,8 +21,8 @@ loop-phase-preserved c =
     let items = c.deref-phase-items.result.now in
     record {
       places = c.keep_phase.ensures.places;
-      found = ap (λ f. or_else f (rounds_fault arrays line (phase_rounds (sequences (map sequence_of (drop (c.loop-phase.phase-index + 1) items))) var low high members vars)))
-          (c.keep_phase.ensures.found ∙ ap (λ b. or_else c.loop-phase.found (rounds_fault arrays line (team_works var low high members (sequence_work (sequence_of b)) vars ∷ []))) c.phase-item.is)
+      found = ap (λ f. option_or f (rounds_fault arrays line (phase_rounds (sequences (map sequence_of (drop (c.loop-phase.phase-index + 1) items))) var low high members vars)))
+          (c.keep_phase.ensures.found ∙ ap (λ b. option_or c.loop-phase.found (rounds_fault arrays line (team_works var low high members (sequence_work (sequence_of b)) vars ∷ []))) c.phase-item.is)
           ∙ sym (round_next arrays line items c.loop-phase.phase-index c.phase-item.result var low high members vars c.loop-phase.found c.loop-phase-test.true)
           ∙ c.loop-phase.invariant.found;
     }

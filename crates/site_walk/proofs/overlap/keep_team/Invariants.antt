@@ -2,7 +2,7 @@ use Rattle.std.proofs.Common.{◌≡◌, drop, map}
 use Rattle.array_tree.specs.Trees.{sequence_of, sequences, sequences_of}
 use Rattle.array_meaning.specs.Sites.{phase_rounds}
 use Rattle.array_eval.specs.Views.{vars_of}
-use Rattle.site_walk.specs.Outside.{or_else}
+use Rattle.std.specs.Option.{option_or}
 use Rattle.site_walk.specs.FirstOverlap.{rounds_fault}
 use Rattle.site_walk.specs.Marks.{HasPlaces}
 use Rattle.site_walk.proofs.overlap.keep_team.Given as goal
@@ -10,6 +10,6 @@ use Rattle.site_walk.proofs.overlap.keep_team.Given as goal
 abbrev pub invariant-loop-phase : goal.invariant-loop-phase
 invariant-loop-phase l = record {
   places : HasPlaces l.layout l.table;
-  found : or_else l.found (rounds_fault l.layout l.line (phase_rounds (sequences (map sequence_of (drop l.phase-index l.phase-items))) l.var l.low l.high l.members (vars_of l.scope)))
-      ≡ or_else l.fn.found (rounds_fault l.layout l.line (phase_rounds (sequences_of l.phases) l.var l.low l.high l.members (vars_of l.scope)));
+  found : option_or l.found (rounds_fault l.layout l.line (phase_rounds (sequences (map sequence_of (drop l.phase-index l.phase-items))) l.var l.low l.high l.members (vars_of l.scope)))
+      ≡ option_or l.fn.found (rounds_fault l.layout l.line (phase_rounds (sequences_of l.phases) l.var l.low l.high l.members (vars_of l.scope)));
 }

@@ -15,5 +15,5 @@ returns-clause-laid c =
     let all : List Write → Trace = λ pairs. noted_all pairs store in
     let left : c.loop-cell.self ≡ noted_all c.args.written.now.pairs store =
     sym (ap done (drop_all c.loop-cell.cell-index items c.loop-cell-test.false)) ∙ c.loop-cell.invariant ∙ ap all c.pairs-cell-items.ensures in
-    let same : length store.cells ≡ length store.marks = sym (ap cells c.self.view_is) ∙ c.self.invariant ∙ ap marks c.self.view_is in
+    let same : length store.cells ≡ length store.marks = sym (ap cells c.self.view_is) ∙ c.self.invariant.0 ∙ ap marks c.self.view_is in
     laid_marks c.args.written.now.pairs store c.loop-cell.self left same
