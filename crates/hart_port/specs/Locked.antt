@@ -24,6 +24,7 @@ shared_view p h o mine homes closed empty gone = record {
   empty = empty;
   gone = gone;
   alone = false;
+  table = [];
 }
 
 -- the port of a hart that made no transfer yet

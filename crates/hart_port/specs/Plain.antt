@@ -28,6 +28,7 @@ first_view p = record {
   empty = no_site p;
   gone = no_site p;
   alone = true;
+  table = [];
 }
 
 -- the view of the only hart of the ledger
@@ -42,6 +43,7 @@ view_of l closed empty gone = record {
   empty = empty;
   gone = gone;
   alone = true;
+  table = [];
 }
 
 -- the word that the port shows of a site: it is closing where it was ever closed

@@ -31,6 +31,8 @@ pub record PortView : Type 0 where
   pub gone : List Bool
   -- whether no other hart shares the table
   pub alone : Bool
+  -- what tells the table from others of its kind; empty where nobody asks
+  pub table : List ℕ
 
 -- the site is in the set
 abbrev pub is_in : List Bool → ℕ → Bool

@@ -14,13 +14,14 @@ use Rattle.site_steps.proofs.Overs.{over_stays, taken_over}
 use Rattle.site_steps.proofs.Children.{before_next}
 
 pub back_refl : (h : PortView) → IsSettled h → IsBack h h
-back_refl h inner = record { plan = refl; hart = refl; alone = refl; owner = refl; homes = λ s le. refl; inner = inner; closed = λ s le. refl; gone = λ s is. is; over = λ s. omega arith }
+back_refl h inner = record { plan = refl; hart = refl; alone = refl; table = refl; owner = refl; homes = λ s le. refl; inner = inner; closed = λ s le. refl; gone = λ s is. is; over = λ s. omega arith }
 
 pub back_then : (a b c : PortView) → IsBack a b → IsBack b c → IsBack a c
 back_then a b c f g = record {
   plan = g.plan ∙ f.plan;
   hart = g.hart ∙ f.hart;
   alone = g.alone ∙ f.alone;
+  table = g.table ∙ f.table;
   owner = g.owner ∙ f.owner;
   homes = λ s le. g.homes s (let o = f.owner in omega arith) ∙ f.homes s le;
   inner = g.inner;
@@ -37,6 +38,7 @@ back_over h a b c s is_plan site around settled is back looked = (
     plan = ap (λ (x : PortView). x.plan) looked.same ∙ plan;
     hart = ap (λ (x : PortView). x.hart) looked.same ∙ back.hart ∙ ap (λ (x : PortView). x.hart) is;
     alone = ap (λ (x : PortView). x.alone) looked.same ∙ back.alone ∙ ap (λ (x : PortView). x.alone) is;
+    table = ap (λ (x : PortView). x.table) looked.same ∙ back.table ∙ ap (λ (x : PortView). x.table) is;
     owner = own;
     homes = λ x le. without_other c.homes c.owner x (λ e. omega (arith, e, here)) ∙ homes x (omega arith) ∙ with_other h.homes s x (λ e. omega arith);
     inner = λ x above. elim (cases_eq x s) [
@@ -128,6 +130,7 @@ back_visited h a b s is_plan site around settled is back = record {
   plan = plan;
   hart = back.hart ∙ ap (λ (x : PortView). x.hart) is;
   alone = back.alone ∙ ap (λ (x : PortView). x.alone) is;
+  table = back.table ∙ ap (λ (x : PortView). x.table) is;
   owner = own;
   homes = λ x le. homes x (omega arith);
   inner = λ x above. let up : h.owner < x = omega (arith, own, above) in elim (cases_lt s x) [

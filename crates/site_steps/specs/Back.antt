@@ -14,6 +14,7 @@ pub record IsBack (h after : PortView) : Type 0 where
   pub plan : after.plan ≡ h.plan
   pub hart : after.hart ≡ h.hart
   pub alone : after.alone ≡ h.alone
+  pub table : after.table ≡ h.table
   pub owner : after.owner ≡ h.owner
   pub homes : (s : ℕ) → s ≤ h.owner → is_in after.homes s ≡ is_in h.homes s
   pub inner : IsSettled after

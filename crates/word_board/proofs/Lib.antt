@@ -2,3 +2,4 @@ pub mod Allowed
 pub mod Split
 pub mod Gathers
 pub mod Ports
+pub mod Names

@@ -1,5 +1,5 @@
 -- What a look at the owner tells a port.
-use Rattle.std.proofs.Common.{◌≡◌, ◌≢◌, ◌⊎◌, ℕ, zero, suc, ◌<◌, Bool, true, false, not, ◌&&◌, ◌||◌, eqb, eq-eqb, inl, inr, ⊎_elim, refl, ap, arith}
+use Rattle.std.proofs.Common.{◌≡◌, ◌≢◌, ◌⊎◌, ℕ, zero, suc, ◌<◌, List, Bool, true, false, not, ◌&&◌, ◌||◌, eqb, eq-eqb, inl, inr, ⊎_elim, refl, ap, arith}
 use Rattle.std.proofs.lemmas.Bool.{eqb-true}
 use Rattle.hart_port.specs.PortView.{Sees as PortSees}
 use Rattle.hart_port.specs.Words.{owner_field}
@@ -8,7 +8,7 @@ use Rattle.hart_port.specs.declared.port.Seen.TheVariants.{Empty, Flying, Held}
 use Rattle.board_rule.specs.declared.view.View.{View}
 use Rattle.board_rule.specs.Words.{others_at}
 use Rattle.word_board.specs.Calls.{Sees}
-use Rattle.word_board.specs.PortViews.{port_view}
+use Rattle.word_board.specs.PortViews.{shared_view}
 
 either : (a b : Bool) → (a || b) ≡ true → (a ≡ true) ⊎ (b ≡ true)
 either true b e = inl refl
@@ -27,7 +27,7 @@ held (suc n) w h x e = ⊎_elim
     (λ below. let r = held n w h x below in (r.0, (let lt = r.1 in omega arith), r.2, r.3))
     (either (not (eqb n h) && eqb (owner_field w n) x) (others_at n w h x) e)
 
-pub sees : (v w : View) (r : Seen) → Sees v r w → PortSees (port_view v) r (port_view w)
-sees v w Empty s = ap port_view s.4
-sees v w (Flying shown) s = (ap port_view s.1, s.0)
-sees v w (Held shown) s = (ap port_view s.1.2, held v.plan.harts shown v.hart v.owner s.0)
+pub sees : (name : List ℕ) (v w : View) (r : Seen) → Sees v r w → PortSees (shared_view name v) r (shared_view name w)
+sees name v w Empty s = ap (shared_view name) s.4
+sees name v w (Flying shown) s = (ap (shared_view name) s.1, s.0)
+sees name v w (Held shown) s = (ap (shared_view name) s.1.2, held v.plan.harts shown v.hart v.owner s.0)

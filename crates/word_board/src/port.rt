@@ -12,6 +12,7 @@ use crate::seat::HartSeat;
 use hart_port::{Entered, Port, Seen, Taken};
 
 /// The port of a hart of a word board. No call waits.
+#[derive(Drop)]
 pub struct WordPort<'a> {
     board: &'a WordBoard,
     seat: HartSeat,
@@ -51,7 +52,7 @@ impl<'a> WordPort<'a> {
 impl<'a> Port for WordPort<'a> {
     type Hold = ();
 
-    ghost seen = { λ w. port_view w.seat.seat.me.0 };
+    ghost seen = { λ w. port_view w.seat };
 
     ghost refused = { λ w. w.refused };
 
@@ -68,11 +69,11 @@ impl<'a> Port for WordPort<'a> {
     }
 
     fn register(&mut self, _hold: (), site: u16) -> Result<(), Taken>
-        requires known { IsSite (port_view self.old.seat.seat.me.0).plan site }
-        requires child { (port_view self.old.seat.seat.me.0).owner ≡ parent (port_view self.old.seat.seat.me.0).plan site }
-        ensures does { Registers (port_view self.old.seat.seat.me.0) site result (port_view self.new.seat.seat.me.0) }
+        requires known { IsSite (port_view self.old.seat).plan site }
+        requires child { (port_view self.old.seat).owner ≡ parent (port_view self.old.seat).plan site }
+        ensures does { Registers (port_view self.old.seat) site result (port_view self.new.seat) }
         ensures count { RoseIfErr result self.old.refused self.new.refused }
-        ensures kept { IsPortView (port_view self.new.seat.seat.me.0) }
+        ensures kept { IsPortView (port_view self.new.seat) }
         ensures board { self.new.board.now ≡ self.old.board.now }
     {
         let answer = self.board.register(&mut self.seat, site);
@@ -83,22 +84,22 @@ impl<'a> Port for WordPort<'a> {
     }
 
     fn request(&mut self, _hold: (), site: u16, count: u8)
-        requires known { IsSite (port_view self.old.seat.seat.me.0).plan site }
-        requires may { MayRequest (port_view self.old.seat.seat.me.0) site count }
-        ensures does { port_view self.new.seat.seat.me.0 ≡ requested_by (port_view self.old.seat.seat.me.0) site count }
+        requires known { IsSite (port_view self.old.seat).plan site }
+        requires may { MayRequest (port_view self.old.seat) site count }
+        ensures does { port_view self.new.seat ≡ requested_by (port_view self.old.seat) site count }
         ensures count { self.new.refused ≡ self.old.refused }
-        ensures kept { IsPortView (port_view self.new.seat.seat.me.0) }
+        ensures kept { IsPortView (port_view self.new.seat) }
         ensures board { self.new.board.now ≡ self.old.board.now }
     {
         self.board.request(&mut self.seat, site, count);
     }
 
     fn try_enter(&mut self, _hold: (), site: u16) -> Entered
-        requires known { IsSite (port_view self.old.seat.seat.me.0).plan site }
-        requires child { (port_view self.old.seat.seat.me.0).owner ≡ parent (port_view self.old.seat.seat.me.0).plan site }
-        ensures does { Enters (port_view self.old.seat.seat.me.0) site result (port_view self.new.seat.seat.me.0) }
+        requires known { IsSite (port_view self.old.seat).plan site }
+        requires child { (port_view self.old.seat).owner ≡ parent (port_view self.old.seat).plan site }
+        ensures does { Enters (port_view self.old.seat) site result (port_view self.new.seat) }
         ensures count { RoseUnlessInside result self.old.refused self.new.refused }
-        ensures kept { IsPortView (port_view self.new.seat.seat.me.0) }
+        ensures kept { IsPortView (port_view self.new.seat) }
         ensures board { self.new.board.now ≡ self.old.board.now }
     {
         let answer = self.board.try_enter(&mut self.seat, site);
@@ -109,55 +110,55 @@ impl<'a> Port for WordPort<'a> {
     }
 
     fn yield_hart(&mut self, _hold: ())
-        requires inside { 0 < (port_view self.old.seat.seat.me.0).owner }
-        requires guest { is_in (port_view self.old.seat.seat.me.0).homes (port_view self.old.seat.seat.me.0).owner ≡ false }
-        ensures does { port_view self.new.seat.seat.me.0 ≡ yielded (port_view self.old.seat.seat.me.0) }
+        requires inside { 0 < (port_view self.old.seat).owner }
+        requires guest { is_in (port_view self.old.seat).homes (port_view self.old.seat).owner ≡ false }
+        ensures does { port_view self.new.seat ≡ yielded (port_view self.old.seat) }
         ensures count { self.new.refused ≡ self.old.refused }
-        ensures kept { IsPortView (port_view self.new.seat.seat.me.0) }
+        ensures kept { IsPortView (port_view self.new.seat) }
         ensures board { self.new.board.now ≡ self.old.board.now }
     {
         self.board.yield_hart(&mut self.seat);
     }
 
     fn close_site(&mut self, _hold: ())
-        requires home { is_in (port_view self.old.seat.seat.me.0).homes (port_view self.old.seat.seat.me.0).owner ≡ true }
-        requires open_yet { is_in (port_view self.old.seat.seat.me.0).closed (port_view self.old.seat.seat.me.0).owner ≡ false }
-        ensures does { port_view self.new.seat.seat.me.0 ≡ closes (port_view self.old.seat.seat.me.0) }
+        requires home { is_in (port_view self.old.seat).homes (port_view self.old.seat).owner ≡ true }
+        requires open_yet { is_in (port_view self.old.seat).closed (port_view self.old.seat).owner ≡ false }
+        ensures does { port_view self.new.seat ≡ closes (port_view self.old.seat) }
         ensures count { self.new.refused ≡ self.old.refused }
-        ensures kept { IsPortView (port_view self.new.seat.seat.me.0) }
+        ensures kept { IsPortView (port_view self.new.seat) }
         ensures board { self.new.board.now ≡ self.old.board.now }
     {
         self.board.close_site(&mut self.seat);
     }
 
     fn see_gone(&mut self, _hold: (), site: u16) -> bool
-        requires { IsSite (port_view self.old.seat.seat.me.0).plan site }
-        ensures gone { result ≡ true → port_view self.new.seat.seat.me.0 ≡ sees_gone (port_view self.old.seat.seat.me.0) site }
-        ensures not_yet { result ≡ false → port_view self.new.seat.seat.me.0 ≡ port_view self.old.seat.seat.me.0 }
-        ensures alone { (port_view self.old.seat.seat.me.0).alone ≡ true → 1 ≤ unregisters site (port_view self.old.seat.seat.me.0).mine → result ≡ true }
+        requires { IsSite (port_view self.old.seat).plan site }
+        ensures gone { result ≡ true → port_view self.new.seat ≡ sees_gone (port_view self.old.seat) site }
+        ensures not_yet { result ≡ false → port_view self.new.seat ≡ port_view self.old.seat }
+        ensures alone { (port_view self.old.seat).alone ≡ true → 1 ≤ unregisters site (port_view self.old.seat).mine → result ≡ true }
         ensures count { self.new.refused ≡ self.old.refused }
-        ensures kept { IsPortView (port_view self.new.seat.seat.me.0) }
+        ensures kept { IsPortView (port_view self.new.seat) }
         ensures board { self.new.board.now ≡ self.old.board.now }
     {
         self.board.see_gone(&mut self.seat, site)
     }
 
     fn see_empty(&mut self, _hold: ()) -> Seen
-        requires home { is_in (port_view self.old.seat.seat.me.0).homes (port_view self.old.seat.seat.me.0).owner ≡ true }
-        requires closed { is_in (port_view self.old.seat.seat.me.0).closed (port_view self.old.seat.seat.me.0).owner ≡ true }
-        ensures does { Sees (port_view self.old.seat.seat.me.0) result (port_view self.new.seat.seat.me.0) }
+        requires home { is_in (port_view self.old.seat).homes (port_view self.old.seat).owner ≡ true }
+        requires closed { is_in (port_view self.old.seat).closed (port_view self.old.seat).owner ≡ true }
+        ensures does { Sees (port_view self.old.seat) result (port_view self.new.seat) }
         ensures count { self.new.refused ≡ self.old.refused }
-        ensures kept { IsPortView (port_view self.new.seat.seat.me.0) }
+        ensures kept { IsPortView (port_view self.new.seat) }
         ensures board { self.new.board.now ≡ self.old.board.now }
     {
         self.board.see_empty(&mut self.seat)
     }
 
     fn unregister(&mut self, _hold: ())
-        requires { MayUnregister (port_view self.old.seat.seat.me.0) }
-        ensures does { port_view self.new.seat.seat.me.0 ≡ unregistered (port_view self.old.seat.seat.me.0) }
+        requires { MayUnregister (port_view self.old.seat) }
+        ensures does { port_view self.new.seat ≡ unregistered (port_view self.old.seat) }
         ensures count { self.new.refused ≡ self.old.refused }
-        ensures kept { IsPortView (port_view self.new.seat.seat.me.0) }
+        ensures kept { IsPortView (port_view self.new.seat) }
         ensures board { self.new.board.now ≡ self.old.board.now }
     {
         self.board.unregister(&mut self.seat);
