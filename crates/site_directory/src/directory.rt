@@ -1,0 +1,84 @@
+//! The cells of the directory, and one hart's sight of them.
+ghost use Rattle.std.specs.Prelude.{◌≡◌, ◌+◌, MatchResult, IfOk, vec_len, length};
+ghost use Rattle.once_cell.specs.Once.{cell_name};
+
+use crate::shared_site::SharedSite;
+use crossbeam_utils::Backoff;
+use once_cell::race::{Note, OnceBox};
+use std::alloc::{AllocError, Global};
+use std::sync::Wait;
+
+/// One hart's sight of the cell of one site.
+#[derive(Drop)]
+pub struct SiteLine<'a, 'p> {
+    cell: &'a OnceBox<SharedSite<'p>>,
+    note: Note<SharedSite<'p>>,
+    ghost same: { note.cell ≡ cell_name cell.now },
+}
+
+impl<'a, 'p> SiteLine<'a, 'p> {
+    /// The first sight of a cell.
+    pub fn new(cell: &'a OnceBox<SharedSite<'p>>) -> SiteLine<'a, 'p> {
+        SiteLine {
+            cell,
+            note: cell.note(),
+        }
+    }
+
+    /// The scheduler in the cell, once it stands there.
+    pub fn find(&mut self) -> Option<&'a SharedSite<'p>> {
+        self.cell.get_as(&mut self.note)
+    }
+
+    /// The scheduler in the cell. It waits until one stands there.
+    pub fn until_found<R: Wait>(&mut self, rt: &R) -> &'a SharedSite<'p> {
+        let backoff = Backoff::new();
+        for _ in rt.forever() {
+            if let Some(shared) = self.find() {
+                return shared;
+            }
+            backoff.snooze();
+        }
+        unreachable!()
+    }
+
+    /// Puts the scheduler into the cell. A cell that has one already gives it back.
+    pub fn publish(
+        &mut self,
+        shared: Box<SharedSite<'p>>,
+    ) -> Result<&'a SharedSite<'p>, Box<SharedSite<'p>>>
+        ensures { MatchResult result (λ published. published.now ≡ shared.entry.value) (λ back. back.value ≡ shared.entry.value) }
+    {
+        self.cell.set_as(shared, &mut self.note)?;
+        match self.cell.get_as(&mut self.note) {
+            Some(published) => Ok(published),
+            None => unreachable!(),
+        }
+    }
+}
+
+/// An empty cell for each site of a plan with so many sites, that of site s at place s; the base has one too, which stays
+/// empty.
+pub fn cells<'p>(alloc: Global, sites: u16) -> Result<Vec<OnceBox<SharedSite<'p>>>, AllocError>
+    ensures { IfOk result (λ cells. vec_len cells ≡ sites + 1) }
+{
+    let mut cells = Vec::with_capacity(alloc, usize::from(sites) + 1)?;
+    for _ in 0..usize::from(sites) + 1 {
+        cells.push(OnceBox::new(alloc))?;
+    }
+    Ok(cells)
+}
+
+/// A hart's first sight of each cell, in their order.
+pub fn lines<'a, 'p>(
+    alloc: Global,
+    cells: &'a [OnceBox<SharedSite<'p>>],
+) -> Result<Vec<SiteLine<'a, 'p>>, AllocError>
+    ensures { IfOk result (λ lines. vec_len lines ≡ length cells.now) }
+{
+    let mut lines = Vec::with_capacity(alloc, cells.len())?;
+    for cell in cells {
+        lines.push(SiteLine::new(cell))?;
+    }
+    Ok(lines)
+}

@@ -1,0 +1,12 @@
+//! What the directory publishes of a site.
+use forkjoin_sched::SharedPool;
+use loop_team::SharedTeam;
+
+/// The scheduler of a site, for all harts that come to it.
+#[derive(Drop)]
+pub enum SharedSite<'p> {
+    /// That of a `par`.
+    Pool(SharedPool<'p>),
+    /// That of a `team`.
+    Team(SharedTeam<'p>),
+}
