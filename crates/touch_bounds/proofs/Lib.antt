@@ -1,3 +1,4 @@
 pub mod RangeLemmas
 pub mod SumLemmas
+pub mod ToldLemmas
 pub mod ProductLemmas

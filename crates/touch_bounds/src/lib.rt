@@ -4,7 +4,11 @@
 mod expression;
 mod interval;
 mod ranges;
+mod reach;
+mod tell;
+mod touch;
 
 pub use expression::interval_of;
 pub use interval::Interval;
 pub use ranges::Ranges;
+pub use touch::{Stretch, Touch, UNTOUCHED};
