@@ -1,5 +1,4 @@
 pub mod OutsideLemmas
-pub mod TreeLemmas
 pub mod MarkLemmas
 pub mod RoundLemmas
 pub mod TouchedLemmas

@@ -1,4 +1,6 @@
 pub mod RangeLemmas
 pub mod SumLemmas
 pub mod ToldLemmas
+pub mod TreeLemmas
+pub mod WorkLemmas
 pub mod ProductLemmas

@@ -1,6 +1,6 @@
 -- What is told of the cells that a work touches.
 use Rattle.std.specs.Prelude.{ℕ, ◌+◌, ◌<◌, ◌≤◌, Bool, true, false, List, [], ◌∷◌, length, Option, IsTrue, ℤ, pos, ◌≤ℤ◌, ◌<ℤ◌, unsigned_abs, ◌⊎◌, min, max, slice_index_or}
-use Rattle.array_tree.specs.Trees.{Expression, Assign}
+use Rattle.array_tree.specs.Trees.{Expression, Sequence, Assign, If}
 use Rattle.array_meaning.specs.Stores.{Arrays, Vars, length_of}
 use Rattle.array_meaning.specs.Steps.{Steps}
 use Rattle.array_meaning.specs.Work.{Work, statement_work}
@@ -91,3 +91,8 @@ IsWorkTold arrays touches bounds work = (vars : Vars) → AreWithin bounds vars 
 abbrev pub IsAssignTold : Arrays → List Touch → Bounds → List ℕ → Expression → Expression → Type 0
 IsAssignTold arrays touches bounds array index value =
     (line : ℕ) → IsWorkTold arrays touches bounds (statement_work (Assign line array index value))
+
+-- Of an `if`, on whatever line.
+abbrev pub IsChoiceTold : Arrays → List Touch → Bounds → Expression → Sequence → Sequence → Type 0
+IsChoiceTold arrays touches bounds test then_block else_block =
+    (line : ℕ) → IsWorkTold arrays touches bounds (statement_work (If line test then_block else_block))

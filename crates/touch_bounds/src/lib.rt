@@ -7,8 +7,10 @@ mod ranges;
 mod reach;
 mod tell;
 mod touch;
+mod work;
 
 pub use expression::interval_of;
 pub use interval::Interval;
 pub use ranges::Ranges;
+pub use work::{tell_block, tell_loop, tell_statement};
 pub use touch::{Stretch, Touch, UNTOUCHED};

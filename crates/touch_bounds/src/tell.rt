@@ -1,18 +1,15 @@
 //! What is told of the cells that statements touch.
-ghost use Rattle.std.specs.Prelude.{◌≡◌, ◌<◌, true, false, length};
+ghost use Rattle.std.specs.Prelude.{◌≡◌, ◌<◌, length};
 ghost use Rattle.std.specs.Bool.{OnTrue};
-ghost use Rattle.array_tree.specs.Trees.{expression_of, statement_of, sequence_of, sequences_of};
-ghost use Rattle.array_meaning.specs.Work.{statement_work, sequence_work, branches_work, phases_work, loop};
-ghost use Rattle.array_eval.specs.Layouts.{number_of};
+ghost use Rattle.array_tree.specs.Trees.{expression_of};
 ghost use Rattle.touch_bounds.specs.Ranges.{bounds_of};
-ghost use Rattle.touch_bounds.specs.Touches.{side, touch_at, hull, Widens, IsIndexTold, AreReadsTold, IsAssignTold, IsWorkTold};
+ghost use Rattle.touch_bounds.specs.Touches.{side, touch_at, hull, Widens, IsIndexTold, AreReadsTold, IsAssignTold};
 
-use crate::interval::Interval;
 use crate::ranges::Ranges;
 use crate::reach::reach;
 use crate::touch::{Stretch, Touch};
 use array_eval::Layout;
-use array_tree::{Block, Blocks, Expr, Name, Stmt};
+use array_tree::{Expr, Name};
 
 // Adds cells to what is told of an array. Whether it is one of the program.
 fn add_cells(number: usize, writes: bool, cells: Stretch, touches: &mut [Touch]) -> bool
@@ -47,8 +44,8 @@ fn tell_index(
     }
 }
 
-// Tells of the reads of an expression.
-fn tell_reads(layout: &Layout, expr: &Expr, ranges: &Ranges, touches: &mut [Touch]) -> bool
+/// Tells of the reads of an expression.
+pub(crate) fn tell_reads(layout: &Layout, expr: &Expr, ranges: &Ranges, touches: &mut [Touch]) -> bool
     requires places { length touches.old ≡ length layout.now }
     ensures wider { Widens touches.old touches.new }
     ensures told { OnTrue result (AreReadsTold layout.now touches.new (bounds_of ranges.now) (expression_of expr.now)) }
@@ -71,8 +68,8 @@ fn tell_reads(layout: &Layout, expr: &Expr, ranges: &Ranges, touches: &mut [Touc
     }
 }
 
-// Tells of an assignment.
-fn tell_assign(
+/// Tells of an assignment.
+pub(crate) fn tell_assign(
     layout: &Layout,
     array: &Name,
     index: &Expr,

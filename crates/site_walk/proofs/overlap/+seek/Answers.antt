@@ -6,7 +6,7 @@ use Rattle.array_meaning.specs.Sites.{branch_works, statement_sites, sequence_si
 use Rattle.array_eval.specs.Views.{vars_of}
 use Rattle.site_walk.specs.FirstOverlap.{rounds_fault, first_overlap, or_overlap}
 use Rattle.site_walk.proofs.OutsideLemmas.{or_else_assoc}
-use Rattle.site_walk.proofs.TreeLemmas.{statement-if, statement-par}
+use Rattle.touch_bounds.proofs.TreeLemmas.{statement-if, statement-par}
 use Rattle.site_walk.proofs.SiteLemmas.{or_overlap_append, statement_next, branch_next, phase_next, turn_next}
 use Rattle.site_walk.proofs.overlap.+seek.Goals as goal
 
