@@ -1,3 +1,4 @@
+pub mod PieceLemmas
 pub mod RangeLemmas
 pub mod SumLemmas
 pub mod ToldLemmas

@@ -1,8 +1,10 @@
 //! What expressions and statements can come to, seen from their text: bounds of values, and the cells that are touched.
 #![tactic(auto)]
 
+mod apart;
 mod expression;
 mod interval;
+mod laws;
 mod ranges;
 mod reach;
 mod tell;
@@ -11,6 +13,7 @@ mod work;
 
 pub use expression::interval_of;
 pub use interval::Interval;
+pub use laws::clear_pieces_are_apart;
 pub use ranges::Ranges;
 pub use work::{tell_block, tell_loop, tell_statement};
 pub use touch::{Stretch, Touch, UNTOUCHED};
