@@ -1,5 +1,6 @@
 pub mod PieceLemmas
 pub mod RangeLemmas
+pub mod RoundLemmas
 pub mod SumLemmas
 pub mod ToldLemmas
 pub mod TreeLemmas
