@@ -8,3 +8,4 @@ pub mod PieceLemmas
 pub mod AloneLemmas
 pub mod SiteLemmas
 pub mod ApartLemmas
+pub mod SettledLemmas

@@ -57,11 +57,11 @@ pub product_lies : (left right told : Interval) (ll lh hl hh : ℤ) → AreFit l
     LiesIn told (seen ll) → LiesIn told (seen lh) → LiesIn told (seen hl) → LiesIn told (seen hh) → LeadInto wrapping_product left right told
 product_lies left right told ll lh hl hh fl fr ft a b c d p q r s x y hx hy =
     let inside = corners told left.least left.greatest right.least right.greatest x y
-      (at_product told left.least right.least ll fl.least fr.least a p)
-      (at_product told left.least right.greatest lh fl.least fr.greatest b q)
-      (at_product told left.greatest right.least hl fl.greatest fr.least c r)
-      (at_product told left.greatest right.greatest hh fl.greatest fr.greatest d s)
-      hx.low hx.high hy.low hy.high in
+    (at_product told left.least right.least ll fl.least fr.least a p)
+    (at_product told left.least right.greatest lh fl.least fr.greatest b q)
+    (at_product told left.greatest right.least hl fl.greatest fr.least c r)
+    (at_product told left.greatest right.greatest hh fl.greatest fr.greatest d s)
+    hx.low hx.high hy.low hy.high in
     subst (LiesIn told) (sym (int_wrap_fits w64 (x *ℤ y) (between_fits told.least (x *ℤ y) told.greatest ft.least ft.greatest inside.low inside.high))) inside
 
 -- ---- quotients

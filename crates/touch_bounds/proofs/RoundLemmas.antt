@@ -44,7 +44,7 @@ pub branch_next : (arrays : Arrays) (pieces : List Piece) (p : Piece) (bs : List
 branch_next arrays pieces p bs i d vars all small before told =
     subst (λ k. Completes arrays (pieces ++ p ∷ []) (branch_works (sequences (map sequence_of (drop k bs))) vars) all) (sym (add-one i))
     (completes_next arrays pieces p (sequence_work (sequence_of (get_or bs i d)) vars) (branch_works (sequences (map sequence_of (drop (suc i) bs))) vars) all
-      (subst (λ left. Completes arrays pieces (branch_works (sequences (map sequence_of left)) vars) all) (drop-cons bs i d small) before) told)
+    (subst (λ left. Completes arrays pieces (branch_works (sequences (map sequence_of left)) vars) all) (drop-cons bs i d small) before) told)
 
 -- of members, member j
 pub member_next : (arrays : Arrays) (pieces : List Piece) (p : Piece) (var : List ℕ) (low high : ℤ) (m : ℕ) (body : Work) (j : ℕ) (vars : Vars) (all : List Steps) → j < m →

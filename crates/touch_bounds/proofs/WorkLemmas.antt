@@ -35,7 +35,7 @@ pub statements_told : (arrays : Arrays) (t : List Touch) (bounds : Bounds) (ss :
 statements_told arrays t bounds ss i d small first rest =
     subst (λ more. IsWorkTold arrays t bounds (sequence_work (sequence (map statement_of more)))) (sym (drop-cons ss i d small))
     (λ vars within. steps_told arrays t (statement_work (statement_of (get_or ss i d)) vars) (sequence_work (sequence (map statement_of (drop (suc i) ss))) vars)
-      (first vars within) (subst (λ k. AreVisitsTold arrays t (walk arrays (sequence_work (sequence (map statement_of (drop k ss))) vars))) (add-one i) (rest vars within)))
+    (first vars within) (subst (λ k. AreVisitsTold arrays t (walk arrays (sequence_work (sequence (map statement_of (drop k ss))) vars))) (add-one i) (rest vars within)))
 
 pub branches_told : (arrays : Arrays) (t : List Touch) (bounds : Bounds) (bs : List Block) (i : ℕ) (d : Block) → i < length bs →
     IsWorkTold arrays t bounds (sequence_work (sequence_of (get_or bs i d))) →
@@ -44,7 +44,7 @@ pub branches_told : (arrays : Arrays) (t : List Touch) (bounds : Bounds) (bs : L
 branches_told arrays t bounds bs i d small first rest =
     subst (λ more. IsWorkTold arrays t bounds (branches_work (sequences (map sequence_of more)))) (sym (drop-cons bs i d small))
     (λ vars within. steps_told arrays t (sequence_work (sequence_of (get_or bs i d)) vars) (branches_work (sequences (map sequence_of (drop (suc i) bs))) vars)
-      (first vars within) (subst (λ k. AreVisitsTold arrays t (walk arrays (branches_work (sequences (map sequence_of (drop k bs))) vars))) (add-one i) (rest vars within)))
+    (first vars within) (subst (λ k. AreVisitsTold arrays t (walk arrays (branches_work (sequences (map sequence_of (drop k bs))) vars))) (add-one i) (rest vars within)))
 
 pub phases_told : (arrays : Arrays) (t : List Touch) (bounds : Bounds) (bs : List Block) (i : ℕ) (d : Block) (var : List ℕ) (low high : ℤ) → i < length bs →
     IsWorkTold arrays t bounds (loop var low high (sequence_work (sequence_of (get_or bs i d)))) →
@@ -53,7 +53,7 @@ pub phases_told : (arrays : Arrays) (t : List Touch) (bounds : Bounds) (bs : Lis
 phases_told arrays t bounds bs i d var low high small first rest =
     subst (λ more. IsWorkTold arrays t bounds (λ vars. phases_work (sequences (map sequence_of more)) var low high vars)) (sym (drop-cons bs i d small))
     (λ vars within. steps_told arrays t (loop var low high (sequence_work (sequence_of (get_or bs i d))) vars) (phases_work (sequences (map sequence_of (drop (suc i) bs))) var low high vars)
-      (first vars within) (subst (λ k. AreVisitsTold arrays t (walk arrays (phases_work (sequences (map sequence_of (drop k bs))) var low high vars))) (add-one i) (rest vars within)))
+    (first vars within) (subst (λ k. AreVisitsTold arrays t (walk arrays (phases_work (sequences (map sequence_of (drop k bs))) var low high vars))) (add-one i) (rest vars within)))
 
 -- no phase is left
 pub no_phase_told : (arrays : Arrays) (t : List Touch) (bounds : Bounds) (bs : List Block) (i : ℕ) (var : List ℕ) (low high : ℤ) → length bs ≤ i →

@@ -37,8 +37,8 @@ untouched = record { read = no_cells; written = no_cells }
 pub record DoClash (one other : Touch) : Type 0 where
   pub cell : ℕ
   pub clash : Includes one.written cell × Includes other.read cell
-    ⊎ (Includes one.written cell × Includes other.written cell
-    ⊎ Includes one.read cell × Includes other.written cell)
+      ⊎ (Includes one.written cell × Includes other.written cell
+      ⊎ Includes one.read cell × Includes other.written cell)
 
 -- What is told of an array, by its place among the arrays.
 abbrev pub touch_at : List Touch → ℕ → Touch

@@ -45,7 +45,12 @@ fn tell_index(
 }
 
 /// Tells of the reads of an expression.
-pub(crate) fn tell_reads(layout: &Layout, expr: &Expr, ranges: &Ranges, touches: &mut [Touch]) -> bool
+pub(crate) fn tell_reads(
+    layout: &Layout,
+    expr: &Expr,
+    ranges: &Ranges,
+    touches: &mut [Touch],
+) -> bool
     requires places { length touches.old ≡ length layout.now }
     ensures wider { Widens touches.old touches.new }
     ensures told { OnTrue result (AreReadsTold layout.now touches.new (bounds_of ranges.now) (expression_of expr.now)) }

@@ -12,5 +12,5 @@ returns-in_ok-constant-in-Div c =
     rw c.in-Div.is
     (IfSome_then c.quotient.result c.quotient.ensures
     (λ told leads x y hx hy.
-      let only : y ≡ to_z w64 (of_z w64 c.in_ok-constant-in-Div.field-0) = c.in_ok-constant-in-Div.ensures y hy ∙ sym (to_z-of_z w64 c.in_ok-constant-in-Div.field-0 fits) in
-      subst (λ d. LiesIn told (quotient x d)) (sym only) (leads x hx)))
+    let only : y ≡ to_z w64 (of_z w64 c.in_ok-constant-in-Div.field-0) = c.in_ok-constant-in-Div.ensures y hy ∙ sym (to_z-of_z w64 c.in_ok-constant-in-Div.field-0 fits) in
+    subst (λ d. LiesIn told (quotient x d)) (sym only) (leads x hx)))

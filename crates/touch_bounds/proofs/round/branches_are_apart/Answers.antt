@@ -13,6 +13,6 @@ returns-in-Some c =
     let arrays = c.args.layout.now in
     let works = branch_works (sequences_of c.args.branches.now) (vars_of c.args.scope.now) in
     OnTrue_from c.are_all_clear.result (IsApart arrays works)
-    (λ yes. clear_apart arrays (tables_of c.in-Some.pieces.items) works c.in-Some.ensures 
-      (λ number small. subst (λ pieces. AreClear number (tables_of pieces)) c.deref.ensures.value
-        (OnTrue_at yes c.are_all_clear.ensures.clear number (subst (λ n. number < n) (sym c.count.ensures) small))))
+    (λ yes. clear_apart arrays (tables_of c.in-Some.pieces.items) works c.in-Some.ensures
+    (λ number small. subst (λ pieces. AreClear number (tables_of pieces)) c.deref.ensures.value
+    (OnTrue_at yes c.are_all_clear.ensures.clear number (subst (λ n. number < n) (sym c.count.ensures) small))))

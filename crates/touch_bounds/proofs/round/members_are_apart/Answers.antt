@@ -20,7 +20,7 @@ returns-in-Some c =
     let works = team_works var c.args.low c.args.high members body vars in
     OnTrue_from c.are_all_clear.result (IsApart arrays works)
     (λ yes. clear_apart arrays (tables_of c.in-Some.pieces.items) works
-      (subst (λ h. ArePiecesTold arrays (tables_of c.in-Some.pieces.items) (team_works var c.args.low h members body vars)) (to_z-of_z w64 c.args.high c.ranges.high)
-        (subst (λ l. ArePiecesTold arrays (tables_of c.in-Some.pieces.items) (team_works var l (to_z w64 (of_z w64 c.args.high)) members body vars)) (to_z-of_z w64 c.args.low c.ranges.low) c.in-Some.ensures))
-      (λ number small. subst (λ pieces. AreClear number (tables_of pieces)) c.deref.ensures.value
-        (OnTrue_at yes c.are_all_clear.ensures.clear number (subst (λ n. number < n) (sym c.count.ensures) small))))
+    (subst (λ h. ArePiecesTold arrays (tables_of c.in-Some.pieces.items) (team_works var c.args.low h members body vars)) (to_z-of_z w64 c.args.high c.ranges.high)
+    (subst (λ l. ArePiecesTold arrays (tables_of c.in-Some.pieces.items) (team_works var l (to_z w64 (of_z w64 c.args.high)) members body vars)) (to_z-of_z w64 c.args.low c.ranges.low) c.in-Some.ensures))
+    (λ number small. subst (λ pieces. AreClear number (tables_of pieces)) c.deref.ensures.value
+    (OnTrue_at yes c.are_all_clear.ensures.clear number (subst (λ n. number < n) (sym c.count.ensures) small))))

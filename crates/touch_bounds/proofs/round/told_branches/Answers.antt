@@ -32,4 +32,4 @@ returns c =
     let ends = c.loop-branch-test.false in
     completed arrays c.loop-branch.pieces.items all
     (subst (λ left. Completes arrays c.loop-branch.pieces.items (branch_works (sequences (map sequence_of left)) vars) all)
-      (drop_all c.loop-branch.branch-index c.deref-branch-items.result.now (omega arith)) c.loop-branch.invariant)
+    (drop_all c.loop-branch.branch-index c.deref-branch-items.result.now (omega arith)) c.loop-branch.invariant)

@@ -31,7 +31,7 @@ loop-member-preserved c =
     = to_z-of_z w64 to (record { sfits = c.start_of_member-end.type_inv }) ∙ c.start_of_member-end.ensures in
     let pushed : c.push.new.self.items ≡ c.loop-member.pieces.items ++ piece ∷ [] = grind (arith, common_steps) in
     let here = subst (λ y. AreVisitsTold arrays piece.touches.items (walk arrays (loop var (start_of low high members j) y body vars))) ends
-      (subst (λ x. AreVisitsTold arrays piece.touches.items (walk arrays (loop var x (to_z w64 (of_z w64 to)) body vars))) starts (c.in_ok-piece.ensures vars (fixed_within vars))) in
+    (subst (λ x. AreVisitsTold arrays piece.touches.items (walk arrays (loop var x (to_z w64 (of_z w64 to)) body vars))) starts (c.in_ok-piece.ensures vars (fixed_within vars))) in
     subst (λ pieces. Completes arrays pieces (member_works var low high members body (j + 1) (members - (j + 1)) vars) (team_works var low high members body vars)) (sym pushed)
     (member_next arrays c.loop-member.pieces.items piece var low high members body j vars (team_works var low high members body vars) c.loop-member-test.true c.loop-member.invariant here)
 
@@ -49,6 +49,6 @@ returns c =
     let ends = c.loop-member-test.false in
     let none : members - j ≡ 0 = omega arith in
     let all = completed arrays pieces (team_works var low high members body vars)
-      (subst (λ k. Completes arrays pieces (member_works var low high members body j k vars) (team_works var low high members body vars)) none c.loop-member.invariant) in
+    (subst (λ k. Completes arrays pieces (member_works var low high members body j k vars) (team_works var low high members body vars)) none c.loop-member.invariant) in
     subst (λ h. ArePiecesTold arrays (tables_of pieces) (team_works var c.args.low h members body vars)) (to_z-of_z w64 c.args.high c.ranges.high)
     (subst (λ l. ArePiecesTold arrays (tables_of pieces) (team_works var l high members body vars)) (to_z-of_z w64 c.args.low c.ranges.low) all)

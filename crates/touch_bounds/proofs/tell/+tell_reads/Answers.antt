@@ -17,9 +17,9 @@ returns-else-not-tell_reads-clause-told t c =
     let after = c.tell_index.new.touches in
     rw c.in-Read.is
     (OnTrue_from c.tell_index.result (AreReadsTold arrays after bounds (Read c.in-Read.array (expression_of c.in-Read.index.value)))
-    (λ told. read_told arrays c.tell_reads.new.touches after bounds c.in-Read.array (expression_of c.in-Read.index.value) 
-      (subst (λ e. AreReadsTold arrays c.tell_reads.new.touches bounds (expression_of e)) c.deref.ensures c.if-not-tell_reads.ensures.told) c.tell_index.ensures.wider
-      (subst (λ e. IsIndexTold arrays after bounds false c.in-Read.array (expression_of e)) c.deref-in-Read.ensures (OnTrue_at told c.tell_index.ensures.told))))
+    (λ told. read_told arrays c.tell_reads.new.touches after bounds c.in-Read.array (expression_of c.in-Read.index.value)
+    (subst (λ e. AreReadsTold arrays c.tell_reads.new.touches bounds (expression_of e)) c.deref.ensures c.if-not-tell_reads.ensures.told) c.tell_index.ensures.wider
+    (subst (λ e. IsIndexTold arrays after bounds false c.in-Read.array (expression_of e)) c.deref-in-Read.ensures (OnTrue_at told c.tell_index.ensures.told))))
 
 pub returns-else-not-tell_reads-2-clause-wider : goal.returns-else-not-tell_reads-2-clause-wider
 returns-else-not-tell_reads-2-clause-wider t c =
@@ -33,6 +33,5 @@ returns-else-not-tell_reads-2-clause-told t c =
     rw c.in-Binary.is
     (OnTrue_from c.tell_reads-in-Binary-2.result (AreReadsTold arrays after bounds (Binary c.in-Binary.field-0 (expression_of c.in-Binary.left.value) (expression_of c.in-Binary.right.value)))
     (λ told. binary_told arrays c.tell_reads-in-Binary.new.touches after bounds c.in-Binary.field-0 (expression_of c.in-Binary.left.value) (expression_of c.in-Binary.right.value)
-
-      (subst (λ e. AreReadsTold arrays c.tell_reads-in-Binary.new.touches bounds (expression_of e)) c.deref-in-Binary.ensures c.if-not-tell_reads-2.ensures.told) c.tell_reads-in-Binary-2.ensures.wider
-      (subst (λ e. AreReadsTold arrays after bounds (expression_of e)) c.deref-in-Binary-2.ensures (OnTrue_at told c.tell_reads-in-Binary-2.ensures.told))))
+    (subst (λ e. AreReadsTold arrays c.tell_reads-in-Binary.new.touches bounds (expression_of e)) c.deref-in-Binary.ensures c.if-not-tell_reads-2.ensures.told) c.tell_reads-in-Binary-2.ensures.wider
+    (subst (λ e. AreReadsTold arrays after bounds (expression_of e)) c.deref-in-Binary-2.ensures (OnTrue_at told c.tell_reads-in-Binary-2.ensures.told))))

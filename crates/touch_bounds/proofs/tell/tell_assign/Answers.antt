@@ -22,4 +22,4 @@ returns-clause-told c =
     let value = expression_of c.args.value.now in
     OnTrue_from c.tell_index.result (IsAssignTold arrays c.tell_index.new.touches bounds c.args.array.now index value)
     (λ told. assign_told arrays c.tell_reads.new.touches c.tell_reads-2.new.touches c.tell_index.new.touches bounds c.args.array.now index value
-      c.if-not-tell_reads.ensures.told c.tell_reads-2.ensures.wider c.if-not-tell_reads-2.ensures.told c.tell_index.ensures.wider (OnTrue_at told c.tell_index.ensures.told))
+    c.if-not-tell_reads.ensures.told c.tell_reads-2.ensures.wider c.if-not-tell_reads-2.ensures.told c.tell_index.ensures.wider (OnTrue_at told c.tell_index.ensures.told))

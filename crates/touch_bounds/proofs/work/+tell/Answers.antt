@@ -27,10 +27,11 @@ tell_block-loop-statement-preserved t c =
     let d = c.statement-item.result in
     let before = c.loop-statement.touches in
     let after = c.tell_statement.new.touches in
-    let here = subst (λ s. IsWorkTold arrays after bounds (statement_work (statement_of s))) c.statement-item.is c.if-not-tell_statement.ensures.told in
-    (wider_trans c.args.touches.now before after c.loop-statement.invariant.0 c.tell_statement.ensures.wider,
-     λ u w rest. c.loop-statement.invariant.1 u (wider_trans before after u c.tell_statement.ensures.wider w)
-      (statements_told arrays u bounds items i d c.loop-statement-test.true (work_wider arrays after u bounds (statement_work (statement_of (get_or items i d))) w here) rest))
+    let here = subst (λ s. IsWorkTold arrays after bounds (statement_work (statement_of s))) c.statement-item.is c.if-not-tell_statement.ensures.told in (
+      wider_trans c.args.touches.now before after c.loop-statement.invariant.0 c.tell_statement.ensures.wider,
+      λ u w rest. c.loop-statement.invariant.1 u (wider_trans before after u c.tell_statement.ensures.wider w)
+          (statements_told arrays u bounds items i d c.loop-statement-test.true (work_wider arrays after u bounds (statement_work (statement_of (get_or items i d))) w here) rest),
+    )
 
 pub tell_branches-returns-then-not-tell_block-clause-wider : goal.tell_branches-returns-then-not-tell_block-clause-wider
 tell_branches-returns-then-not-tell_block-clause-wider t c =
@@ -45,10 +46,11 @@ tell_branches-loop-branch-preserved t c =
     let d = c.branch-item.result in
     let before = c.loop-branch.touches in
     let after = c.tell_block.new.touches in
-    let here = subst (λ b. IsWorkTold arrays after bounds (sequence_work (sequence_of b))) c.branch-item.is c.if-not-tell_block.ensures.told in
-    (wider_trans c.args.touches.now before after c.loop-branch.invariant.0 c.tell_block.ensures.wider,
-     λ u w rest. c.loop-branch.invariant.1 u (wider_trans before after u c.tell_block.ensures.wider w)
-      (branches_told arrays u bounds items i d c.loop-branch-test.true (work_wider arrays after u bounds (sequence_work (sequence_of (get_or items i d))) w here) rest))
+    let here = subst (λ b. IsWorkTold arrays after bounds (sequence_work (sequence_of b))) c.branch-item.is c.if-not-tell_block.ensures.told in (
+      wider_trans c.args.touches.now before after c.loop-branch.invariant.0 c.tell_block.ensures.wider,
+      λ u w rest. c.loop-branch.invariant.1 u (wider_trans before after u c.tell_block.ensures.wider w)
+          (branches_told arrays u bounds items i d c.loop-branch-test.true (work_wider arrays after u bounds (sequence_work (sequence_of (get_or items i d))) w here) rest),
+    )
 
 pub tell_phases-returns-then-not-tell_loop-clause-wider : goal.tell_phases-returns-then-not-tell_loop-clause-wider
 tell_phases-returns-then-not-tell_loop-clause-wider t c =
@@ -66,10 +68,11 @@ tell_phases-loop-phase-preserved t c =
     let high = to_z w64 (of_z w64 c.args.high) in
     let before = c.loop-phase.touches in
     let after = c.tell_loop.new.touches in
-    let here = subst (λ b. IsWorkTold arrays after bounds (loop var low high (sequence_work (sequence_of b)))) c.phase-item.is c.if-not-tell_loop.ensures.told in
-    (wider_trans c.args.touches.now before after c.loop-phase.invariant.0 c.tell_loop.ensures.wider,
-     λ u w rest. c.loop-phase.invariant.1 u (wider_trans before after u c.tell_loop.ensures.wider w)
-      (phases_told arrays u bounds items i d var low high c.loop-phase-test.true (work_wider arrays after u bounds (loop var low high (sequence_work (sequence_of (get_or items i d)))) w here) rest))
+    let here = subst (λ b. IsWorkTold arrays after bounds (loop var low high (sequence_work (sequence_of b)))) c.phase-item.is c.if-not-tell_loop.ensures.told in (
+      wider_trans c.args.touches.now before after c.loop-phase.invariant.0 c.tell_loop.ensures.wider,
+      λ u w rest. c.loop-phase.invariant.1 u (wider_trans before after u c.tell_loop.ensures.wider w)
+          (phases_told arrays u bounds items i d var low high c.loop-phase-test.true (work_wider arrays after u bounds (loop var low high (sequence_work (sequence_of (get_or items i d)))) w here) rest),
+    )
 
 pub tell_phases-returns-clause-told : goal.tell_phases-returns-clause-told
 tell_phases-returns-clause-told t c vars within =
@@ -82,7 +85,7 @@ tell_phases-returns-clause-told t c vars within =
     let told = c.loop-phase.touches in
     let ends = c.loop-phase-test.false in
     let all = c.loop-phase.invariant.1 told (wider_refl told)
-      (no_phase_told arrays told bounds c.deref-phase-items.result.now c.loop-phase.phase-index var low high (omega arith)) vars within in
+    (no_phase_told arrays told bounds c.deref-phase-items.result.now c.loop-phase.phase-index var low high (omega arith)) vars within in
     subst (λ h. AreVisitsTold arrays told (walk arrays (phases_work phases var c.args.low h vars))) (to_z-of_z w64 c.args.high c.ranges.high)
     (subst (λ l. AreVisitsTold arrays told (walk arrays (phases_work phases var l high vars))) (to_z-of_z w64 c.args.low c.ranges.low) all)
 
@@ -106,7 +109,7 @@ tell_statement-returns-else-not-tell_block-clause-told t c =
     rw (c.in-If.is, statement-if)
     (OnTrue_from c.tell_block-in-If.result (IsWorkTold arrays after bounds (statement_work (If c.in-If.line test first second)))
     (λ yes. choice_told arrays c.tell_reads.new.touches c.tell_block.new.touches after bounds test first second
-      c.if-not-tell_reads.ensures.told c.tell_block.ensures.wider c.if-not-tell_block.ensures.told c.tell_block-in-If.ensures.wider (OnTrue_at yes c.tell_block-in-If.ensures.told) c.in-If.line))
+    c.if-not-tell_reads.ensures.told c.tell_block.ensures.wider c.if-not-tell_block.ensures.told c.tell_block-in-If.ensures.wider (OnTrue_at yes c.tell_block-in-If.ensures.told) c.in-If.line))
 
 pub tell_loop-returns-clause-told : goal.tell_loop-returns-clause-told
 tell_loop-returns-clause-told t c =

@@ -11,19 +11,19 @@ abbrev pub invariant-tell_block-loop-statement : goal.invariant-tell_block-loop-
 invariant-tell_block-loop-statement l =
     Widens l.fn.touches l.touches
     × ((t : List Touch) → Widens l.touches t →
-      IsWorkTold l.layout t (bounds_of l.ranges) (sequence_work (sequence (map statement_of (drop l.statement-index l.statement-items)))) →
-      IsWorkTold l.layout t (bounds_of l.ranges) (sequence_work (sequence_of l.block)))
+    IsWorkTold l.layout t (bounds_of l.ranges) (sequence_work (sequence (map statement_of (drop l.statement-index l.statement-items)))) →
+    IsWorkTold l.layout t (bounds_of l.ranges) (sequence_work (sequence_of l.block)))
 
 abbrev pub invariant-tell_branches-loop-branch : goal.invariant-tell_branches-loop-branch
 invariant-tell_branches-loop-branch l =
     Widens l.fn.touches l.touches
     × ((t : List Touch) → Widens l.touches t →
-      IsWorkTold l.layout t (bounds_of l.ranges) (branches_work (sequences (map sequence_of (drop l.branch-index l.branch-items)))) →
-      IsWorkTold l.layout t (bounds_of l.ranges) (branches_work (sequences_of l.branches)))
+    IsWorkTold l.layout t (bounds_of l.ranges) (branches_work (sequences (map sequence_of (drop l.branch-index l.branch-items)))) →
+    IsWorkTold l.layout t (bounds_of l.ranges) (branches_work (sequences_of l.branches)))
 
 abbrev pub invariant-tell_phases-loop-phase : goal.invariant-tell_phases-loop-phase
 invariant-tell_phases-loop-phase l =
     Widens l.fn.touches l.touches
     × ((t : List Touch) → Widens l.touches t →
-      IsWorkTold l.layout t (bounds_of l.ranges) (λ vars. phases_work (sequences (map sequence_of (drop l.phase-index l.phase-items))) l.var l.low l.high vars) →
-      IsWorkTold l.layout t (bounds_of l.ranges) (λ vars. phases_work (sequences_of l.phases) l.var l.low l.high vars))
+    IsWorkTold l.layout t (bounds_of l.ranges) (λ vars. phases_work (sequences (map sequence_of (drop l.phase-index l.phase-items))) l.var l.low l.high vars) →
+    IsWorkTold l.layout t (bounds_of l.ranges) (λ vars. phases_work (sequences_of l.phases) l.var l.low l.high vars))
