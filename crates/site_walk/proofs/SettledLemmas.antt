@@ -1,5 +1,5 @@
 -- What needs no walk: pieces that are apart, and bodies that enter no site.
-use Rattle.std.proofs.Common.{◌≡◌, ℕ, false, zero, suc, ◌-◌, ◌^◌, min, List, [], ◌∷◌, ◌++◌, length, Option, None, ℤ, pos, ◌+ℤ◌, refl, sym, ap, ◌∙◌, arith}
+use Rattle.std.proofs.Common.{◌≡◌, ℕ, false, zero, suc, List, [], ◌∷◌, ◌++◌, length, Option, None, ℤ, pos, ◌+ℤ◌, refl, sym, ap, ◌∙◌, arith}
 use Rattle.array_tree.specs.Trees.{Sequence}
 use Rattle.array_meaning.specs.Stores.{Arrays, Vars}
 use Rattle.array_meaning.specs.Steps.{Steps}
@@ -12,7 +12,6 @@ use Rattle.array_meaning.proofs.OverlapLemmas.{clear_of_apart}
 use Rattle.array_meaning.proofs.PlanLemmas.{sequence_sites_length}
 use Rattle.site_counts.specs.Capped.{capped}
 use Rattle.site_walk.specs.declared.fault.WalkFault.{WalkFault}
-use Rattle.site_walk.specs.Outside.{or_else}
 use Rattle.site_walk.specs.FirstOverlap.{or_overlap}
 use Rattle.site_walk.proofs.OutsideLemmas.{or_else_none}
 use Rattle.site_walk.proofs.PieceLemmas.{first_none}

@@ -1,16 +1,16 @@
 -- Pieces that are told to touch different cells are apart.
-use Rattle.std.proofs.Common.{◌≡◌, ℕ, ◌+◌, ◌-◌, ◌<◌, ◌≤◌, Bool, true, false, cond, List, [], ◌∷◌, length, Option, Some, None, ℤ, pos, negsuc, refl, sym, subst, ap, ◌∙◌, ◌⊎◌, inl, inr, arith}
+use Rattle.std.proofs.Common.{◌≡◌, ℕ, ◌+◌, ◌-◌, ◌<◌, ◌≤◌, Bool, true, false, cond, List, [], ◌∷◌, length, Option, Some, None, ℤ, pos, negsuc, refl, subst, ap, ◌⊎◌, inl, inr, arith}
 use Rattle.std.specs.Prelude.{IsTrue}
 use Rattle.std.proofs.lemmas.Bool.{false≢true}
 use Rattle.std.proofs.lemmas.Int.{ints}
-use Rattle.array_meaning.specs.Stores.{Arrays, is_name, base_of, length_of, cell_of}
+use Rattle.array_meaning.specs.Stores.{Arrays, is_name, base_of, length_of}
 use Rattle.array_meaning.specs.Steps.{Steps}
-use Rattle.array_meaning.specs.Touch.{Visit, walk, Covers, Touches, IsSeparate, IsSeparateFrom, IsApart}
+use Rattle.array_meaning.specs.Touch.{Visit, walk, Covers, Touches, IsSeparate, IsSeparateFrom}
 use Rattle.array_meaning.specs.Accepted.{is_inside}
 use Rattle.array_eval.specs.Layouts.{number_of}
 use Rattle.touch_bounds.specs.declared.touch.Touch.{Touch}
-use Rattle.touch_bounds.specs.Touches.{Includes, side, DoClash, no_cells, untouched, touch_at, AreVisitsTold, IsVisitTold}
-use Rattle.touch_bounds.specs.Pieces.{ArePiecesTold, IsClearOf, AreClear, ClearPiecesAreApart}
+use Rattle.touch_bounds.specs.Touches.{Includes, side, DoClash, no_cells, untouched, touch_at, AreVisitsTold}
+use Rattle.touch_bounds.specs.Pieces.{ArePiecesTold, IsClearOf, ClearPiecesAreApart}
 
 -- ---- arrays share no cell
 

@@ -1,14 +1,13 @@
 -- Products, quotients and remainders between bounds.
-use Rattle.std.proofs.Common.{◌≡◌, ℕ, zero, suc, ◌+◌, ◌*◌, ◌/◌, ◌%◌, ◌<◌, ◌≤◌, ℤ, pos, negsuc, ◌+ℤ◌, ◌-ℤ◌, ◌*ℤ◌, ◌≤ℤ◌, ◌<ℤ◌, neg_ℤ, to_z, of_z, w64, arith, sym, subst, refl, ap}
+use Rattle.std.proofs.Common.{◌≡◌, ℕ, zero, suc, ◌/◌, ◌<◌, ◌≤◌, ℤ, pos, negsuc, ◌*ℤ◌, ◌≤ℤ◌, ◌<ℤ◌, w64, arith, sym, subst, refl, ap}
 use lib.IntN.{*ℤ_comm}
-use Rattle.std.specs.Prelude.{FitsSigned, int_div, int_rem, unsigned_abs}
-use Rattle.std.specs.Int.{int_wrap}
+use Rattle.std.specs.Prelude.{FitsSigned, int_div}
 use Rattle.std.proofs.lemmas.Int.{ints, to_z-of_z, int_wrap_fits}
 use Rattle.std.proofs.lemmas.Nat.{mul-le, le-div}
 use Rattle.std.proofs.Math.Nat.{div-mul-le_self, mod-eq_of_lt}
 use Rattle.array_meaning.specs.Values.{wrapping_product, quotient, remainder}
 use Rattle.touch_bounds.specs.declared.interval.Interval.{Interval}
-use Rattle.touch_bounds.specs.Intervals.{LiesIn, LeadsInto, LeadInto}
+use Rattle.touch_bounds.specs.Intervals.{LiesIn, LeadInto}
 use Rattle.touch_bounds.proofs.SumLemmas.{between_fits, AreFit, seen, Checked}
 
 -- ---- products
@@ -104,30 +103,6 @@ at_quotient told a d r fa fd f e h =
     subst (LiesIn told) q here
 
 -- ---- remainders
-
-pub remainder_low : (x d : ℤ) → pos 0 <ℤ d → (pos 1 -ℤ d) ≤ℤ remainder x d
-remainder_low x (pos zero) h = absurd (omega (arith, ints))
-remainder_low (pos a) (pos (suc k)) h = omega (arith, ints)
-remainder_low (negsuc a) (pos (suc k)) h = omega (arith, ints)
-remainder_low x (negsuc k) h = absurd (omega (arith, ints))
-
-pub remainder_high : (x d : ℤ) → pos 0 <ℤ d → remainder x d ≤ℤ (d -ℤ pos 1)
-remainder_high x (pos zero) h = absurd (omega (arith, ints))
-remainder_high (pos a) (pos (suc k)) h = omega (arith, ints)
-remainder_high (negsuc a) (pos (suc k)) h = omega (arith, ints)
-remainder_high x (negsuc k) h = absurd (omega (arith, ints))
-
-pub remainder_not_below : (x d : ℤ) → pos 0 <ℤ d → pos 0 ≤ℤ x → pos 0 ≤ℤ remainder x d
-remainder_not_below x (pos zero) h low = absurd (omega (arith, ints))
-remainder_not_below (pos a) (pos (suc k)) h low = omega (arith, ints)
-remainder_not_below (negsuc a) (pos (suc k)) h low = absurd (omega (arith, ints))
-remainder_not_below x (negsuc k) h low = absurd (omega (arith, ints))
-
-pub remainder_not_above : (x d : ℤ) → pos 0 <ℤ d → x ≤ℤ pos 0 → remainder x d ≤ℤ pos 0
-remainder_not_above x (pos zero) h high = absurd (omega (arith, ints))
-remainder_not_above (pos a) (pos (suc k)) h high = omega (arith, ints)
-remainder_not_above (negsuc a) (pos (suc k)) h high = omega (arith, ints)
-remainder_not_above x (negsuc k) h high = absurd (omega (arith, ints))
 
 pub remainder_same : (x d : ℤ) → pos 0 ≤ℤ x → x <ℤ d → remainder x d ≡ x
 remainder_same x (pos zero) low h = absurd (omega (arith, ints))

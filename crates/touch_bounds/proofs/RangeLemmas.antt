@@ -1,8 +1,7 @@
 -- Variables between bounds.
-use Rattle.std.proofs.Common.{◌≡◌, ℕ, ℤ, pos, List, [], ◌∷◌, Bool, true, false, cond, refl, sym, subst, ap}
+use Rattle.std.proofs.Common.{◌≡◌, ℕ, ℤ, pos, List, [], ◌∷◌, Bool, true, false, cond, refl, sym, subst}
 use Rattle.std.specs.Int.Signed.{≤ℤ_refl}
 use Rattle.array_meaning.specs.Stores.{Vars, is_name, var_of}
-use Rattle.touch_bounds.specs.declared.interval.Interval.{Interval}
 use Rattle.touch_bounds.specs.Intervals.{LiesIn, exactly}
 use Rattle.touch_bounds.specs.Ranges.{Bounds, fixed, AreWithin, interval_of}
 

@@ -1,14 +1,13 @@
 -- What is told of several visits, and what stays told.
-use Rattle.std.proofs.Common.{◌≡◌, ℕ, ◌<◌, ◌≤◌, Bool, true, false, not, List, [], ◌∷◌, ◌++◌, length, refl, sym, subst, ap, set, arith, get_or, get_or-set_same, get_or-set_other, ◌⊎◌, inl, inr, Option, ℤ}
+use Rattle.std.proofs.Common.{ℕ, true, false, List, [], ◌∷◌, ◌++◌}
 use Rattle.array_tree.specs.Trees.{Expression, Read, Binary}
 use Rattle.array_tree.specs.declared.tree.Op.{Op}
-use Rattle.array_meaning.specs.Stores.{Arrays, Vars}
+use Rattle.array_meaning.specs.Stores.{Arrays}
 use Rattle.array_meaning.specs.Touch.{Visit, visit, reads_in}
 use Rattle.array_eval.specs.Layouts.{number_of}
-use Rattle.touch_bounds.specs.declared.touch.Stretch.{Stretch}
 use Rattle.touch_bounds.specs.declared.touch.Touch.{Touch}
-use Rattle.touch_bounds.specs.Ranges.{Bounds, AreWithin}
-use Rattle.touch_bounds.specs.Touches.{Includes, hull, side, touch_at, untouched, Widens, IsReach, IsReachOf, IsVisitTold, AreVisitsTold, IsIndexTold, AreReadsTold, IsAssignTold}
+use Rattle.touch_bounds.specs.Ranges.{Bounds}
+use Rattle.touch_bounds.specs.Touches.{Widens, IsVisitTold, AreVisitsTold, IsIndexTold, AreReadsTold, IsAssignTold}
 
 -- ---- what stays told
 

@@ -1,20 +1,19 @@
 -- What is told of works of several parts.
-use Rattle.std.proofs.Common.{◌≡◌, ℕ, zero, suc, ◌+◌, ◌<◌, ◌≤◌, List, [], ◌∷◌, ◌++◌, map, length, drop, get_or, drop-cons, add-one, ℤ, pos, ◌+ℤ◌, ◌-ℤ◌, ◌≤ℤ◌, ◌<ℤ◌, refl, sym, subst, ap, ◌∙◌, arith}
+use Rattle.std.proofs.Common.{ℕ, zero, suc, ◌+◌, ◌<◌, ◌≤◌, List, [], ◌∷◌, ◌++◌, map, length, drop, get_or, drop-cons, add-one, ℤ, pos, ◌+ℤ◌, ◌≤ℤ◌, ◌<ℤ◌, refl, sym, subst, arith}
 use Rattle.std.proofs.lemmas.Int.{ints}
 use Rattle.std.proofs.lemmas.List.{drop_all}
 use Rattle.array_tree.specs.declared.tree.Stmt.{Stmt}
 use Rattle.array_tree.specs.declared.tree.Block.{Block}
 use Rattle.array_tree.specs.Trees.{Expression, Sequence, statement_of, sequence_of, sequence, sequences}
-use Rattle.array_meaning.specs.Stores.{Arrays, Vars}
-use Rattle.array_meaning.specs.Steps.{Steps, Done, followed_by}
+use Rattle.array_meaning.specs.Stores.{Arrays}
+use Rattle.array_meaning.specs.Steps.{Steps, followed_by}
 use Rattle.array_meaning.specs.Work.{Work, turns, span, loop, statement_work, sequence_work, branches_work, phases_work}
 use Rattle.array_meaning.specs.Touch.{walk, reads_in}
-use Rattle.array_meaning.proofs.StepLemmas.{span_none}
 use Rattle.array_meaning.proofs.FrameLemmas.{walk_followed_by}
 use Rattle.touch_bounds.specs.declared.interval.Interval.{Interval}
 use Rattle.touch_bounds.specs.declared.touch.Touch.{Touch}
 use Rattle.touch_bounds.specs.Intervals.{LiesIn}
-use Rattle.touch_bounds.specs.Ranges.{Bounds, AreWithin}
+use Rattle.touch_bounds.specs.Ranges.{Bounds}
 use Rattle.touch_bounds.specs.Touches.{Widens, AreVisitsTold, AreReadsTold, IsWorkTold, IsChoiceTold}
 use Rattle.touch_bounds.proofs.ToldLemmas.{told_append, told_wider, wider_trans}
 
@@ -87,7 +86,3 @@ pub loop_told : (arrays : Arrays) (t : List Touch) (bounds : Bounds) (var : List
 loop_told arrays t bounds var low high within body some lies told vars inside =
     turns_told arrays t (λ x. body ((var, x) ∷ vars)) low (span low high)
     (λ y from to. told ((var, y) ∷ vars) (refl, lies y from (span_reaches low high y some to), inside))
-
-pub empty_told : (arrays : Arrays) (t : List Touch) (bounds : Bounds) (var : List ℕ) (low high : ℤ) (body : Work) → high ≤ℤ low → IsWorkTold arrays t bounds (loop var low high body)
-empty_told arrays t bounds var low high body none vars inside =
-    subst (λ n. AreVisitsTold arrays t (walk arrays (turns (λ x. body ((var, x) ∷ vars)) low n))) (sym (span_none low high (λ h. omega (arith, ints)))) tt

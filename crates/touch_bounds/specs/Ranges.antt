@@ -1,5 +1,5 @@
 -- The loop variables around a place, each with bounds.
-use Rattle.std.specs.Prelude.{◌≡◌, ℕ, ℤ, pos, List, [], ◌∷◌, map, cond}
+use Rattle.std.specs.Prelude.{◌≡◌, ℕ, pos, List, [], ◌∷◌, map, cond}
 use Rattle.array_tree.specs.Trees.{Expression}
 use Rattle.array_meaning.specs.Stores.{Arrays, Vars, Store, is_name, value_of}
 use Rattle.array_eval.specs.Views.{vars_of}

@@ -2,7 +2,6 @@
 use Rattle.std.specs.Prelude.{ℕ, ◌+◌, ◌<◌, ◌≤◌, Bool, true, false, List, [], ◌∷◌, length, Option, IsTrue, ℤ, pos, ◌≤ℤ◌, ◌<ℤ◌, unsigned_abs, ◌⊎◌, min, max, slice_index_or}
 use Rattle.array_tree.specs.Trees.{Expression, Sequence, Assign, If}
 use Rattle.array_meaning.specs.Stores.{Arrays, Vars, length_of}
-use Rattle.array_meaning.specs.Steps.{Steps}
 use Rattle.array_meaning.specs.Work.{Work, statement_work}
 use Rattle.array_meaning.specs.Touch.{Visit, visit, reads_in, walk, Covers}
 use Rattle.array_meaning.specs.Accepted.{is_inside}

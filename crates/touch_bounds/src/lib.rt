@@ -20,4 +20,4 @@ pub use ranges::Ranges;
 pub use round::{branches_are_apart, indices_are_inside, members_are_apart};
 pub use touch::{Stretch, Touch, UNTOUCHED};
 pub use weight::{branches_pay, phase_pays, statement_pays};
-pub use work::{tell_block, tell_loop, tell_statement};
+pub use work::tell_block;

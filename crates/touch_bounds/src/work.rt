@@ -39,7 +39,7 @@ pub fn tell_block<'s>(
 
 /// The same of a statement.
 #[cycle(tell)]
-pub fn tell_statement<'s>(
+pub(crate) fn tell_statement<'s>(
     layout: &Layout,
     statement: &'s Stmt,
     ranges: &'s Ranges<'s>,
@@ -90,7 +90,7 @@ pub fn tell_statement<'s>(
 
 /// The same of a block that is run for each number from `low` to before `high`.
 #[cycle(tell)]
-pub fn tell_loop<'s>(
+pub(crate) fn tell_loop<'s>(
     layout: &Layout,
     body: &'s Block,
     var: &'s Name,

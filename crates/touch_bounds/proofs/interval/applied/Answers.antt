@@ -1,9 +1,9 @@
-use Rattle.std.proofs.Common.{◌≡◌, ◌∙◌, ℤ, to_z, of_z, w64, ap, sym, subst, rules, IfSome}
+use Rattle.std.proofs.Common.{◌≡◌, ◌∙◌, to_z, of_z, w64, sym, subst, rules}
 use Rattle.std.specs.Prelude.{FitsSigned}
 use Rattle.std.proofs.lemmas.Int.{to_z-of_z}
 use Rattle.std.proofs.lemmas.Option.{IfSome_then}
-use Rattle.array_meaning.specs.Values.{applied, quotient}
-use Rattle.touch_bounds.specs.Intervals.{LiesIn, LeadInto}
+use Rattle.array_meaning.specs.Values.{quotient}
+use Rattle.touch_bounds.specs.Intervals.{LiesIn}
 use Rattle.touch_bounds.proofs.interval.applied.Goals as goal
 
 pub returns-in_ok-constant-in-Div : goal.returns-in_ok-constant-in-Div

@@ -1,6 +1,6 @@
 use Rattle.std.proofs.Common.{rules, arith}
 use Rattle.std.proofs.lemmas.Int.{ints}
-use Rattle.touch_bounds.proofs.SumLemmas.{AreFit, seen}
+use Rattle.touch_bounds.proofs.SumLemmas.{AreFit}
 use Rattle.touch_bounds.proofs.ProductLemmas.{quotient_between, at_quotient}
 use Rattle.touch_bounds.proofs.interval.quotient.Goals as goal
 

@@ -1,5 +1,5 @@
 use Rattle.std.proofs.Common.{arith, rules, subst, sym, ◌≤ℤ◌, ◌<ℤ◌, pos, FitsSigned, w64}
-use Rattle.std.proofs.lemmas.Int.{ints, to_z-of_z}
+use Rattle.std.proofs.lemmas.Int.{ints}
 use Rattle.touch_bounds.specs.Intervals.{LiesIn}
 use Rattle.touch_bounds.proofs.ProductLemmas.{remainder_same}
 use Rattle.touch_bounds.proofs.interval.remainder.Goals as goal

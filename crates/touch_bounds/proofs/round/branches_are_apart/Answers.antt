@@ -1,10 +1,10 @@
-use Rattle.std.proofs.Common.{◌<◌, sym, subst, to_z, of_z, w64}
+use Rattle.std.proofs.Common.{◌<◌, sym, subst}
 use Rattle.std.proofs.lemmas.Bool.{OnTrue_at, OnTrue_from}
 use Rattle.array_tree.specs.Trees.{sequences_of}
 use Rattle.array_meaning.specs.Sites.{branch_works}
 use Rattle.array_meaning.specs.Touch.{IsApart}
 use Rattle.array_eval.specs.Views.{vars_of}
-use Rattle.touch_bounds.specs.Pieces.{tables_of, AreClear, ArePiecesTold}
+use Rattle.touch_bounds.specs.Pieces.{tables_of, AreClear}
 use Rattle.touch_bounds.proofs.PieceLemmas.{clear_apart}
 use Rattle.touch_bounds.proofs.round.branches_are_apart.Goals as goal
 

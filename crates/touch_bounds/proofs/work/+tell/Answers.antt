@@ -1,4 +1,4 @@
-use Rattle.std.proofs.Common.{◌≡◌, get_or, to_z, of_z, w64, sym, subst, arith, ◌<ℤ◌, ◌≤ℤ◌, ℤ, pos, ◌-ℤ◌}
+use Rattle.std.proofs.Common.{get_or, to_z, of_z, w64, subst, arith, ◌<ℤ◌, ◌≤ℤ◌, ℤ, pos, ◌-ℤ◌}
 use Rattle.std.specs.Prelude.{FitsSigned}
 use Rattle.std.proofs.lemmas.Bool.{OnTrue_at, OnTrue_from}
 use Rattle.std.proofs.lemmas.Int.{ints, to_z-of_z}
