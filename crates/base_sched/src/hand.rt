@@ -5,7 +5,6 @@ use crate::base::{Base, BaseHeard};
 use sched_api::{Next, Scheduler};
 use std::marker::PhantomData;
 use std::sync::{Mutex, Wait};
-use std::thread::Threads;
 
 /// One hart's hand on a base that harts share. Its calls do what those of `Base` do, under the lock.
 /// Each may wait for the lock.
@@ -30,7 +29,7 @@ impl<'a, R> BaseHand<'a, R> {
     }
 }
 
-impl<'a, R: Threads + Wait + Sync + 'a> BaseHand<'a, R> {
+impl<'a, R: Wait + 'a> BaseHand<'a, R> {
     /// Takes all wishes of the base off for good.
     pub fn shut(&self, rt: &R) {
         self.lock.lock(rt).shut();
@@ -42,7 +41,7 @@ impl<'a, R: Threads + Wait + Sync + 'a> BaseHand<'a, R> {
     }
 }
 
-impl<'a, R: Threads + Wait + Sync + 'a> Scheduler for BaseHand<'a, R> {
+impl<'a, R: Wait + 'a> Scheduler for BaseHand<'a, R> {
     type Hold = &'a R;
 
     type Heard = BaseHeard;

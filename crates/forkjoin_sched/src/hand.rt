@@ -11,7 +11,6 @@ use join_book::Deposit;
 use sched_api::{Call, Next, Scheduler};
 use std::marker::PhantomData;
 use std::sync::{Mutex, Wait};
-use std::thread::Threads;
 
 /// One hart's hand on a shared pool. Its calls do what those of `Pool` do, under the lock, for which each but `site` may
 /// wait. Once the pool is handed out, `enter` answers Nothing and `unblock` gives its context back.
@@ -44,7 +43,7 @@ impl<'a, 'p, R> PoolHand<'a, 'p, R> {
     }
 }
 
-impl<'a, 'p, R: Threads + Wait + Sync + 'a> PoolHand<'a, 'p, R> {
+impl<'a, 'p, R: Wait + 'a> PoolHand<'a, 'p, R> {
     /// What `deposit` of the pool does. Where the pool was handed out, each piece is a Stranger.
     pub fn deposit(&self, rt: &R, piece: Piece<'p>) -> Deposit<'p>
         ensures { GivesBack piece.entry result }
@@ -94,7 +93,7 @@ impl<'a, 'p, R: Threads + Wait + Sync + 'a> PoolHand<'a, 'p, R> {
     }
 }
 
-impl<'a, 'p, R: Threads + Wait + Sync + 'a> Scheduler for PoolHand<'a, 'p, R> {
+impl<'a, 'p, R: Wait + 'a> Scheduler for PoolHand<'a, 'p, R> {
     type Hold = &'a R;
 
     type Heard = PoolHeard;

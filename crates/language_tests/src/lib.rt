@@ -1,4 +1,4 @@
-//! Tests of the language's crates, through their public calls alone.
+//! Tests of the language's crates, through their public calls alone, and what other tests of them need too.
 //!
 //! They stand apart since a crate is proved a second time with its tests.
 #![tactic(auto)]
@@ -17,8 +17,7 @@ mod layouts;
 mod parsing;
 #[cfg(test)]
 mod printing;
-#[cfg(test)]
-mod programs;
+pub mod programs;
 #[cfg(test)]
 mod stores;
 #[cfg(test)]

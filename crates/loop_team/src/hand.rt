@@ -12,7 +12,6 @@ use sched_api::{Call, Next, Scheduler};
 use std::alloc::AllocError;
 use std::marker::PhantomData;
 use std::sync::{Mutex, Wait};
-use std::thread::Threads;
 
 /// One hart's hand on a shared team. Its calls do what those of `Team` do, under the lock, for which each but `site` may
 /// wait. Once the team is handed out, `enter` answers Nothing and `unblock` gives its context back.
@@ -45,7 +44,7 @@ impl<'a, 'p, R> TeamHand<'a, 'p, R> {
     }
 }
 
-impl<'a, 'p, R: Threads + Wait + Sync + 'a> TeamHand<'a, 'p, R> {
+impl<'a, 'p, R: Wait + 'a> TeamHand<'a, 'p, R> {
     /// What `arrive` of the team does. Where the team was handed out, each piece is a Stranger.
     pub fn arrive(&self, rt: &R, piece: Piece<'p>) -> Result<Arrival<'p>, AllocError>
         ensures { IfOk result (λ arrival. GivesBack piece.entry arrival) }
@@ -96,7 +95,7 @@ impl<'a, 'p, R: Threads + Wait + Sync + 'a> TeamHand<'a, 'p, R> {
     }
 }
 
-impl<'a, 'p, R: Threads + Wait + Sync + 'a> Scheduler for TeamHand<'a, 'p, R> {
+impl<'a, 'p, R: Wait + 'a> Scheduler for TeamHand<'a, 'p, R> {
     type Hold = &'a R;
 
     type Heard = TeamHeard;

@@ -1,5 +1,4 @@
 pub mod OutsideLemmas
-pub mod TreeLemmas
 pub mod MarkLemmas
 pub mod RoundLemmas
 pub mod TouchedLemmas
@@ -9,3 +8,4 @@ pub mod PieceLemmas
 pub mod AloneLemmas
 pub mod SiteLemmas
 pub mod ApartLemmas
+pub mod SettledLemmas

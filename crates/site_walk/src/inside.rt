@@ -1,9 +1,10 @@
 //! The walk that looks for a static index outside its array.
-ghost use Rattle.std.specs.Prelude.{◌≡◌, false};
+ghost use Rattle.std.specs.Prelude.{◌≡◌, false, None, []};
+ghost use Rattle.std.specs.Bool.{OnTrue};
 ghost use Rattle.array_tree.specs.Trees.{expression_of, statement_of, sequence_of, sequences_of};
 ghost use Rattle.array_meaning.specs.Stores.{length_of};
 ghost use Rattle.array_meaning.specs.Work.{statement_work, sequence_work, branches_work, phases_work, loop};
-ghost use Rattle.array_meaning.specs.Touch.{reads_in, visit};
+ghost use Rattle.array_meaning.specs.Touch.{reads_in, visit, walk};
 ghost use Rattle.array_eval.specs.Views.{vars_of};
 ghost use Rattle.std.specs.Option.{option_or};
 ghost use Rattle.site_walk.specs.Outside.{index_fault, first_outside, or_outside};
@@ -11,6 +12,8 @@ ghost use Rattle.site_walk.specs.Outside.{index_fault, first_outside, or_outside
 use crate::fault::WalkFault;
 use array_eval::{Layout, Scope, evaluate, is_dynamic};
 use array_tree::{Block, Blocks, Expr, Name, Stmt};
+use std::alloc::Global;
+use touch_bounds::{indices_are_inside, statement_pays};
 
 // What is wrong with an index of an array.
 fn index_outside(
@@ -76,9 +79,43 @@ fn keep_reads(layout: &Layout, line: u32, scope: &Scope, expr: &Expr, found: &mu
     }
 }
 
-/// Keeps the first fault of an index in the walk through a block, unless something was found before.
+// Whether the text of a statement shows that each static index of it is inside its array.
+fn is_settled<'s>(alloc: Global, layout: &Layout, statement: &'s Stmt, scope: &'s Scope<'s>) -> bool
+    ensures { OnTrue result (first_outside layout.now (walk layout.now (statement_work (statement_of statement.now) (vars_of scope.now))) ≡ None) }
+{
+    statement_pays(statement) && indices_are_inside(alloc, layout, statement, scope)
+}
+
+// Keeps the first fault of an index in the walk through a statement, unless something was found before. Where the text
+// shows that there is none, it isn't walked through.
+fn keep_unless_settled<'s>(
+    alloc: Global,
+    layout: &Layout,
+    statement: &'s Stmt,
+    scope: &'s Scope<'s>,
+    found: &mut Option<WalkFault>,
+)
+    ensures { found.new ≡ or_outside layout.now (statement_work (statement_of statement.now) (vars_of scope.now)) found.old }
+{
+    if is_settled(alloc, layout, statement, scope) {
+        return;
+    }
+    keep_statement(layout, statement, scope, found);
+}
+
+/// Keeps the first fault of an index in a program's walk, unless something was found before. Statements of its body whose
+/// text shows that there is none are passed over.
+pub(crate) fn keep_body(alloc: Global, layout: &Layout, body: &Block, found: &mut Option<WalkFault>)
+    ensures { found.new ≡ or_outside layout.now (sequence_work (sequence_of body.now) []) found.old }
+{
+    for statement in &body.statements {
+        keep_unless_settled(alloc, layout, statement, &Scope::Outermost, found);
+    }
+}
+
+// Keeps the first fault of an index in the walk through a block, unless something was found before.
 #[cycle(keep)]
-pub(crate) fn keep_block<'s>(
+fn keep_block<'s>(
     layout: &Layout,
     block: &'s Block,
     scope: &'s Scope<'s>,

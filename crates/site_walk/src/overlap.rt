@@ -14,9 +14,12 @@ use crate::round::{overlap_of_branches, overlap_of_members};
 use crate::table::Table;
 use array_eval::{Layout, Scope};
 use array_tree::{Block, Blocks, Name, Stmt};
+use site_counts::sites_in_block;
+use std::alloc::Global;
 
 // Keeps the overlap of a `par` itself, unless something was found before.
 fn keep_par<'s>(
+    alloc: Global,
     layout: &Layout,
     line: u32,
     branches: &'s Blocks,
@@ -29,7 +32,7 @@ fn keep_par<'s>(
     ensures found { found.new ≡ option_or found.old (rounds_fault layout.now line (branch_works (sequences_of branches.now) (vars_of scope.now) ∷ [])) }
 {
     if found.is_none() {
-        if let Some(cell) = overlap_of_branches(layout, branches, scope, table) {
+        if let Some(cell) = overlap_of_branches(alloc, layout, branches, scope, table) {
             *found = Some(WalkFault::Overlap {
                 line,
                 cell: cell as u16,
@@ -40,6 +43,7 @@ fn keep_par<'s>(
 
 // Keeps the overlap of the first phase of a `team` that has one, unless something was found before.
 fn keep_team<'s>(
+    alloc: Global,
     layout: &Layout,
     line: u32,
     phases: &'s Blocks,
@@ -57,13 +61,14 @@ fn keep_team<'s>(
 {
     for phase in &phases.blocks {
         keep_phase(
-            layout, line, phase, var, low, high, members, scope, table, found,
+            alloc, layout, line, phase, var, low, high, members, scope, table, found,
         );
     }
 }
 
 // Keeps the overlap of the members of a `team` in one phase, unless something was found before.
 fn keep_phase<'s>(
+    alloc: Global,
     layout: &Layout,
     line: u32,
     phase: &'s Block,
@@ -81,7 +86,7 @@ fn keep_phase<'s>(
 {
     if found.is_none() {
         if let Some(cell) = overlap_of_members(
-            layout, phase, var, low, high, members, scope, table,
+            alloc, layout, phase, var, low, high, members, scope, table,
         ) {
             *found = Some(WalkFault::Overlap {
                 line,
@@ -95,6 +100,7 @@ fn keep_phase<'s>(
 /// before.
 #[cycle(seek)]
 pub(crate) fn seek_block<'s>(
+    alloc: Global,
     layout: &Layout,
     block: &'s Block,
     scope: &'s Scope<'s>,
@@ -106,13 +112,14 @@ pub(crate) fn seek_block<'s>(
     ensures found { found.new ≡ or_overlap layout.now (sequence_sites (sequence_of block.now) (vars_of scope.now)) found.old }
 {
     for statement in &block.statements {
-        seek_statement(layout, statement, scope, table, found);
+        seek_statement(alloc, layout, statement, scope, table, found);
     }
 }
 
 // The same of a statement.
 #[cycle(seek)]
 fn seek_statement<'s>(
+    alloc: Global,
     layout: &Layout,
     statement: &'s Stmt,
     scope: &'s Scope<'s>,
@@ -131,18 +138,18 @@ fn seek_statement<'s>(
             high,
             body,
             ..
-        } => seek_loop(layout, body, var, *low, *high, scope, table, found),
+        } => seek_loop(alloc, layout, body, var, *low, *high, scope, table, found),
         Stmt::If {
             then_block,
             else_block,
             ..
         } => {
-            seek_block(layout, then_block, scope, table, found);
-            seek_block(layout, else_block, scope, table, found);
+            seek_block(alloc, layout, then_block, scope, table, found);
+            seek_block(alloc, layout, else_block, scope, table, found);
         }
         Stmt::Par { line, branches } => {
-            keep_par(layout, *line, branches, scope, table, found);
-            seek_branches(layout, branches, scope, table, found);
+            keep_par(alloc, layout, *line, branches, scope, table, found);
+            seek_branches(alloc, layout, branches, scope, table, found);
         }
         Stmt::Team {
             line,
@@ -153,6 +160,7 @@ fn seek_statement<'s>(
             phases,
         } => {
             keep_team(
+                alloc,
                 layout,
                 *line,
                 phases,
@@ -164,14 +172,16 @@ fn seek_statement<'s>(
                 table,
                 found,
             );
-            seek_phases(layout, phases, var, *low, *high, scope, table, found);
+            seek_phases(alloc, layout, phases, var, *low, *high, scope, table, found);
         }
     }
 }
 
-// The same of a block for each number from low to before high.
+// The same of a block for each number from low to before high. One that enters no site is passed over, however many
+// turns it has.
 #[cycle(seek)]
 fn seek_loop<'s>(
+    alloc: Global,
     layout: &Layout,
     body: &'s Block,
     var: &'s Name,
@@ -185,19 +195,23 @@ fn seek_loop<'s>(
     ensures places { HasPlaces layout.now table.new }
     ensures found { found.new ≡ or_overlap layout.now (loop_sites var.now low high (sequence_sites (sequence_of body.now)) (vars_of scope.now)) found.old }
 {
+    if sites_in_block(body) == 0 {
+        return;
+    }
     for number in low..high {
         let turn = Scope::Turn {
             name: var,
             value: number,
             outer: scope,
         };
-        seek_block(layout, body, &turn, table, found);
+        seek_block(alloc, layout, body, &turn, table, found);
     }
 }
 
 // The same of the branches of a `par`.
 #[cycle(seek)]
 fn seek_branches<'s>(
+    alloc: Global,
     layout: &Layout,
     branches: &'s Blocks,
     scope: &'s Scope<'s>,
@@ -209,13 +223,14 @@ fn seek_branches<'s>(
     ensures found { found.new ≡ or_overlap layout.now (branches_sites (sequences_of branches.now) (vars_of scope.now)) found.old }
 {
     for branch in &branches.blocks {
-        seek_block(layout, branch, scope, table, found);
+        seek_block(alloc, layout, branch, scope, table, found);
     }
 }
 
 // The same of the phases of a `team`.
 #[cycle(seek)]
 fn seek_phases<'s>(
+    alloc: Global,
     layout: &Layout,
     phases: &'s Blocks,
     var: &'s Name,
@@ -230,6 +245,6 @@ fn seek_phases<'s>(
     ensures found { found.new ≡ or_overlap layout.now (phases_sites (sequences_of phases.now) var.now low high (vars_of scope.now)) found.old }
 {
     for phase in &phases.blocks {
-        seek_loop(layout, phase, var, low, high, scope, table, found);
+        seek_loop(alloc, layout, phase, var, low, high, scope, table, found);
     }
 }

@@ -13,8 +13,10 @@ ghost use Rattle.site_walk.specs.Marks.{with_pieces, done_at, HasPlaces};
 use crate::mark::{mark_block, mark_loop};
 use crate::places::number_at;
 use crate::table::Table;
-use array_eval::{Layout, Scope, start_of_member};
+use array_eval::{Layout, Scope, span, start_of_member};
 use array_tree::{Block, Blocks, Name};
+use std::alloc::Global;
+use touch_bounds::{branches_are_apart, branches_pay, members_are_apart, phase_pays};
 
 // Whether the pieces of a round clash on a cell.
 fn clashes_on(layout: &Layout, table: &Table, cell: usize) -> bool
@@ -60,8 +62,10 @@ fn mark_pieces<'s>(layout: &Layout, branches: &'s Blocks, scope: &'s Scope<'s>, 
     }
 }
 
-/// The least cell on which two branches of a `par` overlap. A branch alone can't, and isn't walked through.
+/// The least cell on which two branches of a `par` overlap. A branch alone can't, and isn't walked through; nor are
+/// branches whose text shows that they are apart.
 pub(crate) fn overlap_of_branches<'s>(
+    alloc: Global,
     layout: &Layout,
     branches: &'s Blocks,
     scope: &'s Scope<'s>,
@@ -73,6 +77,9 @@ pub(crate) fn overlap_of_branches<'s>(
     ensures small { IfSome result (λ cell. cell < 4096) }
 {
     if branches.blocks.len() < 2 {
+        return None;
+    }
+    if branches_pay(branches) && branches_are_apart(alloc, layout, branches, scope) {
         return None;
     }
     table.clear();
@@ -109,8 +116,10 @@ fn mark_members<'s>(
     }
 }
 
-/// The least cell on which two members of a `team` overlap in one phase. A member alone can't, and isn't walked through.
+/// The least cell on which two members of a `team` overlap in one phase. A member alone can't, and isn't walked through;
+/// nor are members whose text shows that they are apart.
 pub(crate) fn overlap_of_members<'s>(
+    alloc: Global,
     layout: &Layout,
     phase: &'s Block,
     var: &'s Name,
@@ -126,6 +135,11 @@ pub(crate) fn overlap_of_members<'s>(
     ensures small { IfSome result (λ cell. cell < 4096) }
 {
     if members < 2 {
+        return None;
+    }
+    if phase_pays(phase, span(low, high), members)
+        && members_are_apart(alloc, layout, phase, var, low, high, members, scope)
+    {
         return None;
     }
     table.clear();

@@ -7,7 +7,7 @@ ghost use Rattle.array_meaning.specs.Accepted.{has_indices_inside, HasApartSites
 ghost use Rattle.site_walk.specs.FirstOverlap.{walk_fault_of};
 
 use crate::fault::WalkFault;
-use crate::inside::keep_block;
+use crate::inside::keep_body;
 use crate::overlap::seek_block;
 use crate::table::Table;
 use array_eval::{Layout, Scope};
@@ -35,7 +35,7 @@ pub fn walk_program(alloc: Global, program: &Program) -> Result<(), WalkFault>
         Err(_) => return Err(WalkFault::Memory),
     };
     let mut found = None;
-    keep_block(&layout, &program.body, &Scope::Outermost, &mut found);
+    keep_body(alloc, &layout, &program.body, &mut found);
     if let Some(fault) = found {
         return Err(fault);
     }
@@ -44,6 +44,7 @@ pub fn walk_program(alloc: Global, program: &Program) -> Result<(), WalkFault>
         Err(_) => return Err(WalkFault::Memory),
     };
     seek_block(
+        alloc,
         &layout,
         &program.body,
         &Scope::Outermost,

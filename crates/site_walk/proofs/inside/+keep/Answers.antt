@@ -10,7 +10,7 @@ use Rattle.array_meaning.specs.Work.{statement_work, sequence_work, branches_wor
 use Rattle.site_walk.proofs.OutsideLemmas.{outside_followed_by, outside_set, outside_choose}
 use Rattle.array_meaning.proofs.ThreadLemmas.{statements_left, branches_left, phases_left, turns_left}
 use Rattle.array_meaning.specs.Touch.{reads_in, visit}
-use Rattle.site_walk.proofs.TreeLemmas.{statement-assign, statement-if}
+use Rattle.touch_bounds.proofs.TreeLemmas.{statement-assign, statement-if}
 use Rattle.array_eval.specs.Views.{vars_of}
 use Rattle.site_walk.proofs.inside.+keep.Goals as goal
 

@@ -8,7 +8,7 @@ use Rattle.array_meaning.specs.Work.{statement_work, sequence_work, branches_wor
 use Rattle.site_walk.proofs.MarkLemmas.{piece_followed_by, piece_set, piece_choose}
 use Rattle.array_meaning.proofs.ThreadLemmas.{statements_left, branches_left, phases_left, turns_left}
 use Rattle.array_meaning.specs.Touch.{reads_in, visit}
-use Rattle.site_walk.proofs.TreeLemmas.{statement-assign, statement-if}
+use Rattle.touch_bounds.proofs.TreeLemmas.{statement-assign, statement-if}
 use Rattle.array_eval.specs.Views.{vars_of}
 use Rattle.site_walk.proofs.mark.+mark.Goals as goal
 

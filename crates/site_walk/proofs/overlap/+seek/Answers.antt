@@ -6,8 +6,9 @@ use Rattle.array_meaning.specs.Sites.{branch_works, statement_sites, sequence_si
 use Rattle.array_eval.specs.Views.{vars_of}
 use Rattle.site_walk.specs.FirstOverlap.{rounds_fault, first_overlap, or_overlap}
 use Rattle.array_meaning.proofs.LastLemmas.{or_assoc}
-use Rattle.site_walk.proofs.TreeLemmas.{statement-if, statement-par}
+use Rattle.touch_bounds.proofs.TreeLemmas.{statement-if, statement-par}
 use Rattle.site_walk.proofs.SiteLemmas.{or_overlap_append, statement_next, branch_next, phase_next, turn_next}
+use Rattle.site_walk.proofs.SettledLemmas.{no_sites}
 use Rattle.site_walk.proofs.overlap.+seek.Goals as goal
 
 pub seek_block-loop-statement-preserved : goal.seek_block-loop-statement-preserved
@@ -55,6 +56,11 @@ seek_loop-loop-number-preserved t c =
           ∙ sym (turn_next arrays var x high body vars c.loop-number.found below)
           ∙ c.loop-number.invariant.found;
     }
+
+pub seek_loop-returns-then-sites_in_block-eq0-clause-found : goal.seek_loop-returns-then-sites_in_block-eq0-clause-found
+seek_loop-returns-then-sites_in_block-eq0-clause-found t c =
+    no_sites c.args.layout.now c.args.var.now c.args.low c.args.high (sequence_of c.args.body.now) (vars_of c.args.scope.now) c.args.found.now
+    (sym c.sites_in_block.ensures ∙ c.if-sites_in_block-eq0.true)
 
 pub seek_phases-loop-phase-preserved : goal.seek_phases-loop-phase-preserved
 seek_phases-loop-phase-preserved t c =

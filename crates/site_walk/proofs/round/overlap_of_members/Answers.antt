@@ -10,6 +10,7 @@ use Rattle.site_walk.specs.Touched.{clashes}
 use Rattle.site_walk.specs.Marks.{with_pieces, done_at, HasPlaces, cleared}
 use Rattle.site_walk.proofs.PieceLemmas.{least_overlap, pieces_keep_places, cleared_places}
 use Rattle.site_walk.proofs.AloneLemmas.{members_alone}
+use Rattle.site_walk.proofs.SettledLemmas.{apart_overlap}
 use Rattle.site_walk.proofs.round.overlap_of_members.Goals as goal
 
 pub returns-clause-places : goal.returns-clause-places
@@ -38,3 +39,17 @@ returns-then-members-lt2-clause-found c =
     let arrays = c.args.layout.now in
     sym (members_alone arrays (cells_of arrays) c.args.var.now c.args.low c.args.high c.args.members
     (sequence_work (sequence_of c.args.phase.now)) (vars_of c.args.scope.now) c.if-members-lt2.true)
+
+pub returns-then-members_are_apart-clause-found : goal.returns-then-members_are_apart-clause-found
+returns-then-members_are_apart-clause-found c =
+    let arrays = c.args.layout.now in
+    let cells = cells_of arrays in
+    let vars = vars_of c.args.scope.now in
+    let var = c.args.var.now in
+    let members = c.args.members in
+    let body = sequence_work (sequence_of c.args.phase.now) in
+    let low = to_z w64 (of_z w64 c.args.low) in
+    let high = to_z w64 (of_z w64 c.args.high) in
+    sym (ap (λ h. overlap arrays cells (team_works var c.args.low h members body vars)) (sym (to_z-of_z w64 c.args.high c.ranges.high))
+    ∙ ap (λ l. overlap arrays cells (team_works var l high members body vars)) (sym (to_z-of_z w64 c.args.low c.ranges.low))
+    ∙ apart_overlap arrays cells (team_works var low high members body vars) c.if-members_are_apart.ensures)

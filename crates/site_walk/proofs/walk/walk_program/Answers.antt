@@ -12,4 +12,4 @@ returns-clause-indices c =
     let arrays = arrays_of (declarations_of c.args.program.now.arrays) in
     let work = sequence_work (sequence_of c.args.program.now.body) [] in
     inside_of_none arrays (walk arrays work)
-    (sym (ap (λ a. first_outside a (walk a work)) c.in-Ok.ensures) ∙ sym c.keep_block.ensures ∙ c.in_default.is)
+    (sym (ap (λ a. first_outside a (walk a work)) c.in-Ok.ensures) ∙ sym c.keep_body.ensures ∙ c.in_default.is)

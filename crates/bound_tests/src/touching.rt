@@ -1,0 +1,197 @@
+//! What is told of the cells that blocks touch, and of pieces that are apart.
+ghost use Rattle.array_tree.specs.Trees.{declarations_of};
+ghost use Rattle.array_meaning.specs.Stores.{arrays_of, AreSized};
+
+use array_eval::{Layout, Scope};
+use array_tree::{Program, Stmt};
+use language_tests::programs::{are_sized, parsed};
+use std::alloc::Global;
+use std::process::Abort;
+use std::test::Fail;
+use touch_bounds::{
+    Ranges, Stretch, Touch, UNTOUCHED, branches_are_apart, members_are_apart, tell_block,
+};
+
+// What is told of each array of a program, in order of declaration, if all can be told.
+fn told(rt: &impl Abort, alloc: Global, text: &str) -> Result<Option<Vec<Touch>>, Fail> {
+    let program = parsed(alloc, text)?;
+    assert!(rt; are_sized(&program.arrays));
+    let layout = Layout::new(alloc, &program.arrays)?;
+    let outermost = Scope::Outermost;
+    let ranges = Ranges::Fixed(&outermost);
+    let mut touches = vec![in alloc; UNTOUCHED; layout.count()]?;
+    let all = tell_block(&layout, &program.body, &ranges, &mut touches);
+    Ok(if all { Some(touches) } else { None })
+}
+
+// Whether just this is told of each text.
+fn are_told(rt: &impl Abort, alloc: Global, cases: &[(&str, &[Touch])]) -> Result<(), Fail> {
+    for (text, touches) in cases {
+        let told = told(rt, alloc, text)?;
+        assert!(rt;
+            told.is_some_and(|told| told.as_slice() == *touches),
+            "{text}"
+        );
+    }
+    Ok(())
+}
+
+// Whether all of each text can be told.
+fn can_be_told(rt: &impl Abort, alloc: Global, cases: &[(&str, bool)]) -> Result<(), Fail> {
+    for (text, told_of) in cases {
+        assert!(rt; told(rt, alloc, text)?.is_some() == *told_of, "{text}");
+    }
+    Ok(())
+}
+
+fn read(from: usize, to: usize) -> Touch {
+    Touch {
+        read: Stretch { from, to },
+        written: UNTOUCHED.written,
+    }
+}
+
+fn written(from: usize, to: usize) -> Touch {
+    Touch {
+        read: UNTOUCHED.read,
+        written: Stretch { from, to },
+    }
+}
+
+#[test]
+fn loops_touch_what_their_turns_do(rt: HostRuntime) -> Result<(), Fail> {
+    let shifted = "array a[10]; array b[4]; for i in 0..4 { a[i + 2] = b[3 - i]; }";
+    let nested = "array a[10]; for i in 0..3 { for j in 0..2 { a[3 * i + j] = i; } }";
+    let empty = "array a[10]; for i in 5..5 { a[99] = a[i]; }";
+    let siblings = "array a[10]; for i in 0..2 { a[i] = 0; } for i in 6..8 { a[i] = 0; }";
+    are_told(
+        &rt,
+        rt.alloc(),
+        &[
+            (shifted, &[written(2, 6), read(10, 14)]),
+            (nested, &[written(0, 8)]),
+            (empty, &[UNTOUCHED]),
+            (siblings, &[written(0, 8)]),
+        ],
+    )
+}
+
+#[test]
+fn both_sides_count_and_all_that_they_read(rt: HostRuntime) -> Result<(), Fail> {
+    let sides = "array a[3]; array b[9]; if a[1] { b[2] = 0; } else { b[5] = 0; }";
+    let dynamic = "array a[3]; array b[9]; b[a[2]] = 1;";
+    let constructs = "array a[8];
+        par { { a[1] = 0; } { team i in 2..6 by 2 { a[i] = 1; } barrier { a[i + 1] = 2; } } }";
+    are_told(
+        &rt,
+        rt.alloc(),
+        &[
+            (sides, &[read(1, 2), written(5, 9)]),
+            (dynamic, &[read(2, 3), written(3, 12)]),
+            (constructs, &[written(1, 7)]),
+        ],
+    )
+}
+
+#[test]
+fn an_index_that_may_be_outside_is_not_told(rt: HostRuntime) -> Result<(), Fail> {
+    can_be_told(
+        &rt,
+        rt.alloc(),
+        &[
+            ("array a[4]; for i in 0..4 { a[i] = 0; }", true),
+            ("array a[4]; for i in 0..5 { a[i] = 0; }", false),
+            ("array a[4]; for i in 0..4 { a[0] = a[i - 1]; }", false),
+            ("array a[4]; for i in 0..4 { a[i * i - i * i] = 0; }", false),
+            ("array a[4]; b[0] = 0;", false),
+        ],
+    )
+}
+
+// Whether the pieces of the first statement are seen to be apart: its branches, or the members in its first phase.
+fn are_apart(rt: &impl Abort, alloc: Global, text: &str) -> Result<bool, Fail> {
+    let program = parsed(alloc, text)?;
+    assert!(rt; are_sized(&program.arrays));
+    first_is_apart(alloc, &program)
+}
+
+fn first_is_apart(alloc: Global, program: &Program) -> Result<bool, Fail>
+    requires { AreSized (arrays_of (declarations_of program.now.arrays)) }
+{
+    let layout = Layout::new(alloc, &program.arrays)?;
+    let outermost = Scope::Outermost;
+    match program.body.statements.first() {
+        Some(Stmt::Par { branches, .. }) => {
+            Ok(branches_are_apart(alloc, &layout, branches, &outermost))
+        }
+        Some(
+            Stmt::Team {
+                var,
+                low,
+                high,
+                members,
+                phases,
+                ..
+            },
+        ) => match phases.blocks.first() {
+            Some(phase) => Ok(members_are_apart(
+                alloc,
+                &layout,
+                phase,
+                var,
+                *low,
+                *high,
+                members.unsigned_abs(),
+                &outermost,
+            )),
+            None => Err(Fail::new("the team has no phase")),
+        },
+        _ => Err(Fail::new("the text begins with no construct")),
+    }
+}
+
+// Whether they are, of each text.
+fn are_seen_apart(rt: &impl Abort, alloc: Global, cases: &[(&str, bool)]) -> Result<(), Fail> {
+    for (text, apart) in cases {
+        assert!(rt; are_apart(rt, alloc, text)? == *apart, "{text}");
+    }
+    Ok(())
+}
+
+#[test]
+fn branches_are_compared_each_with_each(rt: HostRuntime) -> Result<(), Fail> {
+    let apart =
+        "array a[4]; array b[2]; par { { a[2] = b[0]; } { a[0] = b[0]; } { a[1] = b[1]; } }";
+    let first_and_last = "array a[4]; par { { a[0] = 1; } { a[1] = 1; } { a[0] = 2; } }";
+    let read_first = "array a[4]; array b[1]; par { { b[0] = a[3]; } { a[3] = 1; } }";
+    let strides = "array a[8];
+        par { { for i in 0..4 { a[2 * i] = 1; } } { for i in 0..4 { a[2 * i + 1] = 1; } } }";
+    are_seen_apart(
+        &rt,
+        rt.alloc(),
+        &[
+            (apart, true),
+            (first_and_last, false),
+            (read_first, false),
+            (strides, false),
+        ],
+    )
+}
+
+#[test]
+fn members_touch_what_their_iterations_do(rt: HostRuntime) -> Result<(), Fail> {
+    let stencil = "array a[8]; array b[8]; team i in 1..7 by 3 { b[i] = a[i - 1] + a[i + 1]; }";
+    let in_place = "array a[8]; team i in 1..7 by 3 { a[i] = a[i - 1]; }";
+    let shared = "array a[8]; team i in 0..8 by 4 { a[i / 3] = 1; }";
+    let idle = "array a[8]; team i in 0..2 by 64 { a[i] = 1; }";
+    are_seen_apart(
+        &rt,
+        rt.alloc(),
+        &[
+            (stencil, true),
+            (in_place, false),
+            (shared, false),
+            (idle, true),
+        ],
+    )
+}

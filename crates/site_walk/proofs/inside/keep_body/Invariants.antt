@@ -1,0 +1,11 @@
+use Rattle.std.proofs.Common.{◌≡◌, [], drop, map}
+use Rattle.array_tree.specs.Trees.{statement_of, sequence_of, sequence}
+use Rattle.array_meaning.specs.Work.{sequence_work}
+use Rattle.site_walk.specs.Outside.{or_outside}
+use Rattle.site_walk.proofs.inside.keep_body.Given as goal
+
+-- what is left to look through from here gives what all gives from the start
+abbrev pub invariant-loop-statement : goal.invariant-loop-statement
+invariant-loop-statement l =
+    or_outside l.layout (sequence_work (sequence (map statement_of (drop l.statement-index l.statement-items))) []) l.found
+    ≡ or_outside l.layout (sequence_work (sequence_of l.body) []) l.fn.found

@@ -1,0 +1,20 @@
+-- Intervals of values.
+use Rattle.std.specs.Prelude.{ℤ, ◌≤ℤ◌}
+use Rattle.touch_bounds.specs.declared.interval.Interval.{Interval}
+
+-- The value lies between the least and the greatest.
+pub record LiesIn (within : Interval) (value : ℤ) : Type 0 where
+  pub low : within.least ≤ℤ value
+  pub high : value ≤ℤ within.greatest
+
+-- Whatever lies in an interval, what comes of it lies in the one that is told.
+abbrev pub LeadsInto : (ℤ → ℤ) → Interval → Interval → Type 0
+LeadsInto f within told = (x : ℤ) → LiesIn within x → LiesIn told (f x)
+
+-- The same of two values, each in its interval.
+abbrev pub LeadInto : (ℤ → ℤ → ℤ) → Interval → Interval → Interval → Type 0
+LeadInto f left right told = (x y : ℤ) → LiesIn left x → LiesIn right y → LiesIn told (f x y)
+
+-- A value alone.
+abbrev pub exactly : ℤ → Interval
+exactly value = record { least = value; greatest = value }

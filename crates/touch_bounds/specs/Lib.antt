@@ -1,0 +1,4 @@
+pub mod Intervals
+pub mod Ranges
+pub mod Touches
+pub mod Pieces

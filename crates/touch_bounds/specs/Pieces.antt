@@ -1,0 +1,34 @@
+-- Pieces of which is told what they touch.
+use Rattle.std.specs.Prelude.{ℕ, ◌<◌, List, [], ◌∷◌, length, map}
+use Rattle.array_meaning.specs.Stores.{Arrays}
+use Rattle.array_meaning.specs.Steps.{Steps}
+use Rattle.array_meaning.specs.Touch.{walk, IsApart}
+use Rattle.touch_bounds.specs.declared.apart.Piece.{Piece}
+use Rattle.touch_bounds.specs.declared.touch.Touch.{Touch}
+use Rattle.touch_bounds.specs.Touches.{DoClash, touch_at, AreVisitsTold}
+
+-- What is told of each piece, array by array.
+abbrev pub tables_of : List Piece → List (List Touch)
+tables_of pieces = map (λ p. p.touches.items) pieces
+
+-- What is told of each piece is true.
+abbrev pub ArePiecesTold : Arrays → List (List Touch) → List Steps → Type 0
+ArePiecesTold arrays [] [] = Unit {0}
+ArePiecesTold arrays [] (piece ∷ more) = ⊥
+ArePiecesTold arrays (t ∷ rest) [] = ⊥
+ArePiecesTold arrays (t ∷ rest) (piece ∷ more) = AreVisitsTold arrays t (walk arrays piece) × ArePiecesTold arrays rest more
+
+-- What one piece does to an array clashes with what none of these do to it.
+abbrev pub IsClearOf : ℕ → Touch → List (List Touch) → Type 0
+IsClearOf number touch [] = Unit {0}
+IsClearOf number touch (other ∷ more) = (¬ DoClash touch (touch_at other number)) × IsClearOf number touch more
+
+-- No two of them clash on an array.
+abbrev pub AreClear : ℕ → List (List Touch) → Type 0
+AreClear number [] = Unit {0}
+AreClear number (t ∷ more) = IsClearOf number (touch_at t number) more × AreClear number more
+
+-- Pieces are apart where what is told of them is true, and clashes on no array.
+abbrev pub ClearPiecesAreApart : Type 0
+ClearPiecesAreApart = (arrays : Arrays) (tables : List (List Touch)) (pieces : List Steps) → ArePiecesTold arrays tables pieces →
+    ((number : ℕ) → number < length arrays → AreClear number tables) → IsApart arrays pieces

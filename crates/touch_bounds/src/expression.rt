@@ -1,0 +1,24 @@
+//! Bounds of what an expression gives.
+ghost use Rattle.std.specs.Prelude.{IfSome};
+ghost use Rattle.array_tree.specs.Trees.{expression_of};
+ghost use Rattle.touch_bounds.specs.Ranges.{bounds_of, IsTold};
+
+use crate::interval::{Interval, applied, minus};
+use crate::ranges::Ranges;
+use array_tree::Expr;
+
+/// Bounds of the values of an expression, whatever values the variables have between theirs. There are none for what
+/// reads an array, and where arithmetic may wrap.
+pub fn interval_of(expr: &Expr, ranges: &Ranges) -> Option<Interval>
+    ensures { IfSome result (λ told. IsTold (bounds_of ranges.now) (expression_of expr.now) told) }
+{
+    match expr {
+        Expr::Number(number) => Some(Interval::exactly(*number)),
+        Expr::Var(name) => Some(ranges.get(name)),
+        Expr::Read(_, _) => None,
+        Expr::Neg(operand) => minus(interval_of(operand, ranges)?),
+        Expr::Binary(op, left, right) => {
+            applied(*op, interval_of(left, ranges)?, interval_of(right, ranges)?)
+        }
+    }
+}

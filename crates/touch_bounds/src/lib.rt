@@ -1,0 +1,23 @@
+//! What expressions and statements can come to, seen from their text: bounds of values, and the cells that are touched.
+#![tactic(auto)]
+
+mod apart;
+mod expression;
+mod interval;
+mod laws;
+mod ranges;
+mod reach;
+mod round;
+mod tell;
+mod touch;
+mod weight;
+mod work;
+
+pub use expression::interval_of;
+pub use interval::Interval;
+pub use laws::clear_pieces_are_apart;
+pub use ranges::Ranges;
+pub use round::{branches_are_apart, indices_are_inside, members_are_apart};
+pub use touch::{Stretch, Touch, UNTOUCHED};
+pub use weight::{branches_pay, phase_pays, statement_pays};
+pub use work::tell_block;

@@ -1,0 +1,46 @@
+//! Which cells an index leads to.
+ghost use Rattle.std.specs.Prelude.{◌≤◌, IfSome};
+ghost use Rattle.array_tree.specs.Trees.{expression_of};
+ghost use Rattle.touch_bounds.specs.Ranges.{bounds_of};
+ghost use Rattle.touch_bounds.specs.Touches.{AreCellsWithin, IsReachOf};
+
+use crate::expression::interval_of;
+use crate::interval::Interval;
+use crate::ranges::Ranges;
+use crate::touch::Stretch;
+use array_eval::{Layout, Place, is_dynamic};
+use array_tree::{Expr, Name};
+
+// The cells of an array at the numbers of an interval, where all are inside it.
+fn cells_within(place: Place, within: Interval) -> Option<Stretch>
+    requires base { place.base ≤ 4096 }
+    requires length { place.length ≤ 4096 }
+    ensures { IfSome result (λ cells. AreCellsWithin place.base place.length within cells) }
+{
+    let inside = 0 <= within.least
+        && within.least <= within.greatest
+        && within.greatest < place.length as i64;
+    if !inside {
+        return None;
+    }
+    Some(Stretch {
+        from: place.base + within.least as usize,
+        to: place.base + within.greatest as usize + 1,
+    })
+}
+
+/// The cells that an index of an array leads to, whatever values the variables have between their bounds. There are none
+/// where the index may be outside the array. A dynamic one leads to each cell.
+pub(crate) fn reach(layout: &Layout, array: &Name, index: &Expr, ranges: &Ranges) -> Option<Stretch>
+    ensures { IfSome result (λ cells. IsReachOf layout.now array.now (expression_of index.now) (bounds_of ranges.now) cells) }
+{
+    let place = layout.place_of(array);
+    if is_dynamic(index) {
+        return Some(Stretch {
+            from: place.base,
+            to: place.base + place.length,
+        });
+    }
+    let within = interval_of(index, ranges)?;
+    cells_within(place, within)
+}

@@ -1,0 +1,152 @@
+//! The pieces of a round, and whether their text shows that they are apart.
+ghost use Rattle.std.specs.Prelude.{◌≡◌, IfSome, IsTrue};
+ghost use Rattle.std.specs.Bool.{OnTrue};
+ghost use Rattle.array_tree.specs.Trees.{statement_of, sequence_of, sequences_of};
+ghost use Rattle.array_meaning.specs.Work.{statement_work, sequence_work, loop};
+ghost use Rattle.array_meaning.specs.Members.{team_works};
+ghost use Rattle.array_meaning.specs.Sites.{branch_works};
+ghost use Rattle.array_meaning.specs.Touch.{walk, IsApart};
+ghost use Rattle.array_meaning.specs.Accepted.{are_inside};
+ghost use Rattle.array_eval.specs.Views.{vars_of};
+ghost use Rattle.touch_bounds.specs.Ranges.{bounds_of};
+ghost use Rattle.touch_bounds.specs.Touches.{IsWorkTold};
+ghost use Rattle.touch_bounds.specs.Pieces.{tables_of, ArePiecesTold};
+
+use crate::apart::{Piece, are_all_clear};
+use crate::ranges::Ranges;
+use crate::touch::UNTOUCHED;
+use crate::work::{tell_block, tell_loop, tell_statement};
+use array_eval::{Layout, Scope, start_of_member};
+use array_tree::{Block, Blocks, Name, Stmt};
+use std::alloc::Global;
+
+// What is told of a block, if all can be told and there is memory.
+fn told_block<'s>(
+    alloc: Global,
+    layout: &Layout,
+    block: &'s Block,
+    ranges: &'s Ranges<'s>,
+) -> Option<Piece>
+    ensures { IfSome result (λ p. IsWorkTold layout.now p.touches.items (bounds_of ranges.now) (sequence_work (sequence_of block.now))) }
+{
+    let mut touches = vec![in alloc; UNTOUCHED; layout.count()].ok()?;
+    if tell_block(layout, block, ranges, &mut touches) {
+        Some(Piece { touches })
+    } else {
+        None
+    }
+}
+
+// The same of a block that is run for each number from low to before high.
+fn told_loop<'s>(
+    alloc: Global,
+    layout: &Layout,
+    body: &'s Block,
+    var: &'s Name,
+    low: i64,
+    high: i64,
+    ranges: &'s Ranges<'s>,
+) -> Option<Piece>
+    ensures { IfSome result (λ p. IsWorkTold layout.now p.touches.items (bounds_of ranges.now) (loop var.now low high (sequence_work (sequence_of body.now)))) }
+{
+    let mut touches = vec![in alloc; UNTOUCHED; layout.count()].ok()?;
+    if tell_loop(layout, body, var, low, high, ranges, &mut touches) {
+        Some(Piece { touches })
+    } else {
+        None
+    }
+}
+
+// What is told of the branches of a `par`, each as a piece.
+fn told_branches<'s>(
+    alloc: Global,
+    layout: &Layout,
+    branches: &'s Blocks,
+    scope: &'s Scope<'s>,
+) -> Option<Vec<Piece>>
+    ensures { IfSome result (λ pieces. ArePiecesTold layout.now (tables_of pieces.items) (branch_works (sequences_of branches.now) (vars_of scope.now))) }
+{
+    let ranges = Ranges::Fixed(scope);
+    let mut pieces = Vec::new(alloc);
+    for branch in &branches.blocks {
+        let piece = told_block(alloc, layout, branch, &ranges)?;
+        pieces.push(piece).ok()?;
+    }
+    Some(pieces)
+}
+
+// What is told of the members of a `team` in one phase, each as a piece.
+fn told_members<'s>(
+    alloc: Global,
+    layout: &Layout,
+    phase: &'s Block,
+    var: &'s Name,
+    low: i64,
+    high: i64,
+    members: u64,
+    scope: &'s Scope<'s>,
+) -> Option<Vec<Piece>>
+    ensures { IfSome result (λ pieces. ArePiecesTold layout.now (tables_of pieces.items) (team_works var.now low high members (sequence_work (sequence_of phase.now)) (vars_of scope.now))) }
+{
+    let ranges = Ranges::Fixed(scope);
+    let mut pieces = Vec::new(alloc);
+    for member in 0..members {
+        let start = start_of_member(low, high, members, member);
+        let end = start_of_member(low, high, members, member + 1);
+        let piece = told_loop(alloc, layout, phase, var, start, end, &ranges)?;
+        pieces.push(piece).ok()?;
+    }
+    Some(pieces)
+}
+
+/// Whether the branches of a `par` are seen to be apart: what each touches, array by array, is a stretch that no other one
+/// writes into. Where they aren't seen to be, or memory is wanting, they may yet be.
+pub fn branches_are_apart<'s>(
+    alloc: Global,
+    layout: &Layout,
+    branches: &'s Blocks,
+    scope: &'s Scope<'s>,
+) -> bool
+    ensures { OnTrue result (IsApart layout.now (branch_works (sequences_of branches.now) (vars_of scope.now))) }
+{
+    match told_branches(alloc, layout, branches, scope) {
+        Some(pieces) => are_all_clear(&pieces, layout.count()),
+        None => false,
+    }
+}
+
+/// Whether the members of a `team` are seen to be apart in one phase.
+pub fn members_are_apart<'s>(
+    alloc: Global,
+    layout: &Layout,
+    phase: &'s Block,
+    var: &'s Name,
+    low: i64,
+    high: i64,
+    members: u64,
+    scope: &'s Scope<'s>,
+) -> bool
+    ensures { OnTrue result (IsApart layout.now (team_works var.now low high members (sequence_work (sequence_of phase.now)) (vars_of scope.now))) }
+{
+    match told_members(alloc, layout, phase, var, low, high, members, scope) {
+        Some(pieces) => are_all_clear(&pieces, layout.count()),
+        None => false,
+    }
+}
+
+/// Whether each static index of a statement is seen to be inside its array. Where one isn't, or memory is wanting, it may
+/// yet be.
+pub fn indices_are_inside<'s>(
+    alloc: Global,
+    layout: &Layout,
+    statement: &'s Stmt,
+    scope: &'s Scope<'s>,
+) -> bool
+    ensures { OnTrue result (IsTrue (are_inside layout.now (walk layout.now (statement_work (statement_of statement.now) (vars_of scope.now))))) }
+{
+    let ranges = Ranges::Fixed(scope);
+    match vec![in alloc; UNTOUCHED; layout.count()] {
+        Ok(mut touches) => tell_statement(layout, statement, &ranges, &mut touches),
+        Err(_) => false,
+    }
+}

@@ -1,0 +1,96 @@
+//! What is told of the cells that statements touch.
+ghost use Rattle.std.specs.Prelude.{◌≡◌, ◌<◌, length};
+ghost use Rattle.std.specs.Bool.{OnTrue};
+ghost use Rattle.array_tree.specs.Trees.{expression_of};
+ghost use Rattle.touch_bounds.specs.Ranges.{bounds_of};
+ghost use Rattle.touch_bounds.specs.Touches.{side, touch_at, hull, Widens, IsIndexTold, AreReadsTold, IsAssignTold};
+
+use crate::ranges::Ranges;
+use crate::reach::reach;
+use crate::touch::{Stretch, Touch};
+use array_eval::Layout;
+use array_tree::{Expr, Name};
+
+// Adds cells to what is told of an array. Whether it is one of the program.
+fn add_cells(number: usize, writes: bool, cells: Stretch, touches: &mut [Touch]) -> bool
+    ensures wider { Widens touches.old touches.new }
+    ensures known { OnTrue result (number < length touches.old) }
+    ensures added { OnTrue result (side (touch_at touches.new number) writes ≡ hull (side (touch_at touches.old number) writes) cells) }
+{
+    if number >= touches.len() {
+        return false;
+    }
+    touches[number] = touches[number].with(writes, cells);
+    true
+}
+
+// Tells of an index of an array. The result, here and below, is whether all could be told; if not, nothing is known of
+// what was told.
+fn tell_index(
+    layout: &Layout,
+    writes: bool,
+    array: &Name,
+    index: &Expr,
+    ranges: &Ranges,
+    touches: &mut [Touch],
+) -> bool
+    requires places { length touches.old ≡ length layout.now }
+    ensures wider { Widens touches.old touches.new }
+    ensures told { OnTrue result (IsIndexTold layout.now touches.new (bounds_of ranges.now) writes array.now (expression_of index.now)) }
+{
+    match reach(layout, array, index, ranges) {
+        Some(cells) => add_cells(layout.place_of(array).number, writes, cells, touches),
+        None => false,
+    }
+}
+
+/// Tells of the reads of an expression.
+pub(crate) fn tell_reads(
+    layout: &Layout,
+    expr: &Expr,
+    ranges: &Ranges,
+    touches: &mut [Touch],
+) -> bool
+    requires places { length touches.old ≡ length layout.now }
+    ensures wider { Widens touches.old touches.new }
+    ensures told { OnTrue result (AreReadsTold layout.now touches.new (bounds_of ranges.now) (expression_of expr.now)) }
+{
+    match expr {
+        Expr::Number(_) | Expr::Var(_) => true,
+        Expr::Read(array, index) => {
+            if !tell_reads(layout, index, ranges, touches) {
+                return false;
+            }
+            tell_index(layout, false, array, index, ranges, touches)
+        }
+        Expr::Neg(operand) => tell_reads(layout, operand, ranges, touches),
+        Expr::Binary(_, left, right) => {
+            if !tell_reads(layout, left, ranges, touches) {
+                return false;
+            }
+            tell_reads(layout, right, ranges, touches)
+        }
+    }
+}
+
+/// Tells of an assignment.
+pub(crate) fn tell_assign(
+    layout: &Layout,
+    array: &Name,
+    index: &Expr,
+    value: &Expr,
+    ranges: &Ranges,
+    touches: &mut [Touch],
+) -> bool
+    requires places { length touches.old ≡ length layout.now }
+    ensures wider { Widens touches.old touches.new }
+    ensures told { OnTrue result (IsAssignTold layout.now touches.new (bounds_of ranges.now) array.now (expression_of index.now) (expression_of value.now)) }
+{
+    if !tell_reads(layout, index, ranges, touches) {
+        return false;
+    }
+    if !tell_reads(layout, value, ranges, touches) {
+        return false;
+    }
+    tell_index(layout, true, array, index, ranges, touches)
+}

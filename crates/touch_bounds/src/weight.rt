@@ -1,0 +1,112 @@
+//! Whether it pays to look at a text before its work is walked through. Nothing is promised of that: what is asked and
+//! isn't settled is walked through.
+use array_eval::span;
+use array_tree::{Block, Blocks, Stmt};
+
+// How many statements stand in a text, and how many run, loops included. The greatest number stands for all above it.
+#[derive(Clone, Copy, Drop)]
+struct Weight {
+    text: u64,
+    work: u64,
+}
+
+impl Weight {
+    // Nothing.
+    fn none() -> Weight {
+        Weight { text: 0, work: 0 }
+    }
+
+    // One more statement.
+    fn and_one(self) -> Weight {
+        Weight {
+            text: self.text.saturating_add(1),
+            work: self.work.saturating_add(1),
+        }
+    }
+
+    // One and the other.
+    fn and(self, other: Weight) -> Weight {
+        Weight {
+            text: self.text.saturating_add(other.text),
+            work: self.work.saturating_add(other.work),
+        }
+    }
+
+    // The same text, run so many times.
+    fn times(self, turns: u64) -> Weight {
+        Weight {
+            text: self.text,
+            work: self.work.saturating_mul(turns),
+        }
+    }
+
+    // Whether its work is more than ten times that of looking at so many texts and at each two of so many pieces. A look
+    // at two pieces costs about a thirtieth of a statement.
+    fn pays(self, texts: u64, pieces: u64) -> bool {
+        let pairs = pieces.saturating_mul(pieces) / 32;
+        self.work / 10 >= self.text.saturating_mul(texts).saturating_add(pairs)
+    }
+}
+
+/// Whether it pays to look at a statement's text.
+pub fn statement_pays(statement: &Stmt) -> bool {
+    weigh_statement(statement).pays(1, 1)
+}
+
+/// Whether it pays to look at the texts of branches.
+pub fn branches_pay(branches: &Blocks) -> bool {
+    weigh_blocks(branches).pays(1, branches.blocks.len() as u64)
+}
+
+/// Whether it pays to look at a phase's text for each member of a team that has so many iterations.
+pub fn phase_pays(phase: &Block, iterations: u64, members: u64) -> bool {
+    weigh_block(phase)
+        .and_one()
+        .times(iterations)
+        .pays(members, members)
+}
+
+#[cycle(weigh)]
+fn weigh_block(block: &Block) -> Weight {
+    let mut weight = Weight::none();
+    for statement in &block.statements {
+        weight = weight.and(weigh_statement(statement));
+    }
+    weight
+}
+
+#[cycle(weigh)]
+fn weigh_blocks(blocks: &Blocks) -> Weight {
+    let mut weight = Weight::none();
+    for block in &blocks.blocks {
+        weight = weight.and(weigh_block(block));
+    }
+    weight
+}
+
+#[cycle(weigh)]
+fn weigh_statement(statement: &Stmt) -> Weight {
+    match statement {
+        Stmt::Assign { .. } => Weight::none().and_one(),
+        Stmt::For {
+            low,
+            high,
+            body,
+            ..
+        } => weigh_block(body).and_one().times(span(*low, *high)),
+        Stmt::If {
+            then_block,
+            else_block,
+            ..
+        } => weigh_block(then_block)
+            .and(weigh_block(else_block))
+            .and_one(),
+        Stmt::Par { branches, .. } => weigh_blocks(branches).and_one(),
+        Stmt::Team {
+            low,
+            high,
+            phases,
+            ..
+        } => weigh_blocks(phases).and_one().times(span(*low, *high)),
+    }
+}

@@ -1,0 +1,161 @@
+//! What is told of the cells that blocks touch.
+ghost use Rattle.std.specs.Prelude.{◌≡◌, length};
+ghost use Rattle.std.specs.Bool.{OnTrue};
+ghost use Rattle.array_tree.specs.Trees.{statement_of, sequence_of, sequences_of};
+ghost use Rattle.array_meaning.specs.Work.{statement_work, sequence_work, branches_work, phases_work, loop};
+ghost use Rattle.touch_bounds.specs.Ranges.{bounds_of};
+ghost use Rattle.touch_bounds.specs.Touches.{Widens, IsWorkTold};
+
+use crate::interval::Interval;
+use crate::ranges::Ranges;
+use crate::tell::{tell_assign, tell_reads};
+use crate::touch::Touch;
+use array_eval::Layout;
+use array_tree::{Block, Blocks, Name, Stmt};
+
+/// Tells, for each array, of the cells that a block touches, whatever values the variables have between their bounds, and
+/// besides of what was told before. Both sides of an `if` count, and a loop without turns touches nothing.
+///
+/// The result is whether all could be told: each index that isn't dynamic is then inside its array. If not, nothing is
+/// known of what was told here.
+#[cycle(tell)]
+pub fn tell_block<'s>(
+    layout: &Layout,
+    block: &'s Block,
+    ranges: &'s Ranges<'s>,
+    touches: &mut [Touch],
+) -> bool
+    requires places { length touches.old ≡ length layout.now }
+    ensures wider { Widens touches.old touches.new }
+    ensures told { OnTrue result (IsWorkTold layout.now touches.new (bounds_of ranges.now) (sequence_work (sequence_of block.now))) }
+{
+    for statement in &block.statements {
+        if !tell_statement(layout, statement, ranges, touches) {
+            return false;
+        }
+    }
+    true
+}
+
+/// The same of a statement.
+#[cycle(tell)]
+pub(crate) fn tell_statement<'s>(
+    layout: &Layout,
+    statement: &'s Stmt,
+    ranges: &'s Ranges<'s>,
+    touches: &mut [Touch],
+) -> bool
+    requires places { length touches.old ≡ length layout.now }
+    ensures wider { Widens touches.old touches.new }
+    ensures told { OnTrue result (IsWorkTold layout.now touches.new (bounds_of ranges.now) (statement_work (statement_of statement.now))) }
+{
+    match statement {
+        Stmt::Assign {
+            array,
+            index,
+            value,
+            ..
+        } => tell_assign(layout, array, index, value, ranges, touches),
+        Stmt::For {
+            var,
+            low,
+            high,
+            body,
+            ..
+        } => tell_loop(layout, body, var, *low, *high, ranges, touches),
+        Stmt::If {
+            cond,
+            then_block,
+            else_block,
+            ..
+        } => {
+            if !tell_reads(layout, cond, ranges, touches) {
+                return false;
+            }
+            if !tell_block(layout, then_block, ranges, touches) {
+                return false;
+            }
+            tell_block(layout, else_block, ranges, touches)
+        }
+        Stmt::Par { branches, .. } => tell_branches(layout, branches, ranges, touches),
+        Stmt::Team {
+            var,
+            low,
+            high,
+            phases,
+            ..
+        } => tell_phases(layout, phases, var, *low, *high, ranges, touches),
+    }
+}
+
+/// The same of a block that is run for each number from `low` to before `high`.
+#[cycle(tell)]
+pub(crate) fn tell_loop<'s>(
+    layout: &Layout,
+    body: &'s Block,
+    var: &'s Name,
+    low: i64,
+    high: i64,
+    ranges: &'s Ranges<'s>,
+    touches: &mut [Touch],
+) -> bool
+    requires places { length touches.old ≡ length layout.now }
+    ensures wider { Widens touches.old touches.new }
+    ensures told { OnTrue result (IsWorkTold layout.now touches.new (bounds_of ranges.now) (loop var.now low high (sequence_work (sequence_of body.now)))) }
+{
+    if low >= high {
+        return true;
+    }
+    let turns = Ranges::Loop {
+        name: var,
+        within: Interval {
+            least: low,
+            greatest: high - 1,
+        },
+        outer: ranges,
+    };
+    tell_block(layout, body, &turns, touches)
+}
+
+// The same of the branches of a `par`.
+#[cycle(tell)]
+fn tell_branches<'s>(
+    layout: &Layout,
+    branches: &'s Blocks,
+    ranges: &'s Ranges<'s>,
+    touches: &mut [Touch],
+) -> bool
+    requires places { length touches.old ≡ length layout.now }
+    ensures wider { Widens touches.old touches.new }
+    ensures told { OnTrue result (IsWorkTold layout.now touches.new (bounds_of ranges.now) (branches_work (sequences_of branches.now))) }
+{
+    for branch in &branches.blocks {
+        if !tell_block(layout, branch, ranges, touches) {
+            return false;
+        }
+    }
+    true
+}
+
+// The same of the phases of a `team`.
+#[cycle(tell)]
+fn tell_phases<'s>(
+    layout: &Layout,
+    phases: &'s Blocks,
+    var: &'s Name,
+    low: i64,
+    high: i64,
+    ranges: &'s Ranges<'s>,
+    touches: &mut [Touch],
+) -> bool
+    requires places { length touches.old ≡ length layout.now }
+    ensures wider { Widens touches.old touches.new }
+    ensures told { OnTrue result (IsWorkTold layout.now touches.new (bounds_of ranges.now) (λ vars. phases_work (sequences_of phases.now) var.now low high vars)) }
+{
+    for phase in &phases.blocks {
+        if !tell_loop(layout, phase, var, low, high, ranges, touches) {
+            return false;
+        }
+    }
+    true
+}
