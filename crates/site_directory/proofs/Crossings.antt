@@ -18,7 +18,12 @@ use Rattle.forkjoin_sched.specs.contracts.shared.SharedPool as SharedPool
 use Rattle.loop_team.specs.contracts.work.TeamWork as TeamWork
 use Rattle.loop_team.specs.contracts.team.Team as Team
 use Rattle.loop_team.specs.contracts.shared.SharedTeam as SharedTeam
+use Rattle.once_cell.specs.contracts.race.once_box.OnceBox as OnceBox
+use Rattle.once_cell.specs.contracts.race.note.Note as Note
+use Rattle.once_cell.proofs.race.once_box.OnceBox.TheSendSync as OnceBoxCrosses
+use Rattle.once_cell.proofs.race.note.Note.TheSendSync as NoteCrosses
 use Rattle.site_directory.specs.contracts.shared_site.SharedSite as SharedSite
+use Rattle.site_directory.specs.contracts.directory.SiteLine as SiteLine
 
 module _ (l : NamedLft) where
   pub job_send : IsSend (Job.the_row l)
@@ -80,3 +85,12 @@ module _ (l : NamedLft) where
 
   pub shared_site_sync : IsSync (SharedSite.the_row l)
   shared_site_sync = let pool = shared_pool_sync in let team = shared_team_sync in search (crosses, sendable) depth 60 fits 20000
+
+-- a line to a cell goes from thread to thread with what the cell shares
+pub line_send : (a p : NamedLft) → IsSend (SiteLine.the_row a p)
+line_send a p =
+    let sent = shared_site_send p in
+    let shared = shared_site_sync p in
+    let cell : IsSync (OnceBox.the_row (SharedSite.the_row p)) = OnceBoxCrosses.the_sync (SharedSite.the_row p) sent shared in
+    let note : IsSend (Note.the_row (SharedSite.the_row p)) = NoteCrosses.the_send (SharedSite.the_row p) in
+    search (crosses, sendable) depth 60 fits 20000
