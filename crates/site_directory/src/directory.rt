@@ -1,6 +1,6 @@
 //! The cells of the directory, and one hart's sight of them.
-ghost use Rattle.std.specs.Prelude.{◌≡◌, ◌+◌, MatchResult, IfOk, vec_len, length};
-ghost use Rattle.once_cell.specs.Once.{cell_name};
+ghost use Rattle.std.specs.Prelude.{◌≡◌, ◌+◌, MatchResult, IfOk, IfSome, Some, vec_len, length};
+ghost use Rattle.once_cell.specs.Once.{cell_name, Agrees};
 
 use crate::shared_site::SharedSite;
 use crossbeam_utils::Backoff;
@@ -25,13 +25,17 @@ impl<'a, 'p> SiteLine<'a, 'p> {
         }
     }
 
-    /// The scheduler in the cell, once it stands there.
-    pub fn find(&mut self) -> Option<&'a SharedSite<'p>> {
+    /// The scheduler in the cell, once it stands there. It is the one that this line found before, if it found one.
+    pub fn find(&mut self) -> Option<&'a SharedSite<'p>>
+        ensures { IfSome result (λ shared. Agrees self.old.note.known shared.now × (self.new.note.known ≡ Some shared.now)) }
+    {
         self.cell.get_as(&mut self.note)
     }
 
     /// The scheduler in the cell. It waits until one stands there.
-    pub fn until_found<R: Wait>(&mut self, rt: &R) -> &'a SharedSite<'p> {
+    pub fn until_found<R: Wait>(&mut self, rt: &R) -> &'a SharedSite<'p>
+        ensures { self.new.note.known ≡ Some result.now }
+    {
         let backoff = Backoff::new();
         for _ in rt.forever() {
             if let Some(shared) = self.find() {
