@@ -66,6 +66,9 @@ fn two_harts_on_threads_fill_one_pool(rt: HostRuntime) -> Result<(), Fail> {
     }
     assert!(rt; is_taken(&mut lines[0], pool_site(alloc, &program)?));
     help_all(&rt, alloc, lines.as_mut_slice());
-    assert_eq!(rt; taken(&rt, &mut lines[0])?.pairs(), BOTH_BRANCHES.as_slice());
+    assert_eq!(rt;
+        taken(&rt, &mut lines[0])?.pairs(),
+        BOTH_BRANCHES.as_slice()
+    );
     Ok(())
 }
