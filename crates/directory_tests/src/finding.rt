@@ -1,24 +1,30 @@
 //! What is published, and found.
+ghost use Rattle.std.specs.Prelude.{◌≡◌, length};
 
 use array_tree::Program;
 use forkjoin_sched::{Pool, SharedPool};
+use once_cell::race::OnceBox;
 use sample_programs::{TWO_BRANCHES, first_jobs, parsed};
 use site_directory::{SharedSite, SiteLine, cells, lines};
 use std::alloc::Global;
 use std::test::Fail;
 
 // The scheduler of a program that begins with a `par`, for all harts.
-pub fn pool_site<'p>(alloc: Global, program: &'p Program) -> Result<Box<SharedSite<'p>>, Fail> {
+fn pool_site<'p>(alloc: Global, program: &'p Program) -> Result<Box<SharedSite<'p>>, Fail> {
     let pool = Pool::new(alloc, first_jobs(alloc, program)?)?;
     let shared = SharedPool::new(alloc, pool)?;
     Ok(Box::new(alloc, SharedSite::Pool(shared))?)
 }
 
-// Whether a cell took the scheduler.
-pub fn is_taken<'a, 'p>(line: &mut SiteLine<'a, 'p>, shared: Box<SharedSite<'p>>) -> bool {
-    match line.publish(shared) {
-        Ok(_) => true,
-        Err(_) => false,
+// Publishes the scheduler of a program that begins with a `par`; whether the cell took it.
+pub fn is_taken<'a, 'p>(
+    alloc: Global,
+    line: &mut SiteLine<'a, 'p>,
+    program: &'p Program,
+) -> Result<bool, Fail> {
+    match line.publish(pool_site(alloc, program)?) {
+        Ok(_) => Ok(true),
+        Err(_) => Ok(false),
     }
 }
 
@@ -30,19 +36,43 @@ fn jobs_found(line: &mut SiteLine) -> usize {
     }
 }
 
+// Whether the scheduler of site 1 is found there by both harts, and by none before, nor at site 2.
+fn is_found<'a, 'p>(
+    alloc: Global,
+    program: &'p Program,
+    cells: &'a [OnceBox<SharedSite<'p>>],
+) -> Result<bool, Fail>
+    requires { length cells.now ≡ 3 }
+{
+    let mut home = lines(alloc, cells)?;
+    let mut guest = lines(alloc, cells)?;
+    let before = jobs_found(&mut guest[1]);
+    let taken = is_taken(alloc, &mut home[1], program)?;
+    let after = jobs_found(&mut guest[1]) == 2 && jobs_found(&mut home[1]) == 2;
+    Ok(taken && after && before == 0 && jobs_found(&mut guest[2]) == 0)
+}
+
+// Whether the cell of site 1 takes one scheduler and no second one.
+fn takes_one<'a, 'p>(
+    alloc: Global,
+    program: &'p Program,
+    cells: &'a [OnceBox<SharedSite<'p>>],
+) -> Result<bool, Fail>
+    requires { length cells.now ≡ 2 }
+{
+    let mut home = lines(alloc, cells)?;
+    let first = is_taken(alloc, &mut home[1], program)?;
+    let second = is_taken(alloc, &mut home[1], program)?;
+    Ok(first && !second)
+}
+
 #[test]
 fn a_site_is_found_once_it_was_published(rt: HostRuntime) -> Result<(), Fail> {
     let alloc = rt.alloc();
     let program = parsed(alloc, TWO_BRANCHES)?;
     let cells = cells(alloc, 2)?;
-    let mut home = lines(alloc, &cells)?;
-    let mut guest = lines(alloc, &cells)?;
-    assert_eq!(rt; guest.len(), 3);
-    assert_eq!(rt; jobs_found(&mut guest[1]), 0);
-    assert!(rt; is_taken(&mut home[1], pool_site(alloc, &program)?));
-    assert_eq!(rt; jobs_found(&mut guest[1]), 2);
-    assert_eq!(rt; jobs_found(&mut home[1]), 2);
-    assert_eq!(rt; jobs_found(&mut guest[2]), 0);
+    assert!(rt; cells.len() == 3);
+    assert!(rt; is_found(alloc, &program, cells.as_slice())?);
     Ok(())
 }
 
@@ -51,8 +81,6 @@ fn a_cell_takes_one_scheduler(rt: HostRuntime) -> Result<(), Fail> {
     let alloc = rt.alloc();
     let program = parsed(alloc, TWO_BRANCHES)?;
     let cells = cells(alloc, 1)?;
-    let mut home = lines(alloc, &cells)?;
-    assert!(rt; is_taken(&mut home[1], pool_site(alloc, &program)?));
-    assert!(rt; !is_taken(&mut home[1], pool_site(alloc, &program)?));
+    assert!(rt; takes_one(alloc, &program, cells.as_slice())?);
     Ok(())
 }

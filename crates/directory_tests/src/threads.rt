@@ -1,9 +1,12 @@
 //! Harts on threads.
+ghost use Rattle.std.specs.Prelude.{◌≡◌, length};
 
-use crate::finding::{is_taken, pool_site};
+use crate::finding::is_taken;
 use array_eval::Overlay;
 use array_jobs::piece_of;
+use array_tree::Program;
 use forkjoin_sched::{PoolHand, PoolWork, SharedPool};
+use once_cell::race::OnceBox;
 use sample_programs::{BOTH_BRANCHES, TWO_BRANCHES, parsed};
 use sched_api::{Next, Scheduler};
 use site_directory::{SharedSite, SiteLine, cells};
@@ -55,20 +58,33 @@ fn taken<'x, 'p, R: Wait>(rt: &'x R, line: &mut SiteLine<'x, 'p>) -> Result<Over
     }
 }
 
+// What two harts make of the program's pool.
+fn filled_by_two<'x, 'p: 'x, R: Threads + Wait + Sync>(
+    rt: &'x R,
+    alloc: Global,
+    program: &'p Program,
+    cells: &'x [OnceBox<SharedSite<'p>>],
+) -> Result<Overlay, Fail>
+    requires { length cells.now ≡ 2 }
+{
+    let mut home = SiteLine::new(&cells[1]);
+    if !is_taken(alloc, &mut home, program)? {
+        return Err(Fail::new("the cell is full"));
+    }
+    let mut lines = Vec::new(alloc);
+    for _ in 0..2 {
+        lines.push(SiteLine::new(&cells[1]))?;
+    }
+    help_all(rt, alloc, lines.as_mut_slice());
+    taken(rt, &mut home)
+}
+
 #[test]
 fn two_harts_on_threads_fill_one_pool(rt: HostRuntime) -> Result<(), Fail> {
     let alloc = rt.alloc();
     let program = parsed(alloc, TWO_BRANCHES)?;
     let cells = cells(alloc, 1)?;
-    let mut lines = Vec::new(alloc);
-    for _ in 0..2 {
-        lines.push(SiteLine::new(&cells[1]))?;
-    }
-    assert!(rt; is_taken(&mut lines[0], pool_site(alloc, &program)?));
-    help_all(&rt, alloc, lines.as_mut_slice());
-    assert_eq!(rt;
-        taken(&rt, &mut lines[0])?.pairs(),
-        BOTH_BRANCHES.as_slice()
-    );
+    let written = filled_by_two(&rt, alloc, &program, cells.as_slice())?;
+    assert!(rt; written.pairs() == BOTH_BRANCHES.as_slice());
     Ok(())
 }
