@@ -1,5 +1,5 @@
 //! The cells of the directory, and one hart's sight of them.
-ghost use Rattle.std.specs.Prelude.{◌≡◌, ◌+◌, MatchResult, IfOk, IfSome, Some, vec_len, length};
+ghost use Rattle.std.specs.Prelude.{◌≡◌, ◌+◌, MatchOption, MatchResult, IfOk, IfErr, IsSome, Some, None, vec_len, length, map};
 ghost use Rattle.once_cell.specs.Once.{cell_name, Agrees};
 
 use crate::shared_site::SharedSite;
@@ -18,26 +18,33 @@ pub struct SiteLine<'a, 'p> {
 
 impl<'a, 'p> SiteLine<'a, 'p> {
     /// The first sight of a cell.
-    pub fn new(cell: &'a OnceBox<SharedSite<'p>>) -> SiteLine<'a, 'p> {
+    pub fn new(cell: &'a OnceBox<SharedSite<'p>>) -> SiteLine<'a, 'p>
+        ensures cell { result.note.cell ≡ cell_name cell.now }
+        ensures first { result.note.known ≡ None }
+    {
         SiteLine {
             cell,
             note: cell.note(),
         }
     }
 
-    /// The scheduler in the cell, once it stands there. It is the one that this line found before, if it found one.
+    /// The scheduler in the cell, once it stands there. It is the one that this line found before, and None comes only where
+    /// it found none before.
     pub fn find(&mut self) -> Option<&'a SharedSite<'p>>
-        ensures { IfSome result (λ shared. Agrees self.old.note.known shared.now × (self.new.note.known ≡ Some shared.now)) }
+        ensures cell { self.new.note.cell ≡ self.old.note.cell }
+        ensures found { MatchOption result ((self.old.note.known ≡ None) × (self.new.note.known ≡ None)) (λ shared. (self.new.note.known ≡ Some shared.now) × Agrees self.old.note.known shared.now) }
     {
         self.cell.get_as(&mut self.note)
     }
 
-    /// The scheduler in the cell. It waits until one stands there.
+    /// The scheduler in the cell. It waits until one stands there; where this line found one before, it is that one.
     pub fn until_found<R: Wait>(&mut self, rt: &R) -> &'a SharedSite<'p>
-        ensures { self.new.note.known ≡ Some result.now }
+        ensures cell { self.new.note.cell ≡ self.old.note.cell }
+        ensures known { self.new.note.known ≡ Some result.now }
+        ensures same { Agrees self.old.note.known result.now }
     {
         let backoff = Backoff::new();
-        for _ in rt.forever() {
+        'looks: for _ in rt.forever() {
             if let Some(shared) = self.find() {
                 return shared;
             }
@@ -46,12 +53,17 @@ impl<'a, 'p> SiteLine<'a, 'p> {
         unreachable!()
     }
 
-    /// Puts the scheduler into the cell. A cell that has one already gives it back.
+    /// Puts the scheduler into the cell. A cell that has one already gives it back, and this line then knows the one that
+    /// stands there.
     pub fn publish(
         &mut self,
         shared: Box<SharedSite<'p>>,
     ) -> Result<&'a SharedSite<'p>, Box<SharedSite<'p>>>
-        ensures { MatchResult result (λ published. published.now ≡ shared.entry.value) (λ back. back.value ≡ shared.entry.value) }
+        ensures cell { self.new.note.cell ≡ self.old.note.cell }
+        ensures gives { MatchResult result (λ published. published.now ≡ shared.entry.value) (λ back. back.value ≡ shared.entry.value) }
+        ensures first { IfOk result (λ published. self.old.note.known ≡ None) }
+        ensures known { IfOk result (λ published. self.new.note.known ≡ Some shared.entry.value) }
+        ensures full { IfErr result (λ back. IsSome self.new.note.known) }
     {
         self.cell.set_as(shared, &mut self.note)?;
         match self.cell.get_as(&mut self.note) {
@@ -78,7 +90,8 @@ pub fn lines<'a, 'p>(
     alloc: Global,
     cells: &'a [OnceBox<SharedSite<'p>>],
 ) -> Result<Vec<SiteLine<'a, 'p>>, AllocError>
-    ensures { IfOk result (λ lines. vec_len lines ≡ length cells.now) }
+    ensures count { IfOk result (λ lines. vec_len lines ≡ length cells.now) }
+    ensures order { IfOk result (λ lines. map (λ line. line.note.cell) lines.items ≡ map cell_name cells.now) }
 {
     let mut lines = Vec::with_capacity(alloc, cells.len())?;
     for cell in cells {
