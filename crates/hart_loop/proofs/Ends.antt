@@ -1,6 +1,7 @@
 -- Where the hart is back in the base and each top site is over, every site is gone.
 use Rattle.std.proofs.Common.{◌≡◌, ℕ, zero, suc, ◌≤◌, ◌*◌, ◌-◌, true, List, length, refl, sym, ◌∙◌, subst, arith, inl, inr}
 use Rattle.std.proofs.lemmas.Bool.{cases_eq}
+use Rattle.std.proofs.lemmas.Nat.{mul-le}
 use Rattle.transfer_table.specs.Plan.{Plan, IsPlan, IsSite, parent, site_count}
 use Rattle.transfer_table.specs.Table.{TableState, row}
 use Rattle.transfer_table.specs.Journal.{Reaches, AllGone, IsComplete}
@@ -32,10 +33,9 @@ complete p h t es plan same entries reached home alone over =
     subst (λ (q : Plan). IsComplete q es) same
     (subst (λ (xs : List Entry). IsComplete h.plan xs) (sym entries) (t, reached, all_gone h t (subst IsPlan (sym same) plan) reached home alone over))
 
--- on one hart a legal journal has at most two entries for each site
-pub few_entries : (p : Plan) → IsPlan p → p.harts ≡ 1 → (es : List Entry) (t : TableState) → Reaches p es t → length es ≤ 65535
-few_entries p plan one es t is =
+-- a legal journal is short
+pub few_entries : (p : Plan) → IsPlan p → (es : List Entry) (t : TableState) → Reaches p es t → length es ≤ 65535
+few_entries p plan es t is =
     let short : length es ≤ site_count p * (3 * p.harts - 1) = legal_length p plan es t is in
-    let two : 3 * p.harts - 1 ≡ 2 = omega (arith, one) in
-    let few : length es ≤ site_count p * 2 = subst (λ n. length es ≤ site_count p * n) two short in
-    omega (arith, few, plan.few_sites)
+    let most : site_count p * (3 * p.harts - 1) ≤ 4095 * 11 = mul-le (site_count p) (3 * p.harts - 1) 4095 11 plan.few_sites (omega (arith, plan.few_harts)) in
+    omega (arith, short, most)

@@ -1,4 +1,6 @@
 pub mod Accounts
+pub mod Crossings
+pub mod Crews
 pub mod Ends
 pub mod Hearings
 pub mod Steps

@@ -6,15 +6,16 @@ ghost use Rattle.contexts.specs.declared.machine.Step.TheVariants.{Finished};
 ghost use Rattle.hart_work.specs.Tasks.{HasNext, HasAccount, Goes};
 ghost use Rattle.hart_loop.specs.Sites.{construct_in, jobs_left, IsSettledSite, IsOwed, IsOverSite, HearsAt, IsAwaitingWrites};
 
+use crate::machines::started;
 use crate::pools::{deposit_in_pool, fail_in_pool, next_of_pool, open_pool, take_from_pool};
 use crate::site::LoneSite;
 use crate::teams::{arrive_in_team, fail_in_team, next_of_team, open_team};
 use array_eval::Overlay;
 use array_jobs::{Job, Piece};
 use array_tree::Block;
-use contexts::{InitRefused, Running, Step, ctx_fini, ctx_init, ctx_run};
+use contexts::{Running, Step};
 use hart_port::{Entered, Port, Taken};
-use hart_work::{Schedulers, Task};
+use hart_work::{Resources, Schedulers, Task};
 use sched_api::{sched_register, sched_request, sched_unregister, sched_yield};
 use std::alloc::{AllocError, Global};
 use std::marker::PhantomData;
@@ -33,11 +34,11 @@ impl<'p> LoneSchedulers<'p> {
     }
 }
 
-impl<'p> Schedulers for LoneSchedulers<'p> {
+impl<'p> Resources for LoneSchedulers<'p> {
     ghost use Rattle.std.specs.Prelude.{◌≡◌, false};
     ghost use Rattle.step_eval.specs.Nests.{nested_of, nested_writes};
     ghost use Rattle.step_eval.specs.Machines.{left_of, is_awaiting, IsFinished};
-    ghost use Rattle.hart_loop.specs.Sites.{construct_in, jobs_left, IsSettledSite, IsOwed, IsOverSite, HearsAt, IsAwaitingWrites};
+    ghost use Rattle.hart_loop.specs.Sites.{construct_in, IsSettledSite, IsAwaitingWrites};
 
     type Job = Job<'p>;
 
@@ -50,18 +51,6 @@ impl<'p> Schedulers for LoneSchedulers<'p> {
     type Machine = StepMachine<'p>;
 
     type Site = LoneSite<'p>;
-
-    ghost construct = { construct_in };
-
-    ghost left = { jobs_left };
-
-    ghost settled = { IsSettledSite };
-
-    ghost owed = { IsOwed };
-
-    ghost over = { IsOverSite };
-
-    ghost hears = { HearsAt };
 
     ghost job_of = { λ m. m.job };
 
@@ -83,15 +72,16 @@ impl<'p> Schedulers for LoneSchedulers<'p> {
 
     ghost finished = { IsFinished };
 
+    ghost construct = { construct_in };
+
+    ghost settled = { IsSettledSite };
+
     fn start(
         &mut self,
         alloc: Global,
         job: Job<'p>,
     ) -> Result<Running<StepMachine<'p>>, AllocError> {
-        match ctx_init(alloc, StepMachine::new(alloc, job)?) {
-            Ok(fresh) => Ok(ctx_run(fresh)),
-            Err(InitRefused { machine: _ }) => Err(AllocError),
-        }
+        started(alloc, job)
     }
 
     fn step(&mut self, running: &mut Running<StepMachine<'p>>) -> Step<Nested<'p>>
@@ -115,15 +105,8 @@ impl<'p> Schedulers for LoneSchedulers<'p> {
         running.machine().supply(&written)
     }
 
-    fn end(&mut self, running: Running<StepMachine<'p>>) -> Piece<'p>
-        requires { IsFinished running }
-        ensures { result.job ≡ running.entry.job }
-    {
-        ctx_fini(running).into_machine().into_piece()
-    }
-
-    fn abandon(&mut self, running: Running<StepMachine<'p>>) {
-        let _ = running.abandon();
+    fn end(&mut self, machine: StepMachine<'p>) -> Piece<'p> {
+        machine.into_piece()
     }
 
     fn number(&self, nested: &Nested<'p>) -> u16 {
@@ -134,10 +117,12 @@ impl<'p> Schedulers for LoneSchedulers<'p> {
         job.place
     }
 
-    fn open(&mut self, alloc: Global, nested: Nested<'p>) -> Result<LoneSite<'p>, AllocError>
-        ensures construct { IfOk result (λ site. construct_in site ≡ Some nested.entry) }
-        ensures settled { IfOk result IsSettledSite }
-    {
+    fn compute(&mut self, alloc: Global, nested: Nested<'p>) -> Result<Overlay, AllocError> {
+        compute(alloc, &nested)
+    }
+
+    fn open(&mut self, alloc: Global, nested: &Nested<'p>) -> Result<LoneSite<'p>, AllocError> {
+        let nested = nested.copy()?;
         match nested.kind() {
             Kind::Par => {
                 let pool = open_pool(alloc, &nested)?;
@@ -147,18 +132,31 @@ impl<'p> Schedulers for LoneSchedulers<'p> {
         }
     }
 
-    /// There is no other hart that opens a site.
-    fn find(&mut self, _site: u16) -> Option<LoneSite<'p>> {
-        None
-    }
-
     /// No other hart could be asked for.
     fn wishes(&self, _site: &LoneSite<'p>) -> u8 {
         0
     }
+}
+
+impl<'p, R> Schedulers<R> for LoneSchedulers<'p> {
+    ghost use Rattle.hart_loop.specs.Sites.{jobs_left, IsOwed, IsOverSite, HearsAt};
+
+    ghost left = { jobs_left };
+
+    ghost owed = { IsOwed };
+
+    ghost over = { IsOverSite };
+
+    ghost hears = { HearsAt };
+
+    /// There is no other hart that opens a site.
+    fn find(&mut self, _rt: &R, _site: u16) -> Option<LoneSite<'p>> {
+        None
+    }
 
     fn register<P: Port>(
         &mut self,
+        _rt: &R,
         port: &mut P,
         hold: P::Hold,
         around: &mut LoneSite<'p>,
@@ -180,6 +178,7 @@ impl<'p> Schedulers for LoneSchedulers<'p> {
 
     fn request<P: Port>(
         &mut self,
+        _rt: &R,
         port: &mut P,
         hold: P::Hold,
         around: &mut LoneSite<'p>,
@@ -199,7 +198,13 @@ impl<'p> Schedulers for LoneSchedulers<'p> {
         }
     }
 
-    fn unregister<P: Port>(&mut self, port: &mut P, hold: P::Hold, around: &mut LoneSite<'p>) {
+    fn unregister<P: Port>(
+        &mut self,
+        _rt: &R,
+        port: &mut P,
+        hold: P::Hold,
+        around: &mut LoneSite<'p>,
+    ) {
         match around {
             LoneSite::Base(base) => {
                 sched_unregister(port, hold, base, ());
@@ -216,6 +221,7 @@ impl<'p> Schedulers for LoneSchedulers<'p> {
     /// Inside there is nothing for a guest: the only hart is the home of each site that is open.
     fn enter<P: Port>(
         &mut self,
+        _rt: &R,
         port: &mut P,
         hold: P::Hold,
         _site: &mut LoneSite<'p>,
@@ -227,7 +233,13 @@ impl<'p> Schedulers for LoneSchedulers<'p> {
         }
     }
 
-    fn give_back<P: Port>(&mut self, port: &mut P, hold: P::Hold, around: &mut LoneSite<'p>) {
+    fn give_back<P: Port>(
+        &mut self,
+        _rt: &R,
+        port: &mut P,
+        hold: P::Hold,
+        around: &mut LoneSite<'p>,
+    ) {
         match around {
             LoneSite::Base(base) => {
                 sched_yield(port, hold, base, ());
@@ -241,7 +253,7 @@ impl<'p> Schedulers for LoneSchedulers<'p> {
         }
     }
 
-    fn next(&mut self, site: &mut LoneSite<'p>, _is_home: bool) -> Task<Job<'p>> {
+    fn next(&mut self, _rt: &R, site: &mut LoneSite<'p>, _is_home: bool) -> Task<Job<'p>> {
         match site {
             LoneSite::Base(_) => Task::Nothing,
             LoneSite::Pool { pool, .. } => next_of_pool(pool),
@@ -249,7 +261,7 @@ impl<'p> Schedulers for LoneSchedulers<'p> {
         }
     }
 
-    fn deposit(&mut self, _alloc: Global, site: &mut LoneSite<'p>, piece: Piece<'p>) {
+    fn deposit(&mut self, _rt: &R, _alloc: Global, site: &mut LoneSite<'p>, piece: Piece<'p>) {
         match site {
             LoneSite::Base(_) => unreachable!(),
             LoneSite::Pool { pool, .. } => deposit_in_pool(pool, piece),
@@ -257,7 +269,7 @@ impl<'p> Schedulers for LoneSchedulers<'p> {
         }
     }
 
-    fn fail(&mut self, site: &mut LoneSite<'p>, place: u8) {
+    fn fail(&mut self, _rt: &R, site: &mut LoneSite<'p>, place: u8) {
         match site {
             LoneSite::Base(_) => unreachable!(),
             LoneSite::Pool { pool, .. } => fail_in_pool(pool, place),
@@ -265,7 +277,7 @@ impl<'p> Schedulers for LoneSchedulers<'p> {
         }
     }
 
-    fn has_failed(&mut self, site: &LoneSite<'p>) -> bool {
+    fn has_failed(&mut self, _rt: &R, site: &LoneSite<'p>) -> bool {
         match site {
             LoneSite::Base(_) => false,
             LoneSite::Pool { pool, .. } => pool.has_failed(),
@@ -273,23 +285,11 @@ impl<'p> Schedulers for LoneSchedulers<'p> {
         }
     }
 
-    fn take(&mut self, _alloc: Global, site: LoneSite<'p>) -> Result<Overlay, AllocError> {
+    fn take(&mut self, _rt: &R, _alloc: Global, site: LoneSite<'p>) -> Result<Overlay, AllocError> {
         match site {
             LoneSite::Base(_) => unreachable!(),
             LoneSite::Pool { nested, pool } => take_from_pool(&nested, pool),
             LoneSite::Team(team) => team.take_all(),
         }
-    }
-
-    fn give_up(&mut self, alloc: Global, site: LoneSite<'p>) -> Result<Overlay, AllocError> {
-        match site {
-            LoneSite::Base(_) => unreachable!(),
-            LoneSite::Pool { nested, .. } => compute(alloc, &nested),
-            LoneSite::Team(team) => compute(alloc, team.nested()),
-        }
-    }
-
-    fn compute(&mut self, alloc: Global, nested: Nested<'p>) -> Result<Overlay, AllocError> {
-        compute(alloc, &nested)
     }
 }

@@ -58,8 +58,12 @@ fn run_body<'p>(
     let job = body_job(alloc, accepted.program())?;
     let mut base = LoneSite::Base(Base::new(alloc, tree.plan().sites())?);
     run_piece(
+        // There is no runtime, and nothing waits.
+        &(),
         alloc,
         tree,
+        // Nobody is told.
+        &|_, _| {},
         port,
         (),
         &mut LoneSchedulers::new(),
@@ -69,7 +73,7 @@ fn run_body<'p>(
 }
 
 // The store after the piece of a program's body.
-fn store_after(piece: Piece<'_>) -> Result<Store, AllocError>
+pub fn store_after(piece: Piece<'_>) -> Result<Store, AllocError>
     ensures { IfOk result (λ store. (program : ProgramTree) → job_of piece.entry.job ≡ body_of program → store ≡ final_store program) }
 {
     store_of(&piece.job, &piece.written)

@@ -6,17 +6,20 @@ ghost use Rattle.hart_port.specs.PortView.{IsPortView, is_in};
 ghost use Rattle.site_steps.specs.Back.{IsSettled, IsBack};
 ghost use Rattle.hart_work.specs.Tasks.{StaysSettled, HasAccount};
 
+use crate::resources::Resources;
 use crate::schedulers::{Schedulers, Task};
-use contexts::{Running, Step, ctx_pause, ctx_resume};
+use contexts::{Running, Step, ctx_fini, ctx_pause, ctx_resume};
 use hart_port::Port;
 use site_steps::{PatientPort, SiteTree, finish_site, sweep_failed};
 use std::alloc::{AllocError, Global};
 
 /// Runs a job of the site that the hart is in, and brings the hart back to it.
 #[cycle(serve)]
-pub fn run_piece<P: PatientPort, H: Schedulers>(
+pub fn run_piece<P: PatientPort, R, H: Schedulers<R>, F: Fn(u8, &H::Job)>(
+    rt: &R,
     alloc: Global,
     tree: &SiteTree,
+    pass: &F,
     port: &mut P,
     hold: P::Hold,
     schedulers: &mut H,
@@ -24,6 +27,7 @@ pub fn run_piece<P: PatientPort, H: Schedulers>(
     job: H::Job,
 ) -> Result<H::Piece, AllocError>
     requires plan { (P.seen port.old).plan ≡ tree.now }
+    requires callable { F.IsAlwaysCallable pass.now }
     requires inner { IsSettled (P.seen port.old) }
     ensures back { IsBack (P.seen port.old) (P.seen port.new) }
     ensures piece { IfOk result (λ piece. H.job_in piece ≡ job) }
@@ -37,16 +41,18 @@ pub fn run_piece<P: PatientPort, H: Schedulers>(
             Step::More => {}
             Step::Nest(nested) => {
                 let paused = ctx_pause(running);
-                let written = run_construct(alloc, tree, port, hold, schedulers, around, nested);
+                let written = run_construct(
+                    rt, alloc, tree, pass, port, hold, schedulers, around, nested,
+                );
                 running = ctx_resume(paused);
                 if supply(schedulers, &mut running, written).is_err() {
-                    schedulers.abandon(running);
+                    let _ = running.abandon();
                     return Err(AllocError);
                 }
             }
-            Step::Finished => return Ok(schedulers.end(running)),
+            Step::Finished => return Ok(schedulers.end(ctx_fini(running).into_machine())),
             Step::NoMemory => {
-                schedulers.abandon(running);
+                let _ = running.abandon();
                 return Err(AllocError);
             }
         }
@@ -55,9 +61,11 @@ pub fn run_piece<P: PatientPort, H: Schedulers>(
 
 /// Runs a construct as a site inside the one that the hart is in, and brings the hart back.
 #[cycle(serve)]
-pub fn run_construct<P: PatientPort, H: Schedulers>(
+pub fn run_construct<P: PatientPort, R, H: Schedulers<R>, F: Fn(u8, &H::Job)>(
+    rt: &R,
     alloc: Global,
     tree: &SiteTree,
+    pass: &F,
     port: &mut P,
     hold: P::Hold,
     schedulers: &mut H,
@@ -65,6 +73,7 @@ pub fn run_construct<P: PatientPort, H: Schedulers>(
     nested: H::Nested,
 ) -> Result<H::Written, AllocError>
     requires plan { (P.seen port.old).plan ≡ tree.now }
+    requires callable { F.IsAlwaysCallable pass.now }
     requires inner { IsSettled (P.seen port.old) }
     ensures back { IsBack (P.seen port.old) (P.seen port.new) }
     ensures written { IfOk result (λ written. H.written_in written ≡ H.writes_of nested) }
@@ -77,10 +86,11 @@ pub fn run_construct<P: PatientPort, H: Schedulers>(
     if !tree.is_child(port.owner(), number) {
         return schedulers.compute(alloc, nested);
     }
-    let mut site = schedulers.open(alloc, nested)?;
-    match schedulers.register(port, hold, around, number) {
+    let mut site = schedulers.open(alloc, &nested)?;
+    match schedulers.register(rt, port, hold, around, number) {
         Ok(()) => {
             ask(
+                rt,
                 tree,
                 port,
                 hold,
@@ -89,15 +99,17 @@ pub fn run_construct<P: PatientPort, H: Schedulers>(
                 number,
                 schedulers.wishes(&site),
             );
-            serve(alloc, tree, port, hold, schedulers, &mut site, true);
-            sweep_failed(tree, port, hold, schedulers.has_failed(&site));
+            serve(
+                rt, alloc, tree, pass, port, hold, schedulers, &mut site, true,
+            );
+            sweep_failed(tree, port, hold, schedulers.has_failed(rt, &site));
             finish_site(tree, port, hold);
-            schedulers.unregister(port, hold, around);
-            schedulers.take(alloc, site)
+            schedulers.unregister(rt, port, hold, around);
+            schedulers.take(rt, alloc, site)
         }
         Err(_) => {
             port.until_gone(hold, number);
-            schedulers.give_up(alloc, site)
+            schedulers.compute(alloc, nested)
         }
     }
 }
@@ -105,9 +117,11 @@ pub fn run_construct<P: PatientPort, H: Schedulers>(
 /// Does what the site that the hart is in has to do, as its home until its work is over, as a guest until there is
 /// nothing to do.
 #[cycle(serve)]
-pub fn serve<P: PatientPort, H: Schedulers>(
+pub fn serve<P: PatientPort, R, H: Schedulers<R>, F: Fn(u8, &H::Job)>(
+    rt: &R,
     alloc: Global,
     tree: &SiteTree,
+    pass: &F,
     port: &mut P,
     hold: P::Hold,
     schedulers: &mut H,
@@ -115,6 +129,7 @@ pub fn serve<P: PatientPort, H: Schedulers>(
     is_home: bool,
 )
     requires plan { (P.seen port.old).plan ≡ tree.now }
+    requires callable { F.IsAlwaysCallable pass.now }
     requires inner { IsSettled (P.seen port.old) }
     requires settled { H.settled site.old }
     ensures back { IsBack (P.seen port.old) (P.seen port.new) }
@@ -124,9 +139,9 @@ pub fn serve<P: PatientPort, H: Schedulers>(
     ensures left { H.left site.new ≤ H.left site.old }
 {
     'tasks: loop {
-        match schedulers.next(site, is_home) {
-            Task::Piece(job) => run_job(alloc, tree, port, hold, schedulers, site, job),
-            Task::Visit(child) => visit(alloc, tree, port, hold, schedulers, site, child),
+        match schedulers.next(rt, site, is_home) {
+            Task::Piece(job) => run_job(rt, alloc, tree, pass, port, hold, schedulers, site, job),
+            Task::Visit(child) => visit(rt, alloc, tree, pass, port, hold, schedulers, site, child),
             Task::Nothing => return,
         }
     }
@@ -134,9 +149,11 @@ pub fn serve<P: PatientPort, H: Schedulers>(
 
 // Runs a job, and puts its piece into the site's book.
 #[cycle(serve)]
-fn run_job<P: PatientPort, H: Schedulers>(
+fn run_job<P: PatientPort, R, H: Schedulers<R>, F: Fn(u8, &H::Job)>(
+    rt: &R,
     alloc: Global,
     tree: &SiteTree,
+    pass: &F,
     port: &mut P,
     hold: P::Hold,
     schedulers: &mut H,
@@ -144,6 +161,7 @@ fn run_job<P: PatientPort, H: Schedulers>(
     job: H::Job,
 )
     requires plan { (P.seen port.old).plan ≡ tree.now }
+    requires callable { F.IsAlwaysCallable pass.now }
     requires inner { IsSettled (P.seen port.old) }
     requires owed { H.owed site.old job }
     ensures back { IsBack (P.seen port.old) (P.seen port.new) }
@@ -152,17 +170,20 @@ fn run_job<P: PatientPort, H: Schedulers>(
     ensures left { H.left site.new ≤ H.left site.old }
 {
     let place = schedulers.place(&job);
-    match run_piece(alloc, tree, port, hold, schedulers, site, job) {
-        Ok(piece) => schedulers.deposit(alloc, site, piece),
-        Err(AllocError) => schedulers.fail(site, place),
+    pass(port.hart(), &job);
+    match run_piece(rt, alloc, tree, pass, port, hold, schedulers, site, job) {
+        Ok(piece) => schedulers.deposit(rt, alloc, site, piece),
+        Err(AllocError) => schedulers.fail(rt, site, place),
     }
 }
 
 // Enters a child that wants a hart, does what it has to do, and comes back.
 #[cycle(serve)]
-fn visit<P: PatientPort, H: Schedulers>(
+fn visit<P: PatientPort, R, H: Schedulers<R>, F: Fn(u8, &H::Job)>(
+    rt: &R,
     alloc: Global,
     tree: &SiteTree,
+    pass: &F,
     port: &mut P,
     hold: P::Hold,
     schedulers: &mut H,
@@ -170,6 +191,7 @@ fn visit<P: PatientPort, H: Schedulers>(
     child: u16,
 )
     requires plan { (P.seen port.old).plan ≡ tree.now }
+    requires callable { F.IsAlwaysCallable pass.now }
     requires inner { IsSettled (P.seen port.old) }
     ensures back { IsBack (P.seen port.old) (P.seen port.new) }
     ensures stays { StaysSettled (H.settled around.old) (H.owed around.old) (H.settled around.new) (H.owed around.new) }
@@ -179,13 +201,15 @@ fn visit<P: PatientPort, H: Schedulers>(
     if !tree.is_child(port.owner(), child) {
         return;
     }
-    let Some(mut site) = schedulers.find(child) else {
+    let Some(mut site) = schedulers.find(rt, child) else {
         return;
     };
-    match schedulers.enter(port, hold, &mut site, child) {
+    match schedulers.enter(rt, port, hold, &mut site, child) {
         Some(task) => {
-            be_guest(alloc, tree, port, hold, schedulers, &mut site, task);
-            schedulers.give_back(port, hold, around);
+            be_guest(
+                rt, alloc, tree, pass, port, hold, schedulers, &mut site, task,
+            );
+            schedulers.give_back(rt, port, hold, around);
         }
         None => {}
     }
@@ -193,9 +217,11 @@ fn visit<P: PatientPort, H: Schedulers>(
 
 // Does the task that the site gave to the hart as it entered, and then what else the site has to do.
 #[cycle(serve)]
-fn be_guest<P: PatientPort, H: Schedulers>(
+fn be_guest<P: PatientPort, R, H: Schedulers<R>, F: Fn(u8, &H::Job)>(
+    rt: &R,
     alloc: Global,
     tree: &SiteTree,
+    pass: &F,
     port: &mut P,
     hold: P::Hold,
     schedulers: &mut H,
@@ -203,20 +229,22 @@ fn be_guest<P: PatientPort, H: Schedulers>(
     task: Task<H::Job>,
 )
     requires plan { (P.seen port.old).plan ≡ tree.now }
+    requires callable { F.IsAlwaysCallable pass.now }
     requires inner { IsSettled (P.seen port.old) }
     requires account { HasAccount (H.settled site.old) (H.owed site.old) task }
     ensures back { IsBack (P.seen port.old) (P.seen port.new) }
 {
     match task {
-        Task::Piece(job) => run_job(alloc, tree, port, hold, schedulers, site, job),
-        Task::Visit(child) => visit(alloc, tree, port, hold, schedulers, site, child),
+        Task::Piece(job) => run_job(rt, alloc, tree, pass, port, hold, schedulers, site, job),
+        Task::Visit(child) => visit(rt, alloc, tree, pass, port, hold, schedulers, site, child),
         Task::Nothing => {}
     }
-    serve(alloc, tree, port, hold, schedulers, site, false);
+    serve(rt, alloc, tree, pass, port, hold, schedulers, site, false);
 }
 
 // Asks for as many harts as the site has work for and the plan has besides this one.
-fn ask<P: PatientPort, H: Schedulers>(
+fn ask<P: PatientPort, R, H: Schedulers<R>>(
+    rt: &R,
     tree: &SiteTree,
     port: &mut P,
     hold: P::Hold,
@@ -239,12 +267,12 @@ fn ask<P: PatientPort, H: Schedulers>(
 {
     let count = most.min(tree.plan().harts() - 1);
     if count >= 1 {
-        schedulers.request(port, hold, around, site, count);
+        schedulers.request(rt, port, hold, around, site, count);
     }
 }
 
 // Hands a machine what its construct wrote.
-fn supply<H: Schedulers>(
+fn supply<H: Resources>(
     schedulers: &mut H,
     running: &mut Running<H::Machine>,
     written: Result<H::Written, AllocError>,

@@ -30,7 +30,7 @@ pub record IsRunOutput (program : ProgramTree) (harts : ℕ) (text : List ℕ) :
 
 -- `solo` writes the arrays alone
 abbrev pub IsOutput : Command → ProgramTree → List ℕ → Type 0
-IsOutput Run program text = IsRunOutput program 1 text
+IsOutput (Run harts) program text = IsRunOutput program harts text
 IsOutput Solo program text = text ≡ array_text program (final_store program)
 
 -- the greatest length of an input, in bytes

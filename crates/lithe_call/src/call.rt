@@ -26,17 +26,17 @@ const LIMIT: usize = 65536;
 
 /// Serves the words: reads the input, runs its program and writes the output, or tells on `err` why not.
 ///
-/// `run --harts 1` writes the program's arrays and the journal of its transfers, and `solo` the arrays alone. The
-/// whole output is built before its first byte is written. Whatever the status, its text was told on `err`, and a
-/// failure of `err` changes no status.
+/// `run --harts N`, N from 1 to 4, runs the program on N harts, each of several on a thread, and writes its arrays and the
+/// journal of its transfers; `solo` writes the arrays alone. The whole output is built before its first byte is written.
+/// Whatever the status, its text was told on `err`, and a failure of `err` changes no status.
 pub fn lithe<R: Threads + Wait + Sync, A: Source, B: Sink, E: Sink, G: Gate>(
-    _rt: &R,
+    rt: &R,
     alloc: Global,
     words: &[String],
     source: &mut A,
     out: &mut B,
     err: &mut E,
-    _gate: &G,
+    gate: &G,
 ) -> Status
     // The arrays are those of the one-thread meaning of the program that the source gave to its end, and the transfers are
     // a complete legal run of the program's table.
@@ -67,7 +67,7 @@ pub fn lithe<R: Threads + Wait + Sync, A: Source, B: Sink, E: Sink, G: Gate>(
     ensures out_stays { result ≢ Status.Done → result ≢ Status.WriteFault → out.new ≡ out.old }
     ensures err_stays { result ≡ Status.Done → err.new ≡ err.old }
 {
-    match output_of(alloc, words, source) {
+    match output_of(rt, alloc, gate, words, source) {
         Err(fault) => tell_fault(err, &fault),
         Ok(output) => {
             if write_all(out, &output) {
@@ -109,7 +109,13 @@ fn tell<E: Sink>(err: &mut E, status: Status) -> Status
 }
 
 // The whole output of the command that the words give.
-fn output_of<A: Source>(alloc: Global, words: &[String], source: &mut A) -> Result<Vec<u8>, Fault>
+fn output_of<R: Threads + Wait + Sync, G: Gate, A: Source>(
+    rt: &R,
+    alloc: Global,
+    gate: &G,
+    words: &[String],
+    source: &mut A,
+) -> Result<Vec<u8>, Fault>
     ensures output { IfOk result (λ output. IsOutputFor (map string_bytes words.now)
         (A.left source.old) (A.left source.new) output.items) }
     ensures fault { IfErr result (λ fault. IsFault (map string_bytes words.now) fault
@@ -120,5 +126,5 @@ fn output_of<A: Source>(alloc: Global, words: &[String], source: &mut A) -> Resu
         return Err(Fault::Usage);
     };
     let bytes = read_all(alloc, source, LIMIT)?;
-    answer(alloc, command, &bytes)
+    answer(rt, alloc, gate, command, &bytes)
 }

@@ -5,10 +5,13 @@ ghost use Rattle.array_lang.specs.Spelled.{HasFault};
 ghost use Rattle.disjoint_check.specs.FaultOf.{check_fault_of};
 ghost use Rattle.disjoint_check.specs.AcceptedProgram.{IsAcceptedProgram};
 ghost use Rattle.lithe_call.specs.Output.{IsOutput, IsOutputOf, IsRunOutput};
+ghost use Rattle.lithe_call.specs.Command.{harts_in};
 ghost use Rattle.lithe_call.specs.Faults.{IsNoRun};
 ghost use Rattle.lithe_call.specs.Lines.{TellsSyntax, TellsRefusal};
 ghost use Rattle.array_meaning.specs.Work.{final_store};
 ghost use Rattle.array_eval.specs.ArrayText.{array_text};
+ghost use Rattle.transfer_table.specs.Journal.{IsComplete};
+ghost use Rattle.hart_loop.specs.Journals.{entries_in};
 
 use crate::command::Command;
 use crate::fault::Fault;
@@ -17,16 +20,24 @@ use array_lang::{SyntaxFault, parse};
 use array_tree::Program;
 use disjoint_check::{Accepted, CheckFault, check};
 use error_text::{refusal_line, syntax_line};
-use hart_loop::run_alone;
+use hart_loop::{Outcome, run_alone, run_harts};
 use journal_text::write_entries;
+use outside_io::Gate;
 use std::alloc::{AllocError, Global};
-
-/// The number of harts that a run has.
-const HARTS: u8 = 1;
+use std::sync::Wait;
+use std::thread::Threads;
 
 /// What the command writes for the program that the bytes spell, or why there is nothing to write.
-pub fn answer(alloc: Global, command: Command, bytes: &[u8]) -> Result<Vec<u8>, Fault>
-    requires { length bytes.now ≤ 65536 }
+pub fn answer<R: Threads + Wait + Sync, G: Gate>(
+    rt: &R,
+    alloc: Global,
+    gate: &G,
+    command: Command,
+    bytes: &[u8],
+) -> Result<Vec<u8>, Fault>
+    requires short { length bytes.now ≤ 65536 }
+    requires some_hart { 1 ≤ harts_in command }
+    requires few_harts { harts_in command ≤ 4 }
     ensures output { IfOk result (λ output. IsOutputOf command bytes.now output.items) }
     ensures fault { IfErr result (IsNoRun bytes.now) }
 {
@@ -34,11 +45,11 @@ pub fn answer(alloc: Global, command: Command, bytes: &[u8]) -> Result<Vec<u8>, 
         Ok(program) => program,
         Err(fault) => return Err(syntax_fault(alloc, fault)),
     };
-    let accepted = match check(alloc, &program, HARTS) {
+    let accepted = match check(alloc, &program, command.harts()) {
         Ok(accepted) => accepted,
         Err(fault) => return Err(refusal(alloc, &program, fault)),
     };
-    match output(alloc, command, &accepted) {
+    match output(rt, alloc, gate, command, &accepted) {
         Ok(output) => Ok(output),
         Err(_) => Err(Fault::Memory),
     }
@@ -71,12 +82,18 @@ fn refusal(alloc: Global, program: &Program, fault: CheckFault) -> Fault
 }
 
 // What the command writes for an accepted program.
-fn output(alloc: Global, command: Command, accepted: &Accepted<'_>) -> Result<Vec<u8>, AllocError>
-    requires { accepted.now.plan.harts ≡ 1 }
+fn output<R: Threads + Wait + Sync, G: Gate>(
+    rt: &R,
+    alloc: Global,
+    gate: &G,
+    command: Command,
+    accepted: &Accepted<'_>,
+) -> Result<Vec<u8>, AllocError>
+    requires { accepted.now.plan.harts ≡ harts_in command }
     ensures { IfOk result (λ output. IsOutput command (program_of accepted.now.program) output.items) }
 {
     match command {
-        Command::Run => run(alloc, accepted),
+        Command::Run(_) => run(rt, alloc, gate, accepted),
         Command::Solo => arrays(alloc, accepted),
     }
 }
@@ -90,14 +107,36 @@ fn arrays(alloc: Global, accepted: &Accepted<'_>) -> Result<Vec<u8>, AllocError>
     write_arrays(alloc, program, &store)
 }
 
-// The arrays and the journal that a run on one hart leaves.
-fn run(alloc: Global, accepted: &Accepted<'_>) -> Result<Vec<u8>, AllocError>
-    requires { accepted.now.plan.harts ≡ 1 }
-    ensures { IfOk result (λ text. IsRunOutput (program_of accepted.now.program) 1 text.items) }
+// The arrays and the journal that a run leaves.
+fn run<R: Threads + Wait + Sync, G: Gate>(
+    rt: &R,
+    alloc: Global,
+    gate: &G,
+    accepted: &Accepted<'_>,
+) -> Result<Vec<u8>, AllocError>
+    ensures { IfOk result (λ text. IsRunOutput (program_of accepted.now.program) accepted.now.plan.harts text.items) }
 {
-    let outcome = run_alone(alloc, accepted)?;
+    let outcome = outcome(rt, alloc, gate, accepted)?;
     let mut text = write_arrays(alloc, accepted.program(), &outcome.store)?;
     let entries = write_entries(alloc, accepted.plan(), outcome.journal.entries())?;
     text.extend_from_slice(&entries)?;
     Ok(text)
+}
+
+// Runs the program on the harts of its plan. One hart is alone, and waits for nobody.
+fn outcome<R: Threads + Wait + Sync, G: Gate>(
+    rt: &R,
+    alloc: Global,
+    gate: &G,
+    accepted: &Accepted<'_>,
+) -> Result<Outcome, AllocError>
+    ensures store { IfOk result (λ outcome. outcome.store ≡ final_store (program_of accepted.now.program)) }
+    ensures journal { IfOk result (λ outcome. IsComplete accepted.now.plan (entries_in outcome.journal)) }
+    ensures short { IfOk result (λ outcome. length (entries_in outcome.journal) ≤ 65535) }
+{
+    if accepted.plan().harts() == 1 {
+        run_alone(alloc, accepted)
+    } else {
+        run_harts(rt, alloc, accepted, gate)
+    }
 }

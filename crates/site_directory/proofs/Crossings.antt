@@ -87,7 +87,7 @@ module _ (l : NamedLft) where
   shared_site_sync = let pool = shared_pool_sync in let team = shared_team_sync in search (crosses, sendable) depth 60 fits 20000
 
 -- a line to a cell goes from thread to thread with what the cell shares
-pub line_send : (a p : NamedLft) → IsSend (SiteLine.the_row a p)
+pub line_send : (a p : NamedLft) → IsSend (SiteLine.the_row a (SharedSite.the_row p))
 line_send a p =
     let sent = shared_site_send p in
     let shared = shared_site_sync p in

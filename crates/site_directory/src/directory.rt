@@ -2,7 +2,6 @@
 ghost use Rattle.std.specs.Prelude.{◌≡◌, ◌+◌, MatchOption, MatchResult, IfOk, IfErr, IsSome, Some, None, vec_len, length, map};
 ghost use Rattle.once_cell.specs.Once.{cell_name, Agrees};
 
-use crate::shared_site::SharedSite;
 use crossbeam_utils::Backoff;
 use once_cell::race::{Note, OnceBox};
 use std::alloc::{AllocError, Global};
@@ -10,15 +9,15 @@ use std::sync::Wait;
 
 /// One hart's sight of the cell of one site.
 #[derive(Drop)]
-pub struct SiteLine<'a, 'p> {
-    cell: &'a OnceBox<SharedSite<'p>>,
-    note: Note<SharedSite<'p>>,
+pub struct SiteLine<'a, S> {
+    cell: &'a OnceBox<S>,
+    note: Note<S>,
     ghost same: { note.cell ≡ cell_name cell.now },
 }
 
-impl<'a, 'p> SiteLine<'a, 'p> {
+impl<'a, S: Drop> SiteLine<'a, S> {
     /// The first sight of a cell.
-    pub fn new(cell: &'a OnceBox<SharedSite<'p>>) -> SiteLine<'a, 'p>
+    pub fn new(cell: &'a OnceBox<S>) -> SiteLine<'a, S>
         ensures cell { result.note.cell ≡ cell_name cell.now }
         ensures first { result.note.known ≡ None }
     {
@@ -30,7 +29,7 @@ impl<'a, 'p> SiteLine<'a, 'p> {
 
     /// The scheduler in the cell, once it stands there. It is the one that this line found before, and None comes only where
     /// it found none before.
-    pub fn find(&mut self) -> Option<&'a SharedSite<'p>>
+    pub fn find(&mut self) -> Option<&'a S>
         ensures cell { self.new.note.cell ≡ self.old.note.cell }
         ensures found { MatchOption result ((self.old.note.known ≡ None) × (self.new.note.known ≡ None)) (λ shared. (self.new.note.known ≡ Some shared.now) × Agrees self.old.note.known shared.now) }
     {
@@ -38,7 +37,7 @@ impl<'a, 'p> SiteLine<'a, 'p> {
     }
 
     /// The scheduler in the cell. It waits until one stands there; where this line found one before, it is that one.
-    pub fn until_found<R: Wait>(&mut self, rt: &R) -> &'a SharedSite<'p>
+    pub fn until_found<R: Wait>(&mut self, rt: &R) -> &'a S
         ensures cell { self.new.note.cell ≡ self.old.note.cell }
         ensures known { self.new.note.known ≡ Some result.now }
         ensures same { Agrees self.old.note.known result.now }
@@ -55,14 +54,11 @@ impl<'a, 'p> SiteLine<'a, 'p> {
 
     /// Puts the scheduler into the cell. A cell that has one already gives it back, and this line then knows the one that
     /// stands there.
-    pub fn publish(
-        &mut self,
-        shared: Box<SharedSite<'p>>,
-    ) -> Result<&'a SharedSite<'p>, Box<SharedSite<'p>>>
+    pub fn publish(&mut self, shared: Box<S>) -> Result<&'a S, Box<S>>
         ensures cell { self.new.note.cell ≡ self.old.note.cell }
-        ensures gives { MatchResult result (λ published. published.now ≡ shared.entry.value) (λ back. back.value ≡ shared.entry.value) }
+        ensures gives { MatchResult result (λ published. published.now ≡ shared.value) (λ back. back.value ≡ shared.value) }
         ensures first { IfOk result (λ published. self.old.note.known ≡ None) }
-        ensures known { IfOk result (λ published. self.new.note.known ≡ Some shared.entry.value) }
+        ensures known { IfOk result (λ published. self.new.note.known ≡ Some shared.value) }
         ensures full { IfErr result (λ back. IsSome self.new.note.known) }
     {
         self.cell.set_as(shared, &mut self.note)?;
@@ -75,7 +71,7 @@ impl<'a, 'p> SiteLine<'a, 'p> {
 
 /// An empty cell for each site of a plan with so many sites, that of site s at place s; the base has one too, which stays
 /// empty.
-pub fn cells<'p>(alloc: Global, sites: u16) -> Result<Vec<OnceBox<SharedSite<'p>>>, AllocError>
+pub fn cells<S: Drop>(alloc: Global, sites: u16) -> Result<Vec<OnceBox<S>>, AllocError>
     ensures { IfOk result (λ cells. vec_len cells ≡ sites + 1) }
 {
     let mut cells = Vec::with_capacity(alloc, usize::from(sites) + 1)?;
@@ -86,10 +82,10 @@ pub fn cells<'p>(alloc: Global, sites: u16) -> Result<Vec<OnceBox<SharedSite<'p>
 }
 
 /// A hart's first sight of each cell, in their order.
-pub fn lines<'a, 'p>(
+pub fn lines<'a, S: Drop>(
     alloc: Global,
-    cells: &'a [OnceBox<SharedSite<'p>>],
-) -> Result<Vec<SiteLine<'a, 'p>>, AllocError>
+    cells: &'a [OnceBox<S>],
+) -> Result<Vec<SiteLine<'a, S>>, AllocError>
     ensures count { IfOk result (λ lines. vec_len lines ≡ length cells.now) }
     ensures order { IfOk result (λ lines. map (λ line. line.note.cell) lines.items ≡ map cell_name cells.now) }
 {

@@ -1,7 +1,7 @@
 -- The body is the program's, and the hart has come back from it to the base.
 use Rattle.std.proofs.Common.{◌≡◌, ◌≤◌, List, true, length, sym, ap, ◌∙◌, subst}
 use Rattle.array_tree.specs.Trees.{program_of}
-use Rattle.transfer_table.specs.Plan.{Plan, IsPlan}
+use Rattle.transfer_table.specs.Plan.{IsPlan}
 use Rattle.transfer_table.specs.declared.entry.Entry.{Entry}
 use Rattle.hart_loop.proofs.Ends.{complete, few_entries}
 use Rattle.hart_loop.proofs.run.run_alone.Goals as goal
@@ -27,5 +27,4 @@ returns-clause-short c =
     let port = c.sweep_children.new.port in
     let same : port.view.plan ≡ c.plan-plan.result.now = c.sweep_children.ensures.back.plan ∙ c.run_body-piece.ensures.back.plan ∙ ap (λ p. p.view.plan) c.in_ok-port.ensures in
     let is_plan : IsPlan port.view.plan = subst IsPlan (c.tree.view_is ∙ c.in_ok-tree.ensures ∙ sym same) c.tree.invariant.plan in
-    let one : port.view.plan.harts ≡ 1 = ap (λ (p : Plan). p.harts) (same ∙ c.plan-plan.ensures.same) ∙ c.requires in
-    subst (λ (es : List Entry). length es ≤ 65535) (sym c.finish.ensures.entries) (few_entries port.view.plan is_plan one port.view.mine port.state c.finish.ensures.legal)
+    subst (λ (es : List Entry). length es ≤ 65535) (sym c.finish.ensures.entries) (few_entries port.view.plan is_plan port.view.mine port.state c.finish.ensures.legal)

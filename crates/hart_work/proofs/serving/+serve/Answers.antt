@@ -132,4 +132,4 @@ run_construct-returns-in-Err-clause-own g t c =
     let child = child_of c.args.tree.now h s c.owner.result c.requires.plan c.owner.ensures.same is_one.0 is_one.1 in
     let over = refused_over h a s c.in-Err.ensures.kept child.0 child.1 c.in-Err.ensures.does.0 c.in-Err.ensures.does.2 in
     let seen = subst (λ (x : PortView). x.alone ≡ true → 1 ≤ unregisters s x.mine) (sym c.until_gone.ensures.does) over in
-    at_any c.give_up.result _ (λ _ _ alone. subst (λ n. 1 ≤ unregisters n (g.P.Port.seen c.until_gone.new.self).mine) c.number-number.ensures (seen alone))
+    at_any c.compute-in-Err.result _ (λ _ _ alone. subst (λ n. 1 ≤ unregisters n (g.P.Port.seen c.until_gone.new.self).mine) c.number-number.ensures (seen alone))

@@ -26,8 +26,8 @@ decreases-visit g l = 5 * (site_count l.tree.now - (g.P.Port.seen l.port.now).ow
 abbrev pub invariant-serve-tasks : goal.invariant-serve-tasks
 invariant-serve-tasks g l = record {
   back : IsBack (g.P.Port.seen l.fn.port) (g.P.Port.seen l.port);
-  construct : g.H.Schedulers.construct l.site ≡ g.H.Schedulers.construct l.fn.site;
-  settled : g.H.Schedulers.settled l.site;
+  construct : g.H.Resources.construct l.site ≡ g.H.Resources.construct l.fn.site;
+  settled : g.H.Resources.settled l.site;
   left : g.H.Schedulers.left l.site ≤ g.H.Schedulers.left l.fn.site;
 }
 
@@ -37,12 +37,12 @@ decreases-serve-tasks g l = g.H.Schedulers.left l.site
 abbrev pub invariant-run_piece-steps : goal.invariant-run_piece-steps
 invariant-run_piece-steps g l = record {
   back : IsBack (g.P.Port.seen l.fn.port) (g.P.Port.seen l.port);
-  construct : g.H.Schedulers.construct l.around ≡ g.H.Schedulers.construct l.fn.around;
-  stays : StaysSettled (g.H.Schedulers.settled l.fn.around) (g.H.Schedulers.owed l.fn.around) (g.H.Schedulers.settled l.around) (g.H.Schedulers.owed l.around);
+  construct : g.H.Resources.construct l.around ≡ g.H.Resources.construct l.fn.around;
+  stays : StaysSettled (g.H.Resources.settled l.fn.around) (g.H.Schedulers.owed l.fn.around) (g.H.Resources.settled l.around) (g.H.Schedulers.owed l.around);
   left : g.H.Schedulers.left l.around ≤ g.H.Schedulers.left l.fn.around;
-  job : g.H.Schedulers.job_of l.running ≡ l.fn.job;
-  ready : g.H.Schedulers.ready l.running;
+  job : g.H.Resources.job_of l.running ≡ l.fn.job;
+  ready : g.H.Resources.ready l.running;
 }
 
 abbrev pub decreases-run_piece-steps : goal.decreases-run_piece-steps
-decreases-run_piece-steps g l = g.H.Schedulers.steps_left l.running
+decreases-run_piece-steps g l = g.H.Resources.steps_left l.running

@@ -3,10 +3,10 @@ use Rattle.lithe_call.proofs.Causes.{syntax_line_told, refused_line}
 use Rattle.lithe_call.proofs.run.answer.Goals as goal
 
 pub returns-in-Err-clause-fault : goal.returns-in-Err-clause-fault
-returns-in-Err-clause-fault c =
-    syntax_line_told c.args.bytes.now c.in-Err.fault c.syntax_fault.result c.requires c.syntax_fault.ensures c.in-Err.ensures.only c.in-Err.ensures.fault
+returns-in-Err-clause-fault g c =
+    syntax_line_told c.args.bytes.now c.in-Err.fault c.syntax_fault.result c.requires.short c.syntax_fault.ensures c.in-Err.ensures.only c.in-Err.ensures.fault
 
 pub returns-in-Err-check-clause-fault : goal.returns-in-Err-check-clause-fault
-returns-in-Err-check-clause-fault c =
-    refused_line c.args.bytes.now (program_of c.in-Ok.program) c.in-Err-check.fault c.refusal.result c.requires c.in-Ok.ensures.found
+returns-in-Err-check-clause-fault g c =
+    refused_line c.args.bytes.now (program_of c.in-Ok.program) c.in-Err-check.fault c.refusal.result c.requires.short c.in-Ok.ensures.found
     c.refusal.ensures c.in-Err-check.ensures.fault

@@ -22,23 +22,23 @@ final_cells program =
     length_after (writes_of arrays (sequence_work program.body []) (first_store arrays)) (first_store arrays) ∙ length-replicate (cells_of arrays) (pos 0)
 
 pub write_arrays-requires-clause-sized : goal.write_arrays-requires-clause-sized
-write_arrays-requires-clause-sized c =
+write_arrays-requires-clause-sized g c =
     subst (λ (p : Program). AreSized (arrays_of (declarations_of p.arrays))) (sym c.program.ensures.same)
     (sized_in_range (program_of c.args.accepted.now.program) c.program.ensures.kept.accepted.ranges)
 
 pub write_arrays-requires-clause-whole : goal.write_arrays-requires-clause-whole
-write_arrays-requires-clause-whole c =
+write_arrays-requires-clause-whole g c =
     ap length c.in_ok-outcome.ensures.store ∙ final_cells (program_of c.args.accepted.now.program)
     ∙ ap (λ (p : Program). cells_of (arrays_of (declarations_of p.arrays))) (sym c.program.ensures.same)
 
 pub returns : goal.returns
-returns c =
+returns g c =
     let program = program_of c.args.accepted.now.program in
     let journal = entries_in c.in_ok-outcome.outcome.journal in
-    let with_harts : ℕ → Plan = λ harts. record { harts = harts; parents = c.args.accepted.now.plan.parents } in
-    let with_parents : List ℕ → Plan = λ parents. record { harts = 1; parents = parents } in
-    let told : c.args.accepted.now.plan ≡ table_plan program 1 = ap with_harts c.requires ∙ ap with_parents c.program.ensures.kept.parents in
-    let plan : c.plan.result.now ≡ table_plan program 1 = c.plan.ensures.same ∙ told in
+    let harts = c.args.accepted.now.plan.harts in
+    let with_parents : List ℕ → Plan = λ parents. record { harts = harts; parents = parents } in
+    let told : c.args.accepted.now.plan ≡ table_plan program harts = ap with_parents c.program.ensures.kept.parents in
+    let plan : c.plan.result.now ≡ table_plan program harts = c.plan.ensures.same ∙ told in
     let lines = c.deref.ensures.value ∙ c.in_ok-entries.ensures ∙ ap (journal_text c.plan.result.now) c.entries.ensures ∙ ap (λ p. journal_text p journal) plan in
     let text = c.in_ok-text.ensures ∙ ap (λ (p : Program). array_text (program_of p) c.in_ok-outcome.outcome.store) c.program.ensures.same
     ∙ ap (array_text program) c.in_ok-outcome.ensures.store in

@@ -1,5 +1,5 @@
 use Rattle.hart_loop.proofs.Steps.{goes_of}
-use Rattle.hart_loop.proofs.lone.LoneSchedulersSchedulers.step.Goals as goal
+use Rattle.hart_loop.proofs.lone.LoneSchedulersResources.step.Goals as goal
 
 pub returns-clause-goes : goal.returns-clause-goes
 returns-clause-goes c = goes_of c.args.running.now c.step.new.self c.step.result c.step.ensures.exact c.step.ensures.work

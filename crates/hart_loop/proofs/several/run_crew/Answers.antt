@@ -1,0 +1,8 @@
+use Rattle.hart_loop.proofs.Crews.{crew_ran, first_ran}
+use Rattle.hart_loop.proofs.several.run_crew.Goals as goal
+
+pub returns-clause-same : goal.returns-clause-same
+returns-clause-same g c = crew_ran c.args.harts.now c.run_all.new.harts c.index-harts-0.result c.index-harts-0-2.result c.args.job c.take.new.self c.requires.some c.run_all.ensures
+
+pub returns-clause-gone : goal.returns-clause-gone
+returns-clause-gone g c = first_ran c.args.harts.now c.run_all.new.harts c.index-harts-0.result c.index-harts-0-2.result c.args.job c.take.new.self c.requires.some c.run_all.ensures

@@ -1,0 +1,110 @@
+//! What one hart of several does from the start to the end of a run.
+ghost use Rattle.std.specs.Prelude.{◌≡◌, IfOk};
+ghost use Rattle.hart_loop.specs.Harts.{StartsIn, IsSameHart, TopSitesSeenGone, HasRun};
+
+use crate::harts::{HartSchedulers, HartSite};
+use crate::in_directory::InDirectory;
+use array_jobs::{Job, Piece};
+use base_sched::{Base, BaseHand};
+use hart_work::{run_piece, serve};
+use site_steps::{PatientPort, SiteTree, finish_base, sweep_failed};
+use std::alloc::{AllocError, Global};
+use std::sync::{Mutex, Wait};
+
+/// What one hart has to itself. One of them has the program's body as its job, and its piece in the end, unless memory was
+/// wanting.
+#[derive(Drop)]
+pub struct Hart<'a, 'p, P, S> {
+    pub port: P,
+    pub schedulers: HartSchedulers<'a, 'p, S>,
+    pub base: &'a Mutex<Base>,
+    pub job: Option<Job<'p>>,
+    pub piece: Option<Piece<'p>>,
+}
+
+impl<'a, 'p, P, S: Drop> Hart<'a, 'p, P, S> {
+    /// The port that it moved by.
+    pub fn into_port(self) -> P
+        ensures { result ≡ self.entry.port }
+    {
+        let Hart {
+            port,
+            schedulers: _,
+            base: _,
+            job: _,
+            piece: _,
+        } = self;
+        port
+    }
+}
+
+/// Runs the hart's job, or serves the base as a guest until it is shut.
+///
+/// The hart with the job shuts the base in the end, and has then seen each top site gone.
+pub fn work<'a, 'p, P: PatientPort, R: Wait, S: InDirectory<'p>, F: Fn(u8, u16, u8, u8)>(
+    rt: &'a R,
+    alloc: Global,
+    tree: &SiteTree,
+    pass: &F,
+    hold: P::Hold,
+    hart: &mut Hart<'a, 'p, P, S>,
+)
+    requires callable { F.IsAlwaysCallable pass.now }
+    requires starts { StartsIn tree.now (P.seen hart.old.port) }
+    ensures { HasRun (P.seen hart.old.port) hart.old.job (P.seen hart.new.port) hart.new.piece }
+{
+    match hart.job.take() {
+        Some(job) => {
+            let piece = run_body(rt, alloc, tree, pass, hold, hart, job);
+            hart.piece = piece.ok();
+        }
+        None => {
+            let mut base: HartSite<'a, 'p, S> = HartSite::base(hart.base);
+            serve(
+                rt,
+                alloc,
+                tree,
+                &|hart, job: &Job| pass(hart, job.site, job.phase, job.place),
+                &mut hart.port,
+                hold,
+                &mut hart.schedulers,
+                &mut base,
+                false,
+            );
+        }
+    }
+}
+
+// Runs the body, sends the harts home, and looks at each top site until it is gone.
+fn run_body<'a, 'p, P: PatientPort, R: Wait, S: InDirectory<'p>, F: Fn(u8, u16, u8, u8)>(
+    rt: &'a R,
+    alloc: Global,
+    tree: &SiteTree,
+    pass: &F,
+    hold: P::Hold,
+    hart: &mut Hart<'a, 'p, P, S>,
+    job: Job<'p>,
+) -> Result<Piece<'p>, AllocError>
+    requires callable { F.IsAlwaysCallable pass.now }
+    requires starts { StartsIn tree.now (P.seen hart.old.port) }
+    ensures same { IsSameHart (P.seen hart.old.port) (P.seen hart.new.port) }
+    ensures gone { TopSitesSeenGone (P.seen hart.new.port) }
+    ensures piece { IfOk result (λ piece. piece.job ≡ job.entry) }
+{
+    let mut base: HartSite<'a, 'p, S> = HartSite::base(hart.base);
+    let piece = run_piece(
+        rt,
+        alloc,
+        tree,
+        &|hart, job: &Job| pass(hart, job.site, job.phase, job.place),
+        &mut hart.port,
+        hold,
+        &mut hart.schedulers,
+        &mut base,
+        job,
+    );
+    sweep_failed(tree, &mut hart.port, hold, piece.is_err());
+    BaseHand::new(hart.base).shut(rt);
+    finish_base(tree, &mut hart.port, hold);
+    piece
+}

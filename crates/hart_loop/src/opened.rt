@@ -1,0 +1,144 @@
+//! Sites that a hart opens for all harts.
+ghost use Rattle.std.specs.Prelude.{◌≡◌, IfOk};
+ghost use Rattle.array_tree.specs.Trees.{statement_of};
+ghost use Rattle.step_eval.specs.Nests.{nested_of, nested_writes, phases_of};
+ghost use Rattle.hart_loop.specs.Openings.{IsMadeOf, on_shelf, IsSharedPoolOf};
+
+use crate::in_directory::InDirectory;
+use crate::pools::{open_pool, take_from_pool};
+use array_eval::Overlay;
+use forkjoin_sched::{PoolHand, SharedPool};
+use loop_team::{SharedTeam, Team, TeamHand};
+use site_directory::{SharedSite, SiteLine};
+use std::alloc::{AllocError, Global};
+use std::sync::Wait;
+use step_eval::{Kind, Nested, compute};
+
+/// Where a hart has the scheduler that it made.
+#[derive(Drop)]
+pub enum Shelf<'a, S> {
+    /// In the directory, for all harts.
+    Published(&'a S),
+    /// By itself, since the directory didn't take it.
+    Kept(Box<S>),
+}
+
+/// A site that a hart opened: the construct, and the scheduler that the hart made for it.
+#[derive(Drop)]
+pub struct OpenSite<'a, 'p, S> {
+    pub nested: Nested<'p>,
+    pub shelf: Shelf<'a, S>,
+}
+
+impl<'a, 'p, S: InDirectory<'p>> OpenSite<'a, 'p, S> {
+    /// Makes a scheduler for the construct, and publishes it.
+    pub fn new(
+        alloc: Global,
+        lines: &mut [SiteLine<'a, S>],
+        nested: &Nested<'p>,
+    ) -> Result<OpenSite<'a, 'p, S>, AllocError>
+        ensures nested { IfOk result (λ site. site.nested ≡ nested.now) }
+        ensures made { IfOk result (λ site. IsMadeOf site.nested (S.held (on_shelf site.shelf))) }
+    {
+        let own = nested.copy()?;
+        let shared = Box::new(alloc, S::put(shared_site(alloc, nested)?))?;
+        let shelf = publish(lines, nested.site, shared);
+        Ok(OpenSite { nested: own, shelf })
+    }
+
+    /// The scheduler.
+    pub fn shared(&self) -> &SharedSite<'p>
+        ensures { result.now ≡ S.held (on_shelf self.now.shelf) }
+    {
+        match &self.shelf {
+            Shelf::Published(shared) => shared.shared(),
+            Shelf::Kept(shared) => shared.shared(),
+        }
+    }
+
+    /// How many harts more than its home the site has work for: none where no other hart finds it.
+    pub fn wishes(&self) -> u8 {
+        match &self.shelf {
+            Shelf::Published(_) => self.nested.members() - 1,
+            Shelf::Kept(_) => 0,
+        }
+    }
+
+    /// What the construct writes: what all pieces wrote, where the scheduler is handed out and has the jobs that it was made
+    /// with, and else what this hart computes by itself. Where a piece found no memory, the answer is want of memory.
+    pub fn take<R: Wait>(self, rt: &R, alloc: Global) -> Result<Overlay, AllocError>
+        requires { IsMadeOf self.nested (S.held (on_shelf self.shelf)) }
+        ensures { IfOk result (λ written. written.pairs ≡ nested_writes (nested_of self.entry.nested)) }
+    {
+        match self.shared() {
+            SharedSite::Pool(pool) => take_pool(rt, alloc, &self.nested, pool),
+            SharedSite::Team(team) => take_team(rt, alloc, &self.nested, team),
+        }
+    }
+}
+
+// The scheduler of a construct.
+fn shared_site<'p>(alloc: Global, nested: &Nested<'p>) -> Result<SharedSite<'p>, AllocError>
+    ensures { IfOk result (λ shared. IsMadeOf nested.now shared) }
+{
+    match nested.kind() {
+        Kind::Par => {
+            let pool = SharedPool::new(alloc, open_pool(alloc, nested)?)?;
+            Ok(SharedSite::Pool(pool))
+        }
+        Kind::Team => {
+            let team = SharedTeam::new(alloc, Team::new(alloc, nested.copy()?)?)?;
+            Ok(SharedSite::Team(team))
+        }
+    }
+}
+
+// Puts a scheduler into the cell of its site.
+fn publish<'a, S: Drop>(lines: &mut [SiteLine<'a, S>], site: u16, shared: Box<S>) -> Shelf<'a, S>
+    ensures { on_shelf result ≡ shared.value }
+{
+    let Some(line) = lines.get_mut(usize::from(site)) else {
+        return Shelf::Kept(shared);
+    };
+    match line.publish(shared) {
+        Ok(published) => Shelf::Published(published),
+        Err(back) => Shelf::Kept(back),
+    }
+}
+
+// What a `par` writes whose pool is full.
+fn take_pool<'b, 'p, R: Wait + 'b>(
+    rt: &'b R,
+    alloc: Global,
+    nested: &Nested<'p>,
+    shared: &'b SharedPool<'p>,
+) -> Result<Overlay, AllocError>
+    requires { IsSharedPoolOf nested.now shared.now }
+    ensures { IfOk result (λ written. written.pairs ≡ nested_writes (nested_of nested.now)) }
+{
+    let hand: PoolHand<'b, 'p, R> = PoolHand::new(shared);
+    if let Some(pool) = hand.take_out(rt) {
+        if pool.jobs() == shared.jobs() {
+            return take_from_pool(nested, pool);
+        }
+    }
+    compute(alloc, nested)
+}
+
+// What a `team` writes that is over.
+fn take_team<'b, 'p, R: Wait + 'b>(
+    rt: &'b R,
+    alloc: Global,
+    nested: &Nested<'p>,
+    shared: &'b SharedTeam<'p>,
+) -> Result<Overlay, AllocError>
+    ensures { IfOk result (λ written. written.pairs ≡ nested_writes (nested_of nested.now)) }
+{
+    let hand: TeamHand<'b, 'p, R> = TeamHand::new(shared);
+    if let Some(team) = hand.take_out(rt) {
+        if *team.nested() == *nested {
+            return team.take_all();
+        }
+    }
+    compute(alloc, nested)
+}

@@ -1,0 +1,199 @@
+//! Runs on several harts.
+ghost use Rattle.std.specs.Prelude.{◌≡◌, ◌≤◌, ◌<◌, IfOk, IfSome, All, length, map, slice_get};
+ghost use Rattle.array_tree.specs.Trees.{program_of};
+ghost use Rattle.array_meaning.specs.Work.{final_store};
+ghost use Rattle.array_jobs.specs.Jobs.{job_of};
+ghost use Rattle.array_jobs.specs.Bodies.{body_of};
+ghost use Rattle.transfer_table.specs.Journal.{IsComplete};
+ghost use Rattle.word_board.specs.PortViews.{port_view, table_name};
+ghost use Rattle.word_board.specs.Seats.{AreSeats};
+ghost use Rattle.word_board.specs.Of.{IsOf};
+ghost use Rattle.hart_loop.specs.Journals.{entries_in};
+ghost use Rattle.hart_loop.specs.Harts.{TopSitesSeenGone, AreBack, AllStart, HaveRun, AreTheSame};
+
+use crate::hart::{Hart, work};
+use crate::harts::HartSchedulers;
+use crate::outcome::{Journal, Outcome};
+use crate::run::store_after;
+use array_jobs::{Job, Piece, body_job};
+use base_sched::Base;
+use disjoint_check::Accepted;
+use once_cell::race::OnceBox;
+use outside_io::Gate;
+use site_directory::{SharedSite, cells, lines};
+use site_steps::SiteTree;
+use std::alloc::{AllocError, Global};
+use std::sync::{Mutex, Wait};
+use std::thread;
+use std::thread::Threads;
+use waiting_port::WaitingPort;
+use word_board::{HartSeat, WordBoard, WordPort};
+
+/// Runs an accepted program on the harts of its plan, at least two, each on a thread. It waits until all of them are back.
+///
+/// The store is that of the one-thread meaning, and the journal, which the board's end gives, is complete for the plan: every
+/// transfer is legal, and every site came and went. Where memory is wanting anywhere, the whole run answers that. A hart that
+/// has taken a piece passes the gate before its first step.
+pub fn run_harts<R: Threads + Wait + Sync, G: Gate>(
+    rt: &R,
+    alloc: Global,
+    accepted: &Accepted<'_>,
+    gate: &G,
+) -> Result<Outcome, AllocError>
+    requires { 2 ≤ accepted.now.plan.harts }
+    ensures store { IfOk result (λ outcome. outcome.store ≡ final_store (program_of accepted.now.program)) }
+    ensures journal { IfOk result (λ outcome. IsComplete accepted.now.plan (entries_in outcome.journal)) }
+    ensures short { IfOk result (λ outcome. length (entries_in outcome.journal) ≤ 65535) }
+{
+    let plan = accepted.plan();
+    let tree = SiteTree::new(alloc, plan)?;
+    let (board, seats) = WordBoard::new(alloc, plan)?;
+    let base = Mutex::new(Base::new(alloc, plan.sites())?);
+    let cells = cells(alloc, plan.sites())?;
+    let job = body_job(alloc, accepted.program())?;
+    let (piece, seats) = run_on(
+        rt,
+        alloc,
+        &|hart, site, phase, place| gate.passed(rt, hart, site, phase, place),
+        &tree,
+        &board,
+        seats,
+        &base,
+        &cells,
+        job,
+    )?;
+    let store = store_after(piece)?;
+    match board.close(alloc, seats) {
+        Ok(closed) => Ok(Outcome {
+            store,
+            journal: Journal::Board(closed),
+        }),
+        Err(_) => Err(AllocError),
+    }
+}
+
+// Runs all harts on a board that nobody has used, the first of them with this job. Its piece, and the seats in their order.
+fn run_on<'x, 'p: 'x, R: Threads + Wait + Sync, F: Fn(u8, u16, u8, u8) + Sync>(
+    rt: &'x R,
+    alloc: Global,
+    pass: &F,
+    tree: &SiteTree,
+    board: &'x WordBoard,
+    seats: Vec<HartSeat>,
+    base: &'x Mutex<Base>,
+    cells: &'x [OnceBox<SharedSite<'p>>],
+    job: Job<'p>,
+) -> Result<(Piece<'p>, Vec<HartSeat>), AllocError>
+    requires callable { F.IsAlwaysCallable pass.now }
+    requires plan { board.now.plan ≡ tree.now }
+    requires count { length seats.items ≡ board.now.plan.harts }
+    requires seats { AreSeats board.now.table.shared.table_id board.now.plan seats.items }
+    ensures piece { IfOk result (λ back. back.0.job ≡ job.entry) }
+    ensures seats { IfOk result (λ back. AreBack (table_name board.now.table.shared.table_id) board.now.plan back.1.items) }
+{
+    let mut harts = crew(rt, alloc, board, seats, base, cells)?;
+    let Some(piece) = run_crew(rt, alloc, pass, tree, harts.as_mut_slice(), job) else {
+        return Err(AllocError);
+    };
+    Ok((piece, seats_of(alloc, harts)?))
+}
+
+// Runs each hart, the first of them with this job. Its piece, unless memory was wanting.
+fn run_crew<'x, 'p: 'x, R: Threads + Wait + Sync, F: Fn(u8, u16, u8, u8) + Sync>(
+    rt: &'x R,
+    alloc: Global,
+    pass: &F,
+    tree: &SiteTree,
+    harts: &mut [Hart<'x, 'p, WaitingPort<'x, WordPort<'x>, R>, SharedSite<'p>>],
+    job: Job<'p>,
+) -> Option<Piece<'p>>
+    requires callable { F.IsAlwaysCallable pass.now }
+    requires some { 0 < length harts.old }
+    requires starts { AllStart tree.now harts.old }
+    ensures same { AreTheSame harts.old harts.new }
+    ensures gone { IfSome (slice_get harts.new 0) (λ hart. TopSitesSeenGone (port_view hart.port.port.seat)) }
+    ensures piece { IfSome result (λ piece. piece.job ≡ job.entry) }
+{
+    harts[0].job = Some(job);
+    run_all(rt, alloc, tree, pass, harts);
+    harts[0].piece.take()
+}
+
+// A hart for each seat, in the base and with no job.
+fn crew<'x, 'p: 'x, R: Threads + Wait + Sync>(
+    rt: &'x R,
+    alloc: Global,
+    board: &'x WordBoard,
+    seats: Vec<HartSeat>,
+    base: &'x Mutex<Base>,
+    cells: &'x [OnceBox<SharedSite<'p>>],
+) -> Result<Vec<Hart<'x, 'p, WaitingPort<'x, WordPort<'x>, R>, SharedSite<'p>>>, AllocError>
+    requires { All (IsOf board.now) seats.items }
+    ensures { IfOk result (λ harts. map (λ hart. hart.port.port.seat) harts.items ≡ seats.items) }
+{
+    let mut harts = Vec::with_capacity(alloc, seats.len())?;
+    for seat in seats {
+        let port = WaitingPort::new(WordPort::new(board, seat), rt);
+        let schedulers = HartSchedulers::new(lines(alloc, cells)?);
+        harts.push(Hart {
+            port,
+            schedulers,
+            base,
+            job: None,
+            piece: None,
+        })?;
+    }
+    Ok(harts)
+}
+
+// Runs each hart, until all are back. The first is on this thread, since it stands last in the list that is run: where no thread
+// can be made the others run after it, and end at once, since it has shut the base.
+fn run_all<'x, 'p: 'x, R: Threads + Wait + Sync, F: Fn(u8, u16, u8, u8) + Sync>(
+    rt: &'x R,
+    alloc: Global,
+    tree: &SiteTree,
+    pass: &F,
+    harts: &mut [Hart<'x, 'p, WaitingPort<'x, WordPort<'x>, R>, SharedSite<'p>>],
+)
+    requires callable { F.IsAlwaysCallable pass.now }
+    requires starts { AllStart tree.now harts.old }
+    ensures { HaveRun harts.old harts.new }
+{
+    harts.reverse();
+    run_each(rt, alloc, tree, pass, harts);
+    harts.reverse();
+}
+
+// Runs each hart on a thread, the last of them on this one.
+fn run_each<'x, 'p: 'x, R: Threads + Wait + Sync, F: Fn(u8, u16, u8, u8) + Sync>(
+    rt: &'x R,
+    alloc: Global,
+    tree: &SiteTree,
+    pass: &F,
+    harts: &mut [Hart<'x, 'p, WaitingPort<'x, WordPort<'x>, R>, SharedSite<'p>>],
+)
+    requires callable { F.IsAlwaysCallable pass.now }
+    requires starts { AllStart tree.now harts.old }
+    ensures { HaveRun harts.old harts.new }
+{
+    thread::for_each_mut(
+        rt,
+        harts,
+        4,
+        &|_, hart| work(rt, alloc, tree, pass, (), hart),
+    );
+}
+
+// The harts' seats, in their order.
+fn seats_of<'x, 'p: 'x, R>(
+    alloc: Global,
+    harts: Vec<Hart<'x, 'p, WaitingPort<'x, WordPort<'x>, R>, SharedSite<'p>>>,
+) -> Result<Vec<HartSeat>, AllocError>
+    ensures { IfOk result (λ seats. seats.items ≡ map (λ hart. hart.port.port.seat) harts.entry.items) }
+{
+    let mut seats = Vec::with_capacity(alloc, harts.len())?;
+    for hart in harts {
+        seats.push(hart.into_port().into_port().into_seat())?;
+    }
+    Ok(seats)
+}

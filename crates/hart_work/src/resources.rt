@@ -1,0 +1,105 @@
+//! What one hart has to work with.
+ghost use Rattle.std.specs.Prelude.{◌≡◌, ℕ, ℤ, List, Option, Some, IfOk, OnOk};
+ghost use Rattle.contexts.specs.declared.machine.Step.TheVariants.{Finished};
+ghost use Rattle.hart_work.specs.Tasks.{Goes};
+
+use contexts::{Running, Step};
+use std::alloc::{AllocError, Global};
+
+/// What one hart has to work with: machines that run jobs, each a step at a time, and the schedulers of sites.
+///
+/// Its ghost members tell what is known of each thing.
+pub trait Resources {
+    /// The work of a piece, and what it comes to.
+    type Job;
+
+    type Piece: Drop;
+
+    /// A construct that a piece hands out, and what it writes.
+    type Nested: Drop;
+
+    type Written: Drop;
+
+    /// What runs a job.
+    type Machine: Drop;
+
+    /// One site's scheduler; the base's is one too.
+    type Site: Drop;
+
+    /// The job of a machine and of a piece, and the place of a job.
+    ghost job_of: { Self.Machine → Self.Job };
+
+    ghost job_in: { Self.Piece → Self.Job };
+
+    ghost place_of: { Self.Job → ℕ };
+
+    /// The site of a construct, what it writes, and what was written.
+    ghost number_of: { Self.Nested → ℕ };
+
+    ghost writes_of: { Self.Nested → List (ℕ × ℤ) };
+
+    ghost written_in: { Self.Written → List (ℕ × ℤ) };
+
+    /// Whether a machine may be stepped, which writes it awaits, how many steps are left at most, and whether its job is
+    /// done.
+    ghost ready: { Self.Machine → Type 0 };
+
+    ghost awaits: { Self.Machine → List (ℕ × ℤ) → Type 0 };
+
+    ghost steps_left: { Self.Machine → ℕ };
+
+    ghost finished: { Self.Machine → Type 0 };
+
+    /// The construct that the site runs; the base runs none.
+    ghost construct: { Self.Site → Option Self.Nested };
+
+    /// Whether each job that the site gave this hart came back to it, as a piece or as a failure.
+    ghost settled: { Self.Site → Type 0 };
+
+    /// A machine for a job.
+    fn start(&mut self, alloc: Global, job: Self::Job) -> Result<Running<Self::Machine>, AllocError>
+        ensures job { IfOk result (λ machine. job_of machine ≡ job) }
+        ensures ready { IfOk result (λ machine. ready machine) };
+
+    /// One step of a machine that awaits nothing.
+    fn step(&mut self, running: &mut Running<Self::Machine>) -> Step<Self::Nested>
+        requires { ready running.old }
+        ensures goes { Goes writes_of result (steps_left running.old) (steps_left running.new) (ready running.new) (awaits running.new) (job_of running.new ≡ job_of running.old) }
+        ensures finished { result ≡ Finished → finished running.new };
+
+    /// Hands a machine what the construct wrote that it awaits.
+    fn supply(
+        &mut self,
+        running: &mut Running<Self::Machine>,
+        written: Self::Written,
+    ) -> Result<(), AllocError>
+        requires { awaits running.old (written_in written) }
+        ensures job { OnOk result (job_of running.new ≡ job_of running.old) }
+        ensures ready { OnOk result (ready running.new) }
+        ensures left { OnOk result (steps_left running.new ≡ steps_left running.old) };
+
+    /// The piece of a machine whose job is done.
+    fn end(&mut self, machine: Self::Machine) -> Self::Piece
+        requires { finished machine }
+        ensures { job_in result ≡ job_of machine };
+
+    /// The site of a construct.
+    fn number(&self, nested: &Self::Nested) -> u16
+        ensures { result ≡ number_of nested.now };
+
+    /// The place of a job.
+    fn place(&self, job: &Self::Job) -> u8
+        ensures { result ≡ place_of job.now };
+
+    /// What the construct writes, computed by this hart alone.
+    fn compute(&mut self, alloc: Global, nested: Self::Nested) -> Result<Self::Written, AllocError>
+        ensures { IfOk result (λ written. written_in written ≡ writes_of nested) };
+
+    /// A scheduler for a construct, for all who enter its site.
+    fn open(&mut self, alloc: Global, nested: &Self::Nested) -> Result<Self::Site, AllocError>
+        ensures construct { IfOk result (λ site. construct site ≡ Some nested.now) }
+        ensures settled { IfOk result (λ site. settled site) };
+
+    /// How many harts more than its home the site has work for.
+    fn wishes(&self, site: &Self::Site) -> u8;
+}

@@ -1,0 +1,135 @@
+//! Gates that note who came, and that hold the first.
+use crossbeam_utils::Backoff;
+use outside_io::Gate;
+use std::alloc::{AllocError, Global};
+use std::sync::{Mutex, Wait};
+use std::thread::Threads;
+
+/// A hart has taken the piece at this place of this phase of the site.
+#[derive(Clone, Copy, Debug, PartialEq, Eq)]
+pub struct Report {
+    pub hart: u8,
+    pub site: u16,
+    pub phase: u8,
+    pub place: u8,
+}
+
+/// What was reported, in its order, and whether some report was lost for want of memory.
+#[derive(Drop)]
+struct Notes {
+    reports: Vec<Report>,
+    is_short: bool,
+}
+
+/// A gate that notes each report.
+#[derive(Drop)]
+pub struct NotingGate {
+    notes: Mutex<Notes>,
+}
+
+impl NotingGate {
+    /// A gate that has noted nothing, with room for a few reports.
+    pub fn new(alloc: Global) -> Result<NotingGate, AllocError> {
+        let reports = Vec::with_capacity(alloc, 16)?;
+        Ok(NotingGate {
+            notes: Mutex::new(Notes {
+                reports,
+                is_short: false,
+            }),
+        })
+    }
+
+    /// Notes a report. How many there are with it.
+    fn note<R: Wait>(&self, rt: &R, report: Report) -> usize {
+        let mut notes = self.notes.lock(rt);
+        if notes.reports.push(report).is_err() {
+            notes.is_short = true;
+        }
+        notes.reports.len()
+    }
+
+    /// How many reports came.
+    pub fn count<R: Wait>(&self, rt: &R) -> usize {
+        self.notes.lock(rt).reports.len()
+    }
+
+    /// All reports, in their order, where none was lost.
+    pub fn reports<R: Wait>(&self, rt: &R, alloc: Global) -> Result<Vec<Report>, AllocError> {
+        let notes = self.notes.lock(rt);
+        if notes.is_short {
+            return Err(AllocError);
+        }
+        notes.reports.to_vec(alloc)
+    }
+}
+
+impl Gate for NotingGate {
+    fn passed<R: Threads + Wait + Sync>(&self, rt: &R, hart: u8, site: u16, phase: u8, place: u8) {
+        let _ = self.note(
+            rt,
+            Report {
+                hart,
+                site,
+                phase,
+                place,
+            },
+        );
+    }
+}
+
+/// A gate that holds the hart that reports the first piece until a second piece is reported. It holds it for so many looks at
+/// most, and notes that they ran out.
+#[derive(Drop)]
+pub struct MeetingGate {
+    noted: NotingGate,
+    ran_out: Mutex<bool>,
+}
+
+/// How often the gate looks at most.
+const LOOKS: u32 = 400_000_000;
+
+impl MeetingGate {
+    /// A gate that nobody has passed.
+    pub fn new(alloc: Global) -> Result<MeetingGate, AllocError> {
+        Ok(MeetingGate {
+            noted: NotingGate::new(alloc)?,
+            ran_out: Mutex::new(false),
+        })
+    }
+
+    /// What was noted.
+    pub fn noted(&self) -> &NotingGate {
+        &self.noted
+    }
+
+    /// Whether the first hart was held until its looks ran out.
+    pub fn has_run_out<R: Wait>(&self, rt: &R) -> bool {
+        *self.ran_out.lock(rt)
+    }
+
+    // Looks until two pieces were reported.
+    fn hold<R: Wait>(&self, rt: &R) {
+        let backoff = Backoff::new();
+        for _ in 0..LOOKS {
+            if self.noted.count(rt) >= 2 {
+                return;
+            }
+            backoff.snooze();
+        }
+        *self.ran_out.lock(rt) = true;
+    }
+}
+
+impl Gate for MeetingGate {
+    fn passed<R: Threads + Wait + Sync>(&self, rt: &R, hart: u8, site: u16, phase: u8, place: u8) {
+        let report = Report {
+            hart,
+            site,
+            phase,
+            place,
+        };
+        if self.noted.note(rt, report) == 1 {
+            self.hold(rt);
+        }
+    }
+}

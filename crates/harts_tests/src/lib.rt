@@ -1,0 +1,12 @@
+//! Tests of several harts by public calls alone: of sites that one opens and another finds, and of whole runs, each hart on a
+//! thread.
+#![tactic(auto)]
+
+#[cfg(test)]
+mod gates;
+#[cfg(test)]
+mod meeting;
+#[cfg(test)]
+mod runs;
+#[cfg(test)]
+mod sites;

@@ -1,0 +1,126 @@
+//! Sites that a hart opens, and that another finds.
+use array_eval::Overlay;
+use array_jobs::piece_of;
+use array_tree::Program;
+use hart_loop::{HartSchedulers, InDirectory};
+use hart_work::{Resources, Schedulers, Task};
+use once_cell::race::OnceBox;
+use sample_programs::{
+    BOTH_BRANCHES, BOTH_PHASES, TWO_BRANCHES, TWO_PHASES, first_construct, parsed,
+};
+use site_directory::{SharedSite, cells, lines};
+use std::alloc::Global;
+use std::sync::Wait;
+use std::test::Fail;
+
+// What the pool of a `par` of two branches writes whose home does all of it.
+fn by_the_home<'a, 'p, R: Wait, S: InDirectory<'p>>(
+    rt: &'a R,
+    alloc: Global,
+    program: &'p Program,
+    cells: &'a [OnceBox<S>],
+) -> Result<Overlay, Fail> {
+    let nested = first_construct(alloc, program)?;
+    let mut home = HartSchedulers::new(lines(alloc, cells)?);
+    let mut site = home.open(alloc, &nested)?;
+    let Task::Piece(first) = home.next(rt, &mut site, true) else {
+        return Err(Fail::new("no first piece"));
+    };
+    home.deposit(rt, alloc, &mut site, piece_of(alloc, first)?);
+    let Task::Piece(second) = home.next(rt, &mut site, true) else {
+        return Err(Fail::new("no second piece"));
+    };
+    home.deposit(rt, alloc, &mut site, piece_of(alloc, second)?);
+    let Task::Nothing = home.next(rt, &mut site, true) else {
+        return Err(Fail::new("a third piece"));
+    };
+    Ok(home.take(rt, alloc, site)?)
+}
+
+#[test]
+fn a_home_does_all_pieces(rt: HostRuntime) -> Result<(), Fail> {
+    let alloc = rt.alloc();
+    let program = parsed(alloc, TWO_BRANCHES)?;
+    let cells: Vec<OnceBox<SharedSite<'_>>> = cells(alloc, 1)?;
+    let written = by_the_home(&rt, alloc, &program, cells.as_slice())?;
+    assert!(rt; written.pairs() == BOTH_BRANCHES.as_slice());
+    Ok(())
+}
+
+// The same, where a guest does the second branch.
+fn with_a_guest<'a, 'p, R: Wait, S: InDirectory<'p>>(
+    rt: &'a R,
+    alloc: Global,
+    program: &'p Program,
+    cells: &'a [OnceBox<S>],
+) -> Result<Overlay, Fail> {
+    let nested = first_construct(alloc, program)?;
+    let mut home = HartSchedulers::new(lines(alloc, cells)?);
+    let mut guest = HartSchedulers::new(lines(alloc, cells)?);
+    let mut site = home.open(alloc, &nested)?;
+    let Some(mut found) = guest.find(rt, 1) else {
+        return Err(Fail::new("the guest finds nothing"));
+    };
+    let Task::Piece(first) = home.next(rt, &mut site, true) else {
+        return Err(Fail::new("no first piece"));
+    };
+    let Task::Piece(second) = guest.next(rt, &mut found, false) else {
+        return Err(Fail::new("no second piece"));
+    };
+    let Task::Nothing = guest.next(rt, &mut found, false) else {
+        return Err(Fail::new("a third piece"));
+    };
+    guest.deposit(rt, alloc, &mut found, piece_of(alloc, second)?);
+    home.deposit(rt, alloc, &mut site, piece_of(alloc, first)?);
+    Ok(home.take(rt, alloc, site)?)
+}
+
+#[test]
+fn a_guest_does_a_piece_and_is_told_nothing_more(rt: HostRuntime) -> Result<(), Fail> {
+    let alloc = rt.alloc();
+    let program = parsed(alloc, TWO_BRANCHES)?;
+    let cells: Vec<OnceBox<SharedSite<'_>>> = cells(alloc, 1)?;
+    let written = with_a_guest(&rt, alloc, &program, cells.as_slice())?;
+    assert!(rt; written.pairs() == BOTH_BRANCHES.as_slice());
+    Ok(())
+}
+
+// What a home takes from a site of which no piece was done, and how many harts it had work for.
+fn untouched<'a, 'p, R: Wait, S: InDirectory<'p>>(
+    rt: &'a R,
+    alloc: Global,
+    program: &'p Program,
+    cells: &'a [OnceBox<S>],
+) -> Result<(Overlay, u8), Fail> {
+    let nested = first_construct(alloc, program)?;
+    let mut home = HartSchedulers::new(lines(alloc, cells)?);
+    let site = home.open(alloc, &nested)?;
+    let wishes = home.wishes(&site);
+    Ok((home.take(rt, alloc, site)?, wishes))
+}
+
+#[test]
+fn a_construct_whose_pieces_are_not_there_is_computed(rt: HostRuntime) -> Result<(), Fail> {
+    let alloc = rt.alloc();
+    let program = parsed(alloc, TWO_BRANCHES)?;
+    let cells_of_pool: Vec<OnceBox<SharedSite<'_>>> = cells(alloc, 1)?;
+    let (written, wishes) = untouched(&rt, alloc, &program, cells_of_pool.as_slice())?;
+    assert!(rt; wishes == 1 && written.pairs() == BOTH_BRANCHES.as_slice());
+    let program = parsed(alloc, TWO_PHASES)?;
+    let cells_of_team: Vec<OnceBox<SharedSite<'_>>> = cells(alloc, 1)?;
+    let (written, wishes) = untouched(&rt, alloc, &program, cells_of_team.as_slice())?;
+    assert!(rt; wishes == 2 && written.pairs() == BOTH_PHASES.as_slice());
+    Ok(())
+}
+
+#[test]
+fn a_hart_whose_cell_is_taken_asks_for_nobody(rt: HostRuntime) -> Result<(), Fail> {
+    let alloc = rt.alloc();
+    let program = parsed(alloc, TWO_BRANCHES)?;
+    let cells: Vec<OnceBox<SharedSite<'_>>> = cells(alloc, 1)?;
+    let (_, first) = untouched(&rt, alloc, &program, cells.as_slice())?;
+    let (written, second) = untouched(&rt, alloc, &program, cells.as_slice())?;
+    assert!(rt; first == 1 && second == 0);
+    assert!(rt; written.pairs() == BOTH_BRANCHES.as_slice());
+    Ok(())
+}
