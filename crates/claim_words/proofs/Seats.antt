@@ -5,10 +5,10 @@ use lib.ListN.{get_elem?}
 use Rattle.atomic_table.specs.Table.{Splits, Joins, Seen, Final}
 use Rattle.atomic_table.proofs.Lists.{at_set}
 use Rattle.claim_words.specs.declared.sight.Sight.{Sight}
-use Rattle.claim_words.specs.Claims.{weigh, is_claim, is_row, claims, pasts, once, Keeps, ClaimsStand, fresh, joined}
+use Rattle.claim_words.specs.Claims.{weigh, is_claim, is_row, claims, pasts, past_word, once, Keeps, ClaimsStand, fresh, joined}
 use Rattle.claim_words.specs.declared.seat.ClaimSeat.{ClaimSeat}
 use Rattle.claim_words.specs.declared.table.ClaimTable.{ClaimTable}
-use Rattle.claim_words.specs.Seats.{kin, sight, IsOf, AreOf, parts_of, claims_of}
+use Rattle.claim_words.specs.Seats.{kin, sight, IsOf, AreOf, parts_of, claims_of, reads_past}
 use Rattle.claim_words.proofs.Sums.{weigh-append, total_set, each_set, split_lt, total_snoc, each_snoc, total_whole}
 
 pub parts-snoc : (xs : List ClaimSeat) (s : ClaimSeat) → parts_of (map kin (xs ++ s ∷ [])) ≡ (sight s).parts + parts_of (map kin xs)
@@ -18,6 +18,10 @@ parts-snoc (x ∷ xs) s = let rest = parts-snoc xs s in omega (arith, rest)
 pub claims-snoc : (r m : ℕ) (xs : List ClaimSeat) (s : ClaimSeat) → claims_of r m (xs ++ s ∷ []) ≡ claims r m (sight s) + claims_of r m xs
 claims-snoc r m [] s = refl
 claims-snoc r m (x ∷ xs) s = let rest = claims-snoc r m xs s in omega (arith, rest)
+
+pub reads-snoc : (words : List ℕ) (xs : List ClaimSeat) (s : ClaimSeat) → reads_past words (xs ++ s ∷ []) ≡ weigh (past_word words) (sight s).looks + reads_past words xs
+reads-snoc words [] s = refl
+reads-snoc words (x ∷ xs) s = let rest = reads-snoc words xs s in omega (arith, rest)
 
 pub of-snoc : (t : ClaimTable) (xs : List ClaimSeat) (s : ClaimSeat) → AreOf t (map kin (xs ++ s ∷ [])) → IsOf t (kin s) × AreOf t (map kin xs)
 of-snoc t [] s are = (are.0, tt)
@@ -50,12 +54,14 @@ module _ (counts : List ℕ) where
           fresh = λ row is. absurd (omega (arith, is));
           over = λ row some_past. absurd (omega (arith, some_past));
           told = λ _. mine.told (omega (arith, more));
+          seen = refl;
         }) (each_set (Keeps counts s.words) s.views id l (record {
           spent = λ none. absurd (omega (arith, none, more));
           few = λ row. (let none = ap (λ (xs : List ℕ). weigh (is_row row) xs) clean in omega (arith, none));
           fresh = mine.fresh;
           over = mine.over;
           told = λ _. mine.told (omega (arith, more));
+          seen = mine.seen;
         }) h.each);
         rows = h.rows;
         small = h.small;
@@ -90,6 +96,7 @@ module _ (counts : List ℕ) where
           fresh = λ row is. absurd (omega (arith, is));
           over = λ row some_past. absurd (omega (arith, some_past));
           told = λ none. absurd (omega (arith, none));
+          seen = refl;
         }) (each_set (Keeps counts s.words) s.views id both (record {
           spent = λ none. absurd (omega (arith, none, part));
           few = λ row. (let c = weigh-append (is_row row) v.past w.past in let a = mine.few row in let b = theirs.few row in omega (arith, a, b, c));
@@ -101,20 +108,22 @@ module _ (counts : List ℕ) where
                 | inr x ↦ (let none = x.0 in theirs.over row (omega (arith, c, none, some_past)))
               ];
           told = λ _. mine.told part;
+          seen = (let a = mine.seen in let b = theirs.seen in let c = weigh-append (past_word s.words) v.looks w.looks in omega (arith, a, b, c));
         }) h.each);
         rows = h.rows;
         small = h.small;
       }
 
   pub settles : (id : ℕ) (v : Sight) (ws : List ℕ) (xs : List ℕ) → v.parts ≡ 256 → Final (Seen (ClaimsStand counts) id v) ws xs
-      → (words : List ℕ) × ((r m : ℕ) → claims r m v ≡ once m (slice_index words r) (slice_index counts r))
+      → (words : List ℕ) × ((r m : ℕ) → claims r m v ≡ once m (slice_index words r) (slice_index counts r)) × (weigh (past_word words) v.looks ≡ 0)
   settles id v ws xs whole final =
       let s = final.0 in
       let h = final.1.0 in
       let at = final.1.1 in (
         s.words,
-        λ r m.
+        (λ r m.
             let all : weigh (λ (u : Sight). u.parts) s.views ≡ v.parts = omega (arith, whole, h.parts) in
             let sum = total_whole (claims r m) s.views id v (fresh 0 []) at all refl refl (λ j u e none. ap (λ (l : List (ℕ × ℕ)). weigh (is_claim r m) l) ((h.each j u e).spent none).0) in
-            sym sum ∙ h.once_each r m,
+            sym sum ∙ h.once_each r m),
+        (h.each id v at).seen,
       )

@@ -7,8 +7,8 @@ use Rattle.std.proofs.Math.Nat.{mod-eq_of_lt}
 use Rattle.atomic_table.specs.Table.{State, keeps, Allows}
 use Rattle.claim_words.specs.declared.sight.Sight.{Sight}
 use Rattle.claim_words.specs.declared.sight.LookKind.TheVariants as kind
-use Rattle.claim_words.specs.Claims.{is_claim, is_row, claims, pasts, once, Keeps, Each, ClaimsStand, look, looked, drawn}
-use Rattle.claim_words.proofs.Sums.{weigh-append, total_set, each_set, sum_le, split_lt, word_after, once_more, once_past, claim_here, claim_else, row_here, row_else}
+use Rattle.claim_words.specs.Claims.{is_claim, is_row, claims, pasts, once, Keeps, Each, ClaimsStand, past_word, look, looked, drawn}
+use Rattle.claim_words.proofs.Sums.{weigh-append, total_set, each_set, sum_le, split_lt, word_after, once_more, once_past, claim_here, claim_else, row_here, row_else, weigh_le, past_le, past_none}
 
 module _ (counts : List ℕ) where
   pub looks : (slots id row : ℕ) (v : Sight) (held : List (ℕ × ℕ)) → 0 < v.parts → Allows (ClaimsStand counts) slots id (v, held) row (λ n. n) (λ n after. after ≡ (looked v row n, held))
@@ -34,6 +34,7 @@ module _ (counts : List ℕ) where
         ];
         over = mine.over;
         told = mine.told;
+        seen = (let a = weigh-append (past_word s.words) v.looks (look row kind.Look n ∷ []) in let b = past_none s.words (look row kind.Look n) (omega arith) in let m = mine.seen in omega (arith, a, b, m));
       } in
       let all : ClaimsStand counts (record { words = s.words; homes = s.homes; views = set s.views id w }) = record {
         parts = (let t = total_set (λ u. u.parts) s.views id v w at in omega (arith, t, h.parts));
@@ -81,6 +82,7 @@ module _ (counts : List ℕ) where
       fresh = k.fresh;
       over = λ r some_past. (let a = k.over r some_past in let b = rises r in omega (arith, a, b));
       told = k.told;
+      seen = (let m = k.seen in let l = weigh_le (past_word (set s.words row (slice_index s.words row + 1))) (past_word s.words) (λ x. past_le s.words (set s.words row (slice_index s.words row + 1)) x (rises x.row)) u.looks in omega (arith, m, l));
     }
 
     at_row : (r : ℕ) → ((r ≡ row) × (slice_index (set s.words row (slice_index s.words row + 1)) r ≡ slice_index s.words row + 1)) ⊎ ((r ≢ row) × (slice_index (set s.words row (slice_index s.words row + 1)) r ≡ slice_index s.words r))
@@ -123,6 +125,7 @@ module _ (counts : List ℕ) where
             fresh = λ r is. absurd (omega (arith, is));
             over = mine.over;
             told = mine.told;
+            seen = (let a = weigh-append (past_word (set s.words row (k + 1))) v.looks (look row kind.Draw k ∷ []) in let b = past_none (set s.words row (k + 1)) (look row kind.Draw k) (rises row) in let m = mine.seen in omega (arith, a, b, m));
           }) stay;
           rows = length-set s.words row (k + 1) ∙ h.rows;
           small = h.small;
@@ -181,6 +184,7 @@ module _ (counts : List ℕ) where
                   | inr x ↦ (let here = row_else r row x.0 in mine.over r (omega (arith, a, here, some_past)))
                 ];
             told = mine.told;
+            seen = (let a = weigh-append (past_word (set s.words row (k + 1))) v.looks (look row kind.Draw k ∷ []) in let b = past_none (set s.words row (k + 1)) (look row kind.Draw k) (rises row) in let m = mine.seen in omega (arith, a, b, m));
           }) stay;
           rows = length-set s.words row (k + 1) ∙ h.rows;
           small = h.small;

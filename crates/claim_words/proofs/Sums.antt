@@ -7,7 +7,8 @@ use Rattle.std.proofs.lemmas.List.{get_or-set_same, get_or-set_other}
 use Rattle.std.proofs.lemmas.Bool.{cases_eq}
 use Rattle.atomic_table.proofs.Lists.{at_set, at_snoc}
 use Rattle.claim_words.specs.declared.sight.Sight.{Sight}
-use Rattle.claim_words.specs.Claims.{weigh, Each, is_claim, is_row, once}
+use Rattle.claim_words.specs.declared.sight.Look.{Look}
+use Rattle.claim_words.specs.Claims.{past_word, weigh, Each, is_claim, is_row, once}
 
 pub weigh-append : {X : Type 0} (f : X → ℕ) (xs ys : List X) → weigh f (xs ++ ys) ≡ weigh f xs + weigh f ys
 weigh-append f [] ys = omega arith
@@ -84,3 +85,14 @@ total_whole f views port v idle at whole none here others =
     let sums = total_set f views port v idle at in
     let rest = zero_all f (set views port idle) (omega (arith, parts, whole, none)) (each_set (λ u. u.parts ≡ 0 → f u ≡ 0) views port idle (λ _. here) others) in
     omega (arith, sums, rest, here)
+
+pub weigh_le : {X : Type 0} (f g : X → ℕ) → ((x : X) → f x ≤ g x) → (xs : List X) → weigh f xs ≤ weigh g xs
+weigh_le f g le [] = omega arith
+weigh_le f g le (x ∷ xs) = let here = le x in let rest = weigh_le f g le xs in omega (arith, here, rest)
+
+-- a word that was read stays below a word that doesn't fall
+pub past_le : (words after : List ℕ) (x : Look) → slice_index words x.row ≤ slice_index after x.row → past_word after x ≤ past_word words x
+past_le words after x rises = grind (arith, nat_tests)
+
+pub past_none : (words : List ℕ) (x : Look) → x.found ≤ slice_index words x.row → past_word words x ≡ 0
+past_none words x low = grind (arith, nat_tests)

@@ -33,6 +33,10 @@ pasts r v = weigh (is_row r) v.past
 abbrev pub once : ℕ → ℕ → ℕ → ℕ
 once m word count = if nat_lt m word && nat_lt m count then 1 else 0
 
+-- 1 for a word that was read and is more than the row's word now, else 0
+abbrev pub past_word : List ℕ → Look → ℕ
+past_word words x = if nat_lt (slice_index words x.row) x.found then 1 else 0
+
 -- what a sight says by itself: a seat draws in a row only after it saw room there, so it draws past the members of a row once
 -- at most, and never where it has done so
 pub record Keeps (counts words : List ℕ) (v : Sight) : Type 0 where
@@ -41,6 +45,7 @@ pub record Keeps (counts words : List ℕ) (v : Sight) : Type 0 where
   pub fresh : (r : ℕ) → v.trying ≡ suc r → pasts r v ≡ 0
   pub over : (r : ℕ) → 0 < pasts r v → slice_index counts r ≤ slice_index words r
   pub told : 0 < v.parts → v.counts ≡ counts
+  pub seen : weigh (past_word words) v.looks ≡ 0
 
 abbrev pub Each : (Sight → Type 0) → List Sight → Type 0
 Each F views = (port : ℕ) (v : Sight) → get_elem? views port ≡ some v → F v

@@ -7,7 +7,7 @@ use Rattle.claim_words.specs.declared.seat.ClaimSeat.{ClaimSeat}
 use Rattle.claim_words.specs.declared.table.ClaimTable.{ClaimTable}
 use Rattle.claim_words.specs.declared.claimed.Claimed.{Claimed}
 use Rattle.claim_words.specs.declared.claimed.Claimed.TheVariants.{Member, NoneLeft}
-use Rattle.claim_words.specs.Claims.{look, claims, once}
+use Rattle.claim_words.specs.Claims.{look, weigh, claims, once, past_word}
 
 -- what a seat knows
 abbrev pub sight : ClaimSeat → Sight
@@ -56,6 +56,14 @@ abbrev pub claims_of : ℕ → ℕ → List ClaimSeat → ℕ
 claims_of r m [] = 0
 claims_of r m (s ∷ seats) = claims r m (sight s) + claims_of r m seats
 
--- with some word for each row: a member below the row's word was claimed once by all these seats together, and nothing else was
-abbrev pub AreAccounted : List ℕ → List ClaimSeat → Type 0
-AreAccounted counts seats = (words : List ℕ) × ((r m : ℕ) → claims_of r m seats ≡ once m (slice_index words r) (slice_index counts r))
+-- how many words all these seats read that are more than the row's word
+abbrev pub reads_past : List ℕ → List ClaimSeat → ℕ
+reads_past words [] = 0
+reads_past words (s ∷ seats) = weigh (past_word words) (sight s).looks + reads_past words seats
+
+-- The account of all these seats, with the rows' words. A member below the row's word was claimed once by all of them together,
+-- and nothing else was. No word that was read is more than the row's: so where a seat found none left, each member was claimed.
+pub record AreAccounted (counts : List ℕ) (seats : List ClaimSeat) : Type 0 where
+  pub words : List ℕ
+  pub each : (r m : ℕ) → claims_of r m seats ≡ once m (slice_index words r) (slice_index counts r)
+  pub reads : reads_past words seats ≡ 0

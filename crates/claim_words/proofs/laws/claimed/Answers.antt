@@ -1,10 +1,10 @@
 use Rattle.std.proofs.Common.{◌≡◌, ◌++◌, [], ◌∷◌, List, ℕ, map, slice_index, subst, sym, ap, ◌∙◌, rules, arith}
 use Rattle.claim_words.specs.declared.sight.Sight.{Sight}
 use Rattle.claim_words.specs.declared.seat.ClaimSeat.{ClaimSeat}
-use Rattle.claim_words.specs.Claims.{claims, once, is_claim}
-use Rattle.claim_words.specs.Seats.{AreOf, parts_of, claims_of, kin}
+use Rattle.claim_words.specs.Claims.{weigh, claims, past_word, once, is_claim}
+use Rattle.claim_words.specs.Seats.{AreOf, parts_of, claims_of, reads_past, kin}
 use Rattle.claim_words.proofs.Sums.{weigh-append}
-use Rattle.claim_words.proofs.Seats.{joins, settles, parts-snoc, claims-snoc, of-snoc}
+use Rattle.claim_words.proofs.Seats.{joins, settles, parts-snoc, claims-snoc, reads-snoc, of-snoc}
 use Rattle.claim_words.proofs.laws.claimed.Goals as goal
 
 pub loop-other-init : goal.loop-other-init
@@ -18,6 +18,7 @@ loop-other-init c =
       sym (parts-snoc c.pop.new.self.items first) ∙ sym (ap (λ (l : List ClaimSeat). parts_of (map kin l)) split) ∙ c.requires.all.whole,
       (λ r m. sym (claims-snoc r m c.pop.new.self.items first) ∙ sym (ap (claims_of r m) split)),
       are.1,
+      (λ ws. sym (reads-snoc ws c.pop.new.self.items first) ∙ sym (ap (reads_past ws) split)),
     )
 
 pub join_seat-requires : goal.join_seat-requires
@@ -57,6 +58,13 @@ loop-other-preserved c =
           let before = i.4 r m in
           omega (arith, claimed, both, left_is, split_is, before)),
       are.1,
+      (λ ws.
+          let read = ap (λ (v : Sight). weigh (past_word ws) v.looks) now in
+          let both = weigh-append (past_word ws) c.loop-other.first.me.0.looks other.seat.me.0.looks in
+          let left_is = reads-snoc ws left other in
+          let split_is = ap (reads_past ws) split in
+          let before = i.6 ws in
+          omega (arith, read, both, left_is, split_is, before)),
     )
 
 pub returns : goal.returns
@@ -65,12 +73,13 @@ returns c =
     let none : c.loop-other.seats.items ≡ [] = search rules in
     let whole : c.loop-other.first.me.0.parts ≡ 256 = (let w = i.3 in let p = ap (λ (l : List ClaimSeat). parts_of (map kin l)) none in omega (arith, w, p)) in
     let end = settles c.args.table.table.shared.key.items _ _ _ _ whole c.close_with.ensures.values.2 in record {
-      accounted = (
-        end.0,
-        (λ r m.
+      accounted = record {
+        words = end.0;
+        each = λ r m.
             let sums = i.4 r m in
             let zero = ap (claims_of r m) none in
             let is : claims_of r m c.args.seats.items ≡ claims r m c.loop-other.first.me.0 = omega (arith, sums, zero) in
-            is ∙ end.1 r m ∙ ap (λ (l : List ℕ). once m (slice_index end.0 r) (slice_index l r)) c.args.table.key),
-      );
+            is ∙ end.1 r m ∙ ap (λ (l : List ℕ). once m (slice_index end.0 r) (slice_index l r)) c.args.table.key;
+        reads = (let sums = i.6 end.0 in let zero = ap (reads_past end.0) none in let last = end.2 in omega (arith, sums, zero, last));
+      };
     }
