@@ -1,0 +1,4 @@
+mod Sums
+mod Steps
+mod Seats
+pub mod Callers

@@ -1,0 +1,80 @@
+-- Which members of each row are claimed, and by whom.
+use Rattle.std.specs.Prelude.{◌≡◌, ℕ, suc, ◌+◌, ◌<◌, ◌≤◌, List, [], ◌∷◌, ◌++◌, length, if◌then◌else◌, ◌==◌, ◌&&◌, nat_lt, slice_index}
+use mathlib.Core.Option.{some}
+use lib.ListN.{get_elem?}
+use Rattle.atomic_table.specs.Table.{State}
+use Rattle.claim_words.specs.declared.sight.Sight.{Sight}
+use Rattle.claim_words.specs.declared.sight.Look.{Look}
+use Rattle.claim_words.specs.declared.sight.LookKind.{LookKind}
+use Rattle.claim_words.specs.declared.sight.LookKind.TheVariants as kind
+
+abbrev pub look : ℕ → LookKind → ℕ → Look
+look row k found = record { row = row; kind = k; found = found }
+
+-- f of each, added up
+abbrev pub weigh : {X : Type 0} → (X → ℕ) → List X → ℕ
+weigh f [] = 0
+weigh f (x ∷ xs) = f x + weigh f xs
+
+abbrev pub is_claim : ℕ → ℕ → ℕ × ℕ → ℕ
+is_claim r m x = if (x.0 == r) && (x.1 == m) then 1 else 0
+
+abbrev pub is_row : ℕ → ℕ → ℕ
+is_row r x = if x == r then 1 else 0
+
+-- how often a seat claimed this member, and how often it drew a number past the members of a row
+abbrev pub claims : ℕ → ℕ → Sight → ℕ
+claims r m v = weigh (is_claim r m) v.claimed
+
+abbrev pub pasts : ℕ → Sight → ℕ
+pasts r v = weigh (is_row r) v.past
+
+-- 1 for a number below the word that is a member, else 0
+abbrev pub once : ℕ → ℕ → ℕ → ℕ
+once m word count = if nat_lt m word && nat_lt m count then 1 else 0
+
+-- 1 for a word that was read and is more than the row's word now, else 0
+abbrev pub past_word : List ℕ → Look → ℕ
+past_word words x = if nat_lt (slice_index words x.row) x.found then 1 else 0
+
+-- what a sight says by itself: a seat draws in a row only after it saw room there, so it draws past the members of a row once
+-- at most, and never where it has done so
+pub record Keeps (counts words : List ℕ) (v : Sight) : Type 0 where
+  pub spent : v.parts ≡ 0 → (v.claimed ≡ []) × (v.past ≡ []) × (v.trying ≡ 0)
+  pub few : (r : ℕ) → pasts r v ≤ v.parts
+  pub fresh : (r : ℕ) → v.trying ≡ suc r → pasts r v ≡ 0
+  pub over : (r : ℕ) → 0 < pasts r v → slice_index counts r ≤ slice_index words r
+  pub told : 0 < v.parts → v.counts ≡ counts
+  pub seen : weigh (past_word words) v.looks ≡ 0
+
+abbrev pub Each : (Sight → Type 0) → List Sight → Type 0
+Each F views = (port : ℕ) (v : Sight) → get_elem? views port ≡ some v → F v
+
+-- The rule of the words: each member below a row's word is claimed once, and no other; a word is past its row's members only by
+-- numbers that were drawn past them, so that no word wraps.
+pub record ClaimsStand (counts : List ℕ) (s : State ℕ Sight) : Type 0 where
+  pub parts : weigh (λ (v : Sight). v.parts) s.views ≡ 256
+  pub once_each : (r m : ℕ) → weigh (claims r m) s.views ≡ once m (slice_index s.words r) (slice_index counts r)
+  pub bound : (r : ℕ) → slice_index s.words r ≤ slice_index counts r + weigh (pasts r) s.views
+  pub each : Each (Keeps counts s.words) s.views
+  pub rows : length s.words ≡ length counts + 1
+  pub small : (r : ℕ) → slice_index counts r < 256
+
+-- a sight of nothing
+abbrev pub fresh : ℕ → List ℕ → Sight
+fresh parts counts = record { parts = parts; counts = counts; claimed = []; past = []; trying = 0; looks = [] }
+
+-- the sight after a look, and after a number was drawn
+abbrev pub looked : Sight → ℕ → ℕ → Sight
+looked v r n = record v { trying = if nat_lt n (slice_index v.counts r) then suc r else 0; looks = v.looks ++ look r kind.Look n ∷ [] }
+
+abbrev pub drawn : Sight → ℕ → ℕ → Sight
+drawn v r n = record v {
+  trying = 0;
+  looks = v.looks ++ look r kind.Draw n ∷ [];
+  claimed = if nat_lt n (slice_index v.counts r) then v.claimed ++ (r, n) ∷ [] else v.claimed;
+  past = if nat_lt n (slice_index v.counts r) then v.past else v.past ++ r ∷ [];
+}
+
+abbrev pub joined : Sight → Sight → Sight
+joined v w = record { parts = v.parts + w.parts; counts = v.counts; claimed = v.claimed ++ w.claimed; past = v.past ++ w.past; trying = 0; looks = v.looks ++ w.looks }

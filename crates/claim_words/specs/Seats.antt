@@ -1,0 +1,69 @@
+-- What a claim gives, and all seats of a table.
+use Rattle.std.specs.Prelude.{◌≡◌, ℕ, ◌+◌, ◌<◌, ◌≤◌, ◌⊎◌, List, [], ◌∷◌, ◌++◌, slice_index}
+use Rattle.atomic_table.specs.Seated.{TableId}
+use Rattle.claim_words.specs.declared.sight.Sight.{Sight}
+use Rattle.claim_words.specs.declared.sight.LookKind.TheVariants as kind
+use Rattle.claim_words.specs.declared.seat.ClaimSeat.{ClaimSeat}
+use Rattle.claim_words.specs.declared.table.ClaimTable.{ClaimTable}
+use Rattle.claim_words.specs.declared.claimed.Claimed.{Claimed}
+use Rattle.claim_words.specs.declared.claimed.Claimed.TheVariants.{Member, NoneLeft}
+use Rattle.claim_words.specs.Claims.{look, weigh, claims, once, past_word}
+
+-- what a seat knows
+abbrev pub sight : ClaimSeat → Sight
+sight s = s.seat.me.0
+
+-- what no claim changes: whose seat it is, of rows with how many members, and its parts
+pub record SeatKin : Type 0 where
+  pub table : TableId
+  pub counts : List ℕ
+  pub parts : ℕ
+
+abbrev pub kin : ClaimSeat → SeatKin
+kin s = record { table = s.seat.table_id; counts = (sight s).counts; parts = (sight s).parts }
+
+abbrev pub IsOf : ClaimTable → SeatKin → Type 0
+IsOf t k = (k.table ≡ t.table.shared.table_id) × (k.counts ≡ t.counts.items)
+
+abbrev pub AreOf : ClaimTable → List SeatKin → Type 0
+AreOf t [] = Unit {0}
+AreOf t (k ∷ all) = IsOf t k × AreOf t all
+
+abbrev pub parts_of : List SeatKin → ℕ
+parts_of [] = 0
+parts_of (k ∷ all) = k.parts + parts_of all
+
+-- these are all seats of the table
+pub record AreAll (t : ClaimTable) (all : List SeatKin) : Type 0 where
+  pub of : AreOf t all
+  pub whole : parts_of all ≡ 256
+
+-- the seat has claimed nothing and read nothing
+abbrev pub IsNew : ClaimSeat → Type 0
+IsNew s = ((sight s).claimed ≡ []) × ((sight s).looks ≡ [])
+
+-- What the seat had, and what it has after a claim in a row. Each word that the call read is noted, as a look or as the addition
+-- that drew it; the word that is told is the last of them.
+abbrev pub ClaimGives : List ℕ → ℕ → ClaimSeat → Claimed → ClaimSeat → Type 0
+ClaimGives counts row old (Member m) new = (m < slice_index counts row) × ((sight new).claimed ≡ (sight old).claimed ++ (row, m) ∷ [])
+    × ((n : ℕ) × (n < slice_index counts row) × ((sight new).looks ≡ (sight old).looks ++ look row kind.Look n ∷ look row kind.Draw m ∷ []))
+ClaimGives counts row old (NoneLeft shown) new = (slice_index counts row ≤ shown) × ((sight new).claimed ≡ (sight old).claimed)
+    × (((sight new).looks ≡ (sight old).looks ++ look row kind.Look shown ∷ [])
+    ⊎ ((n : ℕ) × (n < slice_index counts row) × ((sight new).looks ≡ (sight old).looks ++ look row kind.Look n ∷ look row kind.Draw shown ∷ [])))
+
+-- how often all these seats claimed this member of this row
+abbrev pub claims_of : ℕ → ℕ → List ClaimSeat → ℕ
+claims_of r m [] = 0
+claims_of r m (s ∷ seats) = claims r m (sight s) + claims_of r m seats
+
+-- how many words all these seats read that are more than the row's word
+abbrev pub reads_past : List ℕ → List ClaimSeat → ℕ
+reads_past words [] = 0
+reads_past words (s ∷ seats) = weigh (past_word words) (sight s).looks + reads_past words seats
+
+-- The account of all these seats, with the rows' words. A member below the row's word was claimed once by all of them together,
+-- and nothing else was. No word that was read is more than the row's: so where a seat found none left, each member was claimed.
+pub record AreAccounted (counts : List ℕ) (seats : List ClaimSeat) : Type 0 where
+  pub words : List ℕ
+  pub each : (r m : ℕ) → claims_of r m seats ≡ once m (slice_index words r) (slice_index counts r)
+  pub reads : reads_past words seats ≡ 0

@@ -1,0 +1,22 @@
+-- What a caller of the rows of all harts needs.
+use Rattle.std.proofs.Common.{◌≡◌, ◌<◌, ℕ, suc, List, [], ◌∷◌, map, length, get_or, set, sym, ap, subst, ◌∙◌, arith, refl}
+use Rattle.std.proofs.lemmas.List.{length-map}
+use Rattle.std.proofs.Math.Seq.{map-set_same}
+use Rattle.std.proofs.Math.ListN.{get_or-map as get_or-map_same}
+use Rattle.deque_rows.specs.declared.hart.HartRows.{HartRows}
+use Rattle.deque_rows.specs.Rows.{Kin, kin, AreAll}
+
+-- each hart reaches the rows of all
+pub reaches_all : (rows : List HartRows) → AreAll (map kin rows) → (h : ℕ) (d : HartRows) → h < length rows → (get_or rows h d).harts ≡ length rows
+reaches_all rows all h d there =
+    ap (λ (k : Kin). k.harts) (sym (get_or-map_same kin rows h d)) ∙ all.reaches h (kin d) (subst (λ n. h < n) (sym (length-map rows kin)) there) ∙ length-map rows kin
+
+-- one hart's rows moved on, or each hart's
+pub one_moved : (rows : List HartRows) (h : ℕ) (y d : HartRows) → kin y ≡ kin (get_or rows h d) → map kin (set rows h y) ≡ map kin rows
+one_moved rows h y d same = map-set_same kin rows h y d same
+
+pub each_moved : (old new : List HartRows) → length new ≡ length old → ((h : ℕ) (d : HartRows) → h < length old → kin (get_or new h d) ≡ kin (get_or old h d)) → map kin new ≡ map kin old
+each_moved [] [] count same = refl
+each_moved [] (y ∷ new) count same = absurd (omega (arith, count))
+each_moved (x ∷ old) [] count same = absurd (omega (arith, count))
+each_moved (x ∷ old) (y ∷ new) count same = λ i. same 0 x (omega arith) i ∷ each_moved old new (omega (arith, count)) (λ h d below. same (suc h) d (omega (arith, below))) i

@@ -1,0 +1,8 @@
+use Rattle.std.proofs.Common.{◌≡◌, map, replicate, vec_len, true}
+use Rattle.deque_rows.specs.Account.{blank}
+use Rattle.deque_rows.proofs.Places.{home_log_of}
+use Rattle.deque_rows.proofs.making.home.Given as goal
+
+-- so many new ends
+abbrev pub invariant-loop : goal.invariant-loop
+invariant-loop l = (vec_len l.own ≡ l.counter) × (map home_log_of l.own.items ≡ replicate l.counter (blank 64 true))

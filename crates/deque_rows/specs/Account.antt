@@ -1,0 +1,84 @@
+-- What was pushed to a row is what was taken from it and what it holds.
+use Rattle.std.specs.Prelude.{◌≡◌, ℕ, ◌+◌, ◌-◌, ◌<◌, ◌≤◌, ◌^◌, ◌⊎◌, Bool, true, false, List, [], ◌∷◌, ◌++◌, length, if◌then◌else◌, ◌==◌}
+use mathlib.Core.Option.{some}
+use lib.ListN.{get_elem?}
+use Rattle.deque_rows.specs.declared.account.Log.{Log}
+
+-- how often x stands in the list
+abbrev pub times : ℕ → List ℕ → ℕ
+times x [] = 0
+times x (y ∷ ys) = (if y == x then 1 else 0) + times x ys
+
+-- the first list is the second with some of its places left out
+abbrev pub InOrder : List ℕ → List ℕ → Type 0
+InOrder [] ys = Unit {0}
+InOrder (x ∷ xs) [] = ⊥
+InOrder (x ∷ xs) (y ∷ ys) = ((x ≡ y) × InOrder xs ys) ⊎ InOrder (x ∷ xs) ys
+
+-- f of each pass's log, added up
+abbrev pub total : (Log → ℕ) → List Log → ℕ
+total f [] = 0
+total f (v ∷ vs) = f v + total f vs
+
+-- a log of nothing
+abbrev pub blank : ℕ → Bool → Log
+blank parts is_home = record { parts = parts; is_home = is_home; pushed = []; popped = []; kept = []; stolen = [] }
+
+abbrev pub idle : Log
+idle = blank 0 false
+
+-- a code that the home pushed was popped by it or kept, and what it kept stands in the order of what it pushed
+pub record IsKept (pushed popped kept : List ℕ) : Type 0 where
+  pub counts : (x : ℕ) → times x pushed ≡ times x popped + times x kept
+  pub order : InOrder kept pushed
+
+-- what one log says of the row. `home` is the number of the home's pass, and `gone` what all steals took, in their order
+pub record Fits (home : ℕ) (gone items : List ℕ) (port : ℕ) (v : Log) : Type 0 where
+  pub homes : v.is_home ≡ true → (port ≡ home) × (v.kept ≡ gone ++ items) × IsKept v.pushed v.popped v.kept
+  pub spent : v.parts ≡ 0 → v.stolen ≡ []
+
+-- The rule of a row, over its codes, the oldest first, and the logs of all passes: what the home pushed and didn't pop is
+-- what steals took, followed by what the row holds.
+pub record RowStands (items : List ℕ) (logs : List Log) : Type 0 where
+  pub home : ℕ
+  pub gone : List ℕ
+  pub parts : total (λ (v : Log). v.parts) logs ≡ 64
+  pub stolen : (x : ℕ) → total (λ (v : Log). times x v.stolen) logs ≡ times x gone
+  pub each : (port : ℕ) (v : Log) → get_elem? logs port ≡ some v → Fits home gone items port v
+
+-- the steps of the home and of a thief
+abbrev pub after_push : Log → List ℕ → Log
+after_push v xs = record v { pushed = v.pushed ++ xs; kept = v.kept ++ xs }
+
+abbrev pub after_steal : Log → List ℕ → Log
+after_steal v xs = record v { stolen = v.stolen ++ xs }
+
+-- the home popped the last codes that it kept
+abbrev pub Pops : Log → List ℕ → Log → Type 0
+Pops v xs w = (v.kept ≡ w.kept ++ xs) × (w ≡ record v { popped = v.popped ++ xs; kept = w.kept })
+
+abbrev pub joined : Log → Log → Log
+joined v w = record v { parts = v.parts + w.parts; stolen = v.stolen ++ w.stolen }
+
+-- a moment at which the row held at most so many codes, and this was the log of a pass
+abbrev pub HeldAtMost : ℕ → Log → Type 0
+HeldAtMost most v = (items : List ℕ) × (logs : List Log) × (port : ℕ) × (length items ≤ most) × RowStands items logs × (get_elem? logs port ≡ some v)
+
+-- what a log with all parts says of the row
+abbrev pub Tells : Log → List ℕ → Type 0
+Tells v items = (gone : List ℕ) × (v.kept ≡ gone ++ items) × IsKept v.pushed v.popped v.kept × ((x : ℕ) → times x v.stolen ≡ times x gone)
+
+-- The account of a row: `stolen` are the codes that steals gave, `left` those that the row still holds. What was pushed was
+-- taken, by a pop or a steal, or is left. What is left stands in the order in which it was pushed. Of what wasn't popped,
+-- steals took the first and left the last.
+pub record IsSettled (v : Log) (stolen : List ℕ) : Type 0 where
+  pub left : List ℕ
+  pub gone : List ℕ
+  pub counts : (x : ℕ) → times x v.pushed ≡ times x v.popped + times x stolen + times x left
+  pub order : InOrder left v.pushed
+  pub kept : v.kept ≡ gone ++ left
+  pub steals : (x : ℕ) → times x stolen ≡ times x gone
+
+-- a count has risen, or stands at its last value
+abbrev pub Rose : ℕ → ℕ → Type 0
+Rose before after = (before < after) ⊎ ((before ≡ 2 ^ 64 - 1) × (after ≡ before))

@@ -1,0 +1,4 @@
+pub mod Account
+pub mod Rows
+pub mod Lines
+pub mod Calls

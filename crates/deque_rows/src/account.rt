@@ -1,0 +1,97 @@
+//! The rule of a row, and what its calls tell.
+ghost use Rattle.std.specs.Prelude.{◌≡◌, ◌-◌, ◌+◌, [], ◌++◌};
+
+use crossbeam_deque::protocol::{Join, Lesson, Outcome, Protocol, Split};
+use std::collections::LinkedList;
+
+/// What a pass of a row knows. No value of it is made.
+pub struct Log {
+    /// Its parts of the right to know the whole row; all passes together have 64.
+    pub parts: u64,
+    /// Whether it is the pass of the row's own hart.
+    pub is_home: bool,
+    /// What the home pushed, in order.
+    pub pushed: LinkedList<u32>,
+    /// What the home popped, in order.
+    pub popped: LinkedList<u32>,
+    /// What the home pushed and didn't pop.
+    pub kept: LinkedList<u32>,
+    /// What this pass's steals gave, in order.
+    pub stolen: LinkedList<u32>,
+}
+
+/// The rule of a row.
+pub struct Account;
+
+impl Protocol<u32, Log> for Account {
+    ghost use Rattle.std.specs.Prelude.{true, false};
+    ghost use Rattle.deque_rows.specs.Account.{blank, idle, RowStands};
+
+    ghost holds = { RowStands };
+
+    ghost first = { blank 64 true };
+
+    ghost guest = { idle };
+}
+
+/// A pass with a part of another's, and a pass that takes another in.
+pub struct Share;
+
+impl Split<Log> for Share {
+    ghost use Rattle.std.specs.Prelude.{◌-◌, false};
+    ghost use Rattle.deque_rows.specs.Account.{blank};
+
+    ghost left = { λ v. record v { parts = v.parts - 1 } };
+
+    ghost right = { λ _. blank 1 false };
+}
+
+impl Join<Log> for Share {
+    ghost use Rattle.deque_rows.specs.Account.{joined, idle};
+
+    ghost both = { joined };
+
+    ghost spent = { idle };
+}
+
+/// What a push tells.
+pub struct Pushed;
+
+impl Outcome<u32, Log> for Pushed {
+    ghost use Rattle.std.specs.Prelude.{◌≡◌};
+    ghost use Rattle.deque_rows.specs.Account.{after_push};
+
+    ghost then = { λ v xs w. w ≡ after_push v xs };
+}
+
+/// What a pop tells.
+pub struct Popped;
+
+impl Outcome<u32, Log> for Popped {
+    ghost use Rattle.deque_rows.specs.Account.{Pops, HeldAtMost};
+
+    ghost then = { Pops };
+
+    ghost empty = { HeldAtMost 0 };
+}
+
+/// What a steal tells.
+pub struct Stole;
+
+impl Outcome<u32, Log> for Stole {
+    ghost use Rattle.std.specs.Prelude.{◌≡◌};
+    ghost use Rattle.deque_rows.specs.Account.{after_steal, HeldAtMost};
+
+    ghost then = { λ v xs w. w ≡ after_steal v xs };
+
+    ghost empty = { HeldAtMost 1 };
+}
+
+/// What is known of a row when all passes are back in one.
+pub struct Whole;
+
+impl Lesson<u32, Log> for Whole {
+    ghost use Rattle.deque_rows.specs.Account.{Tells};
+
+    ghost fact = { Tells };
+}

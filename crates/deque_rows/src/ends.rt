@@ -1,0 +1,119 @@
+//! The ends of one row.
+ghost use Rattle.std.specs.Prelude.{◌≡◌, ◌<◌, ◌≤◌, ◌+◌, ◌-◌, ◌^◌, ◌⊎◌, [], ◌∷◌, ◌++◌, List, ℕ, true, false, length, MatchOption, IfOk, ⊤};
+ghost use Rattle.crossbeam_deque.specs.Handles.{view, IsPassOf, worker_deque, worker_flavor, worker_capacity, worker_index, stealer_deque, stealer_flavor, worker_view};
+ghost use Rattle.deque_rows.specs.Account.{blank, after_push, after_steal, joined, Pops, HeldAtMost, Rose, Tells};
+
+use crate::account::{Account, Log, Popped, Pushed, Share, Stole, Whole};
+use crossbeam_deque::{Pass, Steal, Stealer, Worker};
+use std::alloc::{AllocError, Global};
+use std::sync::Wait;
+
+/// How many codes a row takes in all.
+pub(crate) const ROOM: u32 = 16_384;
+
+/// The home's end of a row.
+#[derive(Drop)]
+pub struct HomeEnd {
+    pub(crate) worker: Worker<u32, Global, Log, Account>,
+    pub(crate) room: u32,
+    pub ghost lifo: { worker_flavor worker ≡ 1 },
+    pub ghost home: { (worker_view worker).is_home ≡ true },
+    pub ghost has_part: { 0 < (worker_view worker).parts },
+    pub ghost room_left: { room + length (worker_view worker).pushed ≡ 16384 },
+    pub ghost behind: { worker_index worker ≤ length (worker_view worker).pushed },
+    pub ghost wide: { 16384 ≤ worker_capacity worker },
+}
+
+impl HomeEnd {
+    /// The end of a new row.
+    pub(crate) fn new(alloc: Global) -> Result<HomeEnd, AllocError>
+        ensures { IfOk result (λ h. worker_view h.worker ≡ blank 64 true) }
+    {
+        Ok(HomeEnd {
+            worker: Worker::lifo_as(alloc, ROOM as usize)?,
+            room: ROOM,
+        })
+    }
+
+    /// Puts a code last.
+    pub(crate) fn push(&mut self, code: u32)
+        requires { length (worker_view self.old.worker).pushed < 16384 }
+        ensures pushed { worker_view self.new.worker ≡ after_push (worker_view self.old.worker) (code ∷ []) }
+        ensures same { worker_deque self.new.worker ≡ worker_deque self.old.worker }
+    {
+        match self.worker.push_as::<Pushed>(code) {
+            Ok(()) => self.room -= 1,
+            Err(_) => unreachable!(),
+        }
+    }
+
+    /// A further stealing end, with a part of the home's.
+    pub(crate) fn another(&mut self) -> Result<StealingEnd, AllocError>
+        requires { 1 < (worker_view self.old.worker).parts }
+        ensures cut { IfOk result (λ end. worker_view self.new.worker ≡ record (worker_view self.old.worker) { parts = (worker_view self.old.worker).parts - 1 }) }
+        ensures blank { IfOk result (λ end. view end.pass ≡ blank 1 false) }
+        ensures of { IfOk result (λ end. stealer_deque end.stealer ≡ worker_deque self.old.worker) }
+        ensures same { worker_deque self.new.worker ≡ worker_deque self.old.worker }
+    {
+        let stealer = self.worker.stealer()?;
+        let pass = self.worker.another::<Share>();
+        Ok(StealingEnd { stealer, pass })
+    }
+
+    /// Takes a stealing end back.
+    pub(crate) fn absorb(&mut self, end: StealingEnd)
+        requires { stealer_deque end.stealer ≡ worker_deque self.old.worker }
+        ensures joined { worker_view self.new.worker ≡ joined (worker_view self.old.worker) (view end.pass) }
+        ensures same { worker_deque self.new.worker ≡ worker_deque self.old.worker }
+    {
+        let StealingEnd { stealer: _, pass } = end;
+        self.worker.absorb::<Share>(pass);
+    }
+
+    /// Looks at the row, when all stealing ends are back.
+    pub(crate) fn look(&mut self)
+        requires { (worker_view self.old.worker).parts ≡ 64 }
+        ensures tells { (items : List ℕ) × Tells (worker_view self.old.worker) items }
+        ensures view { worker_view self.new.worker ≡ worker_view self.old.worker }
+        ensures same { worker_deque self.new.worker ≡ worker_deque self.old.worker }
+    {
+        self.worker.len_as::<Whole>();
+    }
+
+    /// Takes the last code.
+    pub(crate) fn pop(&mut self) -> Option<u32>
+        ensures none { MatchOption result ((worker_view self.new.worker ≡ worker_view self.old.worker) × HeldAtMost 0 (worker_view self.old.worker)) (λ code. ⊤) }
+        ensures took { MatchOption result ⊤ (λ code. Pops (worker_view self.old.worker) (code ∷ []) (worker_view self.new.worker)) }
+        ensures same { worker_deque self.new.worker ≡ worker_deque self.old.worker }
+    {
+        self.worker.pop_as::<Popped>()
+    }
+}
+
+/// A stealing end of a row, with its pass.
+#[derive(Drop)]
+pub struct StealingEnd {
+    pub(crate) stealer: Stealer<u32, Global, Log, Account>,
+    pub(crate) pass: Pass<u32, Log>,
+    pub ghost fits: { IsPassOf (stealer_deque stealer) pass },
+    pub ghost has_part: { 0 < (view pass).parts },
+    pub ghost lifo: { stealer_flavor stealer ≡ 1 },
+}
+
+impl StealingEnd {
+    /// Takes the first code.
+    pub(crate) fn steal<R: Wait>(&mut self, rt: &R) -> Option<u32>
+        ensures none { MatchOption result ((view self.new.pass ≡ view self.old.pass) × HeldAtMost 1 (view self.old.pass)) (λ code. ⊤) }
+        ensures took { MatchOption result ⊤ (λ code. view self.new.pass ≡ after_steal (view self.old.pass) (code ∷ [])) }
+        ensures same { stealer_deque self.new.stealer ≡ stealer_deque self.old.stealer }
+    {
+        'tries: for _ in rt.forever() {
+            match self.stealer.steal_as::<Stole>(&mut self.pass) {
+                Steal::Success(code) => return Some(code),
+                Steal::Empty => return None,
+                Steal::Retry => {}
+            }
+        }
+        unreachable!()
+    }
+}

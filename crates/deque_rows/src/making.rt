@@ -1,0 +1,98 @@
+//! How the rows are made.
+ghost use Rattle.std.specs.Prelude.{◌≡◌, ℕ, ◌+◌, ◌-◌, ◌*◌, ◌<◌, ◌≤◌, length, map, slice_index_or, IfOk, vec_len};
+ghost use Rattle.deque_rows.specs.Rows.{RowName, AreAll, AreNew, kin, home_logs, home_names, owner_log};
+ghost use Rattle.deque_rows.specs.Lines.{IsHome, IsLine, less, standing};
+
+use crate::ends::{HomeEnd, StealingEnd};
+use crate::hart::HartRows;
+use crate::lines::lend;
+use std::alloc::{AllocError, Global};
+
+/// The rows of so many harts, from 1 to 16: one for each hart and each level from 1 to 3, empty. It gives each hart's sight
+/// of all of them, in the order of the harts.
+pub fn rows(alloc: Global, harts: u8) -> Result<Vec<HartRows>, AllocError>
+    requires { (1 ≤ harts) × (harts ≤ 16) }
+    ensures count { IfOk result (λ rows. vec_len rows ≡ harts) }
+    ensures all { IfOk result (λ rows. AreAll (map kin rows.items)) }
+    ensures new { IfOk result (λ rows. (h : ℕ) (d : HartRows) → h < harts → AreNew harts (slice_index_or rows.items h d)) }
+{
+    let mut rows = homes(alloc, harts)?;
+    reach_all(alloc, harts, rows.as_mut_slice())?;
+    Ok(rows)
+}
+
+// Each hart gets a stealing end of each row.
+fn reach_all(alloc: Global, harts: u8, rows: &mut [HartRows]) -> Result<(), AllocError>
+    requires few { harts ≤ 16 }
+    requires count { length rows.old ≡ harts }
+    requires homes { (h : ℕ) (d : HartRows) → h < harts → IsHome harts h (slice_index_or rows.old h d) }
+    ensures all { IfOk result (λ done. AreAll (map kin rows.new)) }
+    ensures new { IfOk result (λ done. (h : ℕ) (d : HartRows) → h < harts → AreNew harts (slice_index_or rows.new h d)) }
+{
+    for hart in 0..usize::from(harts) {
+        let ends = line(alloc, rows)?;
+        rows[hart].reach(harts, ends);
+    }
+    Ok(())
+}
+
+impl HartRows {
+    // From now on it reaches the rows of so many harts, by these ends.
+    fn reach(&mut self, harts: u8, ends: Vec<StealingEnd>)
+        requires { (vec_len ends ≡ 3 * harts) × (3 * harts ≤ vec_len self.old.bare) }
+        ensures logs { home_logs self.new ≡ home_logs self.old }
+        ensures names { home_names self.new ≡ home_names self.old }
+        ensures standing { standing self.new ≡ record (standing self.old) { harts = harts; ends = ends.items } }
+    {
+        self.harts = harts;
+        self.ends = ends;
+    }
+}
+
+// Each hart's own rows, with no stealing end.
+fn homes(alloc: Global, harts: u8) -> Result<Vec<HartRows>, AllocError>
+    requires { harts ≤ 16 }
+    ensures count { IfOk result (λ rows. vec_len rows ≡ harts) }
+    ensures homes { IfOk result (λ rows. (h : ℕ) (d : HartRows) → h < harts → IsHome harts h (slice_index_or rows.items h d)) }
+{
+    let mut rows = Vec::with_capacity(alloc, usize::from(harts))?;
+    for hart in 0..harts {
+        rows.push(home(alloc, hart, harts)?)?;
+    }
+    Ok(rows)
+}
+
+// One hart's own rows, with no stealing end.
+fn home(alloc: Global, hart: u8, harts: u8) -> Result<HartRows, AllocError>
+    requires { (hart < harts) × (harts ≤ 16) }
+    ensures { IfOk result (IsHome harts hart) }
+{
+    let mut own = Vec::with_capacity(alloc, 3)?;
+    for _ in 0..3usize {
+        own.push(HomeEnd::new(alloc)?)?;
+    }
+    Ok(HartRows {
+        hart,
+        harts: 0,
+        own,
+        ends: Vec::new(alloc),
+        bare: Vec::from_elem(alloc, 0u64, 3 * usize::from(harts))?,
+    })
+}
+
+// A further stealing end of each row, in order.
+fn line(alloc: Global, rows: &mut [HartRows]) -> Result<Vec<StealingEnd>, AllocError>
+    requires few { length rows.old ≤ 16 }
+    requires parts { (r : ℕ) → r < 3 * length rows.old → 1 < (owner_log rows.old r).parts }
+    ensures count { IfOk result (λ ends. vec_len ends ≡ 3 * length rows.old) }
+    ensures ends { IfOk result (λ ends. IsLine (map home_names rows.old) ends.items) }
+    ensures less { IfOk result (λ ends. (r : ℕ) → r < 3 * length rows.old → owner_log rows.new r ≡ less (owner_log rows.old r)) }
+    ensures names { map home_names rows.new ≡ map home_names rows.old }
+    ensures standing { map standing rows.new ≡ map standing rows.old }
+{
+    let mut ends = Vec::with_capacity(alloc, 3 * rows.len())?;
+    for row in 0..3 * rows.len() {
+        ends.push(lend(rows, row)?)?;
+    }
+    Ok(ends)
+}

@@ -1,0 +1,44 @@
+//! What tests do with the rows of all harts.
+ghost use Rattle.std.specs.Prelude.{◌≡◌, ◌<◌, length, map};
+ghost use Rattle.deque_rows.specs.Rows.{IsLevel, AreAll, kin};
+
+use deque_rows::{HartRows, Stolen};
+use std::sync::Wait;
+
+// Puts codes into one's own row, as far as it has room.
+pub fn put(rows: &mut HartRows, level: u8, codes: &[u32])
+    requires { IsLevel level }
+    ensures { kin rows.new ≡ kin rows.old }
+{
+    for code in codes {
+        if 0 < rows.room(level) {
+            rows.push(level, *code);
+        }
+    }
+}
+
+// A hart puts codes into its row.
+pub fn put_at(rows: &mut [HartRows], hart: usize, level: u8, codes: &[u32])
+    requires { IsLevel level × (hart < length rows.old) }
+    ensures { map kin rows.new ≡ map kin rows.old }
+{
+    put(&mut rows[hart], level, codes);
+}
+
+// A hart pops from its row.
+pub fn pop_at(rows: &mut [HartRows], hart: usize, level: u8) -> Option<u32>
+    requires { IsLevel level × (hart < length rows.old) }
+    ensures { map kin rows.new ≡ map kin rows.old }
+{
+    rows[hart].pop(level)
+}
+
+// A hart steals from a row.
+pub fn steal_at<R: Wait>(rt: &R, rows: &mut [HartRows], thief: usize, hart: u8, level: u8) -> Stolen
+    requires all { AreAll (map kin rows.old) }
+    requires row { IsLevel level × (hart < length rows.old) }
+    requires thief { thief < length rows.old }
+    ensures { map kin rows.new ≡ map kin rows.old }
+{
+    rows[thief].steal(rt, hart, level)
+}

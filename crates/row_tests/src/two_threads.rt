@@ -1,0 +1,100 @@
+//! Two harts on threads, one of which steals what the other pushes.
+ghost use Rattle.std.specs.Prelude.{◌≡◌, ◌<◌, length, map};
+ghost use Rattle.deque_rows.specs.Rows.{AreAll, kin};
+
+use crate::moves::{pop_at, put, steal_at};
+use crate::taken::{NUMBERS, Taken};
+use deque_rows::laws::settle;
+use deque_rows::{HartRows, Stolen, rows};
+use std::alloc::Global;
+use std::sync::Wait;
+use std::test::Fail;
+use std::thread::{Threads, for_each_mut};
+
+/// The codes are the numbers below this one.
+const CODES: u32 = NUMBERS as u32;
+
+/// How often the thief tries.
+const TRIES: u32 = 4096;
+
+// The home pushes each code, and pops every third time.
+fn be_home(taken: &Taken, home: &mut HartRows)
+    ensures { kin home.new ≡ kin home.old }
+{
+    for code in 0..CODES {
+        put(home, 1, &[code]);
+        if code % 3 == 0 {
+            if let Some(popped) = home.pop(1) {
+                taken.note(u64::from(popped));
+            }
+        }
+    }
+}
+
+// The guest steals what it finds.
+fn be_guest<R: Wait>(rt: &R, taken: &Taken, guest: &mut HartRows)
+    requires { 0 < guest.old.harts }
+    ensures { kin guest.new ≡ kin guest.old }
+{
+    for _ in 0..TRIES {
+        if let Stolen::Code(code) = guest.steal(rt, 0, 1) {
+            taken.note(u64::from(code));
+        }
+    }
+}
+
+// Hart 0 is the home.
+fn take_part<R: Wait>(rt: &R, taken: &Taken, rows: &mut HartRows, hart: usize)
+    requires { 0 < rows.old.harts }
+    ensures { kin rows.new ≡ kin rows.old }
+{
+    match hart {
+        0 => be_home(taken, rows),
+        _ => be_guest(rt, taken, rows),
+    }
+}
+
+// Both do so at once.
+fn play<R: Threads + Wait + Sync>(rt: &R, taken: &Taken, rows: &mut [HartRows])
+    requires { AreAll (map kin rows.old) }
+    ensures { map kin rows.new ≡ map kin rows.old }
+{
+    let go = |hart: usize, one: &mut HartRows|
+        requires { 0 < one.old.harts }
+        ensures { kin one.new ≡ kin one.old }
+    { take_part(rt, taken, one, hart) };
+    for_each_mut(rt, rows, 2, &go);
+}
+
+// One thread takes what is left.
+fn take_rest<R: Wait>(rt: &R, taken: &Taken, rows: &mut [HartRows])
+    requires { AreAll (map kin rows.old) × (length rows.old ≡ 2) }
+    ensures { map kin rows.new ≡ map kin rows.old }
+{
+    for _ in 0..CODES {
+        if let Stolen::Code(code) = steal_at(rt, rows, 1, 0, 1) {
+            taken.note(u64::from(code));
+        }
+        if let Some(code) = pop_at(rows, 0, 1) {
+            taken.note(u64::from(code));
+        }
+    }
+}
+
+// Whether two harts take each code once. Then the account of their rows is settled.
+fn is_shared_out<R: Threads + Wait + Sync>(rt: &R, alloc: Global) -> Result<bool, Fail> {
+    let taken = Taken::new();
+    let mut all = rows(alloc, 2)?;
+    play(rt, &taken, all.as_mut_slice());
+    take_rest(rt, &taken, all.as_mut_slice());
+    settle(all);
+    Ok(taken.is_each_once())
+}
+
+#[test]
+fn two_threads_take_each_code_once(rt: HostRuntime) -> Result<(), Fail> {
+    for _ in 0..20 {
+        assert!(rt; is_shared_out(&rt, rt.alloc())?);
+    }
+    Ok(())
+}
