@@ -19,7 +19,7 @@ fn pool_site<'p>(alloc: Global, program: &'p Program) -> Result<Box<SharedSite<'
 // Publishes the scheduler of a program that begins with a `par`; whether the cell took it.
 pub fn is_taken<'a, 'p>(
     alloc: Global,
-    line: &mut SiteLine<'a, 'p>,
+    line: &mut SiteLine<'a, SharedSite<'p>>,
     program: &'p Program,
 ) -> Result<bool, Fail> {
     match line.publish(pool_site(alloc, program)?) {
@@ -29,7 +29,7 @@ pub fn is_taken<'a, 'p>(
 }
 
 // How many jobs the scheduler of a `par` has that stands in a cell; 0 where none stands there.
-fn jobs_found(line: &mut SiteLine) -> usize {
+fn jobs_found(line: &mut SiteLine<'_, SharedSite<'_>>) -> usize {
     match line.find() {
         Some(SharedSite::Pool(pool)) => pool.jobs().len(),
         _ => 0,

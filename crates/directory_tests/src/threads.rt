@@ -30,7 +30,7 @@ fn fill<'x, 'p, R: Wait>(rt: &'x R, alloc: Global, pool: &'x SharedPool<'p>) {
 }
 
 // Waits for the site to be published, and helps there.
-fn help<'x, 'p, R: Wait>(rt: &'x R, alloc: Global, line: &mut SiteLine<'x, 'p>) {
+fn help<'x, 'p, R: Wait>(rt: &'x R, alloc: Global, line: &mut SiteLine<'x, SharedSite<'p>>) {
     match line.until_found(rt) {
         SharedSite::Pool(pool) => fill(rt, alloc, pool),
         SharedSite::Team(_) => {}
@@ -41,13 +41,16 @@ fn help<'x, 'p, R: Wait>(rt: &'x R, alloc: Global, line: &mut SiteLine<'x, 'p>) 
 fn help_all<'x, 'p: 'x, R: Threads + Wait + Sync>(
     rt: &'x R,
     alloc: Global,
-    lines: &mut [SiteLine<'x, 'p>],
+    lines: &mut [SiteLine<'x, SharedSite<'p>>],
 ) {
     thread::for_each_mut(rt, lines, 2, &|_, line| help(rt, alloc, line));
 }
 
 // What the pieces of a full pool wrote.
-fn taken<'x, 'p, R: Wait>(rt: &'x R, line: &mut SiteLine<'x, 'p>) -> Result<Overlay, Fail> {
+fn taken<'x, 'p, R: Wait>(
+    rt: &'x R,
+    line: &mut SiteLine<'x, SharedSite<'p>>,
+) -> Result<Overlay, Fail> {
     let Some(SharedSite::Pool(pool)) = line.find() else {
         return Err(Fail::new("no pool"));
     };

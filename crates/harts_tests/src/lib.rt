@@ -5,6 +5,8 @@
 #[cfg(test)]
 mod gates;
 #[cfg(test)]
+mod locked;
+#[cfg(test)]
 mod meeting;
 #[cfg(test)]
 mod runs;

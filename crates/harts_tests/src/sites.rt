@@ -41,7 +41,7 @@ fn by_the_home<'a, 'p, R: Wait, S: InDirectory<'p>>(
 fn a_home_does_all_pieces(rt: HostRuntime) -> Result<(), Fail> {
     let alloc = rt.alloc();
     let program = parsed(alloc, TWO_BRANCHES)?;
-    let cells: Vec<OnceBox<SharedSite<'_>>> = cells(alloc, 1)?;
+    let cells = cells::<SharedSite<'_>>(alloc, 1)?;
     let written = by_the_home(&rt, alloc, &program, cells.as_slice())?;
     assert!(rt; written.pairs() == BOTH_BRANCHES.as_slice());
     Ok(())
@@ -79,7 +79,7 @@ fn with_a_guest<'a, 'p, R: Wait, S: InDirectory<'p>>(
 fn a_guest_does_a_piece_and_is_told_nothing_more(rt: HostRuntime) -> Result<(), Fail> {
     let alloc = rt.alloc();
     let program = parsed(alloc, TWO_BRANCHES)?;
-    let cells: Vec<OnceBox<SharedSite<'_>>> = cells(alloc, 1)?;
+    let cells = cells::<SharedSite<'_>>(alloc, 1)?;
     let written = with_a_guest(&rt, alloc, &program, cells.as_slice())?;
     assert!(rt; written.pairs() == BOTH_BRANCHES.as_slice());
     Ok(())
@@ -103,11 +103,11 @@ fn untouched<'a, 'p, R: Wait, S: InDirectory<'p>>(
 fn a_construct_whose_pieces_are_not_there_is_computed(rt: HostRuntime) -> Result<(), Fail> {
     let alloc = rt.alloc();
     let program = parsed(alloc, TWO_BRANCHES)?;
-    let cells_of_pool: Vec<OnceBox<SharedSite<'_>>> = cells(alloc, 1)?;
+    let cells_of_pool = cells::<SharedSite<'_>>(alloc, 1)?;
     let (written, wishes) = untouched(&rt, alloc, &program, cells_of_pool.as_slice())?;
     assert!(rt; wishes == 1 && written.pairs() == BOTH_BRANCHES.as_slice());
     let program = parsed(alloc, TWO_PHASES)?;
-    let cells_of_team: Vec<OnceBox<SharedSite<'_>>> = cells(alloc, 1)?;
+    let cells_of_team = cells::<SharedSite<'_>>(alloc, 1)?;
     let (written, wishes) = untouched(&rt, alloc, &program, cells_of_team.as_slice())?;
     assert!(rt; wishes == 2 && written.pairs() == BOTH_PHASES.as_slice());
     Ok(())
@@ -117,7 +117,7 @@ fn a_construct_whose_pieces_are_not_there_is_computed(rt: HostRuntime) -> Result
 fn a_hart_whose_cell_is_taken_asks_for_nobody(rt: HostRuntime) -> Result<(), Fail> {
     let alloc = rt.alloc();
     let program = parsed(alloc, TWO_BRANCHES)?;
-    let cells: Vec<OnceBox<SharedSite<'_>>> = cells(alloc, 1)?;
+    let cells = cells::<SharedSite<'_>>(alloc, 1)?;
     let (_, first) = untouched(&rt, alloc, &program, cells.as_slice())?;
     let (written, second) = untouched(&rt, alloc, &program, cells.as_slice())?;
     assert!(rt; first == 1 && second == 0);
