@@ -2,7 +2,7 @@
 -- inside a pool. Its letters are K, the size; H, half of it, rounded down; L, one less than it; and p, q and r, drawn from
 -- the seed. All its lines are 1.
 use Rattle.std.specs.Prelude.{ℕ, ◌+◌, ◌-◌, ◌*◌, ◌/◌, ◌%◌, ◌^◌, pos, List, [], ◌∷◌, codes}
-use Rattle.array_tree.specs.Trees.{ProgramTree, Declaration, Statement, Sequence, Sequences, Expression, Number, Var, Read, Binary, Assign, For, Par, Team, sequence, sequences}
+use Rattle.array_tree.specs.Trees.{ProgramTree, Declaration, Statement, Expression, Number, Var, Read, Binary, Assign, For, Par, Team, sequence, sequences}
 use Rattle.array_tree.specs.declared.tree.Op.TheVariants.{Add, Mul, Rem}
 
 -- the state after one draw, and the number from 0 to 15 that a draw gives in this state

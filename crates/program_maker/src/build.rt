@@ -32,11 +32,7 @@ pub fn cell(alloc: Global, array: &[u8], index: Expr) -> Result<Expr, AllocError
 pub fn binary(alloc: Global, op: Op, left: Expr, right: Expr) -> Result<Expr, AllocError>
     ensures { IfOk result (λ e. expression_of e ≡ Binary op (expression_of left) (expression_of right)) }
 {
-    Ok(Expr::Binary(
-        op,
-        Box::new(alloc, left)?,
-        Box::new(alloc, right)?,
-    ))
+    Ok(Expr::Binary(op, Box::new(alloc, left)?, Box::new(alloc, right)?))
 }
 
 /// An assignment.

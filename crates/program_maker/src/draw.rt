@@ -4,6 +4,7 @@ ghost use Rattle.program_maker.specs.Made.{state_after, drawn};
 
 // A draw multiplies the state by the first, adds the second, and keeps 64 bits.
 const FACTOR: u64 = 6364136223846793005;
+
 const STEP: u64 = 1442695040888963407;
 
 /// Numbers from 0 to 15, drawn one after another.

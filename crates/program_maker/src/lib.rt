@@ -7,6 +7,3 @@ mod draw;
 mod stencil;
 
 pub use stencil::generate;
-
-#[cfg(test)]
-mod tests;
