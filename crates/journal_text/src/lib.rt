@@ -8,7 +8,7 @@ mod row;
 mod write;
 
 pub use fault::TextFault;
-pub use read::read_entries;
+pub use read::{cut_line, read_entries};
 pub use write::write_entries;
 
 #[cfg(test)]

@@ -42,8 +42,8 @@ fn read(alloc: Global, plan: &Plan, text: &[u8]) -> Result<Entries, TextFault>
     Ok(Entries::new(list))
 }
 
-// The text before its first newline and the text behind it, if it has a newline.
-fn cut_line(text: &[u8]) -> Option<(&[u8], &[u8])>
+/// The text before its first newline and the text behind it, if it has a newline.
+pub fn cut_line(text: &[u8]) -> Option<(&[u8], &[u8])>
     ensures { MatchOption result (lines_of text.now ≡ text.now ∷ [])
         (λ cut. (lines_of text.now ≡ cut.0.now ∷ lines_of cut.1.now) × (length cut.0.now + length cut.1.now + 1 ≡ length text.now)) }
 {
