@@ -1,1 +1,4 @@
 pub mod JournalText
+pub mod Journals
+pub mod Reading
+pub mod Seen

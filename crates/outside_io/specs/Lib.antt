@@ -1,3 +1,6 @@
+pub mod Failing
+pub mod Feed
 pub mod Outside
 pub mod Shelf
 pub mod Sure
+pub mod Tray

@@ -1,12 +1,14 @@
 //! Where bytes come from, where they go, and where a hart reports a piece of work.
 #![tactic(auto)]
 
+mod failing;
 mod gate;
 mod sink;
 mod source;
 mod standard;
 mod sure;
 
+pub use failing::{MemSink, MemSource};
 pub use gate::{Gate, OpenGate};
 pub use sink::{Put, Sink};
 pub use source::{Fill, Source};

@@ -38,7 +38,7 @@ impl SureSource {
 }
 
 // Copies as much as fits from the front of the one to the front of the other.
-fn fill(buf: &mut [u8], rest: &[u8]) -> usize
+pub fn fill(buf: &mut [u8], rest: &[u8]) -> usize
     requires room { 0 < length buf.old }
     requires some { 0 < length rest.now }
     ensures moves { 1 ≤ result }

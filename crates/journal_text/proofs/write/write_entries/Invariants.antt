@@ -1,6 +1,6 @@
 use Rattle.std.proofs.Common.{◌≡◌, ◌++◌, drop, string_bytes}
 use Rattle.journal_text.specs.JournalText.{journal_text, lines_text}
-use Rattle.journal_text.proofs.write_entries.Given as goal
+use Rattle.journal_text.proofs.write.write_entries.Given as goal
 
 -- the text so far, and the lines of the rest
 abbrev pub invariant-loop-place : goal.invariant-loop-place

@@ -1,0 +1,12 @@
+pub mod Rules
+pub mod Turns
+pub mod Lists
+pub mod Walks
+pub mod Sound
+pub mod Complete
+pub mod Values
+pub mod Leaves
+pub mod Tops
+pub mod Numbers
+pub mod Forms
+pub mod Final

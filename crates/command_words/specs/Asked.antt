@@ -1,0 +1,37 @@
+-- The command that clap's matches ask for.
+use Rattle.std.specs.Prelude.{ℕ, ◌-◌, ◌^◌, Bool, if◌then◌else◌, List, codes, Option, Some, None}
+use Rattle.std.specs.List.{list_any}
+use Rattle.std.specs.Option.{option_map, option_and_then}
+use Rattle.std.specs.Str.{bytes_eq}
+use Rattle.clap.specs.Words.{Row, Text, first_of}
+use Rattle.command_words.specs.Form.{number_in}
+use Rattle.command_words.specs.declared.command.Command.{Command}
+use Rattle.command_words.specs.declared.command.Command.TheVariants.{Run, Solo, Audit, Make}
+
+-- the number of an option that was found
+abbrev pub number_at : ℕ → ℕ → List ℕ → List Row → Option ℕ
+number_at least most name rows = option_and_then (number_in least most) (first_of name rows)
+
+abbrev pub harts_at : List Row → Option ℕ
+harts_at rows = number_at 1 4 (codes "harts") rows
+
+abbrev pub make_at : List Row → Option Command
+make_at rows =
+    option_and_then (λ seed. option_and_then (λ size. option_map (Make seed size) (harts_at rows))
+    (number_at 1 40 (codes "size") rows)) (number_at 0 (2 ^ 64 - 1) (codes "seed") rows)
+
+abbrev pub command_at : Text → List Row → Option Command
+command_at name rows =
+    if bytes_eq name (codes "run") then option_map Run (harts_at rows) else
+    if bytes_eq name (codes "solo") then Some Solo else
+    if bytes_eq name (codes "audit") then option_map Audit (harts_at rows) else
+    if bytes_eq name (codes "make") then make_at rows else None
+
+-- the command of the matches of a subcommand
+abbrev pub asked_of : Option (Text × List Row) → Option Command
+asked_of None = None
+asked_of (Some (name, rows)) = command_at name rows
+
+-- a word is `--` alone
+abbrev pub has_dashes : List Text → Bool
+has_dashes words = list_any (λ word. bytes_eq word (codes "--")) words

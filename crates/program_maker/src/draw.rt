@@ -1,0 +1,26 @@
+//! Numbers that are drawn from a seed.
+ghost use Rattle.std.specs.Prelude.{◌≡◌};
+ghost use Rattle.program_maker.specs.Made.{state_after, drawn};
+
+// A draw multiplies the state by the first, adds the second, and keeps 64 bits.
+const FACTOR: u64 = 6364136223846793005;
+
+const STEP: u64 = 1442695040888963407;
+
+/// Numbers from 0 to 15, drawn one after another.
+#[derive(Debug, Drop)]
+pub struct Draws {
+    pub state: u64,
+}
+
+impl Draws {
+    /// The next number.
+    pub fn draw(&mut self) -> u8
+        ensures state { self.new.state ≡ state_after self.old.state }
+        ensures number { result ≡ drawn self.new.state }
+    {
+        let next = u128::from(self.state) * u128::from(FACTOR) + u128::from(STEP);
+        self.state = (next % 18446744073709551616) as u64;
+        (self.state / 1152921504606846976) as u8
+    }
+}

@@ -1,0 +1,9 @@
+//! A large valid program from a number: a stencil over a square grid whose edges meet, with pools inside teams inside a
+//! pool. `specs/Made.antt` is the program.
+#![tactic(auto)]
+
+mod build;
+mod draw;
+mod stencil;
+
+pub use stencil::generate;

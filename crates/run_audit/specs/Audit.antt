@@ -1,0 +1,62 @@
+-- What an audit of an output finds: whether its array lines are those that are wanted, and then whether its journal is
+-- complete for the plan.
+use Rattle.std.specs.Prelude.{ℕ, ◌+◌, List, ◌∷◌, length, Option, Some, None, Result, Ok, Err, if◌then◌else◌}
+use Rattle.transfer_table.specs.Plan.{Plan}
+use Rattle.transfer_table.specs.Journal.{first_fault_of}
+use Rattle.transfer_table.specs.declared.entry.Entry.{Entry}
+use Rattle.transfer_table.specs.declared.fault.Fault.{Fault}
+use Rattle.journal_text.specs.Reading.{lines_of, is_word, and_then, journal_in}
+use Rattle.journal_text.specs.declared.fault.TextFault.{TextFault}
+use Rattle.journal_text.specs.declared.fault.TextFault.TheVariants.{BadLine, BadNumber, WrongCount, Memory}
+use Rattle.run_audit.specs.declared.verdict.Verdict.{Verdict}
+use Rattle.run_audit.specs.declared.verdict.Verdict.TheVariants as verdict
+
+-- the first of the compared lines that differs, the number of array lines, and the lines of the journal
+pub record Compared : Type 0 where
+  pub differs : Option ℕ
+  pub lines : ℕ
+  pub rest : List (List ℕ)
+
+-- the first line that differs: an earlier one, or else this one if it isn't the one that is wanted
+abbrev pub earliest : Option ℕ → ℕ → List ℕ → List ℕ → Option ℕ
+earliest (Some first) number wanted found = Some first
+earliest None number wanted found = if is_word wanted found then None else Some number
+
+-- the lines behind this line, which is the one that is wanted or isn't
+abbrev pub after_line : ℕ → List ℕ → List ℕ → Compared → Compared
+after_line number wanted found rest = record rest { differs = if is_word wanted found then rest.differs else Some (number + 1) }
+
+-- The wanted lines against those of an output, of which so many stand before. Behind the last newline of what is wanted
+-- the journal begins. A line that is missing, or that no newline ends, is bad.
+abbrev pub compared : ℕ → List (List ℕ) → List (List ℕ) → Result Compared TextFault
+compared number (wanted ∷ next ∷ more) (found ∷ after ∷ others) =
+    and_then (λ rest. Ok (after_line number wanted found rest)) (compared (number + 1) (next ∷ more) (after ∷ others))
+compared number (wanted ∷ next ∷ more) found = Err (BadLine (number + 1))
+compared number last found = Ok record { differs = None; lines = number; rest = found }
+
+-- a fault of the journal, told by the line of the output that has it
+abbrev pub told_behind : ℕ → TextFault → TextFault
+told_behind lines (BadLine line) = BadLine (line + lines)
+told_behind lines (BadNumber line) = BadNumber (line + lines)
+told_behind lines (WrongCount said found) = WrongCount said found
+told_behind lines Memory = Memory
+
+abbrev pub behind : {A : Type 0} → ℕ → Result A TextFault → Result A TextFault
+behind lines (Ok x) = Ok x
+behind lines (Err fault) = Err (told_behind lines fault)
+
+abbrev pub of_fault : Option Fault → ℕ → Verdict
+of_fault None entries = verdict.Legal entries
+of_fault (Some fault) entries = verdict.Illegal fault
+
+-- the first line that differs, else the first fault of the journal, else the number of its entries
+abbrev pub verdict_of : Plan → Option ℕ → List Entry → Verdict
+verdict_of plan (Some line) list = verdict.Differs line
+verdict_of plan None list = of_fault (first_fault_of plan list) (length list)
+
+abbrev pub audited : Plan → Compared → Result Verdict TextFault
+audited plan found = and_then (λ list. Ok (verdict_of plan found.differs list)) (behind found.lines (journal_in plan found.rest))
+
+-- the verdict on an output, by the array lines that are wanted; or the first fault of its text
+abbrev pub audit_of : Plan → List ℕ → List ℕ → Result Verdict TextFault
+audit_of plan wanted output = and_then (audited plan) (compared 0 (lines_of wanted) (lines_of output))

@@ -1,0 +1,4 @@
+pub mod Audit
+pub mod AuditText
+pub mod Found
+pub mod Parts

@@ -1,0 +1,138 @@
+//! The audit.
+ghost use Rattle.std.specs.Prelude.{◌≡◌, ◌≤◌, ◌+◌, length, Ok, Err, IfOk, MatchResult};
+ghost use Rattle.array_tree.specs.Trees.{program_of};
+ghost use Rattle.array_meaning.specs.Work.{final_store};
+ghost use Rattle.array_eval.specs.ArrayText.{array_text};
+ghost use Rattle.journal_text.specs.Reading.{lines_of};
+ghost use Rattle.journal_text.specs.Seen.{Reads};
+ghost use Rattle.run_audit.specs.Audit.{compared, earliest, verdict_of, told_behind, audited, audit_of};
+ghost use Rattle.run_audit.specs.Found.{compared_seen, IsWithin};
+
+use crate::verdict::Verdict;
+use array_eval::{run_one, write_arrays};
+use disjoint_check::Accepted;
+use journal_text::{TextFault, cut_line, read_entries};
+use std::alloc::{AllocError, Global};
+use transfer_table::{Entries, Plan, first_fault};
+
+/// The verdict on an output of at most 4,194,304 bytes for the program, or the first fault of its text.
+///
+/// The array lines are compared first, as bytes, and then the journal is checked.
+pub fn audit(alloc: Global, accepted: &Accepted<'_>, output: &[u8]) -> Result<Verdict, TextFault>
+    requires { length output.now ≤ 4194304 }
+    ensures { Reads (λ verdict. verdict) (audit_of accepted.now.plan
+        (array_text (program_of accepted.now.program) (final_store (program_of accepted.now.program))) output.now) result }
+{
+    let wanted = wanted_lines(alloc, accepted)?;
+    audit_against(alloc, accepted.plan(), &wanted, output)
+}
+
+// The array lines of the program.
+fn wanted_lines(alloc: Global, accepted: &Accepted<'_>) -> Result<Vec<u8>, AllocError>
+    ensures { IfOk result (λ text. text.items ≡ array_text (program_of accepted.now.program) (final_store (program_of accepted.now.program))) }
+{
+    let program = accepted.program();
+    let store = run_one(alloc, program)?;
+    write_arrays(alloc, program, &store)
+}
+
+// The verdict by the array lines that are wanted.
+fn audit_against(
+    alloc: Global,
+    plan: &Plan,
+    wanted: &[u8],
+    output: &[u8],
+) -> Result<Verdict, TextFault>
+    requires { length output.now ≤ 4194304 }
+    ensures { Reads (λ verdict. verdict) (audit_of plan.now wanted.now output.now) result }
+{
+    let found = compared(wanted, output)?;
+    audited(alloc, plan, &found)
+}
+
+/// What comes of the array lines: the first that differs, how many there are, and what stands behind them.
+#[derive(Clone, Copy)]
+pub struct ArrayLines<'t> {
+    pub differs: Option<u32>,
+    pub lines: u32,
+    pub rest: &'t [u8],
+}
+
+// Compares the array lines.
+fn compared<'t>(wanted: &[u8], output: &'t [u8]) -> Result<ArrayLines<'t>, TextFault>
+    requires { length output.now ≤ 4194304 }
+    ensures first { MatchResult result
+        (λ found. compared 0 (lines_of wanted.now) (lines_of output.now) ≡ Ok (compared_seen found))
+        (λ fault. compared 0 (lines_of wanted.now) (lines_of output.now) ≡ Err fault) }
+    ensures room { IfOk result (λ found. found.lines + length found.rest.now ≤ length output.now) }
+{
+    let (mut differs, mut lines, mut rest, mut left) = (None, 0u32, output, wanted);
+    while let Some((wanted, more)) = cut_line(left) {
+        let Some((found, after)) = cut_line(rest) else {
+            return Err(TextFault::BadLine { line: lines + 1 });
+        };
+        lines += 1;
+        differs = first_difference(differs, lines, wanted, found);
+        rest = after;
+        left = more;
+    }
+    Ok(ArrayLines {
+        differs,
+        lines,
+        rest,
+    })
+}
+
+// The first line that differs, where this line is compared last.
+fn first_difference(differs: Option<u32>, line: u32, wanted: &[u8], found: &[u8]) -> Option<u32>
+    ensures { result ≡ earliest differs line wanted.now found.now }
+{
+    match differs {
+        Some(first) => Some(first),
+        None => { if found == wanted { None } else { Some(line) } }
+    }
+}
+
+// The verdict on compared lines and the journal behind them.
+fn audited(alloc: Global, plan: &Plan, found: &ArrayLines<'_>) -> Result<Verdict, TextFault>
+    requires { found.now.lines + length found.now.rest.now ≤ 4194304 }
+    ensures { Reads (λ verdict. verdict) (audited plan.now (compared_seen found.now)) result }
+{
+    match read_entries(alloc, plan, found.rest) {
+        Ok(list) => Ok(verdict(alloc, plan, found.differs, &list)?),
+        Err(fault) => Err(told_behind(fault, found.lines)),
+    }
+}
+
+// The fault as the output's lines are counted.
+fn told_behind(fault: TextFault, lines: u32) -> TextFault
+    requires few { lines ≤ 4194304 }
+    requires within { IsWithin 4194305 fault }
+    ensures { result ≡ told_behind lines fault }
+{
+    match fault {
+        TextFault::BadLine { line } => TextFault::BadLine { line: line + lines },
+        TextFault::BadNumber { line } => TextFault::BadNumber { line: line + lines },
+        fault => fault,
+    }
+}
+
+// The verdict on the entries, where the array lines are read.
+fn verdict(
+    alloc: Global,
+    plan: &Plan,
+    differs: Option<u32>,
+    list: &Entries,
+) -> Result<Verdict, AllocError>
+    requires { length list.now ≤ 65535 }
+    ensures { IfOk result (λ verdict. verdict ≡ verdict_of plan.now differs list.now) }
+{
+    if let Some(line) = differs {
+        return Ok(Verdict::Differs(line));
+    }
+    let entries = list.as_slice();
+    match first_fault(alloc, plan, entries)? {
+        Some(fault) => Ok(Verdict::Illegal(fault)),
+        None => Ok(Verdict::Legal(entries.len() as u32)),
+    }
+}

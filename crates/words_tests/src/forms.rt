@@ -1,0 +1,87 @@
+//! Lists of words that are forms, and others.
+use command_words::{Command, command_of};
+use std::alloc::Global;
+use std::test::Fail;
+
+// The command of words that a bar parts from one another.
+fn asked(alloc: Global, text: &str) -> Result<Option<Command>, Fail> {
+    let mut words = Vec::new(alloc);
+    for word in text.split('|') {
+        words.push(String::from_str(alloc, word)?)?;
+    }
+    Ok(command_of(alloc, words.as_slice())?)
+}
+
+#[test]
+fn runs_and_audits_have_one_to_four_harts(rt: HostRuntime) -> Result<(), Fail> {
+    let alloc = rt.alloc();
+    assert_eq!(rt; asked(alloc, "run|--harts|1")?, Some(Command::Run(1)));
+    assert_eq!(rt; asked(alloc, "run|--harts=2")?, Some(Command::Run(2)));
+    assert_eq!(rt; asked(alloc, "run|--harts|04")?, Some(Command::Run(4)));
+    assert_eq!(rt;
+        asked(alloc, "audit|--harts=00000000000000000003")?,
+        Some(Command::Audit(3))
+    );
+    assert_eq!(rt; asked(alloc, "run|--harts|0")?, None);
+    assert_eq!(rt; asked(alloc, "run|--harts|5")?, None);
+    assert_eq!(rt; asked(alloc, "run|--harts|000000000000000000003")?, None);
+    Ok(())
+}
+
+#[test]
+fn options_that_are_missing_or_strange_are_no_form(rt: HostRuntime) -> Result<(), Fail> {
+    let alloc = rt.alloc();
+    assert_eq!(rt; asked(alloc, "run")?, None);
+    assert_eq!(rt; asked(alloc, "run|--harts=")?, None);
+    assert_eq!(rt; asked(alloc, "run|--harts|-1")?, None);
+    assert_eq!(rt; asked(alloc, "run|--|--harts|1")?, None);
+    assert_eq!(rt; asked(alloc, "run|--hart|1")?, None);
+    assert_eq!(rt; asked(alloc, "run|--harts|1|--harts|1")?, None);
+    assert_eq!(rt; asked(alloc, "solo|--harts|1")?, None);
+    Ok(())
+}
+
+#[test]
+fn nothing_else_is_a_command(rt: HostRuntime) -> Result<(), Fail> {
+    let alloc = rt.alloc();
+    assert_eq!(rt; asked(alloc, "solo")?, Some(Command::Solo));
+    assert_eq!(rt; command_of(alloc, &[])?, None);
+    assert_eq!(rt; asked(alloc, "")?, None);
+    assert_eq!(rt; asked(alloc, "run|--help")?, None);
+    assert_eq!(rt; asked(alloc, "help|run")?, None);
+    assert_eq!(rt; asked(alloc, "--version")?, None);
+    Ok(())
+}
+
+#[test]
+fn options_stand_in_any_order(rt: HostRuntime) -> Result<(), Fail> {
+    let alloc = rt.alloc();
+    let made = Command::Make {
+        seed: 7,
+        size: 16,
+        harts: 4,
+    };
+    assert_eq!(rt;
+        asked(alloc, "make|--seed|7|--size|16|--harts|4")?,
+        Some(made)
+    );
+    assert_eq!(rt;
+        asked(alloc, "make|--harts=4|--size|16|--seed=7")?,
+        Some(made)
+    );
+    assert_eq!(rt; asked(alloc, "make|--seed|7|--size|41|--harts|4")?, None);
+    assert_eq!(rt;
+        asked(alloc, "make|--seed|18446744073709551616|--size|1|--harts|1")?,
+        None
+    );
+    let last = Command::Make {
+        seed: u64::MAX,
+        size: 1,
+        harts: 1,
+    };
+    assert_eq!(rt;
+        asked(alloc, "make|--size=1|--seed=18446744073709551615|--harts=1")?,
+        Some(last)
+    );
+    Ok(())
+}
