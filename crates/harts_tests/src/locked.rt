@@ -74,12 +74,17 @@ fn run_body<'x, 'p: 'x, R: Threads + Wait + Sync>(
     };
     first.job = Some(body_job(alloc, accepted.program())?);
     run_each(rt, alloc, &tree, harts.as_mut_slice());
-    match harts.pop() {
-        Some(Hart {
-            piece: Some(piece), ..
-        }) => Ok(piece),
-        _ => Err(Fail::new("no piece")),
-    }
+    let Some(last) = harts.pop() else {
+        return Err(Fail::new("no hart"));
+    };
+    let Hart {
+        port: _,
+        schedulers: _,
+        base: _,
+        job: _,
+        piece,
+    } = last;
+    Ok(piece.ok_or("want of memory")?)
 }
 
 // Whether harts over locked ports write these cells, and their ledger is a complete journal.
