@@ -55,7 +55,12 @@ fn run_each<'x, 'p: 'x, R: Threads + Wait + Sync>(
 )
     requires { All (λ hart. StartsIn tree.now hart.port.port.view) harts.old }
 {
-    thread::for_each_mut(rt, harts, 4, &|_, hart| work(rt, alloc, tree, &|_, _, _, _| {}, rt, hart));
+    thread::for_each_mut(
+        rt,
+        harts,
+        4,
+        &|_, hart| work(rt, alloc, tree, &|_, _, _, _| {}, rt, hart),
+    );
 }
 
 // What the program's body writes, by harts over locked ports.
