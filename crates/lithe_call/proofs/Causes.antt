@@ -12,12 +12,12 @@ use Rattle.disjoint_check.specs.declared.fault.CheckFault.{CheckFault}
 use Rattle.disjoint_check.specs.declared.fault.CheckFault.TheVariants as check
 use Rattle.lithe_call.specs.Lines.{TellsSyntax, TellsRefusal}
 use Rattle.lithe_call.specs.Telling.{GivesAll, GivesMore, Tells}
-use Rattle.lithe_call.specs.Command.{form_of}
+use Rattle.lithe_call.specs.Command.{served_form}
 use Rattle.lithe_call.specs.Faults.{IsFault, IsNoRun}
 use Rattle.lithe_call.specs.Output.{IsOutputOf, SpellAccepted}
 use Rattle.lithe_call.specs.FaultOf.{status_of, line_of}
 use Rattle.lithe_call.specs.Served.{IsOutputFor, TellsStatus}
-use Rattle.lithe_call.specs.declared.command.Command.{Command}
+use Rattle.command_words.specs.declared.command.Command.{Command}
 use Rattle.lithe_call.specs.declared.fault.Fault.{Fault}
 use Rattle.lithe_call.specs.declared.fault.Fault.TheVariants as fault
 use Rattle.lithe_call.specs.declared.status.Status.TheVariants as status
@@ -31,22 +31,22 @@ given_bytes bytes read (Some b) (Some rest) e all =
     sym same ∙ all.given ∙ ap (λ r. read ++ r) all.ended ∙ append-nil read
 
 -- why the program of what was read has no output is why that of the source has none
-pub no_run_is_fault : (words : List (List ℕ)) (why : Fault) (read : List ℕ) (left left' : Option (List ℕ)) (faults faults' : ℕ) → form_of words ≢ None →
+pub no_run_is_fault : (words : List (List ℕ)) (why : Fault) (read : List ℕ) (left left' : Option (List ℕ)) (faults faults' : ℕ) → served_form words ≢ None →
     GivesAll left read left' → IsNoRun read why → IsFault words why left left' faults faults'
 no_run_is_fault words fault.Usage read left left' faults faults' form all h = absurd h
 no_run_is_fault words fault.TooLong read left left' faults faults' form all h = absurd h
 no_run_is_fault words fault.ReadFault read left left' faults faults' form all h = absurd h
 no_run_is_fault words (fault.Syntax line) read left left' faults faults' form all h = (form, (read, all, h))
 no_run_is_fault words (fault.Refused line) read left left' faults faults' form all h = (form, (read, all, h))
-no_run_is_fault words fault.Memory read left left' faults faults' form all h = (form, tt)
+no_run_is_fault words fault.Memory read left left' faults faults' form all h = tt
 
 pub fault_of_no_run : {X : Type 0} (words : List (List ℕ)) (result : Result X Fault) (read : List ℕ) (left left' : Option (List ℕ)) (faults faults' : ℕ) →
-    form_of words ≢ None → GivesAll left read left' → IfErr result (IsNoRun read) → IfErr result (λ why. IsFault words why left left' faults faults')
+    served_form words ≢ None → GivesAll left read left' → IfErr result (IsNoRun read) → IfErr result (λ why. IsFault words why left left' faults faults')
 fault_of_no_run words (Ok x) read left left' faults faults' form all h = tt
 fault_of_no_run words (Err why) read left left' faults faults' form all h = no_run_is_fault words why read left left' faults faults' form all h
 
 pub output_of_given : {X : Type 0} (text : X → List ℕ) (command : Command) (words : List (List ℕ)) (result : Result X Fault) (read : List ℕ) (left left' : Option (List ℕ)) →
-    Some command ≡ form_of words → GivesAll left read left' → IfOk result (λ x. IsOutputOf command read (text x)) →
+    Some command ≡ served_form words → GivesAll left read left' → IfOk result (λ x. IsOutputOf command read (text x)) →
     IfOk result (λ x. IsOutputFor words left left' (text x))
 output_of_given text command words (Ok x) read left left' form all h =
     record { command = command; form = sym form; bytes = read; given = all; output = h }
@@ -73,7 +73,7 @@ more_of_left (Some b) (Some rest) limit more bytes e =
 
 -- an accepted program has no fault but want of memory, while the source doesn't fail
 pub only_memory : (one_program : (text : List ℕ) (p q : ProgramTree) → Spells text p → Spells text q → p ≡ q) (words : List (List ℕ)) (why : Fault) (left left' : Option (List ℕ)) (faults faults' : ℕ) →
-    IsFault words why left left' faults faults' → form_of words ≢ None → (bytes : List ℕ) → left ≡ Some bytes → (program : ProgramTree) → SpellAccepted bytes program →
+    IsFault words why left left' faults faults' → served_form words ≢ None → (bytes : List ℕ) → left ≡ Some bytes → (program : ProgramTree) → SpellAccepted bytes program →
     (Rose faults faults' → ⊥) → status_of why ≡ status.NoMemory
 only_memory one words fault.Usage left left' faults faults' h form bytes e program is calm = absurd (form h)
 only_memory one words fault.TooLong left left' faults faults' h form bytes e program is calm =

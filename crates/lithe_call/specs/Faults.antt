@@ -12,7 +12,7 @@ use Rattle.disjoint_check.specs.declared.fault.CheckFault.TheVariants as check
 use Rattle.error_text.specs.SyntaxText.{syntax_text}
 use Rattle.error_text.specs.RefusalText.{refusal_text}
 use Rattle.lithe_call.specs.Telling.{GivesAll, GivesMore}
-use Rattle.lithe_call.specs.Command.{form_of}
+use Rattle.lithe_call.specs.Command.{served_form}
 use Rattle.lithe_call.specs.Output.{input_limit}
 use Rattle.lithe_call.specs.declared.fault.Fault.{Fault}
 use Rattle.lithe_call.specs.declared.fault.Fault.TheVariants as fault
@@ -47,10 +47,18 @@ IsCause (fault.Syntax line) left left' faults faults' = (bytes : List ℕ) × Gi
 IsCause (fault.Refused line) left left' faults faults' = (bytes : List ℕ) × GivesAll left bytes left' × SpellRefused bytes line.items
 IsCause fault.Memory left left' faults faults' = Unit {0}
 
--- the words are no form exactly where the fault is that of usage
+-- The words give no command that is served, or memory ran out while they were read.
+abbrev pub IsNoCommand : List (List ℕ) → Fault → Type 0
+IsNoCommand words fault.Usage = served_form words ≡ None
+IsNoCommand words fault.Memory = Unit {0}
+IsNoCommand words why = ⊥
+
+-- The fault is that of usage only where the words give no command that is served, and there it is that or want of memory,
+-- which may come also while the words are read. Any other has its cause.
 abbrev pub IsFault : List (List ℕ) → Fault → Option (List ℕ) → Option (List ℕ) → ℕ → ℕ → Type 0
-IsFault words fault.Usage left left' faults faults' = form_of words ≡ None
-IsFault words why left left' faults faults' = (form_of words ≢ None) × IsCause why left left' faults faults'
+IsFault words fault.Usage left left' faults faults' = served_form words ≡ None
+IsFault words fault.Memory left left' faults faults' = Unit {0}
+IsFault words why left left' faults faults' = (served_form words ≢ None) × IsCause why left left' faults faults'
 
 -- why the program of these bytes has no output
 abbrev pub IsNoRun : List ℕ → Fault → Type 0

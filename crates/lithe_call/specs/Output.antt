@@ -11,8 +11,8 @@ use Rattle.array_meaning.specs.Work.{final_store}
 use Rattle.array_meaning.specs.Plans.{plan_of}
 use Rattle.array_meaning.specs.Accepted.{IsAccepted}
 use Rattle.array_eval.specs.ArrayText.{array_text}
-use Rattle.lithe_call.specs.declared.command.Command.{Command}
-use Rattle.lithe_call.specs.declared.command.Command.TheVariants.{Run, Solo}
+use Rattle.command_words.specs.declared.command.Command.{Command}
+use Rattle.command_words.specs.declared.command.Command.TheVariants.{Run, Solo, Audit, Make}
 
 -- the program's plan for so many harts
 abbrev pub table_plan : ProgramTree → ℕ → Plan
@@ -28,10 +28,12 @@ pub record IsRunOutput (program : ProgramTree) (harts : ℕ) (text : List ℕ) :
   pub complete : IsComplete (table_plan program harts) journal
   pub whole : text ≡ output_text program (table_plan program harts) (final_store program) journal
 
--- `solo` writes the arrays alone
+-- `solo` writes the arrays alone; the others aren't served, and write nothing for a program
 abbrev pub IsOutput : Command → ProgramTree → List ℕ → Type 0
 IsOutput (Run harts) program text = IsRunOutput program harts text
 IsOutput Solo program text = text ≡ array_text program (final_store program)
+IsOutput (Audit harts) program text = ⊥
+IsOutput (Make seed size harts) program text = ⊥
 
 -- the greatest length of an input, in bytes
 abbrev pub input_limit : ℕ

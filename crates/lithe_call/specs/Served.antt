@@ -3,18 +3,18 @@
 use Rattle.std.specs.Prelude.{◌≡◌, ℕ, List, Option, Some}
 use Rattle.outside_io.specs.Outside.{Appends}
 use Rattle.lithe_call.specs.Telling.{GivesAll, AppendsPrefix, Tells}
-use Rattle.lithe_call.specs.Command.{form_of}
+use Rattle.lithe_call.specs.Command.{served_form}
 use Rattle.lithe_call.specs.Output.{IsOutputOf}
 use Rattle.lithe_call.specs.Faults.{SpellNothing, SpellRefused}
 use Rattle.lithe_call.specs.Status.{constant_text}
-use Rattle.lithe_call.specs.declared.command.Command.{Command}
+use Rattle.command_words.specs.declared.command.Command.{Command}
 use Rattle.lithe_call.specs.declared.status.Status.{Status}
 use Rattle.lithe_call.specs.declared.status.Status.TheVariants.{Syntax, Refused}
 
 -- the source gave to its end the bytes of an accepted program, and this text is what the words' command writes for it
 pub record IsOutputFor (words : List (List ℕ)) (left left' : Option (List ℕ)) (text : List ℕ) : Type 0 where
   pub command : Command
-  pub form : form_of words ≡ Some command
+  pub form : served_form words ≡ Some command
   pub bytes : List ℕ
   pub given : GivesAll left bytes left'
   pub output : IsOutputOf command bytes text

@@ -5,7 +5,7 @@ use Rattle.lithe_call.specs.Telling.{AppendsPrefix, Tells}
 use Rattle.lithe_call.specs.Output.{IsOutputOf}
 use Rattle.lithe_call.specs.Faults.{SpellNothing, SpellRefused}
 use Rattle.lithe_call.specs.Status.{constant_text}
-use Rattle.lithe_call.specs.declared.command.Command.{Command}
+use Rattle.command_words.specs.declared.command.Command.{Command}
 use Rattle.lithe_call.specs.declared.status.Status.{Status}
 use Rattle.lithe_call.specs.declared.status.Status.TheVariants.{Syntax, Refused}
 

@@ -3,14 +3,14 @@ ghost use Rattle.std.specs.Prelude.{◌≡◌, ◌≢◌, ◌⊎◌, ◌↔◌, 
 ghost use Rattle.outside_io.specs.Outside.{Rose};
 ghost use Rattle.array_tree.specs.Trees.{ProgramTree};
 ghost use Rattle.lithe_call.specs.Telling.{GivesMore, Tells};
-ghost use Rattle.lithe_call.specs.Command.{form_of};
+ghost use Rattle.lithe_call.specs.Command.{served_form};
 ghost use Rattle.lithe_call.specs.Output.{SpellAccepted, input_limit};
 ghost use Rattle.lithe_call.specs.Faults.{IsFault};
 ghost use Rattle.lithe_call.specs.FaultOf.{status_of, line_of};
 ghost use Rattle.lithe_call.specs.Status.{constant_text};
 ghost use Rattle.lithe_call.specs.Served.{IsOutputFor, WritesOutput, WritesPrefix, TellsStatus};
 
-use crate::command::command_of;
+use crate::command::served_command;
 use crate::fault::Fault;
 use crate::reading::read_all;
 use crate::run::answer;
@@ -27,7 +27,8 @@ const LIMIT: usize = 65536;
 /// Serves the words: reads the input, runs its program and writes the output, or tells on `err` why not.
 ///
 /// `run --harts N`, N from 1 to 4, runs the program on N harts, each of several on a thread, and writes its arrays and the
-/// journal of its transfers; `solo` writes the arrays alone. The whole output is built before its first byte is written.
+/// journal of its transfers; `solo` writes the arrays alone. Other forms of the command line aren't served, and are told as
+/// usage. The whole output is built before its first byte is written.
 /// Whatever the status, its text was told on `err`, and a failure of `err` changes no status.
 pub fn lithe<R: Threads + Wait + Sync, A: Source, B: Sink, E: Sink, G: Gate>(
     rt: &R,
@@ -44,15 +45,17 @@ pub fn lithe<R: Threads + Wait + Sync, A: Source, B: Sink, E: Sink, G: Gate>(
         (A.left source.old) (A.left source.new) (B.taken out.old) (B.taken out.new) }
 
     // An accepted program is served, unless memory runs out or the outside fails.
-    ensures complete { (form : form_of (map string_bytes words.now) ≢ None)
+    ensures complete { (form : served_form (map string_bytes words.now) ≢ None)
         → (bytes : List ℕ) → (told : A.left source.old ≡ Some bytes)
         → (program : ProgramTree) → (accepted : SpellAccepted bytes program)
         → (source_is_calm : Rose (A.faults source.old) (A.faults source.new) → ⊥)
         → (out_is_calm : Rose (B.faults out.old) (B.faults out.new) → ⊥)
         → (result ≡ Status.Done) ⊎ (result ≡ Status.NoMemory) }
 
-    // When each other status comes. What is told of Syntax and Refused has their causes.
-    ensures usage { (result ≡ Status.Usage) ↔ (form_of (map string_bytes words.now) ≡ None) }
+    // When each other status comes. What is told of Syntax and Refused has their causes. Words that are no form of what is
+    // served are Usage, unless memory runs out while they are read.
+    ensures usage { result ≡ Status.Usage → served_form (map string_bytes words.now) ≡ None }
+    ensures no_form { served_form (map string_bytes words.now) ≡ None → (result ≡ Status.Usage) ⊎ (result ≡ Status.NoMemory) }
     ensures too_long { result ≡ Status.TooLong → GivesMore (A.left source.old) input_limit (A.left source.new) }
     ensures read_fault { result ≡ Status.ReadFault → Rose (A.faults source.old) (A.faults source.new) }
     ensures write_fault { result ≡ Status.WriteFault → Rose (B.faults out.old) (B.faults out.new) }
@@ -63,7 +66,7 @@ pub fn lithe<R: Threads + Wait + Sync, A: Source, B: Sink, E: Sink, G: Gate>(
     // What the source gave and what `out` and `err` took otherwise.
     ensures prefix { result ≡ Status.WriteFault → WritesPrefix (map string_bytes words.now)
         (A.left source.old) (A.left source.new) (B.taken out.old) (B.taken out.new) }
-    ensures source_stays { result ≡ Status.Usage → source.new ≡ source.old }
+    ensures source_stays { served_form (map string_bytes words.now) ≡ None → source.new ≡ source.old }
     ensures out_stays { result ≢ Status.Done → result ≢ Status.WriteFault → out.new ≡ out.old }
     ensures err_stays { result ≡ Status.Done → err.new ≡ err.old }
 {
@@ -77,6 +80,15 @@ pub fn lithe<R: Threads + Wait + Sync, A: Source, B: Sink, E: Sink, G: Gate>(
             }
         }
     }
+}
+
+/// Ends a run whose words aren't text, and so are no form: tells so on `err`, as `lithe` does of words that are no form.
+pub fn no_form_for_words<E: Sink>(err: &mut E) -> Status
+    ensures same { result ≡ Status.Usage }
+    ensures told { Tells (E.taken err.old) (E.faults err.old) (constant_text Status.Usage)
+        (E.taken err.new) (E.faults err.new) }
+{
+    tell(err, Status::Usage)
 }
 
 /// Ends a run that found no memory for its words: tells so on `err`, as `lithe` does of want of memory.
@@ -120,11 +132,9 @@ fn output_of<R: Threads + Wait + Sync, G: Gate, A: Source>(
         (A.left source.old) (A.left source.new) output.items) }
     ensures fault { IfErr result (λ fault. IsFault (map string_bytes words.now) fault
         (A.left source.old) (A.left source.new) (A.faults source.old) (A.faults source.new)) }
-    ensures stays { form_of (map string_bytes words.now) ≡ None → source.new ≡ source.old }
+    ensures stays { served_form (map string_bytes words.now) ≡ None → source.new ≡ source.old }
 {
-    let Some(command) = command_of(words) else {
-        return Err(Fault::Usage);
-    };
+    let command = served_command(alloc, words)?;
     let bytes = read_all(alloc, source, LIMIT)?;
     answer(rt, alloc, gate, command, &bytes)
 }

@@ -1,8 +1,8 @@
 //! Laws of the top call. They are proved, and do nothing where they are called.
 ghost use Rattle.std.specs.Prelude.{◌≡◌, ◌<◌, ℕ, List, length, Option, Some};
-ghost use Rattle.lithe_call.specs.declared.command.Command.{Command};
+ghost use Rattle.command_words.specs.declared.command.Command.{Command};
 ghost use Rattle.lithe_call.specs.declared.status.Status.{Status};
-ghost use Rattle.lithe_call.specs.Command.{form_of};
+ghost use Rattle.lithe_call.specs.Command.{served_form};
 ghost use Rattle.lithe_call.specs.Telling.{GivesMore};
 ghost use Rattle.lithe_call.specs.Served.{WritesOutput, WritesPrefix, TellsStatus};
 ghost use Rattle.lithe_call.specs.Told.{TookOutput, TookPrefix, ToldLine};
@@ -11,11 +11,11 @@ ghost use Rattle.lithe_call.specs.Told.{TookOutput, TookPrefix, ToldLine};
 pub fn told_bytes_are_served()
     ensures done { (words : List (List ℕ)) (left left' taken taken' : Option (List ℕ))
         → WritesOutput words left left' taken taken'
-        → (command : Command) → form_of words ≡ Some command
+        → (command : Command) → served_form words ≡ Some command
         → (bytes : List ℕ) → left ≡ Some bytes → TookOutput command bytes taken taken' }
     ensures prefix { (words : List (List ℕ)) (left left' taken taken' : Option (List ℕ))
         → WritesPrefix words left left' taken taken'
-        → (command : Command) → form_of words ≡ Some command
+        → (command : Command) → served_form words ≡ Some command
         → (bytes : List ℕ) → left ≡ Some bytes → TookPrefix command bytes taken taken' }
     ensures told { (status : Status) (left left' taken taken' : Option (List ℕ)) (faults faults' : ℕ)
         → TellsStatus status left left' taken faults taken' faults'

@@ -14,6 +14,6 @@ mod run;
 mod status;
 mod writing;
 
-pub use call::{lithe, no_memory_for_words};
+pub use call::{lithe, no_form_for_words, no_memory_for_words};
 pub use laws::told_bytes_are_served;
 pub use status::Status;

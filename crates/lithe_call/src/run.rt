@@ -1,11 +1,11 @@
 //! From bytes to the output of the program that they spell.
-ghost use Rattle.std.specs.Prelude.{◌≡◌, ◌≢◌, ◌≤◌, IfOk, IfErr, length};
+ghost use Rattle.std.specs.Prelude.{◌≡◌, ◌≢◌, ◌≤◌, IfOk, IfErr, length, true};
 ghost use Rattle.array_tree.specs.Trees.{program_of};
 ghost use Rattle.array_lang.specs.Spelled.{HasFault};
 ghost use Rattle.disjoint_check.specs.FaultOf.{check_fault_of};
 ghost use Rattle.disjoint_check.specs.AcceptedProgram.{IsAcceptedProgram};
 ghost use Rattle.lithe_call.specs.Output.{IsOutput, IsOutputOf, IsRunOutput};
-ghost use Rattle.lithe_call.specs.Command.{harts_in};
+ghost use Rattle.lithe_call.specs.Command.{is_served, harts_in};
 ghost use Rattle.lithe_call.specs.Faults.{IsNoRun};
 ghost use Rattle.lithe_call.specs.Lines.{TellsSyntax, TellsRefusal};
 ghost use Rattle.array_meaning.specs.Work.{final_store};
@@ -13,11 +13,12 @@ ghost use Rattle.array_eval.specs.ArrayText.{array_text};
 ghost use Rattle.transfer_table.specs.Journal.{IsComplete};
 ghost use Rattle.hart_loop.specs.Journals.{entries_in};
 
-use crate::command::Command;
+use crate::command::harts;
 use crate::fault::Fault;
 use array_eval::{run_one, write_arrays};
 use array_lang::{SyntaxFault, parse};
 use array_tree::Program;
+use command_words::Command;
 use disjoint_check::{Accepted, CheckFault, check};
 use error_text::{refusal_line, syntax_line};
 use hart_loop::{Outcome, run_alone, run_harts};
@@ -36,6 +37,7 @@ pub fn answer<R: Threads + Wait + Sync, G: Gate>(
     bytes: &[u8],
 ) -> Result<Vec<u8>, Fault>
     requires short { length bytes.now ≤ 65536 }
+    requires served { is_served command ≡ true }
     requires some_hart { 1 ≤ harts_in command }
     requires few_harts { harts_in command ≤ 4 }
     ensures output { IfOk result (λ output. IsOutputOf command bytes.now output.items) }
@@ -45,7 +47,7 @@ pub fn answer<R: Threads + Wait + Sync, G: Gate>(
         Ok(program) => program,
         Err(fault) => return Err(syntax_fault(alloc, fault)),
     };
-    let accepted = match check(alloc, &program, command.harts()) {
+    let accepted = match check(alloc, &program, harts(command)) {
         Ok(accepted) => accepted,
         Err(fault) => return Err(refusal(alloc, &program, fault)),
     };
@@ -89,12 +91,14 @@ fn output<R: Threads + Wait + Sync, G: Gate>(
     command: Command,
     accepted: &Accepted<'_>,
 ) -> Result<Vec<u8>, AllocError>
-    requires { accepted.now.plan.harts ≡ harts_in command }
+    requires served { is_served command ≡ true }
+    requires harts { accepted.now.plan.harts ≡ harts_in command }
     ensures { IfOk result (λ output. IsOutput command (program_of accepted.now.program) output.items) }
 {
     match command {
         Command::Run(_) => run(rt, alloc, gate, accepted),
         Command::Solo => arrays(alloc, accepted),
+        Command::Audit(_) | Command::Make { .. } => unreachable!(),
     }
 }
 

@@ -1,21 +1,22 @@
 //! Runs programs of the array language over Lithe.
 #![tactic(auto)]
 
-ghost use Rattle.std.specs.Prelude.{◌≡◌, IsErrOf};
+ghost use Rattle.std.specs.Prelude.{◌≡◌, IsErrOf, IfErr};
 ghost use Rattle.lithe_call.specs.Status.{constant_text};
 ghost use Rattle.lithe_call.specs.Telling.{Tells};
 
 mod words;
 
 use crate::words::{NoWords, words_of};
-use lithe_call::{Status, lithe, no_memory_for_words};
+use lithe_call::{Status, lithe, no_form_for_words, no_memory_for_words};
 use outside_io::{OpenGate, Sink, Source, StdSink, StdSource};
 use std::alloc::Global;
 use std::process::ExitCode;
 use std::sync::Wait;
 use std::thread::Threads;
 
-// Serves the words, where they could be had: want of memory is told as such, and what isn't text is no form.
+// Serves the words, where they could be had: want of memory is told as such, and what isn't text is no form. Then nothing
+// is read, and nothing written to the output.
 fn serve<R: Threads + Wait + Sync, A: Source, B: Sink, E: Sink>(
     rt: &R,
     alloc: Global,
@@ -26,14 +27,13 @@ fn serve<R: Threads + Wait + Sync, A: Source, B: Sink, E: Sink>(
 ) -> Status
     ensures not_text { IsErrOf words NoWords.NotText → result ≡ Status.Usage }
     ensures no_memory { IsErrOf words NoWords.NoMemory → result ≡ Status.NoMemory }
-    ensures told { IsErrOf words NoWords.NoMemory → Tells (E.taken err.old) (E.faults err.old)
-        (constant_text Status.NoMemory) (E.taken err.new) (E.faults err.new) }
-    ensures source_stays { IsErrOf words NoWords.NoMemory → source.new ≡ source.old }
-    ensures out_stays { IsErrOf words NoWords.NoMemory → out.new ≡ out.old }
+    ensures told { IfErr words (λ _. Tells (E.taken err.old) (E.faults err.old) (constant_text result) (E.taken err.new) (E.faults err.new)) }
+    ensures source_stays { IfErr words (λ _. source.new ≡ source.old) }
+    ensures out_stays { IfErr words (λ _. out.new ≡ out.old) }
 {
     match words {
         Ok(words) => lithe(rt, alloc, &words, source, out, err, &OpenGate),
-        Err(NoWords::NotText) => lithe(rt, alloc, &[], source, out, err, &OpenGate),
+        Err(NoWords::NotText) => no_form_for_words(err),
         Err(NoWords::NoMemory) => no_memory_for_words(err),
     }
 }

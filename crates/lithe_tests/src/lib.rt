@@ -11,3 +11,5 @@ mod serving;
 mod streams;
 #[cfg(test)]
 mod syntax;
+#[cfg(test)]
+mod words;

@@ -9,9 +9,6 @@ use std::thread::Threads;
 
 const ONE_SITE: &[u8] = b"transfers 2\n0 h0 register s1 under s0\n1 h0 unregister s1\n";
 
-const USAGE: &[u8] =
-    b"usage: lithe_run run --harts N\n       lithe_run solo\n       lithe_run audit --harts N\n       lithe_run make --seed X --size K --harts N\n";
-
 // Runs a program on one hart to the output.
 fn done<R: AllocGlobal + Abort + Threads + Wait + Sync>(
     rt: &R,
@@ -152,28 +149,6 @@ fn faults_of_the_program_are_told_with_their_line(rt: HostRuntime) -> Result<(),
     )?;
     let program = b"par { { par { { par { { par { { } } } } } } } }";
     refused(&rt, program, b"refused: 4 levels\n")
-}
-
-#[test]
-fn other_words_are_no_form(rt: HostRuntime) -> Result<(), Fail> {
-    serve(&rt, &["run"], b"", Status::Usage, b"", USAGE)?;
-    serve(
-        &rt,
-        &["run", "--harts", "0"],
-        b"",
-        Status::Usage,
-        b"",
-        USAGE,
-    )?;
-    serve(
-        &rt,
-        &["solo", "--harts", "1"],
-        b"",
-        Status::Usage,
-        b"",
-        USAGE,
-    )?;
-    serve(&rt, &[], b"", Status::Usage, b"", USAGE)
 }
 
 #[test]

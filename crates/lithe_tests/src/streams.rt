@@ -1,6 +1,6 @@
 //! Streams that fail, by themselves and under the top call.
-use crate::serving::{ROOM, RUN, SOLO, serve_source, status_of};
-use lithe_call::{Status, no_memory_for_words, told_bytes_are_served};
+use crate::serving::{ROOM, RUN, SOLO, USAGE, serve_source, status_of};
+use lithe_call::{Status, no_form_for_words, no_memory_for_words, told_bytes_are_served};
 use outside_io::{Fill, Put, Sink, Source, StdSink, StdSource, SureSink, SureSource};
 use std::io::{self, Error, ErrorKind, Read, Write};
 use std::test::Fail;
@@ -150,5 +150,15 @@ fn words_without_memory_are_told(rt: HostRuntime) -> Result<(), Fail> {
     assert_eq!(rt; status, Status::NoMemory);
     assert_eq!(rt; status.number(), 8);
     assert_eq!(rt; err.bytes(), Some(b"no memory\n".as_slice()));
+    Ok(())
+}
+
+#[test]
+fn words_that_are_no_text_are_told(rt: HostRuntime) -> Result<(), Fail> {
+    let mut err = SureSink::new(rt.alloc(), ROOM)?;
+    let status = no_form_for_words(&mut err);
+    assert_eq!(rt; status, Status::Usage);
+    assert_eq!(rt; status.number(), 2);
+    assert_eq!(rt; err.bytes(), Some(USAGE));
     Ok(())
 }
