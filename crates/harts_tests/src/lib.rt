@@ -5,8 +5,6 @@
 #[cfg(test)]
 mod gates;
 #[cfg(test)]
-mod locked;
-#[cfg(test)]
 mod meeting;
 #[cfg(test)]
 mod runs;
