@@ -1,11 +1,9 @@
 -- From the faults of the steps to those of the whole.
-use Rattle.std.proofs.Common.{◌≡◌, ◌≢◌, ◌⊎◌, ◌∙◌, ◌≤◌, ◌<◌, ◌+◌, ℕ, List, ◌++◌, length, length-append, Option, Some, None, Result, Ok, Err, IfOk, IfErr, sym, ap, subst, append-nil, arith, inl, inr, refl}
-use Rattle.outside_io.specs.Outside.{Rose}
+use Rattle.std.proofs.Common.{◌≡◌, ◌⊎◌, ◌∙◌, ◌≤◌, ◌<◌, ◌+◌, ℕ, List, ◌++◌, length, length-append, Option, Some, None, Result, Ok, Err, IfOk, IfErr, sym, ap, subst, append-nil, arith, inl, inr, refl}
 use Rattle.array_tree.specs.Trees.{ProgramTree}
 use Rattle.array_lang.specs.Spelled.{Spells, HasFault}
 use Rattle.array_lang.specs.declared.fault.SyntaxFault.{SyntaxFault}
 use Rattle.array_lang.specs.declared.fault.SyntaxFault.TheVariants as syntax
-use Rattle.array_meaning.specs.Accepted.{IsAccepted}
 use Rattle.disjoint_check.specs.FaultOf.{check_fault_of}
 use Rattle.disjoint_check.proofs.Accepting.{none_of_accepted}
 use Rattle.disjoint_check.specs.declared.fault.CheckFault.{CheckFault}
@@ -13,14 +11,14 @@ use Rattle.disjoint_check.specs.declared.fault.CheckFault.TheVariants as check
 use Rattle.lithe_call.specs.Lines.{TellsSyntax, TellsRefusal}
 use Rattle.lithe_call.specs.Telling.{GivesAll, GivesMore, Tells}
 use Rattle.lithe_call.specs.Command.{served_form}
-use Rattle.lithe_call.specs.Faults.{IsFault, IsNoRun}
-use Rattle.lithe_call.specs.Output.{IsOutputOf, SpellAccepted}
+use Rattle.lithe_call.specs.Faults.{IsFault, IsNoRun, IsNoOutput}
+use Rattle.lithe_call.specs.Output.{IsOutputOf}
 use Rattle.lithe_call.specs.FaultOf.{status_of, line_of}
 use Rattle.lithe_call.specs.Served.{IsOutputFor, TellsStatus}
 use Rattle.command_words.specs.declared.command.Command.{Command}
 use Rattle.lithe_call.specs.declared.fault.Fault.{Fault}
 use Rattle.lithe_call.specs.declared.fault.Fault.TheVariants as fault
-use Rattle.lithe_call.specs.declared.status.Status.TheVariants as status
+use Rattle.lithe_call.specs.declared.status.Status.{Status}
 
 -- what was read to the end is what a telling source had left
 pub given_bytes : (bytes read : List ℕ) (left left' : Option (List ℕ)) → left ≡ Some bytes → GivesAll left read left' → bytes ≡ read
@@ -30,36 +28,38 @@ given_bytes bytes read (Some b) (Some rest) e all =
     let same : b ≡ bytes = cc in
     sym same ∙ all.given ∙ ap (λ r. read ++ r) all.ended ∙ append-nil read
 
--- why the program of what was read has no output is why that of the source has none
-pub no_run_is_fault : (words : List (List ℕ)) (why : Fault) (read : List ℕ) (left left' : Option (List ℕ)) (faults faults' : ℕ) → served_form words ≢ None →
-    GivesAll left read left' → IsNoRun read why → IsFault words why left left' faults faults'
-no_run_is_fault words fault.Usage read left left' faults faults' form all h = absurd h
-no_run_is_fault words fault.TooLong read left left' faults faults' form all h = absurd h
-no_run_is_fault words fault.ReadFault read left left' faults faults' form all h = absurd h
-no_run_is_fault words (fault.Syntax line) read left left' faults faults' form all h = (form, (read, all, h))
-no_run_is_fault words (fault.Refused line) read left left' faults faults' form all h = (form, (read, all, h))
-no_run_is_fault words fault.Memory read left left' faults faults' form all h = tt
+-- why the command has no output for what was read is why it has none for the source
+pub no_output_is_fault : (words : List (List ℕ)) (command : Command) (why : Fault) (read : List ℕ) (left left' : Option (List ℕ)) (faults faults' : ℕ) → served_form words ≡ Some command →
+    GivesAll left read left' → IsNoOutput command read why → IsFault words why left left' faults faults'
+no_output_is_fault words command fault.Usage read left left' faults faults' form all h = absurd h
+no_output_is_fault words command fault.TooLong read left left' faults faults' form all h = (command, form, inr (read, all, h))
+no_output_is_fault words command fault.ReadFault read left left' faults faults' form all h = absurd h
+no_output_is_fault words command (fault.Syntax line) read left left' faults faults' form all h = (command, form, (read, all, h))
+no_output_is_fault words command (fault.Refused line) read left left' faults faults' form all h = (command, form, (read, all, h))
+no_output_is_fault words command fault.Memory read left left' faults faults' form all h = tt
 
-pub fault_of_no_run : {X : Type 0} (words : List (List ℕ)) (result : Result X Fault) (read : List ℕ) (left left' : Option (List ℕ)) (faults faults' : ℕ) →
-    served_form words ≢ None → GivesAll left read left' → IfErr result (IsNoRun read) → IfErr result (λ why. IsFault words why left left' faults faults')
-fault_of_no_run words (Ok x) read left left' faults faults' form all h = tt
-fault_of_no_run words (Err why) read left left' faults faults' form all h = no_run_is_fault words why read left left' faults faults' form all h
+pub fault_of_no_output : {X : Type 0} (words : List (List ℕ)) (command : Command) (result : Result X Fault) (read : List ℕ) (left left' : Option (List ℕ)) (faults faults' : ℕ) →
+    served_form words ≡ Some command → GivesAll left read left' → IfErr result (IsNoOutput command read) → IfErr result (λ why. IsFault words why left left' faults faults')
+fault_of_no_output words command (Ok x) read left left' faults faults' form all h = tt
+fault_of_no_output words command (Err why) read left left' faults faults' form all h = no_output_is_fault words command why read left left' faults faults' form all h
 
-pub output_of_given : {X : Type 0} (text : X → List ℕ) (command : Command) (words : List (List ℕ)) (result : Result X Fault) (read : List ℕ) (left left' : Option (List ℕ)) →
-    Some command ≡ served_form words → GivesAll left read left' → IfOk result (λ x. IsOutputOf command read (text x)) →
-    IfOk result (λ x. IsOutputFor words left left' (text x))
-output_of_given text command words (Ok x) read left left' form all h =
-    record { command = command; form = sym form; bytes = read; given = all; output = h }
-output_of_given text command words (Err why) read left left' form all h = tt
+pub output_of_given : {X : Type 0} (status : X → Status) (text : X → List ℕ) (command : Command) (words : List (List ℕ)) (result : Result X Fault) (read : List ℕ) (left left' : Option (List ℕ)) →
+    served_form words ≡ Some command → GivesAll left read left' → IfOk result (λ x. IsOutputOf command read (status x) (text x)) →
+    IfOk result (λ x. IsOutputFor words left left' (status x) (text x))
+output_of_given status text command words (Ok x) read left left' form all h =
+    record { command = command; form = form; bytes = read; given = all; output = h }
+output_of_given status text command words (Err why) read left left' form all h = tt
 
 -- what a fault's line tells is the status's text
 pub fault_told : (words : List (List ℕ)) (why : Fault) (left left' taken : Option (List ℕ)) (faults faults' told : ℕ) (taken' : Option (List ℕ)) (told' : ℕ) →
-    IsFault words why left left' faults faults' → Tells taken told (line_of why) taken' told' → TellsStatus (status_of why) left left' taken told taken' told'
+    IsFault words why left left' faults faults' → Tells taken told (line_of why) taken' told' → TellsStatus words (status_of why) left left' taken told taken' told'
 fault_told words fault.Usage left left' taken faults faults' told taken' told' h tells = record { text = line_of fault.Usage; right = refl; tells = tells }
 fault_told words fault.TooLong left left' taken faults faults' told taken' told' h tells = record { text = line_of fault.TooLong; right = refl; tells = tells }
 fault_told words fault.ReadFault left left' taken faults faults' told taken' told' h tells = record { text = line_of fault.ReadFault; right = refl; tells = tells }
-fault_told words (fault.Syntax line) left left' taken faults faults' told taken' told' h tells = record { text = line.items; right = h.1; tells = tells }
-fault_told words (fault.Refused line) left left' taken faults faults' told taken' told' h tells = record { text = line.items; right = h.1; tells = tells }
+fault_told words (fault.Syntax line) left left' taken faults faults' told taken' told' h tells =
+    record { text = line.items; right = record { command = h.0; form = h.1; bytes = h.2.0; given = h.2.1; is = h.2.2 }; tells = tells }
+fault_told words (fault.Refused line) left left' taken faults faults' told taken' told' h tells =
+    record { text = line.items; right = record { command = h.0; form = h.1; bytes = h.2.0; given = h.2.1; is = h.2.2 }; tells = tells }
 fault_told words fault.Memory left left' taken faults faults' told taken' told' h tells = record { text = line_of fault.Memory; right = refl; tells = tells }
 
 -- more bytes than a limit were given only of more than the limit
@@ -70,25 +70,6 @@ more_of_left (Some b) (Some rest) limit more bytes e =
     let same : b ≡ bytes = cc in
     let whole : length b ≡ length more.bytes + length rest = ap length more.given ∙ length-append more.bytes rest in
     subst (λ (l : List ℕ). limit < length l) same (omega (arith, whole, more.longer))
-
--- an accepted program has no fault but want of memory, while the source doesn't fail
-pub only_memory : (one_program : (text : List ℕ) (p q : ProgramTree) → Spells text p → Spells text q → p ≡ q) (words : List (List ℕ)) (why : Fault) (left left' : Option (List ℕ)) (faults faults' : ℕ) →
-    IsFault words why left left' faults faults' → served_form words ≢ None → (bytes : List ℕ) → left ≡ Some bytes → (program : ProgramTree) → SpellAccepted bytes program →
-    (Rose faults faults' → ⊥) → status_of why ≡ status.NoMemory
-only_memory one words fault.Usage left left' faults faults' h form bytes e program is calm = absurd (form h)
-only_memory one words fault.TooLong left left' faults faults' h form bytes e program is calm =
-    let long = more_of_left left left' 65536 h.1 bytes e in absurd (omega (arith, is.short, long))
-only_memory one words fault.ReadFault left left' faults faults' h form bytes e program is calm = absurd (calm h.1)
-only_memory one words (fault.Syntax line) left left' faults faults' h form bytes e program is calm =
-    let g = h.1 in
-    let same = given_bytes bytes g.0 left left' e g.1 in
-    absurd (g.2.nothing program (subst (λ b. Spells b program) same is.spelled))
-only_memory one words (fault.Refused line) left left' faults faults' h form bytes e program is calm =
-    let g = h.1 in
-    let same = given_bytes bytes g.0 left left' e g.1 in
-    let one_tree = one g.0 program g.2.program (subst (λ b. Spells b program) same is.spelled) g.2.spelled in
-    absurd (g.2.refused (subst IsAccepted one_tree is.accepted))
-only_memory one words fault.Memory left left' faults faults' h form bytes e program is calm = refl
 
 -- a program that isn't accepted has no output
 pub refused_line : (bytes : List ℕ) (program : ProgramTree) (cause : CheckFault) (why : Fault) → length bytes ≤ 65536 → Spells bytes program → TellsRefusal program cause why →

@@ -5,12 +5,19 @@ use Rattle.command_words.specs.Form.{form_of}
 use Rattle.command_words.specs.declared.command.Command.{Command}
 use Rattle.command_words.specs.declared.command.Command.TheVariants.{Run, Solo, Audit, Make}
 
--- `run` and `solo` are served, and `audit` and `make` aren't
+-- `run`, `solo` and `audit` are served, and `make` isn't
 abbrev pub is_served : Command → Bool
 is_served (Run harts) = true
 is_served Solo = true
-is_served (Audit harts) = false
+is_served (Audit harts) = true
 is_served (Make seed size harts) = false
+
+-- those of them that run the program that is their whole input
+abbrev pub runs_programs : Command → Bool
+runs_programs (Run harts) = true
+runs_programs Solo = true
+runs_programs (Audit harts) = false
+runs_programs (Make seed size harts) = false
 
 -- the command that the words give, if they are the form of one that is served
 abbrev pub served_form : List (List ℕ) → Option Command

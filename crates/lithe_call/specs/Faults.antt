@@ -1,5 +1,5 @@
 -- Why there is no output.
-use Rattle.std.specs.Prelude.{◌≡◌, ◌≢◌, ℕ, ◌≤◌, List, length, Option, Some, None}
+use Rattle.std.specs.Prelude.{◌≡◌, ◌≢◌, ◌⊎◌, ℕ, ◌≤◌, ◌<◌, List, [], ◌∷◌, ◌++◌, codes, length, Option, Some, None, Err}
 use Rattle.outside_io.specs.Outside.{Rose}
 use Rattle.array_tree.specs.Trees.{ProgramTree}
 use Rattle.array_lang.specs.Spelled.{Spells, HasFault}
@@ -13,13 +13,21 @@ use Rattle.error_text.specs.SyntaxText.{syntax_text}
 use Rattle.error_text.specs.RefusalText.{refusal_text}
 use Rattle.lithe_call.specs.Telling.{GivesAll, GivesMore}
 use Rattle.lithe_call.specs.Command.{served_form}
-use Rattle.lithe_call.specs.Output.{input_limit}
+use Rattle.lithe_call.specs.Programs.{program_limit, SpellAccepted}
+use Rattle.lithe_call.specs.Auditing.{HasParts, found_in}
+use Rattle.lithe_call.specs.Output.{limit_of}
+use Rattle.command_words.specs.declared.command.Command.{Command}
+use Rattle.command_words.specs.declared.command.Command.TheVariants.{Run, Solo, Audit, Make}
+use Rattle.journal_text.specs.declared.fault.TextFault.{TextFault}
+use Rattle.journal_text.specs.declared.fault.TextFault.TheVariants as text
+use Rattle.run_audit.specs.Parts.{parts_of}
+use Rattle.run_audit.specs.AuditText.{text_fault_text}
 use Rattle.lithe_call.specs.declared.fault.Fault.{Fault}
 use Rattle.lithe_call.specs.declared.fault.Fault.TheVariants as fault
 
 -- bytes within the limit spell no program, and the line tells their first fault, which isn't want of memory
 pub record SpellNothing (bytes line : List ℕ) : Type 0 where
-  pub short : length bytes ≤ input_limit
+  pub short : length bytes ≤ program_limit
   pub nothing : (program : ProgramTree) → Spells bytes program → ⊥
   pub fault : SyntaxFault
   pub first : HasFault bytes fault
@@ -28,7 +36,7 @@ pub record SpellNothing (bytes line : List ℕ) : Type 0 where
 
 -- bytes within the limit spell a program that isn't accepted, and the line tells the first condition that it fails
 pub record SpellRefused (bytes line : List ℕ) : Type 0 where
-  pub short : length bytes ≤ input_limit
+  pub short : length bytes ≤ program_limit
   pub program : ProgramTree
   pub spelled : Spells bytes program
   pub refused : IsAccepted program → ⊥
@@ -37,15 +45,55 @@ pub record SpellRefused (bytes line : List ℕ) : Type 0 where
   pub real : fault ≢ check.Memory
   pub told : line ≡ refusal_text program fault
 
--- The cause of a fault, by what the source had left before and has left after, and by its count of faults before and
--- after. Want of memory has none.
-abbrev pub IsCause : Fault → Option (List ℕ) → Option (List ℕ) → ℕ → ℕ → Type 0
-IsCause fault.Usage left left' faults faults' = ⊥
-IsCause fault.TooLong left left' faults faults' = GivesMore left input_limit left'
-IsCause fault.ReadFault left left' faults faults' = Rose faults faults'
-IsCause (fault.Syntax line) left left' faults faults' = (bytes : List ℕ) × GivesAll left bytes left' × SpellNothing bytes line.items
-IsCause (fault.Refused line) left left' faults faults' = (bytes : List ℕ) × GivesAll left bytes left' × SpellRefused bytes line.items
-IsCause fault.Memory left left' faults faults' = Unit {0}
+-- an input without a line `%%`, and the line that says so
+pub record HasNoMark (bytes line : List ℕ) : Type 0 where
+  pub none : parts_of bytes ≡ None
+  pub told : line ≡ codes "syntax: no line %%" ++ 10 ∷ []
+
+-- a first part that spells an accepted program, and a second that is no output's text; the line tells its first fault, which
+-- isn't want of memory
+pub record AreNoOutput (harts : ℕ) (line first second : List ℕ) : Type 0 where
+  pub program : ProgramTree
+  pub input : SpellAccepted first program
+  pub fault : TextFault
+  pub found : found_in harts program second ≡ Err fault
+  pub real : fault ≢ text.Memory
+  pub told : line ≡ text_fault_text fault
+
+-- a first part that spells no program, or a second that is no output's text
+abbrev pub AreNoText : ℕ → List ℕ → List ℕ → List ℕ → Type 0
+AreNoText harts line first second = SpellNothing first line ⊎ AreNoOutput harts line first second
+
+-- why the command's input is no text that it takes, as the line tells
+abbrev pub IsNoText : Command → List ℕ → List ℕ → Type 0
+IsNoText (Run harts) bytes line = SpellNothing bytes line
+IsNoText Solo bytes line = SpellNothing bytes line
+IsNoText (Audit harts) bytes line = HasNoMark bytes line ⊎ HasParts (AreNoText harts line) bytes
+IsNoText (Make seed size harts) bytes line = ⊥
+
+-- why its program isn't accepted, as the line tells
+abbrev pub IsRefused : Command → List ℕ → List ℕ → Type 0
+IsRefused (Run harts) bytes line = SpellRefused bytes line
+IsRefused Solo bytes line = SpellRefused bytes line
+IsRefused (Audit harts) bytes line = HasParts (λ first second. SpellRefused first line) bytes
+IsRefused (Make seed size harts) bytes line = ⊥
+
+-- the program part of its input is too long
+abbrev pub IsLong : Command → List ℕ → Type 0
+IsLong (Run harts) bytes = ⊥
+IsLong Solo bytes = ⊥
+IsLong (Audit harts) bytes = HasParts (λ first second. program_limit < length first) bytes
+IsLong (Make seed size harts) bytes = ⊥
+
+-- The cause of a fault of the command, by what the source had left before and has left after, and by its count of faults
+-- before and after. Want of memory has none.
+abbrev pub IsCause : Command → Fault → Option (List ℕ) → Option (List ℕ) → ℕ → ℕ → Type 0
+IsCause command fault.Usage left left' faults faults' = ⊥
+IsCause command fault.TooLong left left' faults faults' = GivesMore left (limit_of command) left' ⊎ ((bytes : List ℕ) × GivesAll left bytes left' × IsLong command bytes)
+IsCause command fault.ReadFault left left' faults faults' = Rose faults faults'
+IsCause command (fault.Syntax line) left left' faults faults' = (bytes : List ℕ) × GivesAll left bytes left' × IsNoText command bytes line.items
+IsCause command (fault.Refused line) left left' faults faults' = (bytes : List ℕ) × GivesAll left bytes left' × IsRefused command bytes line.items
+IsCause command fault.Memory left left' faults faults' = Unit {0}
 
 -- The words give no command that is served, or memory ran out while they were read.
 abbrev pub IsNoCommand : List (List ℕ) → Fault → Type 0
@@ -58,7 +106,7 @@ IsNoCommand words why = ⊥
 abbrev pub IsFault : List (List ℕ) → Fault → Option (List ℕ) → Option (List ℕ) → ℕ → ℕ → Type 0
 IsFault words fault.Usage left left' faults faults' = served_form words ≡ None
 IsFault words fault.Memory left left' faults faults' = Unit {0}
-IsFault words why left left' faults faults' = (served_form words ≢ None) × IsCause why left left' faults faults'
+IsFault words why left left' faults faults' = (command : Command) × (served_form words ≡ Some command) × IsCause command why left left' faults faults'
 
 -- why the program of these bytes has no output
 abbrev pub IsNoRun : List ℕ → Fault → Type 0
@@ -66,3 +114,19 @@ IsNoRun bytes (fault.Syntax line) = SpellNothing bytes line.items
 IsNoRun bytes (fault.Refused line) = SpellRefused bytes line.items
 IsNoRun bytes fault.Memory = Unit {0}
 IsNoRun bytes why = ⊥
+
+-- why the command has no output for these bytes
+abbrev pub IsNoOutput : Command → List ℕ → Fault → Type 0
+IsNoOutput command bytes fault.Usage = ⊥
+IsNoOutput command bytes fault.TooLong = IsLong command bytes
+IsNoOutput command bytes fault.ReadFault = ⊥
+IsNoOutput command bytes (fault.Syntax line) = IsNoText command bytes line.items
+IsNoOutput command bytes (fault.Refused line) = IsRefused command bytes line.items
+IsNoOutput command bytes fault.Memory = Unit {0}
+
+-- why these parts have no verdict
+abbrev pub HaveNoVerdict : ℕ → List ℕ → List ℕ → Fault → Type 0
+HaveNoVerdict harts first second (fault.Syntax line) = AreNoText harts line.items first second
+HaveNoVerdict harts first second (fault.Refused line) = SpellRefused first line.items
+HaveNoVerdict harts first second fault.Memory = Unit {0}
+HaveNoVerdict harts first second why = ⊥

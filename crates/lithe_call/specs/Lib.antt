@@ -1,5 +1,7 @@
 pub mod Telling
 pub mod Command
+pub mod Programs
+pub mod Auditing
 pub mod Output
 pub mod Faults
 pub mod FaultOf

@@ -5,6 +5,9 @@ use Rattle.array_lang.specs.declared.fault.SyntaxFault.{SyntaxFault}
 use Rattle.array_lang.specs.declared.fault.SyntaxFault.TheVariants as syntax
 use Rattle.disjoint_check.specs.declared.fault.CheckFault.{CheckFault}
 use Rattle.disjoint_check.specs.declared.fault.CheckFault.TheVariants as check
+use Rattle.journal_text.specs.declared.fault.TextFault.{TextFault}
+use Rattle.journal_text.specs.declared.fault.TextFault.TheVariants as text
+use Rattle.run_audit.specs.AuditText.{text_fault_text}
 use Rattle.error_text.specs.SyntaxText.{syntax_text}
 use Rattle.error_text.specs.RefusalText.{refusal_text}
 use Rattle.lithe_call.specs.declared.fault.Fault.{Fault}
@@ -21,3 +24,9 @@ abbrev pub TellsRefusal : ProgramTree → CheckFault → Fault → Type 0
 TellsRefusal program cause (fault.Refused line) = (cause ≢ check.Memory) × (line.items ≡ refusal_text program cause)
 TellsRefusal program cause fault.Memory = Unit {0}
 TellsRefusal program cause why = ⊥
+
+-- the fault tells that of an output's text, or memory ran out
+abbrev pub TellsText : TextFault → Fault → Type 0
+TellsText cause (fault.Syntax line) = (cause ≢ text.Memory) × (line.items ≡ text_fault_text cause)
+TellsText cause fault.Memory = Unit {0}
+TellsText cause why = ⊥

@@ -1,22 +1,21 @@
--- What a command writes for an accepted program.
-use Rattle.std.specs.Prelude.{◌≡◌, ℕ, ◌≤◌, List, ◌++◌, length}
+-- What a command writes, and the status that it then has.
+use Rattle.std.specs.Prelude.{◌≡◌, ℕ, ◌≤◌, List, length, ◌++◌}
 use Rattle.transfer_table.specs.Plan.{Plan}
 use Rattle.transfer_table.specs.Journal.{IsComplete}
 use Rattle.transfer_table.specs.declared.entry.Entry.{Entry}
 use Rattle.journal_text.specs.JournalText.{journal_text}
 use Rattle.array_tree.specs.Trees.{ProgramTree}
-use Rattle.array_lang.specs.Spelled.{Spells}
 use Rattle.array_meaning.specs.Stores.{Store}
 use Rattle.array_meaning.specs.Work.{final_store}
-use Rattle.array_meaning.specs.Plans.{plan_of}
-use Rattle.array_meaning.specs.Accepted.{IsAccepted}
 use Rattle.array_eval.specs.ArrayText.{array_text}
 use Rattle.command_words.specs.declared.command.Command.{Command}
 use Rattle.command_words.specs.declared.command.Command.TheVariants.{Run, Solo, Audit, Make}
-
--- the program's plan for so many harts
-abbrev pub table_plan : ProgramTree → ℕ → Plan
-table_plan program harts = record { harts = harts; parents = plan_of program }
+use Rattle.run_audit.specs.AuditText.{verdict_text}
+use Rattle.run_audit.specs.declared.verdict.Verdict.{Verdict}
+use Rattle.lithe_call.specs.Programs.{SpellAccepted, table_plan, program_limit}
+use Rattle.lithe_call.specs.Auditing.{HasVerdict, status_by}
+use Rattle.lithe_call.specs.declared.status.Status.{Status}
+use Rattle.lithe_call.specs.declared.status.Status.TheVariants.{Done}
 
 -- the array lines, and then the journal
 abbrev pub output_text : ProgramTree → Plan → Store → List Entry → List ℕ
@@ -28,25 +27,43 @@ pub record IsRunOutput (program : ProgramTree) (harts : ℕ) (text : List ℕ) :
   pub complete : IsComplete (table_plan program harts) journal
   pub whole : text ≡ output_text program (table_plan program harts) (final_store program) journal
 
--- `solo` writes the arrays alone; the others aren't served, and write nothing for a program
+-- `solo` writes the arrays alone; the others don't run a program
 abbrev pub IsOutput : Command → ProgramTree → List ℕ → Type 0
 IsOutput (Run harts) program text = IsRunOutput program harts text
 IsOutput Solo program text = text ≡ array_text program (final_store program)
 IsOutput (Audit harts) program text = ⊥
 IsOutput (Make seed size harts) program text = ⊥
 
--- the greatest length of an input, in bytes
-abbrev pub input_limit : ℕ
-input_limit = 65536
-
--- these bytes spell an accepted program
-pub record SpellAccepted (bytes : List ℕ) (program : ProgramTree) : Type 0 where
-  pub short : length bytes ≤ input_limit
-  pub spelled : Spells bytes program
-  pub accepted : IsAccepted program
-
 -- the text is what the command writes for the program that these bytes spell
-pub record IsOutputOf (command : Command) (bytes text : List ℕ) : Type 0 where
+pub record IsRunOf (command : Command) (bytes text : List ℕ) : Type 0 where
   pub program : ProgramTree
   pub input : SpellAccepted bytes program
   pub output : IsOutput command program text
+
+-- the text is the line of the bytes' verdict, and the status the verdict's
+pub record IsAuditOf (harts : ℕ) (bytes : List ℕ) (status : Status) (text : List ℕ) : Type 0 where
+  pub verdict : Verdict
+  pub has : HasVerdict harts bytes verdict
+  pub same : status ≡ status_by verdict
+  pub told : text ≡ verdict_text verdict
+
+-- the text is what the command writes for these bytes, and the status is that which it then has
+abbrev pub IsOutputOf : Command → List ℕ → Status → List ℕ → Type 0
+IsOutputOf (Run harts) bytes status text = (status ≡ Done) × IsRunOf (Run harts) bytes text
+IsOutputOf Solo bytes status text = (status ≡ Done) × IsRunOf Solo bytes text
+IsOutputOf (Audit harts) bytes status text = IsAuditOf harts bytes status text
+IsOutputOf (Make seed size harts) bytes status text = ⊥
+
+-- the greatest length of a command's input, in bytes
+abbrev pub limit_of : Command → ℕ
+limit_of (Run harts) = program_limit
+limit_of Solo = program_limit
+limit_of (Audit harts) = 4194304
+limit_of (Make seed size harts) = 0
+
+-- these bytes are for the command, and it has this status with them
+abbrev pub EndsWith : Command → List ℕ → Status → Type 0
+EndsWith (Run harts) bytes status = (status ≡ Done) × ((program : ProgramTree) × SpellAccepted bytes program)
+EndsWith Solo bytes status = (status ≡ Done) × ((program : ProgramTree) × SpellAccepted bytes program)
+EndsWith (Audit harts) bytes status = (length bytes ≤ limit_of (Audit harts)) × ((verdict : Verdict) × HasVerdict harts bytes verdict × (status ≡ status_by verdict))
+EndsWith (Make seed size harts) bytes status = ⊥

@@ -1,34 +1,36 @@
 //! The top call: from the words and the input to the output and the status.
-ghost use Rattle.std.specs.Prelude.{◌≡◌, ◌≢◌, ◌⊎◌, ◌↔◌, ℕ, List, map, string_bytes, Some, None, IfOk, IfErr};
+ghost use Rattle.std.specs.Prelude.{◌≡◌, ◌≢◌, ◌⊎◌, ◌≤◌, true, length, ℕ, List, map, string_bytes, Some, None, IfOk, IfErr};
 ghost use Rattle.outside_io.specs.Outside.{Rose};
-ghost use Rattle.array_tree.specs.Trees.{ProgramTree};
-ghost use Rattle.lithe_call.specs.Telling.{GivesMore, Tells};
-ghost use Rattle.lithe_call.specs.Command.{served_form};
-ghost use Rattle.lithe_call.specs.Output.{SpellAccepted, input_limit};
-ghost use Rattle.lithe_call.specs.Faults.{IsFault};
+ghost use Rattle.command_words.specs.declared.command.Command.{Command};
+ghost use Rattle.lithe_call.specs.declared.status.Status.{Status};
+ghost use Rattle.lithe_call.specs.Telling.{Tells};
+ghost use Rattle.lithe_call.specs.Command.{is_served, served_form, harts_in};
+ghost use Rattle.lithe_call.specs.Auditing.{ending};
+ghost use Rattle.lithe_call.specs.Output.{IsOutputOf, EndsWith, limit_of};
+ghost use Rattle.lithe_call.specs.Faults.{IsFault, IsNoOutput};
 ghost use Rattle.lithe_call.specs.FaultOf.{status_of, line_of};
 ghost use Rattle.lithe_call.specs.Status.{constant_text};
-ghost use Rattle.lithe_call.specs.Served.{IsOutputFor, WritesOutput, WritesPrefix, TellsStatus};
+ghost use Rattle.lithe_call.specs.Served.{IsOutputFor, WritesOutput, WritesPrefix, IsTooLong, TellsStatus};
 
-use crate::command::served_command;
+use crate::audit::{Answer, audited};
+use crate::command::{limit, served_command};
 use crate::fault::Fault;
 use crate::reading::read_all;
 use crate::run::answer;
 use crate::status::{Status, constant_text};
 use crate::writing::write_all;
+use command_words::Command;
 use outside_io::{Gate, Sink, Source};
 use std::alloc::Global;
 use std::sync::Wait;
 use std::thread::Threads;
 
-/// The greatest length of an input, in bytes.
-const LIMIT: usize = 65536;
-
 /// Serves the words: reads the input, runs its program and writes the output, or tells on `err` why not.
 ///
 /// `run --harts N`, N from 1 to 4, runs the program on N harts, each of several on a thread, and writes its arrays and the
-/// journal of its transfers; `solo` writes the arrays alone. Other forms of the command line aren't served, and are told as
-/// usage. The whole output is built before its first byte is written.
+/// journal of its transfers; `solo` writes the arrays alone. `audit --harts N` reads a program, a line `%%` and an output of
+/// `run`, and writes whether the output is the program's; where it isn't, the status is Illegal. `make` isn't served, and is
+/// told as usage. The whole output is built before its first byte is written.
 /// Whatever the status, its text was told on `err`, and a failure of `err` changes no status.
 pub fn lithe<R: Threads + Wait + Sync, A: Source, B: Sink, E: Sink, G: Gate>(
     rt: &R,
@@ -40,43 +42,48 @@ pub fn lithe<R: Threads + Wait + Sync, A: Source, B: Sink, E: Sink, G: Gate>(
     gate: &G,
 ) -> Status
     // The arrays are those of the one-thread meaning of the program that the source gave to its end, and the transfers are
-    // a complete legal run of the program's table.
+    // a complete legal run of the program's table; an output that was audited is such.
     ensures done { result ≡ Status.Done → WritesOutput (map string_bytes words.now)
-        (A.left source.old) (A.left source.new) (B.taken out.old) (B.taken out.new) }
+        (A.left source.old) (A.left source.new) Status.Done (B.taken out.old) (B.taken out.new) }
 
-    // An accepted program is served, unless memory runs out or the outside fails.
-    ensures complete { (form : served_form (map string_bytes words.now) ≢ None)
+    // An output that was audited isn't the program's, and the line says so.
+    ensures illegal { result ≡ Status.Illegal → WritesOutput (map string_bytes words.now)
+        (A.left source.old) (A.left source.new) Status.Illegal (B.taken out.old) (B.taken out.new) }
+
+    // What is for the command is served with the status that it has, unless memory runs out or the outside fails.
+    ensures complete { (command : Command) → (form : served_form (map string_bytes words.now) ≡ Some command)
         → (bytes : List ℕ) → (told : A.left source.old ≡ Some bytes)
-        → (program : ProgramTree) → (accepted : SpellAccepted bytes program)
+        → (status : Status) → (ends : EndsWith command bytes status)
         → (source_is_calm : Rose (A.faults source.old) (A.faults source.new) → ⊥)
         → (out_is_calm : Rose (B.faults out.old) (B.faults out.new) → ⊥)
-        → (result ≡ Status.Done) ⊎ (result ≡ Status.NoMemory) }
+        → (result ≡ status) ⊎ (result ≡ Status.NoMemory) }
 
     // When each other status comes. What is told of Syntax and Refused has their causes. Words that are no form of what is
     // served are Usage, unless memory runs out while they are read.
     ensures usage { result ≡ Status.Usage → served_form (map string_bytes words.now) ≡ None }
     ensures no_form { served_form (map string_bytes words.now) ≡ None → (result ≡ Status.Usage) ⊎ (result ≡ Status.NoMemory) }
-    ensures too_long { result ≡ Status.TooLong → GivesMore (A.left source.old) input_limit (A.left source.new) }
+    ensures too_long { result ≡ Status.TooLong → IsTooLong (map string_bytes words.now) (A.left source.old) (A.left source.new) }
     ensures read_fault { result ≡ Status.ReadFault → Rose (A.faults source.old) (A.faults source.new) }
     ensures write_fault { result ≡ Status.WriteFault → Rose (B.faults out.old) (B.faults out.new) }
-    ensures never_illegal { result ≢ Status.Illegal }
-    ensures told { result ≢ Status.Done → TellsStatus result (A.left source.old) (A.left source.new)
-        (E.taken err.old) (E.faults err.old) (E.taken err.new) (E.faults err.new) }
+    ensures told { result ≢ Status.Done → result ≢ Status.Illegal → TellsStatus (map string_bytes words.now) result
+        (A.left source.old) (A.left source.new) (E.taken err.old) (E.faults err.old) (E.taken err.new) (E.faults err.new) }
 
     // What the source gave and what `out` and `err` took otherwise.
     ensures prefix { result ≡ Status.WriteFault → WritesPrefix (map string_bytes words.now)
         (A.left source.old) (A.left source.new) (B.taken out.old) (B.taken out.new) }
     ensures source_stays { served_form (map string_bytes words.now) ≡ None → source.new ≡ source.old }
-    ensures out_stays { result ≢ Status.Done → result ≢ Status.WriteFault → out.new ≡ out.old }
-    ensures err_stays { result ≡ Status.Done → err.new ≡ err.old }
+    ensures out_stays { result ≢ Status.Done → result ≢ Status.Illegal → result ≢ Status.WriteFault → out.new ≡ out.old }
+    ensures err_stays { (result ≡ Status.Done) ⊎ (result ≡ Status.Illegal) → err.new ≡ err.old }
 {
     match output_of(rt, alloc, gate, words, source) {
         Err(fault) => tell_fault(err, &fault),
-        Ok(output) => {
-            if write_all(out, &output) {
-                Status::Done
-            } else {
+        Ok(answer) => {
+            if !write_all(out, &answer.text) {
                 tell(err, Status::WriteFault)
+            } else if answer.illegal {
+                Status::Illegal
+            } else {
+                Status::Done
             }
         }
     }
@@ -127,14 +134,39 @@ fn output_of<R: Threads + Wait + Sync, G: Gate, A: Source>(
     gate: &G,
     words: &[String],
     source: &mut A,
-) -> Result<Vec<u8>, Fault>
-    ensures output { IfOk result (λ output. IsOutputFor (map string_bytes words.now)
-        (A.left source.old) (A.left source.new) output.items) }
+) -> Result<Answer, Fault>
+    ensures output { IfOk result (λ answer. IsOutputFor (map string_bytes words.now)
+        (A.left source.old) (A.left source.new) (ending answer.illegal) answer.text.items) }
     ensures fault { IfErr result (λ fault. IsFault (map string_bytes words.now) fault
         (A.left source.old) (A.left source.new) (A.faults source.old) (A.faults source.new)) }
     ensures stays { served_form (map string_bytes words.now) ≡ None → source.new ≡ source.old }
 {
     let command = served_command(alloc, words)?;
-    let bytes = read_all(alloc, source, LIMIT)?;
-    answer(rt, alloc, gate, command, &bytes)
+    let bytes = read_all(alloc, source, limit(command))?;
+    answer_to(rt, alloc, gate, command, &bytes)
+}
+
+// The output of the command for these bytes.
+fn answer_to<R: Threads + Wait + Sync, G: Gate>(
+    rt: &R,
+    alloc: Global,
+    gate: &G,
+    command: Command,
+    bytes: &[u8],
+) -> Result<Answer, Fault>
+    requires short { length bytes.now ≤ limit_of command }
+    requires served { is_served command ≡ true }
+    requires some_hart { 1 ≤ harts_in command }
+    requires few_harts { harts_in command ≤ 4 }
+    ensures output { IfOk result (λ answer. IsOutputOf command bytes.now (ending answer.illegal) answer.text.items) }
+    ensures fault { IfErr result (IsNoOutput command bytes.now) }
+{
+    match command {
+        Command::Audit(harts) => audited(alloc, harts, bytes),
+        Command::Run(_) | Command::Solo => Ok(Answer {
+            text: answer(rt, alloc, gate, command, bytes)?,
+            illegal: false,
+        }),
+        Command::Make { .. } => unreachable!(),
+    }
 }

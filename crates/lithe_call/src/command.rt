@@ -1,6 +1,7 @@
 //! The command that the words ask for.
 ghost use Rattle.std.specs.Prelude.{◌≡◌, ◌≤◌, Some, None, true, IfOk, IfErr, map, string_bytes};
 ghost use Rattle.lithe_call.specs.Command.{is_served, served_form, harts_in};
+ghost use Rattle.lithe_call.specs.Output.{limit_of};
 ghost use Rattle.lithe_call.specs.Faults.{IsNoCommand};
 
 use crate::fault::Fault;
@@ -19,7 +20,8 @@ pub fn served_command(alloc: Global, words: &[String]) -> Result<Command, Fault>
     match command_of(alloc, words)? {
         Some(Command::Run(harts)) => Ok(Command::Run(harts)),
         Some(Command::Solo) => Ok(Command::Solo),
-        Some(Command::Audit(_) | Command::Make { .. }) | None => Err(Fault::Usage),
+        Some(Command::Audit(harts)) => Ok(Command::Audit(harts)),
+        Some(Command::Make { .. }) | None => Err(Fault::Usage),
     }
 }
 
@@ -31,5 +33,17 @@ pub fn harts(command: Command) -> u8
         Command::Run(harts) => harts,
         Command::Solo => 1,
         Command::Audit(harts) | Command::Make { harts, .. } => harts,
+    }
+}
+
+/// The greatest length of the command's input, in bytes.
+pub fn limit(command: Command) -> usize
+    ensures same { result ≡ limit_of command }
+    ensures few { result ≤ 4194304 }
+{
+    match command {
+        Command::Run(_) | Command::Solo => 65_536,
+        Command::Audit(_) => 4_194_304,
+        Command::Make { .. } => 0,
     }
 }

@@ -9,13 +9,13 @@ use std::alloc::AllocError;
 /// Why a command has no output.
 #[derive(Debug, Drop)]
 pub enum Fault {
-    /// The words are no form.
+    /// The words are no form of a command that is served.
     Usage,
-    /// The input is longer than its limit.
+    /// The input, or the program part of an audit's, is longer than its limit.
     TooLong,
     /// The source failed.
     ReadFault,
-    /// The input spells no program; the line tells its first fault.
+    /// The input spells no program, or is no input of an audit; the line tells its first fault.
     Syntax(Vec<u8>),
     /// The program isn't accepted; the line tells the first condition that it fails.
     Refused(Vec<u8>),

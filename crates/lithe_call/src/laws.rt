@@ -1,25 +1,28 @@
 //! Laws of the top call. They are proved, and do nothing where they are called.
-ghost use Rattle.std.specs.Prelude.{◌≡◌, ◌<◌, ℕ, List, length, Option, Some};
+ghost use Rattle.std.specs.Prelude.{◌≡◌, ◌<◌, ◌⊎◌, ℕ, List, length, Option, Some};
 ghost use Rattle.command_words.specs.declared.command.Command.{Command};
 ghost use Rattle.lithe_call.specs.declared.status.Status.{Status};
 ghost use Rattle.lithe_call.specs.Command.{served_form};
-ghost use Rattle.lithe_call.specs.Telling.{GivesMore};
-ghost use Rattle.lithe_call.specs.Served.{WritesOutput, WritesPrefix, TellsStatus};
+ghost use Rattle.lithe_call.specs.Output.{limit_of};
+ghost use Rattle.lithe_call.specs.Faults.{IsLong};
+ghost use Rattle.lithe_call.specs.Served.{WritesOutput, WritesPrefix, IsTooLong, TellsStatus};
 ghost use Rattle.lithe_call.specs.Told.{TookOutput, TookPrefix, ToldLine};
 
 /// Where the source told its bytes beforehand, what `lithe` wrote and told is that of these bytes.
 pub fn told_bytes_are_served()
-    ensures done { (words : List (List ℕ)) (left left' taken taken' : Option (List ℕ))
-        → WritesOutput words left left' taken taken'
+    ensures done { (words : List (List ℕ)) (status : Status) (left left' taken taken' : Option (List ℕ))
+        → WritesOutput words left left' status taken taken'
         → (command : Command) → served_form words ≡ Some command
-        → (bytes : List ℕ) → left ≡ Some bytes → TookOutput command bytes taken taken' }
+        → (bytes : List ℕ) → left ≡ Some bytes → TookOutput command bytes status taken taken' }
     ensures prefix { (words : List (List ℕ)) (left left' taken taken' : Option (List ℕ))
         → WritesPrefix words left left' taken taken'
         → (command : Command) → served_form words ≡ Some command
         → (bytes : List ℕ) → left ≡ Some bytes → TookPrefix command bytes taken taken' }
-    ensures told { (status : Status) (left left' taken taken' : Option (List ℕ)) (faults faults' : ℕ)
-        → TellsStatus status left left' taken faults taken' faults'
-        → (bytes : List ℕ) → left ≡ Some bytes → ToldLine status bytes taken faults taken' faults' }
-    ensures too_long { (left left' : Option (List ℕ)) (limit : ℕ) → GivesMore left limit left'
-        → (bytes : List ℕ) → left ≡ Some bytes → limit < length bytes }
+    ensures told { (words : List (List ℕ)) (status : Status) (left left' taken taken' : Option (List ℕ)) (faults faults' : ℕ)
+        → TellsStatus words status left left' taken faults taken' faults'
+        → (command : Command) → served_form words ≡ Some command
+        → (bytes : List ℕ) → left ≡ Some bytes → ToldLine command status bytes taken faults taken' faults' }
+    ensures too_long { (words : List (List ℕ)) (left left' : Option (List ℕ)) → IsTooLong words left left'
+        → (command : Command) → served_form words ≡ Some command
+        → (bytes : List ℕ) → left ≡ Some bytes → (limit_of command < length bytes) ⊎ IsLong command bytes }
 {}

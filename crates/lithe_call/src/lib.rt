@@ -5,6 +5,7 @@
 //! bytes.
 #![tactic(auto)]
 
+mod audit;
 mod call;
 mod command;
 mod fault;

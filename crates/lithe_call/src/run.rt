@@ -4,8 +4,8 @@ ghost use Rattle.array_tree.specs.Trees.{program_of};
 ghost use Rattle.array_lang.specs.Spelled.{HasFault};
 ghost use Rattle.disjoint_check.specs.FaultOf.{check_fault_of};
 ghost use Rattle.disjoint_check.specs.AcceptedProgram.{IsAcceptedProgram};
-ghost use Rattle.lithe_call.specs.Output.{IsOutput, IsOutputOf, IsRunOutput};
-ghost use Rattle.lithe_call.specs.Command.{is_served, harts_in};
+ghost use Rattle.lithe_call.specs.Output.{IsOutput, IsRunOf, IsRunOutput};
+ghost use Rattle.lithe_call.specs.Command.{runs_programs, harts_in};
 ghost use Rattle.lithe_call.specs.Faults.{IsNoRun};
 ghost use Rattle.lithe_call.specs.Lines.{TellsSyntax, TellsRefusal};
 ghost use Rattle.array_meaning.specs.Work.{final_store};
@@ -37,10 +37,10 @@ pub fn answer<R: Threads + Wait + Sync, G: Gate>(
     bytes: &[u8],
 ) -> Result<Vec<u8>, Fault>
     requires short { length bytes.now ≤ 65536 }
-    requires served { is_served command ≡ true }
+    requires runs { runs_programs command ≡ true }
     requires some_hart { 1 ≤ harts_in command }
     requires few_harts { harts_in command ≤ 4 }
-    ensures output { IfOk result (λ output. IsOutputOf command bytes.now output.items) }
+    ensures output { IfOk result (λ output. IsRunOf command bytes.now output.items) }
     ensures fault { IfErr result (IsNoRun bytes.now) }
 {
     let program = match parse(alloc, bytes) {
@@ -57,8 +57,8 @@ pub fn answer<R: Threads + Wait + Sync, G: Gate>(
     }
 }
 
-// The fault of a text that spells no program.
-fn syntax_fault(alloc: Global, fault: SyntaxFault) -> Fault
+/// The fault of a text that spells no program.
+pub fn syntax_fault(alloc: Global, fault: SyntaxFault) -> Fault
     ensures { TellsSyntax fault result }
 {
     if fault == SyntaxFault::Memory {
@@ -70,8 +70,8 @@ fn syntax_fault(alloc: Global, fault: SyntaxFault) -> Fault
     }
 }
 
-// The fault of a program that isn't accepted.
-fn refusal(alloc: Global, program: &Program, fault: CheckFault) -> Fault
+/// The fault of a program that isn't accepted.
+pub fn refusal(alloc: Global, program: &Program, fault: CheckFault) -> Fault
     ensures { TellsRefusal (program_of program.now) fault result }
 {
     if fault == CheckFault::Memory {
@@ -91,7 +91,7 @@ fn output<R: Threads + Wait + Sync, G: Gate>(
     command: Command,
     accepted: &Accepted<'_>,
 ) -> Result<Vec<u8>, AllocError>
-    requires served { is_served command ≡ true }
+    requires runs { runs_programs command ≡ true }
     requires harts { accepted.now.plan.harts ≡ harts_in command }
     ensures { IfOk result (λ output. IsOutput command (program_of accepted.now.program) output.items) }
 {

@@ -9,13 +9,13 @@ pub enum Status {
     Done = 0,
     /// An output that was audited isn't the program's; the line that says so was written.
     Illegal = 1,
-    /// The words are no form of the command line.
+    /// The words are no form of a command that is served.
     Usage = 2,
-    /// The input spells no program.
+    /// The input spells no program; of an audit also one without a line `%%`, or whose second part is no output's text.
     Syntax = 3,
     /// The program isn't accepted.
     Refused = 4,
-    /// The input is longer than its limit.
+    /// The input, or the program part of an audit's, is longer than its limit.
     TooLong = 5,
     /// The source failed.
     ReadFault = 6,

@@ -73,7 +73,6 @@ fn nothing_else_is_a_form(rt: HostRuntime) -> Result<(), Fail> {
 
 #[test]
 fn forms_that_are_not_served_are_told_as_usage(rt: HostRuntime) -> Result<(), Fail> {
-    usage(&rt, &["audit", "--harts", "1"])?;
     let words = &["make", "--seed", "7", "--size", "16", "--harts", "4"];
     usage(&rt, words)
 }

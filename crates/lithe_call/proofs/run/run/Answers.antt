@@ -12,7 +12,7 @@ use Rattle.array_meaning.proofs.InsideLemmas.{sized_in_range}
 use Rattle.array_meaning.proofs.StepLemmas.{length_after}
 use Rattle.array_eval.specs.ArrayText.{array_text}
 use Rattle.hart_loop.specs.Journals.{entries_in}
-use Rattle.lithe_call.specs.Output.{table_plan}
+use Rattle.lithe_call.specs.Programs.{table_plan}
 use Rattle.lithe_call.proofs.run.run.Goals as goal
 
 -- the store that a program ends with has its cells

@@ -1,0 +1,45 @@
+-- What an audit is of, and what it finds.
+use Rattle.std.specs.Prelude.{◌≡◌, ℕ, Bool, true, false, List, Some, Result, Ok}
+use Rattle.array_tree.specs.Trees.{ProgramTree}
+use Rattle.array_meaning.specs.Work.{final_store}
+use Rattle.array_eval.specs.ArrayText.{array_text}
+use Rattle.journal_text.specs.declared.fault.TextFault.{TextFault}
+use Rattle.run_audit.specs.Parts.{parts_of}
+use Rattle.run_audit.specs.Audit.{audit_of}
+use Rattle.run_audit.specs.declared.verdict.Verdict.{Verdict}
+use Rattle.run_audit.specs.declared.verdict.Verdict.TheVariants as verdict
+use Rattle.lithe_call.specs.Programs.{SpellAccepted, table_plan}
+use Rattle.lithe_call.specs.declared.status.Status.{Status}
+use Rattle.lithe_call.specs.declared.status.Status.TheVariants as status
+
+-- these bytes have two parts, which are so
+pub record HasParts (AreSo : List ℕ → List ℕ → Type 0) (bytes : List ℕ) : Type 0 where
+  pub first : List ℕ
+  pub second : List ℕ
+  pub parts : parts_of bytes ≡ Some (first, second)
+  pub are : AreSo first second
+
+-- what an audit finds in an output of the program's run on so many harts
+abbrev pub found_in : ℕ → ProgramTree → List ℕ → Result Verdict TextFault
+found_in harts program output = audit_of (table_plan program harts) (array_text program (final_store program)) output
+
+-- a first part that spells an accepted program, and this verdict on the second
+pub record AreFound (harts : ℕ) (verdict : Verdict) (first second : List ℕ) : Type 0 where
+  pub program : ProgramTree
+  pub input : SpellAccepted first program
+  pub found : found_in harts program second ≡ Ok verdict
+
+-- these bytes have this verdict
+abbrev pub HasVerdict : ℕ → List ℕ → Verdict → Type 0
+HasVerdict harts bytes verdict = HasParts (AreFound harts verdict) bytes
+
+-- the status by a verdict
+abbrev pub status_by : Verdict → Status
+status_by (verdict.Legal entries) = status.Done
+status_by (verdict.Differs line) = status.Illegal
+status_by (verdict.Illegal fault) = status.Illegal
+
+-- the status of an answer, by whether an output was found illegal
+abbrev pub ending : Bool → Status
+ending false = status.Done
+ending true = status.Illegal

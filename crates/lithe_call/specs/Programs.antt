@@ -1,0 +1,21 @@
+-- Programs that are accepted, and their plans.
+use Rattle.std.specs.Prelude.{ℕ, ◌≤◌, List, length}
+use Rattle.transfer_table.specs.Plan.{Plan}
+use Rattle.array_tree.specs.Trees.{ProgramTree}
+use Rattle.array_lang.specs.Spelled.{Spells}
+use Rattle.array_meaning.specs.Plans.{plan_of}
+use Rattle.array_meaning.specs.Accepted.{IsAccepted}
+
+-- the program's plan for so many harts
+abbrev pub table_plan : ProgramTree → ℕ → Plan
+table_plan program harts = record { harts = harts; parents = plan_of program }
+
+-- the greatest length of a program, in bytes
+abbrev pub program_limit : ℕ
+program_limit = 65536
+
+-- these bytes spell an accepted program
+pub record SpellAccepted (bytes : List ℕ) (program : ProgramTree) : Type 0 where
+  pub short : length bytes ≤ program_limit
+  pub spelled : Spells bytes program
+  pub accepted : IsAccepted program

@@ -1,0 +1,91 @@
+//! From bytes to the verdict on the output that stands behind their program.
+ghost use Rattle.std.specs.Prelude.{◌≡◌, ◌≤◌, ◌++◌, ◌∷◌, [], codes, length, IfOk, IfErr, Result, Ok, Err};
+ghost use Rattle.command_words.specs.declared.command.Command.TheVariants.{Audit};
+ghost use Rattle.lithe_call.specs.Auditing.{AreFound, ending, status_by};
+ghost use Rattle.lithe_call.specs.Output.{IsAuditOf};
+ghost use Rattle.lithe_call.specs.Faults.{IsNoOutput, HaveNoVerdict};
+ghost use Rattle.lithe_call.specs.Lines.{TellsText};
+
+use crate::fault::Fault;
+use crate::run::{refusal, syntax_fault};
+use array_lang::parse;
+use disjoint_check::check;
+use journal_text::TextFault;
+use run_audit::{Verdict, audit, parts_of, text_fault_line, verdict_line};
+use std::alloc::Global;
+
+/// What a command writes, and whether it found an output illegal.
+#[derive(Drop)]
+pub struct Answer {
+    pub text: Vec<u8>,
+    pub illegal: bool,
+}
+
+/// The greatest length of a program, in bytes.
+const LIMIT: usize = 65_536;
+
+/// The line of the verdict on the output that stands behind a program, or why there is none.
+pub fn audited(alloc: Global, harts: u8, bytes: &[u8]) -> Result<Answer, Fault>
+    requires short { length bytes.now ≤ 4194304 }
+    requires some_hart { 1 ≤ harts }
+    requires few_harts { harts ≤ 4 }
+    ensures output { IfOk result (λ answer. IsAuditOf harts bytes.now (ending answer.illegal) answer.text.items) }
+    ensures fault { IfErr result (IsNoOutput (Audit harts) bytes.now) }
+{
+    let Some((first, second)) = parts_of(bytes) else {
+        return Err(Fault::Syntax(b"syntax: no line %%\n".to_vec(alloc)?));
+    };
+    if first.len() > LIMIT {
+        return Err(Fault::TooLong);
+    }
+    let verdict = verdict(alloc, harts, first, second)?;
+    let text = verdict_line(alloc, verdict)?;
+    let illegal = is_illegal(verdict);
+    Ok(Answer { text, illegal })
+}
+
+// Whether the verdict is that an output isn't the program's.
+fn is_illegal(verdict: Verdict) -> bool
+    ensures { ending result ≡ status_by verdict }
+{
+    match verdict {
+        Verdict::Legal(_) => false,
+        Verdict::Differs(_) | Verdict::Illegal(_) => true,
+    }
+}
+
+// The verdict on the second part by the program of the first.
+fn verdict(alloc: Global, harts: u8, first: &[u8], second: &[u8]) -> Result<Verdict, Fault>
+    requires short { length first.now ≤ 65536 }
+    requires short_output { length second.now ≤ 4194304 }
+    requires some_hart { 1 ≤ harts }
+    requires few_harts { harts ≤ 4 }
+    ensures found { IfOk result (λ verdict. AreFound harts verdict first.now second.now) }
+    ensures fault { IfErr result (HaveNoVerdict harts first.now second.now) }
+{
+    let program = match parse(alloc, first) {
+        Ok(program) => program,
+        Err(fault) => return Err(syntax_fault(alloc, fault)),
+    };
+    let accepted = match check(alloc, &program, harts) {
+        Ok(accepted) => accepted,
+        Err(fault) => return Err(refusal(alloc, &program, fault)),
+    };
+    match audit(alloc, &accepted, second) {
+        Ok(verdict) => Ok(verdict),
+        Err(fault) => Err(text_fault(alloc, fault)),
+    }
+}
+
+// The fault of a second part that is no output's text.
+fn text_fault(alloc: Global, fault: TextFault) -> Fault
+    ensures { TellsText fault result }
+{
+    if fault == TextFault::Memory {
+        return Fault::Memory;
+    }
+    match text_fault_line(alloc, fault) {
+        Ok(line) => Fault::Syntax(line),
+        Err(_) => Fault::Memory,
+    }
+}

@@ -1,0 +1,143 @@
+//! Audits of outputs.
+use crate::serving::{ROOM, RUN, serve, status_of};
+use lithe_call::Status;
+use outside_io::{SureSink, SureSource};
+use std::alloc::{AllocError, Global};
+use std::process::Abort;
+use std::sync::Wait;
+use std::test::Fail;
+use std::thread::Threads;
+
+const BRANCHES: &[u8] = b"array a[4]; par { { a[0] = 1; } { a[1] = 2; } }\n";
+
+const AUDIT: &[&str] = &["audit", "--harts", "2"];
+
+// An input of an audit.
+fn input(alloc: Global, program: &[u8], output: &[u8]) -> Result<Vec<u8>, AllocError> {
+    let mut text = program.to_vec(alloc)?;
+    text.extend_from_slice(b"%%\n")?;
+    text.extend_from_slice(output)?;
+    Ok(text)
+}
+
+// Audits an output of the branches on two harts, and tests the status and what is told.
+fn audits<R: AllocGlobal + Abort + Threads + Wait + Sync>(
+    rt: &R,
+    output: &[u8],
+    status: Status,
+    out: &[u8],
+    err: &[u8],
+) -> Result<(), Fail> {
+    let text = input(rt.alloc(), BRANCHES, output)?;
+    serve(rt, AUDIT, &text, status, out, err)
+}
+
+#[test]
+fn runs_are_legal(rt: HostRuntime) -> Result<(), Fail> {
+    audits(
+        &rt,
+        b"a = 1 2 0 0\ntransfers 3\n0 h0 register s1 under s0\n1 h0 request s1 1\n2 h0 unregister s1\n",
+        Status::Done,
+        b"legal 3\n",
+        b"",
+    )?;
+    audits(
+        &rt,
+        b"a = 1 2 0 0\ntransfers 5\n0 h0 register s1 under s0\n1 h0 request s1 1\n2 h1 enter s1\n3 h1 yield s1\n4 h0 unregister s1\n",
+        Status::Done,
+        b"legal 5\n",
+        b"",
+    )
+}
+
+#[test]
+fn transfers_that_are_no_run_are_illegal(rt: HostRuntime) -> Result<(), Fail> {
+    audits(
+        &rt,
+        b"a = 1 2 0 0\ntransfers 4\n0 h0 register s1 under s0\n1 h0 request s1 1\n2 h1 enter s1\n3 h0 unregister s1\n",
+        Status::Illegal,
+        b"illegal: entry 3, h1 is inside\n",
+        b"",
+    )?;
+    audits(
+        &rt,
+        b"a = 1 2 0 0\ntransfers 2\n0 h0 register s1 under s0\n1 h1 enter s1\n",
+        Status::Illegal,
+        b"illegal: entry 1, no wish\n",
+        b"",
+    )?;
+    audits(
+        &rt,
+        b"a = 1 2 0 0\ntransfers 1\n0 h0 register s1 under s0\n",
+        Status::Illegal,
+        b"illegal: entry 1, s1 is unfinished\n",
+        b"",
+    )?;
+    assert_eq!(rt; Status::Illegal.number(), 1);
+    Ok(())
+}
+
+#[test]
+fn arrays_that_differ_are_illegal(rt: HostRuntime) -> Result<(), Fail> {
+    audits(
+        &rt,
+        b"a = 1 2 0 1\ntransfers 1\n0 h0 unregister s1\n",
+        Status::Illegal,
+        b"illegal: line 1 differs\n",
+        b"",
+    )
+}
+
+#[test]
+fn texts_that_are_no_output_are_told(rt: HostRuntime) -> Result<(), Fail> {
+    audits(
+        &rt,
+        b"a = 1 2 0 0\ntransfers 1\n00 h0 register s1 under s0\n",
+        Status::Syntax,
+        b"",
+        b"syntax: bad number in line 3 after %%\n",
+    )?;
+    audits(
+        &rt,
+        b"a = 1 2 0 0\ntransfers 2\n0 h0 register s1 under s0\n",
+        Status::Syntax,
+        b"",
+        b"syntax: 2 transfers said, 1 found\n",
+    )?;
+    let told = b"syntax: bad line 1 after %%\n";
+    audits(&rt, b"", Status::Syntax, b"", told)?;
+    let told = b"syntax: no line %%\n";
+    serve(&rt, AUDIT, BRANCHES, Status::Syntax, b"", told)
+}
+
+#[test]
+fn the_program_part_is_read_first(rt: HostRuntime) -> Result<(), Fail> {
+    let told = b"syntax: unexpected at byte 10\n";
+    serve(&rt, AUDIT, b"array a[4\n%%\n", Status::Syntax, b"", told)?;
+    let told = b"refused: unknown name at line 1\n";
+    serve(&rt, AUDIT, b"a[0] = 1;\n%%\n", Status::Refused, b"", told)
+}
+
+#[test]
+fn both_parts_have_a_limit(rt: HostRuntime) -> Result<(), Fail> {
+    let mut long = vec![in rt.alloc(); b' '; 65536]?;
+    long.extend_from_slice(b"\n%%\ntransfers 0\n")?;
+    serve(&rt, AUDIT, &long, Status::TooLong, b"", b"too long\n")?;
+    let (_, most) = long.split_at(1);
+    serve(&rt, AUDIT, most, Status::Done, b"legal 0\n", b"")?;
+    let past = vec![in rt.alloc(); b' '; 4194305]?;
+    serve(&rt, AUDIT, &past, Status::TooLong, b"", b"too long\n")
+}
+
+#[test]
+fn what_a_run_writes_is_legal(rt: HostRuntime) -> Result<(), Fail> {
+    let mut source = SureSource::new(rt.alloc(), BRANCHES)?;
+    let mut out = SureSink::new(rt.alloc(), ROOM)?;
+    let mut err = SureSink::new(rt.alloc(), ROOM)?;
+    let status = status_of(&rt, RUN, &mut source, &mut out, &mut err)?;
+    assert_eq!(rt; status, Status::Done);
+    let output = out.bytes().ok_or("too little room")?;
+    let text = input(rt.alloc(), BRANCHES, output)?;
+    let words = &["audit", "--harts=1"];
+    serve(&rt, words, &text, Status::Done, b"legal 2\n", b"")
+}

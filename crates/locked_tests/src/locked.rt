@@ -1,0 +1,147 @@
+//! Harts that move by ports on one ledger under a lock.
+ghost use Rattle.std.specs.Prelude.{◌≤◌, All, IfOk};
+ghost use Rattle.transfer_table.specs.Plan.{IsHart};
+ghost use Rattle.hart_loop.specs.Harts.{StartsIn};
+
+use array_jobs::{Job, Piece, body_job};
+use array_tree::Program;
+use base_sched::Base;
+use disjoint_check::{Accepted, check};
+use hart_loop::{Hart, HartSchedulers, work};
+use hart_port::{Ledger, LockedPort};
+use once_cell::race::OnceBox;
+use sample_programs::{BOTH_BRANCHES, BOTH_PHASES, TWO_BRANCHES, TWO_PHASES, parsed};
+use site_directory::{SharedSite, cells, lines};
+use site_steps::SiteTree;
+use std::alloc::Global;
+use std::sync::{Mutex, Wait};
+use std::test::Fail;
+use std::thread;
+use std::thread::Threads;
+use transfer_table::{Plan, first_fault};
+use waiting_port::WaitingPort;
+
+// A hart in the base, by a port on the ledger.
+fn hart<'x, 'p: 'x, R: Threads + Wait + Sync>(
+    rt: &'x R,
+    alloc: Global,
+    lock: &'x Mutex<Ledger>,
+    plan: &'x Plan,
+    number: u8,
+    base: &'x Mutex<Base>,
+    cells: &'x [OnceBox<SharedSite<'p>>],
+    job: Option<Job<'p>>,
+) -> Result<Hart<'x, 'p, WaitingPort<'x, LockedPort<'x, R>, R>, SharedSite<'p>>, Fail>
+    requires { IsHart plan.now number }
+    ensures { IfOk result (λ hart. StartsIn plan.now hart.port.port.view) }
+{
+    let port = WaitingPort::new(LockedPort::new(alloc, lock, plan, number)?, rt);
+    let schedulers = HartSchedulers::new(lines(alloc, cells)?);
+    Ok(Hart {
+        port,
+        schedulers,
+        base,
+        job,
+        piece: None,
+    })
+}
+
+// A hart for each of the plan's. The first has the job, and stands last.
+fn crew<'x, 'p: 'x, R: Threads + Wait + Sync>(
+    rt: &'x R,
+    alloc: Global,
+    lock: &'x Mutex<Ledger>,
+    plan: &'x Plan,
+    base: &'x Mutex<Base>,
+    cells: &'x [OnceBox<SharedSite<'p>>],
+    job: Job<'p>,
+) -> Result<Vec<Hart<'x, 'p, WaitingPort<'x, LockedPort<'x, R>, R>, SharedSite<'p>>>, Fail>
+    ensures { IfOk result (λ harts. All (λ hart. StartsIn plan.now hart.port.port.view) harts.items) }
+{
+    let mut harts = Vec::with_capacity(alloc, usize::from(plan.harts()))?;
+    for number in 1..plan.harts() {
+        harts.push(hart(rt, alloc, lock, plan, number, base, cells, None)?)?;
+    }
+    harts.push(hart(rt, alloc, lock, plan, 0, base, cells, Some(job))?)?;
+    Ok(harts)
+}
+
+// Runs each hart on a thread, the last of them on this one.
+fn run_each<'x, 'p: 'x, R: Threads + Wait + Sync, F: Fn(u8, u16, u8, u8) + Sync>(
+    rt: &'x R,
+    alloc: Global,
+    tree: &SiteTree,
+    pass: &F,
+    harts: &mut [Hart<'x, 'p, WaitingPort<'x, LockedPort<'x, R>, R>, SharedSite<'p>>],
+)
+    requires callable { F.IsAlwaysCallable pass.now }
+    requires starts { All (λ hart. StartsIn tree.now hart.port.port.view) harts.old }
+{
+    thread::for_each_mut(
+        rt,
+        harts,
+        4,
+        &|_, hart| work(rt, alloc, tree, pass, rt, hart),
+    );
+}
+
+// What the program's body writes, by harts over locked ports.
+fn run_body<'x, 'p: 'x, R: Threads + Wait + Sync>(
+    rt: &'x R,
+    alloc: Global,
+    accepted: &'x Accepted<'p>,
+    lock: &'x Mutex<Ledger>,
+    base: &'x Mutex<Base>,
+    cells: &'x [OnceBox<SharedSite<'p>>],
+) -> Result<Piece<'p>, Fail> {
+    let tree = SiteTree::new(alloc, accepted.plan())?;
+    let job = body_job(alloc, accepted.program())?;
+    let mut harts = crew(rt, alloc, lock, accepted.plan(), base, cells, job)?;
+    run_each(rt, alloc, &tree, &|_, _, _, _| {}, harts.as_mut_slice());
+    let Some(last) = harts.pop() else {
+        return Err(Fail::new("no hart"));
+    };
+    let Hart {
+        port: _,
+        schedulers: _,
+        base: _,
+        job: _,
+        piece,
+    } = last;
+    Ok(piece.ok_or("want of memory")?)
+}
+
+// Whether harts over locked ports write these cells, and their ledger is a complete journal.
+fn is_right<R: Threads + Wait + Sync>(
+    rt: &R,
+    alloc: Global,
+    program: &Program,
+    harts: u8,
+    written: &[(u16, i64)],
+) -> Result<bool, Fail>
+    requires some { 1 ≤ harts }
+    requires few { harts ≤ 4 }
+{
+    let accepted = check(alloc, program, harts)?;
+    let lock = Mutex::new(Ledger::new(alloc, accepted.plan())?);
+    let base = Mutex::new(Base::new(alloc, accepted.plan().sites())?);
+    let cells = cells(alloc, accepted.plan().sites())?;
+    let piece = run_body(rt, alloc, &accepted, &lock, &base, cells.as_slice())?;
+    let is_same = piece.written.pairs() == written;
+    let entries = lock.into_inner().into_entries();
+    if entries.as_slice().len() > 65_535 {
+        return Err(Fail::new("more entries than any plan allows"));
+    }
+    Ok(is_same && first_fault(alloc, accepted.plan(), entries.as_slice())?.is_none())
+}
+
+#[test]
+fn harts_move_by_locked_ports(rt: HostRuntime) -> Result<(), Fail> {
+    let branches = parsed(rt.alloc(), TWO_BRANCHES)?;
+    assert!(rt; is_right(&rt, rt.alloc(), &branches, 1, &BOTH_BRANCHES)?);
+    assert!(rt; is_right(&rt, rt.alloc(), &branches, 2, &BOTH_BRANCHES)?);
+    let phases = parsed(rt.alloc(), TWO_PHASES)?;
+    assert!(rt; is_right(&rt, rt.alloc(), &phases, 2, &BOTH_PHASES)?);
+    assert!(rt; is_right(&rt, rt.alloc(), &phases, 4, &BOTH_PHASES)?);
+    Ok(())
+}
