@@ -1,16 +1,20 @@
 //! Harts that move by ports on one ledger under a lock.
-ghost use Rattle.std.specs.Prelude.{◌≤◌, All, IfOk};
+ghost use Rattle.std.specs.Prelude.{◌≡◌, ◌≤◌, ◌<◌, [], ◌∷◌, All, IfOk, length};
 ghost use Rattle.transfer_table.specs.Plan.{IsHart};
 ghost use Rattle.hart_loop.specs.Harts.{StartsIn};
 
+use array_eval::Overlay;
 use array_jobs::{Job, Piece, body_job};
 use array_tree::Program;
 use base_sched::Base;
 use disjoint_check::{Accepted, check};
-use hart_loop::{Hart, HartSchedulers, work};
+use hart_loop::{Hart, HartSchedulers, HartSite, work};
 use hart_port::{Ledger, LockedPort};
+use hart_work::{Resources, Schedulers, run_construct};
 use once_cell::race::OnceBox;
-use sample_programs::{BOTH_BRANCHES, BOTH_PHASES, TWO_BRANCHES, TWO_PHASES, parsed};
+use sample_programs::{
+    BOTH_BRANCHES, BOTH_PHASES, TWO_BRANCHES, TWO_PHASES, first_construct, parsed,
+};
 use site_directory::{SharedSite, cells, lines};
 use site_steps::SiteTree;
 use std::alloc::Global;
@@ -143,5 +147,109 @@ fn harts_move_by_locked_ports(rt: HostRuntime) -> Result<(), Fail> {
     let phases = parsed(rt.alloc(), TWO_PHASES)?;
     assert!(rt; is_right(&rt, rt.alloc(), &phases, 2, &BOTH_PHASES)?);
     assert!(rt; is_right(&rt, rt.alloc(), &phases, 4, &BOTH_PHASES)?);
+    Ok(())
+}
+
+// What a hart computes that comes to the first construct when its site has come and gone: the other has run the whole body.
+fn computed_late<'x, 'p: 'x, R: Threads + Wait + Sync>(
+    rt: &'x R,
+    alloc: Global,
+    program: &'p Program,
+    accepted: &'x Accepted<'p>,
+    lock: &'x Mutex<Ledger>,
+    base: &'x Mutex<Base>,
+    cells: &'x [OnceBox<SharedSite<'p>>],
+) -> Result<Overlay, Fail>
+    requires { 1 < accepted.now.plan.harts }
+{
+    let plan = accepted.plan();
+    let tree = SiteTree::new(alloc, plan)?;
+    let job = body_job(alloc, accepted.program())?;
+    let mut first = hart(rt, alloc, lock, plan, 0, base, cells, Some(job))?;
+    work(rt, alloc, &tree, &|_, _, _, _| {}, rt, &mut first);
+    let Hart {
+        mut port,
+        mut schedulers,
+        base: _,
+        job: _,
+        piece: _,
+    } = hart(rt, alloc, lock, plan, 1, base, cells, None)?;
+    let mut around: HartSite<'x, 'p, SharedSite<'p>> = HartSite::base(base);
+    let nested = first_construct(alloc, program)?;
+    Ok(run_construct(
+        rt,
+        alloc,
+        &tree,
+        &|_, _| {},
+        &mut port,
+        rt,
+        &mut schedulers,
+        &mut around,
+        nested,
+    )?)
+}
+
+#[test]
+fn a_construct_whose_site_is_gone_is_computed(rt: HostRuntime) -> Result<(), Fail> {
+    let alloc = rt.alloc();
+    let program = parsed(alloc, TWO_BRANCHES)?;
+    let accepted = check(alloc, &program, 2)?;
+    let lock = Mutex::new(Ledger::new(alloc, accepted.plan())?);
+    let base = Mutex::new(Base::new(alloc, accepted.plan().sites())?);
+    let cells = cells(alloc, accepted.plan().sites())?;
+    let written = computed_late(
+        &rt,
+        alloc,
+        &program,
+        &accepted,
+        &lock,
+        &base,
+        cells.as_slice(),
+    )?;
+    assert!(rt; written.pairs() == BOTH_BRANCHES.as_slice());
+    Ok(())
+}
+
+// Whether a hart enters site 2 where the pool of site 1 stands in its cell.
+fn enters_by_another<'x, 'p: 'x, R: Threads + Wait + Sync>(
+    rt: &'x R,
+    alloc: Global,
+    program: &'p Program,
+    plan: &'x Plan,
+    lock: &'x Mutex<Ledger>,
+    base: &'x Mutex<Base>,
+    cells: &'x [OnceBox<SharedSite<'p>>],
+) -> Result<bool, Fail>
+    requires plan { plan.now ≡ record { harts = 2; parents = 0 ∷ 0 ∷ [] } }
+    requires cells { length cells.now ≡ 3 }
+{
+    let mut turned = lines(alloc, cells)?;
+    turned.swap(1, 2);
+    let mut home = HartSchedulers::new(turned);
+    let _opened = home.open(alloc, &first_construct(alloc, program)?)?;
+    let Hart {
+        mut port,
+        mut schedulers,
+        base: _,
+        job: _,
+        piece: _,
+    } = hart(rt, alloc, lock, plan, 1, base, cells, None)?;
+    let Some(mut found) = schedulers.find(rt, 2) else {
+        return Err(Fail::new("nothing is found"));
+    };
+    let told = schedulers.enter(rt, &mut port, rt, &mut found, 2);
+    Ok(told.is_some())
+}
+
+#[test]
+fn a_site_is_not_entered_by_the_pool_of_another(rt: HostRuntime) -> Result<(), Fail> {
+    let alloc = rt.alloc();
+    let program = parsed(alloc, TWO_BRANCHES)?;
+    let plan = Plan::new(alloc, 2, &[0, 0])?;
+    let lock = Mutex::new(Ledger::new(alloc, &plan)?);
+    let base = Mutex::new(Base::new(alloc, 2)?);
+    let cells = cells(alloc, 2)?;
+    let inside = enters_by_another(&rt, alloc, &program, &plan, &lock, &base, cells.as_slice())?;
+    assert!(rt; !inside);
     Ok(())
 }
