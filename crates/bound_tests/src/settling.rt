@@ -67,3 +67,29 @@ fn sites_inside_settled_pieces_are_looked_at(rt: HostRuntime) -> Result<(), Fail
         Some(WalkFault::Overlap { line: 3, cell: 7 }),
     )
 }
+
+#[test]
+fn a_loop_that_is_settled_hides_no_later_overlap(rt: HostRuntime) -> Result<(), Fail> {
+    let text = "array a[8];
+        for k in 0..9000 { par { { a[0] = k; } { a[1] = k; } { a[2] = k; } { a[3] = k; } } }
+        for k in 0..9000 { par { { a[k / 9000] = k; } { a[k / 8999] = k; } } }";
+    is_found(
+        &rt,
+        rt.alloc(),
+        text,
+        Some(WalkFault::Overlap { line: 3, cell: 0 }),
+    )
+}
+
+#[test]
+fn turns_that_are_apart_one_by_one_are_right(rt: HostRuntime) -> Result<(), Fail> {
+    let text = "array a[1001];
+        for k in 0..1000 { par { { a[k] = k; } { a[k + 1] = k; } } }
+        for k in 0..1000 { team i in 0..2 by 2 { a[k + i] = i; } barrier { a[1000 - i] = a[k]; } }";
+    is_found(
+        &rt,
+        rt.alloc(),
+        text,
+        Some(WalkFault::Overlap { line: 3, cell: 999 }),
+    )
+}

@@ -9,7 +9,8 @@ use std::alloc::Global;
 use std::process::Abort;
 use std::test::Fail;
 use touch_bounds::{
-    Ranges, Stretch, Touch, UNTOUCHED, branches_are_apart, members_are_apart, tell_block,
+    Ranges, Stretch, Touch, UNTOUCHED, branches_are_apart, loop_is_settled, members_are_apart,
+    tell_block,
 };
 
 // What is told of each array of a program, in order of declaration, if all can be told.
@@ -108,7 +109,8 @@ fn an_index_that_may_be_outside_is_not_told(rt: HostRuntime) -> Result<(), Fail>
     )
 }
 
-// Whether the pieces of the first statement are seen to be apart: its branches, or the members in its first phase.
+// Whether the pieces of the first statement are seen to be apart: its branches, the members in its first phase, or those of
+// all sites that a loop enters.
 fn are_apart(rt: &impl Abort, alloc: Global, text: &str) -> Result<bool, Fail> {
     let program = parsed(alloc, text)?;
     assert!(rt; are_sized(&program.arrays));
@@ -120,9 +122,10 @@ fn first_is_apart(alloc: Global, program: &Program) -> Result<bool, Fail>
 {
     let layout = Layout::new(alloc, &program.arrays)?;
     let outermost = Scope::Outermost;
+    let ranges = Ranges::Fixed(&outermost);
     match program.body.statements.first() {
         Some(Stmt::Par { branches, .. }) => {
-            Ok(branches_are_apart(alloc, &layout, branches, &outermost))
+            Ok(branches_are_apart(alloc, &layout, branches, &ranges))
         }
         Some(
             Stmt::Team {
@@ -142,11 +145,20 @@ fn first_is_apart(alloc: Global, program: &Program) -> Result<bool, Fail>
                 *low,
                 *high,
                 members.unsigned_abs(),
-                &outermost,
+                &ranges,
             )),
             None => Err(Fail::new("the team has no phase")),
         },
-        _ => Err(Fail::new("the text begins with no construct")),
+        Some(
+            Stmt::For {
+                var,
+                low,
+                high,
+                body,
+                ..
+            },
+        ) => Ok(loop_is_settled(alloc, &layout, body, var, *low, *high, &ranges)),
+        _ => Err(Fail::new("the text begins with no construct and no loop")),
     }
 }
 
@@ -192,6 +204,50 @@ fn members_touch_what_their_iterations_do(rt: HostRuntime) -> Result<(), Fail> {
             (in_place, false),
             (shared, false),
             (idle, true),
+        ],
+    )
+}
+
+#[test]
+fn a_loop_is_settled_for_all_its_turns(rt: HostRuntime) -> Result<(), Fail> {
+    let fixed = "array a[2]; for i in 0..9 { par { { a[0] = i; } { a[1] = i; } } }";
+    let halves = "array a[6]; for i in 0..3 { par { { a[i] = 1; } { a[i + 3] = 2; } } }";
+    let each_turn_alone = "array a[4]; for i in 0..3 { par { { a[i] = 1; } { a[i + 1] = 2; } } }";
+    let phases =
+        "array a[4]; for i in 0..2 { team j in 0..4 by 2 { a[j] = i; } barrier { a[3 - j] = i; } }";
+    let second_phase =
+        "array a[4]; for i in 0..2 { team j in 0..4 by 2 { a[j] = i; } barrier { a[0] = i; } }";
+    are_seen_apart(
+        &rt,
+        rt.alloc(),
+        &[
+            (fixed, true),
+            (halves, true),
+            (each_turn_alone, false),
+            (phases, true),
+            (second_phase, false),
+        ],
+    )
+}
+
+#[test]
+fn all_sites_of_a_loop_are_looked_at(rt: HostRuntime) -> Result<(), Fail> {
+    let in_a_branch = "array a[3];
+        for i in 0..2 { par { { par { { a[0] = 1; } { a[0] = 2; } } } { a[2] = 1; } } }";
+    let in_a_phase = "array a[3];
+        for i in 0..2 { team j in 0..1 by 1 { par { { a[0] = 1; } { a[1] = a[0]; } } } }";
+    let last = "array a[3]; for i in 0..2 { a[2] = 0; for j in 0..2 {
+        par { { a[0] = 1; } { a[1] = 1; } } par { { a[0] = 1; } { a[0] = 1; } } } }";
+    let no_turn =
+        "array a[3]; for i in 0..2 { for j in 5..5 { par { { a[0] = 1; } { a[0] = 2; } } } }";
+    are_seen_apart(
+        &rt,
+        rt.alloc(),
+        &[
+            (in_a_branch, false),
+            (in_a_phase, false),
+            (last, false),
+            (no_turn, true),
         ],
     )
 }

@@ -12,10 +12,11 @@ ghost use Rattle.site_walk.specs.Marks.{HasPlaces};
 use crate::fault::WalkFault;
 use crate::round::{overlap_of_branches, overlap_of_members};
 use crate::table::Table;
-use array_eval::{Layout, Scope};
+use array_eval::{Layout, Scope, span};
 use array_tree::{Block, Blocks, Name, Stmt};
 use site_counts::sites_in_block;
 use std::alloc::Global;
+use touch_bounds::{Ranges, loop_is_settled, loop_pays};
 
 // Keeps the overlap of a `par` itself, unless something was found before.
 fn keep_par<'s>(
@@ -177,8 +178,8 @@ fn seek_statement<'s>(
     }
 }
 
-// The same of a block for each number from low to before high. One that enters no site is passed over, however many
-// turns it has.
+// The same of a block for each number from low to before high. One that enters no site is passed over, however many turns
+// it has, and so is one whose text shows for all turns at once that the pieces of each site are apart.
 #[cycle(seek)]
 fn seek_loop<'s>(
     alloc: Global,
@@ -196,6 +197,11 @@ fn seek_loop<'s>(
     ensures found { found.new ≡ or_overlap layout.now (loop_sites var.now low high (sequence_sites (sequence_of body.now)) (vars_of scope.now)) found.old }
 {
     if sites_in_block(body) == 0 {
+        return;
+    }
+    if loop_pays(body, span(low, high))
+        && loop_is_settled(alloc, layout, body, var, low, high, &Ranges::Fixed(scope))
+    {
         return;
     }
     for number in low..high {

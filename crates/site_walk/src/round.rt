@@ -16,7 +16,7 @@ use crate::table::Table;
 use array_eval::{Layout, Scope, span, start_of_member};
 use array_tree::{Block, Blocks, Name};
 use std::alloc::Global;
-use touch_bounds::{branches_are_apart, branches_pay, members_are_apart, phase_pays};
+use touch_bounds::{Ranges, branches_are_apart, branches_pay, members_are_apart, phase_pays};
 
 // Whether the pieces of a round clash on a cell.
 fn clashes_on(layout: &Layout, table: &Table, cell: usize) -> bool
@@ -79,7 +79,9 @@ pub(crate) fn overlap_of_branches<'s>(
     if branches.blocks.len() < 2 {
         return None;
     }
-    if branches_pay(branches) && branches_are_apart(alloc, layout, branches, scope) {
+    if branches_pay(branches)
+        && branches_are_apart(alloc, layout, branches, &Ranges::Fixed(scope))
+    {
         return None;
     }
     table.clear();
@@ -138,7 +140,16 @@ pub(crate) fn overlap_of_members<'s>(
         return None;
     }
     if phase_pays(phase, span(low, high), members)
-        && members_are_apart(alloc, layout, phase, var, low, high, members, scope)
+        && members_are_apart(
+            alloc,
+            layout,
+            phase,
+            var,
+            low,
+            high,
+            members,
+            &Ranges::Fixed(scope),
+        )
     {
         return None;
     }

@@ -1,6 +1,7 @@
 pub mod PieceLemmas
 pub mod RangeLemmas
 pub mod RoundLemmas
+pub mod SiteLemmas
 pub mod SumLemmas
 pub mod ToldLemmas
 pub mod TreeLemmas

@@ -78,7 +78,7 @@ turns_told arrays t body x (suc n) each =
     steps_told arrays t (body x) (turns body (x +ℤ pos 1) n) (each x (omega (arith, ints)) (omega (arith, ints)))
     (turns_told arrays t body (x +ℤ pos 1) n (λ y low high. each y (omega (arith, ints)) (omega (arith, ints))))
 
-span_reaches : (low high y : ℤ) → low <ℤ high → y <ℤ (low +ℤ pos (span low high)) → y <ℤ high
+pub span_reaches : (low high y : ℤ) → low <ℤ high → y <ℤ (low +ℤ pos (span low high)) → y <ℤ high
 span_reaches low high y some h = grind (arith, ints)
 
 pub loop_told : (arrays : Arrays) (t : List Touch) (bounds : Bounds) (var : List ℕ) (low high : ℤ) (within : Interval) (body : Work) → low <ℤ high →

@@ -1,10 +1,12 @@
 -- Pieces of which is told what they touch.
 use Rattle.std.specs.Prelude.{ℕ, ◌<◌, List, [], ◌∷◌, length, map}
-use Rattle.array_meaning.specs.Stores.{Arrays}
+use Rattle.array_meaning.specs.Stores.{Arrays, Vars}
 use Rattle.array_meaning.specs.Steps.{Steps}
 use Rattle.array_meaning.specs.Touch.{walk, IsApart}
+use Rattle.array_meaning.specs.Sites.{Site, AreRoundsApart, AreSitesApart}
 use Rattle.touch_bounds.specs.declared.apart.Piece.{Piece}
 use Rattle.touch_bounds.specs.declared.touch.Touch.{Touch}
+use Rattle.touch_bounds.specs.Ranges.{Bounds, AreWithin}
 use Rattle.touch_bounds.specs.Touches.{DoClash, touch_at, AreVisitsTold}
 
 -- What is told of each piece, array by array.
@@ -17,6 +19,25 @@ ArePiecesTold arrays [] [] = Unit {0}
 ArePiecesTold arrays [] (piece ∷ more) = ⊥
 ArePiecesTold arrays (t ∷ rest) [] = ⊥
 ArePiecesTold arrays (t ∷ rest) (piece ∷ more) = AreVisitsTold arrays t (walk arrays piece) × ArePiecesTold arrays rest more
+
+-- The pieces of a round, by the values of the variables around.
+abbrev pub Round : Type 0
+Round = Vars → List Steps
+
+-- What is told of each piece is true, whatever values the variables have between their bounds.
+abbrev pub IsRoundTold : Arrays → List (List Touch) → Bounds → Round → Type 0
+IsRoundTold arrays tables bounds round = (vars : Vars) → AreWithin bounds vars → ArePiecesTold arrays tables (round vars)
+
+-- The pieces are apart, whatever values the variables have between their bounds.
+abbrev pub IsRoundApart : Arrays → Bounds → Round → Type 0
+IsRoundApart arrays bounds round = (vars : Vars) → AreWithin bounds vars → IsApart arrays (round vars)
+
+-- The rounds of a construct, and the sites of a text, by the values of the variables around: all are so.
+abbrev pub AreAllRoundsApart : Arrays → Bounds → (Vars → List (List Steps)) → Type 0
+AreAllRoundsApart arrays bounds rounds = (vars : Vars) → AreWithin bounds vars → AreRoundsApart arrays (rounds vars)
+
+abbrev pub AreAllSitesApart : Arrays → Bounds → (Vars → List Site) → Type 0
+AreAllSitesApart arrays bounds sites = (vars : Vars) → AreWithin bounds vars → AreSitesApart arrays (sites vars)
 
 -- What one piece does to an array clashes with what none of these do to it.
 abbrev pub IsClearOf : ℕ → Touch → List (List Touch) → Type 0

@@ -5,12 +5,12 @@ ghost use Rattle.array_tree.specs.Trees.{statement_of, sequence_of, sequences_of
 ghost use Rattle.array_meaning.specs.Work.{statement_work, sequence_work, loop};
 ghost use Rattle.array_meaning.specs.Members.{team_works};
 ghost use Rattle.array_meaning.specs.Sites.{branch_works};
-ghost use Rattle.array_meaning.specs.Touch.{walk, IsApart};
+ghost use Rattle.array_meaning.specs.Touch.{walk};
 ghost use Rattle.array_meaning.specs.Accepted.{are_inside};
 ghost use Rattle.array_eval.specs.Views.{vars_of};
 ghost use Rattle.touch_bounds.specs.Ranges.{bounds_of};
 ghost use Rattle.touch_bounds.specs.Touches.{IsWorkTold};
-ghost use Rattle.touch_bounds.specs.Pieces.{tables_of, ArePiecesTold};
+ghost use Rattle.touch_bounds.specs.Pieces.{tables_of, IsRoundTold, IsRoundApart};
 
 use crate::apart::{Piece, are_all_clear};
 use crate::ranges::Ranges;
@@ -62,14 +62,13 @@ fn told_branches<'s>(
     alloc: Global,
     layout: &Layout,
     branches: &'s Blocks,
-    scope: &'s Scope<'s>,
+    ranges: &'s Ranges<'s>,
 ) -> Option<Vec<Piece>>
-    ensures { IfSome result (λ pieces. ArePiecesTold layout.now (tables_of pieces.items) (branch_works (sequences_of branches.now) (vars_of scope.now))) }
+    ensures { IfSome result (λ pieces. IsRoundTold layout.now (tables_of pieces.items) (bounds_of ranges.now) (branch_works (sequences_of branches.now))) }
 {
-    let ranges = Ranges::Fixed(scope);
     let mut pieces = Vec::new(alloc);
     for branch in &branches.blocks {
-        let piece = told_block(alloc, layout, branch, &ranges)?;
+        let piece = told_block(alloc, layout, branch, ranges)?;
         pieces.push(piece).ok()?;
     }
     Some(pieces)
@@ -84,38 +83,38 @@ fn told_members<'s>(
     low: i64,
     high: i64,
     members: u64,
-    scope: &'s Scope<'s>,
+    ranges: &'s Ranges<'s>,
 ) -> Option<Vec<Piece>>
-    ensures { IfSome result (λ pieces. ArePiecesTold layout.now (tables_of pieces.items) (team_works var.now low high members (sequence_work (sequence_of phase.now)) (vars_of scope.now))) }
+    ensures { IfSome result (λ pieces. IsRoundTold layout.now (tables_of pieces.items) (bounds_of ranges.now) (team_works var.now low high members (sequence_work (sequence_of phase.now)))) }
 {
-    let ranges = Ranges::Fixed(scope);
     let mut pieces = Vec::new(alloc);
     for member in 0..members {
         let start = start_of_member(low, high, members, member);
         let end = start_of_member(low, high, members, member + 1);
-        let piece = told_loop(alloc, layout, phase, var, start, end, &ranges)?;
+        let piece = told_loop(alloc, layout, phase, var, start, end, ranges)?;
         pieces.push(piece).ok()?;
     }
     Some(pieces)
 }
 
-/// Whether the branches of a `par` are seen to be apart: what each touches, array by array, is a stretch that no other one
-/// writes into. Where they aren't seen to be, or memory is wanting, they may yet be.
+/// Whether the branches of a `par` are seen to be apart, whatever values the variables have between their bounds: what each
+/// touches, array by array, is a stretch that no other one writes into. Where they aren't seen to be, or memory is wanting,
+/// they may yet be.
 pub fn branches_are_apart<'s>(
     alloc: Global,
     layout: &Layout,
     branches: &'s Blocks,
-    scope: &'s Scope<'s>,
+    ranges: &'s Ranges<'s>,
 ) -> bool
-    ensures { OnTrue result (IsApart layout.now (branch_works (sequences_of branches.now) (vars_of scope.now))) }
+    ensures { OnTrue result (IsRoundApart layout.now (bounds_of ranges.now) (branch_works (sequences_of branches.now))) }
 {
-    match told_branches(alloc, layout, branches, scope) {
+    match told_branches(alloc, layout, branches, ranges) {
         Some(pieces) => are_all_clear(&pieces, layout.count()),
         None => false,
     }
 }
 
-/// Whether the members of a `team` are seen to be apart in one phase.
+/// Whether the members of a `team` are seen to be apart in one phase, likewise.
 pub fn members_are_apart<'s>(
     alloc: Global,
     layout: &Layout,
@@ -124,11 +123,11 @@ pub fn members_are_apart<'s>(
     low: i64,
     high: i64,
     members: u64,
-    scope: &'s Scope<'s>,
+    ranges: &'s Ranges<'s>,
 ) -> bool
-    ensures { OnTrue result (IsApart layout.now (team_works var.now low high members (sequence_work (sequence_of phase.now)) (vars_of scope.now))) }
+    ensures { OnTrue result (IsRoundApart layout.now (bounds_of ranges.now) (team_works var.now low high members (sequence_work (sequence_of phase.now)))) }
 {
-    match told_members(alloc, layout, phase, var, low, high, members, scope) {
+    match told_members(alloc, layout, phase, var, low, high, members, ranges) {
         Some(pieces) => are_all_clear(&pieces, layout.count()),
         None => false,
     }

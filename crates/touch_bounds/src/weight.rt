@@ -66,6 +66,12 @@ pub fn phase_pays(phase: &Block, iterations: u64, members: u64) -> bool {
         .pays(members, members)
 }
 
+/// Whether it pays to look at the text of a loop's body once, for all its turns. Each phase's text may be looked at for each
+/// of 64 members, and each two of 64 pieces be compared.
+pub fn loop_pays(body: &Block, turns: u64) -> bool {
+    weigh_block(body).times(turns).pays(64, 64)
+}
+
 #[cycle(weigh)]
 fn weigh_block(block: &Block) -> Weight {
     let mut weight = Weight::none();

@@ -1,14 +1,15 @@
-use Rattle.std.proofs.Common.{arith, ◌+ℤ◌, ◌<ℤ◌, pos, to_z, of_z, ◌+◌, drop, map, ap, sym, ◌∙◌, ◌≡◌, [], ◌∷◌, w64}
+use Rattle.std.proofs.Common.{arith, ◌+ℤ◌, ◌<ℤ◌, pos, to_z, of_z, ◌+◌, drop, map, ap, sym, subst, ◌∙◌, ◌≡◌, [], ◌∷◌, w64}
 use mir.Val.{SFits}
 use Rattle.std.proofs.lemmas.Int.{to_z-of_z, ints}
 use Rattle.array_tree.specs.Trees.{statement_of, sequence_of, sequences_of, sequence, sequences}
-use Rattle.array_meaning.specs.Sites.{branch_works, statement_sites, sequence_sites, branches_sites, phases_sites, loop_sites}
+use Rattle.array_meaning.specs.Sites.{AreSitesApart, branch_works, statement_sites, sequence_sites, branches_sites, phases_sites, loop_sites}
 use Rattle.array_eval.specs.Views.{vars_of}
 use Rattle.site_walk.specs.FirstOverlap.{rounds_fault, first_overlap, or_overlap}
 use Rattle.array_meaning.proofs.LastLemmas.{or_assoc}
 use Rattle.touch_bounds.proofs.TreeLemmas.{statement-if, statement-par}
 use Rattle.site_walk.proofs.SiteLemmas.{or_overlap_append, statement_next, branch_next, phase_next, turn_next}
-use Rattle.site_walk.proofs.SettledLemmas.{no_sites}
+use Rattle.site_walk.proofs.SettledLemmas.{no_sites, apart_sites}
+use Rattle.touch_bounds.proofs.RangeLemmas.{fixed_within}
 use Rattle.site_walk.proofs.overlap.+seek.Goals as goal
 
 pub seek_block-loop-statement-preserved : goal.seek_block-loop-statement-preserved
@@ -61,6 +62,17 @@ pub seek_loop-returns-then-sites_in_block-eq0-clause-found : goal.seek_loop-retu
 seek_loop-returns-then-sites_in_block-eq0-clause-found t c =
     no_sites c.args.layout.now c.args.var.now c.args.low c.args.high (sequence_of c.args.body.now) (vars_of c.args.scope.now) c.args.found.now
     (sym c.sites_in_block.ensures ∙ c.if-sites_in_block-eq0.true)
+
+pub seek_loop-returns-then-loop_is_settled-clause-found : goal.seek_loop-returns-then-loop_is_settled-clause-found
+seek_loop-returns-then-loop_is_settled-clause-found t c =
+    let arrays = c.args.layout.now in
+    let vars = vars_of c.args.scope.now in
+    let var = c.args.var.now in
+    let body = sequence_sites (sequence_of c.args.body.now) in
+    apart_sites arrays (loop_sites var c.args.low c.args.high body vars) c.args.found.now
+    (subst (λ h. AreSitesApart arrays (loop_sites var c.args.low h body vars)) (to_z-of_z w64 c.args.high c.ranges.high)
+    (subst (λ l. AreSitesApart arrays (loop_sites var l (to_z w64 (of_z w64 c.args.high)) body vars)) (to_z-of_z w64 c.args.low c.ranges.low)
+    (c.if-loop_is_settled.ensures vars (fixed_within vars))))
 
 pub seek_phases-loop-phase-preserved : goal.seek_phases-loop-phase-preserved
 seek_phases-loop-phase-preserved t c =

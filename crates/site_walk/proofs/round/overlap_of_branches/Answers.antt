@@ -12,6 +12,7 @@ use Rattle.site_walk.specs.Marks.{with_pieces, done_at, HasPlaces, cleared}
 use Rattle.site_walk.proofs.PieceLemmas.{least_overlap, pieces_keep_places, cleared_places}
 use Rattle.site_walk.proofs.AloneLemmas.{branches_alone}
 use Rattle.site_walk.proofs.SettledLemmas.{apart_overlap}
+use Rattle.touch_bounds.proofs.RangeLemmas.{fixed_within}
 use Rattle.site_walk.proofs.round.overlap_of_branches.Goals as goal
 
 pub returns-clause-places : goal.returns-clause-places
@@ -45,4 +46,4 @@ returns-then-len-lt2-clause-found c =
 pub returns-then-branches_are_apart-clause-found : goal.returns-then-branches_are_apart-clause-found
 returns-then-branches_are_apart-clause-found c =
     let arrays = c.args.layout.now in
-    sym (apart_overlap arrays (cells_of arrays) (branch_works (sequences_of c.args.branches.now) (vars_of c.args.scope.now)) c.if-branches_are_apart.ensures)
+    sym (apart_overlap arrays (cells_of arrays) (branch_works (sequences_of c.args.branches.now) (vars_of c.args.scope.now)) (c.if-branches_are_apart.ensures (vars_of c.args.scope.now) (fixed_within (vars_of c.args.scope.now))))

@@ -11,6 +11,7 @@ use Rattle.site_walk.specs.Marks.{with_pieces, done_at, HasPlaces, cleared}
 use Rattle.site_walk.proofs.PieceLemmas.{least_overlap, pieces_keep_places, cleared_places}
 use Rattle.site_walk.proofs.AloneLemmas.{members_alone}
 use Rattle.site_walk.proofs.SettledLemmas.{apart_overlap}
+use Rattle.touch_bounds.proofs.RangeLemmas.{fixed_within}
 use Rattle.site_walk.proofs.round.overlap_of_members.Goals as goal
 
 pub returns-clause-places : goal.returns-clause-places
@@ -52,4 +53,4 @@ returns-then-members_are_apart-clause-found c =
     let high = to_z w64 (of_z w64 c.args.high) in
     sym (ap (λ h. overlap arrays cells (team_works var c.args.low h members body vars)) (sym (to_z-of_z w64 c.args.high c.ranges.high))
     ∙ ap (λ l. overlap arrays cells (team_works var l high members body vars)) (sym (to_z-of_z w64 c.args.low c.ranges.low))
-    ∙ apart_overlap arrays cells (team_works var low high members body vars) c.if-members_are_apart.ensures)
+    ∙ apart_overlap arrays cells (team_works var low high members body vars) (c.if-members_are_apart.ensures vars (fixed_within vars)))

@@ -5,17 +5,14 @@ use Rattle.array_tree.specs.Trees.{sequence_of}
 use Rattle.array_meaning.specs.Work.{sequence_work, loop}
 use Rattle.array_meaning.specs.Members.{start_of, member_works, team_works}
 use Rattle.array_meaning.specs.Touch.{walk}
-use Rattle.array_eval.specs.Views.{vars_of}
 use Rattle.touch_bounds.specs.Touches.{AreVisitsTold}
 use Rattle.touch_bounds.specs.Pieces.{tables_of, ArePiecesTold}
-use Rattle.touch_bounds.proofs.RangeLemmas.{fixed_within}
 use Rattle.touch_bounds.proofs.RoundLemmas.{Completes, member_next, completed}
 use Rattle.touch_bounds.proofs.round.told_members.Goals as goal
 
 pub loop-member-preserved : goal.loop-member-preserved
-loop-member-preserved c =
+loop-member-preserved c vars within =
     let arrays = c.args.layout.now in
-    let vars = vars_of c.args.scope.now in
     let var = c.args.var.now in
     let low = to_z w64 (of_z w64 c.args.low) in
     let high = to_z w64 (of_z w64 c.args.high) in
@@ -31,14 +28,13 @@ loop-member-preserved c =
     = to_z-of_z w64 to (record { sfits = c.start_of_member-end.type_inv }) ∙ c.start_of_member-end.ensures in
     let pushed : c.push.new.self.items ≡ c.loop-member.pieces.items ++ piece ∷ [] = grind (arith, common_steps) in
     let here = subst (λ y. AreVisitsTold arrays piece.touches.items (walk arrays (loop var (start_of low high members j) y body vars))) ends
-    (subst (λ x. AreVisitsTold arrays piece.touches.items (walk arrays (loop var x (to_z w64 (of_z w64 to)) body vars))) starts (c.in_ok-piece.ensures vars (fixed_within vars))) in
+    (subst (λ x. AreVisitsTold arrays piece.touches.items (walk arrays (loop var x (to_z w64 (of_z w64 to)) body vars))) starts (c.in_ok-piece.ensures vars within)) in
     subst (λ pieces. Completes arrays pieces (member_works var low high members body (j + 1) (members - (j + 1)) vars) (team_works var low high members body vars)) (sym pushed)
-    (member_next arrays c.loop-member.pieces.items piece var low high members body j vars (team_works var low high members body vars) c.loop-member-test.true c.loop-member.invariant here)
+    (member_next arrays c.loop-member.pieces.items piece var low high members body j vars (team_works var low high members body vars) c.loop-member-test.true (c.loop-member.invariant vars within) here)
 
 pub returns : goal.returns
-returns c =
+returns c vars within =
     let arrays = c.args.layout.now in
-    let vars = vars_of c.args.scope.now in
     let var = c.args.var.now in
     let low = to_z w64 (of_z w64 c.args.low) in
     let high = to_z w64 (of_z w64 c.args.high) in
@@ -49,6 +45,6 @@ returns c =
     let ends = c.loop-member-test.false in
     let none : members - j ≡ 0 = omega arith in
     let all = completed arrays pieces (team_works var low high members body vars)
-    (subst (λ k. Completes arrays pieces (member_works var low high members body j k vars) (team_works var low high members body vars)) none c.loop-member.invariant) in
+    (subst (λ k. Completes arrays pieces (member_works var low high members body j k vars) (team_works var low high members body vars)) none (c.loop-member.invariant vars within)) in
     subst (λ h. ArePiecesTold arrays (tables_of pieces) (team_works var c.args.low h members body vars)) (to_z-of_z w64 c.args.high c.ranges.high)
     (subst (λ l. ArePiecesTold arrays (tables_of pieces) (team_works var l high members body vars)) (to_z-of_z w64 c.args.low c.ranges.low) all)
