@@ -7,3 +7,4 @@ pub mod Written
 pub mod SpelledTokens
 pub mod SpelledTrees
 pub mod PrintedPrograms
+pub mod LinelessTexts

@@ -12,16 +12,8 @@ use Rattle.array_tokens.specs.declared.token.Sign.{Sign}
 use Rattle.array_tokens.specs.declared.token.Sign.TheVariants as signs
 use Rattle.array_tokens.proofs.Cutting.{digit_step}
 use Rattle.array_lang.specs.Grammar.{BoundOf, plain_bound, negative_bound}
+use Rattle.array_print.specs.Writable.{AreNameBytes, IsName, IsBound}
 use Rattle.array_print.proofs.Cuts.{One, one, Nothing, nothing, Then, joined, AreAscii, NoName, Anything, CutsInto, cuts_both, cuts_as, cuts_one, cuts_space}
-
-abbrev pub AreNameBytes : List ℕ → Type 0
-AreNameBytes [] = Unit {0}
-AreNameBytes (b ∷ bs) = (is_name_byte b ≡ true) × AreNameBytes bs
-
--- a letter, then letters and digits, and no word
-abbrev pub IsName : List ℕ → Type 0
-IsName [] = ⊥
-IsName (b ∷ bs) = (is_letter b ≡ true) × AreNameBytes bs × (word_of (b ∷ bs) ≡ None)
 
 name_byte_ascii : (b : ℕ) → is_name_byte b ≡ true → is_ascii b ≡ true
 name_byte_ascii b h = grind (arith, nat_tests)
@@ -173,11 +165,7 @@ cuts_number n small =
     subst (λ m. CutsInto (decimal n) (One (number (pos m))) NoName) v
     (digits_cut (decimal n) (decimal_is_IsNumeral n fits).0.0 (digits_decimal own n fits) (ap (λ m. nat_le m 9223372036854775807) v ∙ le))
 
--- the bound of a loop, positive or negative
-abbrev pub IsBound : ℤ → Type 0
-IsBound (pos n) = n ≤ 9223372036854775807
-IsBound (negsuc n) = suc n ≤ 9223372036854775807
-
+-- the bound of a loop
 abbrev Bound : ℤ → List Spot → List Spot → Type 0
 Bound v s t = BoundOf s t v
 

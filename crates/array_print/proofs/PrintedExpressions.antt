@@ -11,32 +11,8 @@ use Rattle.array_lang.specs.Nesting.{expression_marks, sum_marks, term_marks, fa
 use Rattle.array_lang.specs.declared.operator.Strength.TheVariants.{Comparison as comparison, Addition as addition, Product as product}
 use Rattle.array_print.specs.Texts.{op_strength, strength_of, groups_left, groups_right, groups_negated, grouped_text, op_text, expression_text}
 use Rattle.array_print.proofs.Cuts.{One, one, Then, joined, NoName, Anything, CutsInto, cuts_both, cuts_as, weaker}
-use Rattle.array_print.proofs.Pieces.{IsName, cuts_name, cuts_number, cuts_open_index, cuts_close_index, cuts_open_group, cuts_close_group, cuts_minus, cuts_spaced}
-
--- a pair of parentheses is one mark
-abbrev pub parens : Bool → ℕ
-parens true = 1
-parens false = 0
-
--- the marks of the printed text
-abbrev pub marks_of : Expression → ℕ
-marks_of (Number v) = 0
-marks_of (Var b) = 0
-marks_of (Read b x) = 1 + marks_of x
-marks_of (Neg x) = 1 + (parens (groups_negated x) + marks_of x)
-marks_of (Binary op x y) = (parens (groups_left op x) + marks_of x) + 1 + (parens (groups_right op y) + marks_of y)
-
-abbrev pub IsNumber : ℤ → Type 0
-IsNumber (pos n) = n ≤ 9223372036854775807
-IsNumber (negsuc n) = ⊥
-
--- The names and numbers of the expression are some that texts spell.
-abbrev pub IsPrintable : Expression → Type 0
-IsPrintable (Number v) = IsNumber v
-IsPrintable (Var b) = IsName b
-IsPrintable (Read b x) = IsName b × IsPrintable x
-IsPrintable (Neg x) = IsPrintable x
-IsPrintable (Binary op x y) = IsPrintable x × IsPrintable y
+use Rattle.array_print.specs.Writable.{IsPrintable, parens, marks_of}
+use Rattle.array_print.proofs.Pieces.{cuts_name, cuts_number, cuts_open_index, cuts_close_index, cuts_open_group, cuts_close_group, cuts_minus, cuts_spaced}
 
 -- The tokens spell the expression with at most m marks.
 pub record IsExpression (x : Expression) (m : ℕ) (s t : List Spot) : Type 0 where

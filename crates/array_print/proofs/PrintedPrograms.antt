@@ -1,5 +1,5 @@
 -- The printed text of a program that some text spells spells it up to line numbers.
-use Rattle.std.proofs.Common.{◌≡◌, ℕ, List, [], ◌∷◌, map, true, Result, Ok, Err, IfOk, refl, sym, ap, ◌∙◌, subst}
+use Rattle.std.proofs.Common.{◌≡◌, ℕ, List, [], ◌∷◌, map, true, refl, ap, ◌∙◌}
 use Rattle.std.specs.Prelude.{codes, flat_map}
 use Rattle.array_tokens.specs.Lexemes.{name, number, word, sign, Spot}
 use Rattle.array_tokens.specs.declared.token.Word.TheVariants as words
@@ -9,18 +9,13 @@ use Rattle.array_lang.specs.Grammar.{DeclarationOf, declaration, DeclarationsOf,
 use Rattle.array_lang.specs.Nesting.{program_fits}
 use Rattle.array_lang.specs.Spelled.{Spells}
 use Rattle.array_print.specs.Texts.{declaration_text, printed}
-use Rattle.array_print.specs.Spellings.{lineless_sequence, lineless_declaration, lineless, IsSpelled, SpellsButLines}
+use Rattle.array_print.specs.Spellings.{lineless_sequence, lineless_declaration, lineless, SpellsButLines}
 use Rattle.array_print.proofs.Cuts.{One, one, Nothing, nothing, Then, joined, Anything, CutsInto, cuts_both, cuts_as, cuts_none, cuts_space, cuts_newline, Whole, cuts_whole}
-use Rattle.array_print.proofs.Pieces.{IsName, cuts_name, cuts_word, cuts_open_index, cuts_close_index, cuts_semicolon, cuts_before}
-use Rattle.array_print.proofs.PrintedExpressions.{IsNumber}
-use Rattle.array_print.proofs.PrintedStatements.{CanFollow, IsSequence, sequence_cuts, member_cuts}
+use Rattle.array_print.specs.Writable.{IsName, IsNumber, CanFollow, AreDeclarable, IsWritable}
+use Rattle.array_print.proofs.Pieces.{cuts_name, cuts_word, cuts_open_index, cuts_close_index, cuts_semicolon, cuts_before}
+use Rattle.array_print.proofs.PrintedStatements.{IsSequence, sequence_cuts, member_cuts}
 use Rattle.array_print.proofs.SpelledTokens.{AreGood, tokens_good}
 use Rattle.array_print.proofs.SpelledTrees.{sequence_stands}
-
--- Declarations that texts spell.
-abbrev AreDeclarable : List Declaration → Type 0
-AreDeclarable [] = Unit {0}
-AreDeclarable (d ∷ ds) = IsName d.name × IsNumber d.length × AreDeclarable ds
 
 record IsDeclaration (array : Declaration) (s t : List Spot) : Type 0 where
   tree : Declaration
@@ -97,14 +92,17 @@ whole_spells text p w =
     let r = program_is p w.spells in
     (r.tree, record { tokens = w.tokens; cut = w.cut_is; tree = r.d; fits = r.fits }, r.same)
 
--- where some text spells the program, the printed text does too, up to line numbers
-pub printed_spells : (text : List ℕ) (p : ProgramTree) → Spells text p → SpellsButLines (printed p) p
-printed_spells text p h =
+-- a writable program is spelled by its printed text, up to line numbers
+pub writable_spells : (p : ProgramTree) → IsWritable p → SpellsButLines (printed p) p
+writable_spells p h = whole_spells (printed p) p (cuts_whole (program_cuts p h.declares h.does) tt)
+
+-- a program that some text spells is writable
+pub spelled_writable : (text : List ℕ) (p : ProgramTree) → Spells text p → IsWritable p
+spelled_writable text p h =
     let declares = declarations_good h.tree.declares (tokens_good text h.tokens h.cut) in
     let does = sequence_stands h.tree.does 0 declares.1 h.fits in
-    whole_spells (printed p) p (cuts_whole (program_cuts p declares.0 does.0) tt)
+    record { declares = declares.0; does = does.0 }
 
--- the same of what a function answers
-pub answer_spells : {T F : Type 0} (r : Result T F) (view : T → List ℕ) (p : ProgramTree) → IsSpelled p → IfOk r (λ x. view x ≡ printed p) → IfOk r (λ x. SpellsButLines (view x) p)
-answer_spells (Ok x) view p h e = subst (λ text. SpellsButLines text p) (sym e) (printed_spells h.0 p h.1)
-answer_spells (Err f) view p h e = tt
+-- where some text spells the program, the printed text does too, up to line numbers
+pub printed_spells : (text : List ℕ) (p : ProgramTree) → Spells text p → SpellsButLines (printed p) p
+printed_spells text p h = writable_spells p (spelled_writable text p h)

@@ -12,34 +12,9 @@ use Rattle.array_lang.specs.Nesting.{expression_marks, expression_fits, statemen
 use Rattle.array_print.specs.Texts.{target_text, range_text, dealt_text, wider, block_text, else_text, branch_text, statement_text, sequence_text, branches_text, phases_text}
 use Rattle.array_print.specs.Spellings.{lineless_statement, lineless_sequence, lineless_sequences}
 use Rattle.array_print.proofs.Cuts.{One, one, Nothing, nothing, Then, joined, NoName, Anything, CutsInto, cuts_both, cuts_as, cuts_none, cuts_space, cuts_newline}
-use Rattle.array_print.proofs.Pieces.{IsName, IsBound, cuts_name, cuts_word, cuts_number, cuts_bound, cuts_open_index, cuts_close_index, cuts_open_block, cuts_close_block, cuts_semicolon, cuts_range, cuts_before, cuts_after_space, cuts_spaced}
-use Rattle.array_print.proofs.PrintedExpressions.{marks_of, IsNumber, IsPrintable, IsExpression, expression_cuts}
-
--- An outermost expression that texts spell within the bound on marks.
-abbrev pub IsWhole : Expression → Type 0
-IsWhole x = IsPrintable x × (marks_of x ≤ 64)
-
-abbrev pub IsSome : Sequences → Type 0
-IsSome no_more = ⊥
-IsSome (beside p rest) = Unit {0}
-
--- Statements that texts spell inside this many open braces.
-abbrev mutual
-  pub CanStand : ℕ → Statement → Type 0
-  CanStand depth (Assign line array index value) = IsName array × IsWhole index × IsWhole value
-  CanStand depth (For line var low high body) = IsName var × IsBound low × IsBound high × (depth < 32) × CanFollow (depth + 1) body
-  CanStand depth (If line cond left right) = IsWhole cond × (depth < 32) × CanFollow (depth + 1) left × CanFollow (depth + 1) right
-  CanStand depth (Par line branches) = (depth < 32) × IsSome branches × CanBranch (depth + 1) branches
-  CanStand depth (Team line var low high members phases) =
-      IsName var × IsBound low × IsBound high × IsNumber members × IsSome phases × CanBranch depth phases
-
-  pub CanFollow : ℕ → Sequence → Type 0
-  CanFollow depth ended = Unit {0}
-  CanFollow depth (followed first rest) = CanStand depth first × CanFollow depth rest
-
-  pub CanBranch : ℕ → Sequences → Type 0
-  CanBranch depth no_more = Unit {0}
-  CanBranch depth (beside first rest) = (depth < 32) × CanFollow (depth + 1) first × CanBranch depth rest
+use Rattle.array_print.specs.Writable.{IsName, IsNumber, IsBound, IsPrintable, IsWhole, IsSome, CanStand, CanFollow, CanBranch, marks_of}
+use Rattle.array_print.proofs.Pieces.{cuts_name, cuts_word, cuts_number, cuts_bound, cuts_open_index, cuts_close_index, cuts_open_block, cuts_close_block, cuts_semicolon, cuts_range, cuts_before, cuts_after_space, cuts_spaced}
+use Rattle.array_print.proofs.PrintedExpressions.{IsExpression, expression_cuts}
 
 -- The tokens spell the statement up to line numbers, within the bounds, inside this many open braces.
 pub record IsStatement (depth : ℕ) (c : Statement) (s t : List Spot) : Type 0 where

@@ -6,8 +6,7 @@ use Rattle.array_tokens.specs.Lexemes.{Lexeme, name, number, word, sign, Spot, F
 use Rattle.array_tokens.specs.declared.token.Word.{Word}
 use Rattle.array_tokens.specs.declared.token.Sign.{Sign}
 use Rattle.array_tokens.specs.declared.fault.TokenFault.{TokenFault}
-use Rattle.array_print.proofs.Pieces.{AreNameBytes, IsName}
-use Rattle.array_print.proofs.PrintedExpressions.{IsNumber}
+use Rattle.array_print.specs.Writable.{AreNameBytes, IsName, IsNumber}
 
 -- A name is one that texts spell, and so is a number.
 abbrev pub IsGood : Lexeme → Type 0

@@ -11,9 +11,7 @@ use Rattle.array_lang.specs.Nesting.{expression_marks, sum_marks, term_marks, fa
 use Rattle.array_lang.specs.declared.operator.Strength.{Strength}
 use Rattle.array_lang.specs.declared.operator.Strength.TheVariants.{Comparison as comparison, Addition as addition, Product as product}
 use Rattle.array_print.specs.Texts.{op_strength, strength_of, groups_left, groups_right}
-use Rattle.array_print.proofs.Pieces.{IsName, IsBound}
-use Rattle.array_print.proofs.PrintedExpressions.{parens, marks_of, IsNumber, IsPrintable}
-use Rattle.array_print.proofs.PrintedStatements.{IsWhole, IsSome, CanStand, CanFollow, CanBranch}
+use Rattle.array_print.specs.Writable.{IsName, IsNumber, IsBound, IsPrintable, IsWhole, IsSome, CanStand, CanFollow, CanBranch, parens, marks_of}
 use Rattle.array_print.proofs.SpelledTokens.{AreGood}
 
 -- what holds of names and numbers

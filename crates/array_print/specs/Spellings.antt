@@ -3,10 +3,6 @@ use Rattle.std.specs.Prelude.{◌≡◌, ℕ, List, map}
 use Rattle.array_tree.specs.Trees.{Statement, Assign, For, If, Par, Team, Sequence, ended, followed, Sequences, no_more, beside, Declaration, ProgramTree}
 use Rattle.array_lang.specs.Spelled.{Spells}
 
--- Some text spells the program.
-abbrev pub IsSpelled : ProgramTree → Type 0
-IsSpelled program = (text : List ℕ) × Spells text program
-
 -- a tree with 0 for each of its line numbers
 abbrev mutual
   pub lineless_statement : Statement → Statement
@@ -37,3 +33,7 @@ SameButLines p q = lineless p ≡ lineless q
 -- The text spells the program up to its line numbers.
 abbrev pub SpellsButLines : List ℕ → ProgramTree → Type 0
 SpellsButLines text p = (q : ProgramTree) × Spells text q × SameButLines q p
+
+-- Some text spells the program up to its line numbers.
+abbrev pub IsSpelledButLines : ProgramTree → Type 0
+IsSpelledButLines p = (text : List ℕ) × SpellsButLines text p

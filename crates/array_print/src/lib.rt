@@ -6,5 +6,5 @@ mod laws;
 mod program;
 mod statements;
 
-pub use laws::printed_text_spells;
+pub use laws::{printed_text_spells, writable_programs_are_spelled};
 pub use program::print;

@@ -2,7 +2,7 @@
 
 ghost use Rattle.std.specs.Prelude.{◌≡◌, ◌++◌, OnOk, IfOk};
 ghost use Rattle.array_tree.specs.Trees.{declaration_of, program_of};
-ghost use Rattle.array_print.specs.Spellings.{IsSpelled, SpellsButLines};
+ghost use Rattle.array_print.specs.Spellings.{IsSpelledButLines, SpellsButLines};
 ghost use Rattle.array_print.specs.Texts.{declaration_text, printed};
 
 use crate::expressions::print_number;
@@ -10,11 +10,11 @@ use crate::statements::print_statements;
 use array_tree::{ArrayDecl, Program};
 use std::alloc::{AllocError, Global};
 
-/// The text of a program that some text spells. Each declaration and each statement begins a line of its own, after
-/// two spaces per open block; operands stand in parentheses where their binding strengths ask for it. The text spells
-/// the program up to its line numbers.
+/// The text of a program that some text spells, be it up to its line numbers. Each declaration and each statement begins a
+/// line of its own, after two spaces per open block; operands stand in parentheses where their binding strengths ask for
+/// it. The text spells the program up to its line numbers.
 pub fn print(alloc: Global, program: &Program) -> Result<Vec<u8>, AllocError>
-    requires { IsSpelled (program_of program.now) }
+    requires { IsSpelledButLines (program_of program.now) }
     ensures layout { IfOk result (λ text. text.items ≡ printed (program_of program.now)) }
     ensures spelled { IfOk result (λ text. SpellsButLines text.items (program_of program.now)) }
 {

@@ -16,14 +16,14 @@ Given = List ℕ × List ℕ
 abbrev pub with_option : Given → Option (List Given) → Option (List Given)
 with_option option rest = option_map (λ more. option ∷ more) rest
 
--- The options that words give, where an option may wait for the word that is its value: `long_of` takes `--name` or
--- `--name=value` apart.
 -- what an option's word comes to: with its value, or without it
 abbrev pub option_at : Option (List ℕ × Option (List ℕ)) → (Option (List ℕ) → Option (List Given)) → Option (List Given)
 option_at None rest = None
 option_at (Some (name, Some value)) rest = with_option (name, value) (rest None)
 option_at (Some (name, None)) rest = rest (Some name)
 
+-- The options that words give, where an option may wait for the word that is its value: `long_of` takes `--name` or
+-- `--name=value` apart.
 abbrev pub options_from : Option (List ℕ) → List (List ℕ) → Option (List Given)
 options_from None [] = Some []
 options_from (Some name) [] = None

@@ -10,7 +10,8 @@ use Rattle.disjoint_check.specs.declared.fault.CheckFault.{CheckFault}
 use Rattle.disjoint_check.specs.declared.fault.CheckFault.TheVariants as check
 use Rattle.lithe_call.specs.Lines.{TellsSyntax, TellsRefusal}
 use Rattle.lithe_call.specs.Telling.{GivesAll, GivesMore, Tells}
-use Rattle.lithe_call.specs.Command.{served_form}
+use Rattle.lithe_call.specs.Inputs.{ReadsAll}
+use Rattle.command_words.specs.Form.{form_of}
 use Rattle.lithe_call.specs.Faults.{IsFault, IsNoRun, IsNoOutput}
 use Rattle.lithe_call.specs.Output.{IsOutputOf}
 use Rattle.lithe_call.specs.FaultOf.{status_of, line_of}
@@ -29,8 +30,8 @@ given_bytes bytes read (Some b) (Some rest) e all =
     sym same ∙ all.given ∙ ap (λ r. read ++ r) all.ended ∙ append-nil read
 
 -- why the command has no output for what was read is why it has none for the source
-pub no_output_is_fault : (words : List (List ℕ)) (command : Command) (why : Fault) (read : List ℕ) (left left' : Option (List ℕ)) (faults faults' : ℕ) → served_form words ≡ Some command →
-    GivesAll left read left' → IsNoOutput command read why → IsFault words why left left' faults faults'
+pub no_output_is_fault : (words : List (List ℕ)) (command : Command) (why : Fault) (read : List ℕ) (left left' : Option (List ℕ)) (faults faults' : ℕ) → form_of words ≡ Some command →
+    ReadsAll command left read left' → IsNoOutput command read why → IsFault words why left left' faults faults'
 no_output_is_fault words command fault.Usage read left left' faults faults' form all h = absurd h
 no_output_is_fault words command fault.TooLong read left left' faults faults' form all h = (command, form, inr (read, all, h))
 no_output_is_fault words command fault.ReadFault read left left' faults faults' form all h = absurd h
@@ -39,12 +40,12 @@ no_output_is_fault words command (fault.Refused line) read left left' faults fau
 no_output_is_fault words command fault.Memory read left left' faults faults' form all h = tt
 
 pub fault_of_no_output : {X : Type 0} (words : List (List ℕ)) (command : Command) (result : Result X Fault) (read : List ℕ) (left left' : Option (List ℕ)) (faults faults' : ℕ) →
-    served_form words ≡ Some command → GivesAll left read left' → IfErr result (IsNoOutput command read) → IfErr result (λ why. IsFault words why left left' faults faults')
+    form_of words ≡ Some command → ReadsAll command left read left' → IfErr result (IsNoOutput command read) → IfErr result (λ why. IsFault words why left left' faults faults')
 fault_of_no_output words command (Ok x) read left left' faults faults' form all h = tt
 fault_of_no_output words command (Err why) read left left' faults faults' form all h = no_output_is_fault words command why read left left' faults faults' form all h
 
 pub output_of_given : {X : Type 0} (status : X → Status) (text : X → List ℕ) (command : Command) (words : List (List ℕ)) (result : Result X Fault) (read : List ℕ) (left left' : Option (List ℕ)) →
-    served_form words ≡ Some command → GivesAll left read left' → IfOk result (λ x. IsOutputOf command read (status x) (text x)) →
+    form_of words ≡ Some command → ReadsAll command left read left' → IfOk result (λ x. IsOutputOf command read (status x) (text x)) →
     IfOk result (λ x. IsOutputFor words left left' (status x) (text x))
 output_of_given status text command words (Ok x) read left left' form all h =
     record { command = command; form = form; bytes = read; given = all; output = h }

@@ -13,11 +13,12 @@ use Rattle.run_audit.specs.Parts.{parts_of, parts_in, with_front}
 use Rattle.run_audit.specs.declared.verdict.Verdict.{Verdict}
 use Rattle.command_words.specs.declared.command.Command.{Command}
 use Rattle.command_words.specs.declared.command.Command.TheVariants.{Run, Solo, Audit, Make}
-use Rattle.lithe_call.specs.Command.{served_form}
-use Rattle.lithe_call.specs.Programs.{SpellAccepted}
+use Rattle.lithe_call.specs.Inputs.{limit_of, AreInput, ReadsAll, GivesTooMuch}
+use Rattle.command_words.specs.Form.{form_of}
+use Rattle.lithe_call.specs.Programs.{SpellAccepted, made_text}
 use Rattle.lithe_call.specs.Auditing.{HasParts, AreFound, found_in, status_by}
-use Rattle.lithe_call.specs.Output.{IsOutputOf, EndsWith, limit_of}
-use Rattle.lithe_call.specs.Faults.{SpellNothing, SpellRefused, AreNoOutput, IsNoText, IsRefused, IsLong, IsFault, IsNoRun, HaveNoVerdict}
+use Rattle.lithe_call.specs.Output.{IsOutputOf, IsRunOf, EndsMade, EndsWith}
+use Rattle.lithe_call.specs.Faults.{SpellNothing, SpellRefused, AreNoOutput, IsNoText, IsRefused, IsLong, IsFault, IsNoRun, IsNoOutput, HaveNoVerdict}
 use Rattle.lithe_call.specs.FaultOf.{status_of}
 use Rattle.lithe_call.specs.Served.{IsOutputFor, IsTooLong, IsToldOf, IsTextOf}
 use Rattle.lithe_call.specs.Told.{IsLineOf}
@@ -25,6 +26,7 @@ use Rattle.lithe_call.specs.declared.fault.Fault.{Fault}
 use Rattle.lithe_call.specs.declared.fault.Fault.TheVariants as fault
 use Rattle.lithe_call.specs.declared.status.Status.{Status}
 use Rattle.lithe_call.specs.declared.status.Status.TheVariants as status
+use Rattle.program_maker.proofs.Writing.{made_spelled}
 use Rattle.lithe_call.proofs.Causes.{given_bytes, more_of_left}
 
 -- ---- the second part isn't longer than the whole
@@ -77,50 +79,82 @@ no_text_ends (Audit harts) bytes line status (inr parts) ends =
       | inl nothing ↦ nothing_spelled first line is.program nothing is.input
       | inr other ↦ no_output_found harts line first second ends.1.0 other is
     ]) parts ends.1.1
-no_text_ends (Make seed size harts) bytes line status fails ends = absurd ends
+no_text_ends (Make seed size harts) bytes line status fails ends = absurd fails
 
-pub refused_ends : (command : Command) (bytes line : List ℕ) (status : Status) → IsRefused command bytes line → EndsWith command bytes status → ⊥
-refused_ends (Run harts) bytes line status fails ends = refused_accepted bytes line ends.1.0 fails ends.1.1
-refused_ends Solo bytes line status fails ends = refused_accepted bytes line ends.1.0 fails ends.1.1
-refused_ends (Audit harts) bytes line status fails ends =
-    parts_meet (λ first second. SpellRefused first line) (AreFound harts ends.1.0) bytes (λ first second fails is. refused_accepted first line is.program fails is.input) fails ends.1.1
-refused_ends (Make seed size harts) bytes line status fails ends = absurd ends
+refused_made : (text line : List ℕ) (ended : Status) → SpellRefused text line → EndsMade text ended → ended ≡ status.Refused
+refused_made text line status.Done fails ends = absurd (refused_accepted text line ends.0 fails ends.1)
+refused_made text line status.Illegal fails ends = absurd ends
+refused_made text line status.Usage fails ends = absurd ends
+refused_made text line status.Syntax fails ends = absurd ends
+refused_made text line status.Refused fails ends = refl
+refused_made text line status.TooLong fails ends = absurd ends
+refused_made text line status.ReadFault fails ends = absurd ends
+refused_made text line status.WriteFault fails ends = absurd ends
+refused_made text line status.NoMemory fails ends = absurd ends
+
+-- only what `make` makes has that status
+pub refused_ends : (command : Command) (bytes line : List ℕ) (ended : Status) → IsRefused command bytes line → EndsWith command bytes ended → ended ≡ status.Refused
+refused_ends (Run harts) bytes line ended fails ends = absurd (refused_accepted bytes line ends.1.0 fails ends.1.1)
+refused_ends Solo bytes line ended fails ends = absurd (refused_accepted bytes line ends.1.0 fails ends.1.1)
+refused_ends (Audit harts) bytes line ended fails ends =
+    absurd (parts_meet (λ first second. SpellRefused first line) (AreFound harts ends.1.0) bytes (λ first second fails is. refused_accepted first line is.program fails is.input) fails ends.1.1)
+refused_ends (Make seed size harts) bytes line ended fails ends = refused_made (made_text seed size) line ended fails ends
 
 pub long_ends : (command : Command) (bytes : List ℕ) (status : Status) → IsLong command bytes → EndsWith command bytes status → ⊥
 long_ends (Run harts) bytes status fails ends = absurd fails
 long_ends Solo bytes status fails ends = absurd fails
 long_ends (Audit harts) bytes status fails ends =
     parts_meet (λ first second. 65536 < length first) (AreFound harts ends.1.0) bytes (λ first second long is. absurd (omega (arith, long, is.input.short))) fails ends.1.1
-long_ends (Make seed size harts) bytes status fails ends = absurd ends
+long_ends (Make seed size harts) bytes status fails ends = absurd fails
 
-pub within_limit : (command : Command) (bytes : List ℕ) (status : Status) → EndsWith command bytes status → length bytes ≤ limit_of command
-within_limit (Run harts) bytes status ends = ends.1.1.short
-within_limit Solo bytes status ends = ends.1.1.short
-within_limit (Audit harts) bytes status ends = ends.0
-within_limit (Make seed size harts) bytes status ends = absurd ends
+-- ---- an input is what was read
+pub too_much : (command : Command) (left left' : Option (List ℕ)) (bytes : List ℕ) → GivesTooMuch command left left' → AreInput command left bytes → limit_of command < length bytes
+too_much (Run harts) left left' bytes more e = more_of_left left left' 65536 more bytes e
+too_much Solo left left' bytes more e = more_of_left left left' 65536 more bytes e
+too_much (Audit harts) left left' bytes more e = more_of_left left left' 4194304 more bytes e
+too_much (Make seed size harts) left left' bytes more e = absurd more
 
--- ---- what is for the command has no fault but want of memory, while the source doesn't fail
+much_ends : (command : Command) (left left' : Option (List ℕ)) (bytes : List ℕ) (status : Status) → GivesTooMuch command left left' → AreInput command left bytes → EndsWith command bytes status → ⊥
+much_ends (Run harts) left left' bytes status more e ends = absurd (omega (arith, too_much (Run harts) left left' bytes more e, ends.1.1.short))
+much_ends Solo left left' bytes status more e ends = absurd (omega (arith, too_much Solo left left' bytes more e, ends.1.1.short))
+much_ends (Audit harts) left left' bytes status more e ends = absurd (omega (arith, too_much (Audit harts) left left' bytes more e, ends.0))
+much_ends (Make seed size harts) left left' bytes status more e ends = absurd more
+
+-- what holds of the command with the bytes that it read holds with its input; what is so of `make` is so with any
+pub with_input : (IsSo : Command → List ℕ → Type 0) → ((seed size harts : ℕ) (a b : List ℕ) → IsSo (Make seed size harts) a → IsSo (Make seed size harts) b)
+    → (command : Command) (bytes read : List ℕ) (left left' : Option (List ℕ)) → AreInput command left bytes → ReadsAll command left read left' → IsSo command read → IsSo command bytes
+with_input IsSo any (Run harts) bytes read left left' e all is = subst (λ (b : List ℕ). IsSo (Run harts) b) (sym (given_bytes bytes read left left' e all)) is
+with_input IsSo any Solo bytes read left left' e all is = subst (λ (b : List ℕ). IsSo Solo b) (sym (given_bytes bytes read left left' e all)) is
+with_input IsSo any (Audit harts) bytes read left left' e all is = subst (λ (b : List ℕ). IsSo (Audit harts) b) (sym (given_bytes bytes read left left' e all)) is
+with_input IsSo any (Make seed size harts) bytes read left left' e all is = any seed size harts read bytes is
+
+-- the same of the command that the words give
+pub of_words : (IsSo : Command → List ℕ → Type 0) → ((seed size harts : ℕ) (a b : List ℕ) → IsSo (Make seed size harts) a → IsSo (Make seed size harts) b)
+    → (words : List (List ℕ)) (own command : Command) (bytes read : List ℕ) (left left' : Option (List ℕ)) → form_of words ≡ Some own → form_of words ≡ Some command
+    → AreInput command left bytes → ReadsAll own left read left' → IsSo own read → IsSo command bytes
+of_words IsSo any words own command bytes read left left' one other e all is =
+    let same : own ≡ command = same_Some own command (sym one ∙ other) in
+    with_input IsSo any command bytes read left left' e (subst (λ (c : Command). ReadsAll c left read left') same all) (subst (λ (c : Command). IsSo c read) same is)
+
+-- ---- what is for the command has no fault but the one that it ends with and want of memory, while the source doesn't fail
 pub only_memory : (words : List (List ℕ)) (why : Fault) (left left' : Option (List ℕ)) (faults faults' : ℕ) → IsFault words why left left' faults faults'
-    → (command : Command) → served_form words ≡ Some command → (bytes : List ℕ) → left ≡ Some bytes → (ended : Status) → EndsWith command bytes ended → (Rose faults faults' → ⊥)
-    → status_of why ≡ status.NoMemory
+    → (command : Command) → form_of words ≡ Some command → (bytes : List ℕ) → AreInput command left bytes → (ended : Status) → EndsWith command bytes ended → (Rose faults faults' → ⊥)
+    → (status_of why ≡ ended) ⊎ (status_of why ≡ status.NoMemory)
 only_memory words fault.Usage left left' faults faults' h command form bytes e ended ends calm = let bad : None ≡ Some command = sym h ∙ form in cc bad
 only_memory words fault.TooLong left left' faults faults' h command form bytes e ended ends calm =
     let same : h.0 ≡ command = same_Some h.0 command (sym h.1 ∙ form) in
     elim h.2 [
-      | inl more ↦ let long = more_of_left left left' (limit_of h.0) more bytes e in let fits = within_limit command bytes ended ends in absurd (omega (arith, long, fits, ap limit_of same))
-      | inr long ↦ let read = given_bytes bytes long.0 left left' e long.1 in
-          absurd (long_ends command bytes ended (subst (λ (b : List ℕ). IsLong command b) (sym read) (subst (λ (c : Command). IsLong c long.0) same long.2)) ends)
+      | inl more ↦ absurd (much_ends command left left' bytes ended (subst (λ (c : Command). GivesTooMuch c left left') same more) e ends)
+      | inr long ↦ absurd (long_ends command bytes ended (of_words IsLong (λ seed size harts a b is. is) words h.0 command bytes long.0 left left' h.1 form e long.1 long.2) ends)
     ]
 only_memory words fault.ReadFault left left' faults faults' h command form bytes e ended ends calm = absurd (calm h.2)
 only_memory words (fault.Syntax line) left left' faults faults' h command form bytes e ended ends calm =
-    let same : h.0 ≡ command = same_Some h.0 command (sym h.1 ∙ form) in
-    let read = given_bytes bytes h.2.0 left left' e h.2.1 in
-    absurd (no_text_ends command bytes line.items ended (subst (λ (b : List ℕ). IsNoText command b line.items) (sym read) (subst (λ (c : Command). IsNoText c h.2.0 line.items) same h.2.2)) ends)
+    absurd (no_text_ends command bytes line.items ended
+    (of_words (λ c b. IsNoText c b line.items) (λ seed size harts a b is. is) words h.0 command bytes h.2.0 left left' h.1 form e h.2.1 h.2.2) ends)
 only_memory words (fault.Refused line) left left' faults faults' h command form bytes e ended ends calm =
-    let same : h.0 ≡ command = same_Some h.0 command (sym h.1 ∙ form) in
-    let read = given_bytes bytes h.2.0 left left' e h.2.1 in
-    absurd (refused_ends command bytes line.items ended (subst (λ (b : List ℕ). IsRefused command b line.items) (sym read) (subst (λ (c : Command). IsRefused c h.2.0 line.items) same h.2.2)) ends)
-only_memory words fault.Memory left left' faults faults' h command form bytes e ended ends calm = refl
+    inl (sym (refused_ends command bytes line.items ended
+    (of_words (λ c b. IsRefused c b line.items) (λ seed size harts a b is. is) words h.0 command bytes h.2.0 left left' h.1 form e h.2.1 h.2.2) ends))
+only_memory words fault.Memory left left' faults faults' h command form bytes e ended ends calm = inr refl
 
 -- ---- an output has the status that the input ends with
 verdicts_one : (harts : ℕ) (bytes : List ℕ) (one other : Verdict) → HasParts (AreFound harts one) bytes → HasParts (AreFound harts other) bytes → one ≡ other
@@ -130,18 +164,33 @@ verdicts_one harts bytes one other p q =
     let tree = one_text q.first here.program q.are.program here.input.spelled q.are.input.spelled in
     let both : Ok one ≡ Ok other = sym here.found ∙ ap (λ (t : ProgramTree). found_in harts t q.second) tree ∙ q.are.found in cc both
 
+made_done : (text : List ℕ) (ended : Status) (program : ProgramTree) → SpellAccepted text program → EndsMade text ended → ended ≡ status.Done
+made_done text status.Done program is ends = refl
+made_done text status.Illegal program is ends = absurd ends
+made_done text status.Usage program is ends = absurd ends
+made_done text status.Syntax program is ends = absurd ends
+made_done text status.Refused program is ends = absurd (ends.2 (subst IsAccepted (one_text text program ends.0 is.spelled ends.1) is.accepted))
+made_done text status.TooLong program is ends = absurd ends
+made_done text status.ReadFault program is ends = absurd ends
+made_done text status.WriteFault program is ends = absurd ends
+made_done text status.NoMemory program is ends = absurd ends
+
 ends_one : (command : Command) (bytes : List ℕ) (status ending : Status) (text : List ℕ) → IsOutputOf command bytes ending text → EndsWith command bytes status → ending ≡ status
 ends_one (Run harts) bytes status ending text out ends = out.0 ∙ sym ends.0
 ends_one Solo bytes status ending text out ends = out.0 ∙ sym ends.0
 ends_one (Audit harts) bytes status ending text out ends = out.same ∙ ap status_by (verdicts_one harts bytes out.verdict ends.1.0 out.has ends.1.1) ∙ sym ends.1.2
-ends_one (Make seed size harts) bytes status ending text out ends = absurd ends
+ends_one (Make seed size harts) bytes status ending text out ends = out.0 ∙ sym (made_done (made_text seed size) status out.1.program out.1.input ends)
+
+-- what was written is the output for the input
+pub output_told : (words : List (List ℕ)) (left left' : Option (List ℕ)) (ending : Status) (text : List ℕ) → IsOutputFor words left left' ending text
+    → (command : Command) → form_of words ≡ Some command → (bytes : List ℕ) → AreInput command left bytes → IsOutputOf command bytes ending text
+output_told words left left' ending text out command form bytes e =
+    of_words (λ c b. IsOutputOf c b ending text) (λ seed size harts a b is. is) words out.command command bytes out.bytes left left' out.form form e out.given out.output
 
 pub one_ending : (words : List (List ℕ)) (left left' : Option (List ℕ)) (ending : Status) (text : List ℕ) → IsOutputFor words left left' ending text
-    → (command : Command) → served_form words ≡ Some command → (bytes : List ℕ) → left ≡ Some bytes → (status : Status) → EndsWith command bytes status → ending ≡ status
+    → (command : Command) → form_of words ≡ Some command → (bytes : List ℕ) → AreInput command left bytes → (status : Status) → EndsWith command bytes status → ending ≡ status
 one_ending words left left' ending text out command form bytes e status ends =
-    let same : out.command ≡ command = same_Some out.command command (sym out.form ∙ form) in
-    let read = given_bytes bytes out.bytes left left' e out.given in
-    ends_one command bytes status ending text (subst (λ (b : List ℕ). IsOutputOf command b ending text) (sym read) (subst (λ (c : Command). IsOutputOf c out.bytes ending text) same out.output)) ends
+    ends_one command bytes status ending text (output_told words left left' ending text out command form bytes e) ends
 
 -- ---- what a fault has to do with the words
 pub too_long_told : (words : List (List ℕ)) (why : Fault) (left left' : Option (List ℕ)) (faults faults' : ℕ) → IsFault words why left left' faults faults' → status_of why ≡ status.TooLong → IsTooLong words left left'
@@ -161,17 +210,25 @@ no_verdict_of_no_run harts first second (fault.Refused line) h = h
 no_verdict_of_no_run harts first second fault.Memory h = tt
 
 -- ---- what was told, where the source told its bytes
-told_of : (IsSo : Command → List ℕ → List ℕ → Type 0) (words : List (List ℕ)) (left left' : Option (List ℕ)) (line : List ℕ) → IsToldOf IsSo words left left' line
-    → (command : Command) → served_form words ≡ Some command → (bytes : List ℕ) → left ≡ Some bytes → IsSo command bytes line
-told_of IsSo words left left' line is command form bytes e =
-    let same : is.command ≡ command = same_Some is.command command (sym is.form ∙ form) in
-    let read = given_bytes bytes is.bytes left left' e is.given in
-    subst (λ (b : List ℕ). IsSo command b line) (sym read) (subst (λ (c : Command). IsSo c is.bytes line) same is.is)
+told_of : (IsSo : Command → List ℕ → List ℕ → Type 0) → ((seed size harts : ℕ) (a b line : List ℕ) → IsSo (Make seed size harts) a line → IsSo (Make seed size harts) b line)
+    → (words : List (List ℕ)) (left left' : Option (List ℕ)) (line : List ℕ) → IsToldOf IsSo words left left' line
+    → (command : Command) → form_of words ≡ Some command → (bytes : List ℕ) → AreInput command left bytes → IsSo command bytes line
+told_of IsSo any words left left' line is command form bytes e =
+    of_words (λ c b. IsSo c b line) (λ seed size harts a b own. any seed size harts a b line own) words is.command command bytes is.bytes left left' is.form form e is.given is.is
+
+pub too_long_input : (words : List (List ℕ)) (left left' : Option (List ℕ)) → IsTooLong words left left' → (command : Command) → form_of words ≡ Some command
+    → (bytes : List ℕ) → AreInput command left bytes → (limit_of command < length bytes) ⊎ IsLong command bytes
+too_long_input words left left' long command form bytes e =
+    let same : long.command ≡ command = same_Some long.command command (sym long.form ∙ form) in
+    elim long.longer [
+      | inl more ↦ inl (too_much command left left' bytes (subst (λ (c : Command). GivesTooMuch c left left') same more) e)
+      | inr part ↦ inr (of_words IsLong (λ seed size harts a b is. is) words long.command command bytes part.0 left left' long.form form e part.1 part.2)
+    ]
 
 pub line_told : (words : List (List ℕ)) (ended : Status) (left left' : Option (List ℕ)) (line : List ℕ) → IsTextOf words ended left left' line
-    → (command : Command) → served_form words ≡ Some command → (bytes : List ℕ) → left ≡ Some bytes → IsLineOf command ended bytes line
-line_told words status.Syntax left left' line is command form bytes e = told_of IsNoText words left left' line is command form bytes e
-line_told words status.Refused left left' line is command form bytes e = told_of IsRefused words left left' line is command form bytes e
+    → (command : Command) → form_of words ≡ Some command → (bytes : List ℕ) → AreInput command left bytes → IsLineOf command ended bytes line
+line_told words status.Syntax left left' line is command form bytes e = told_of IsNoText (λ seed size harts a b l own. own) words left left' line is command form bytes e
+line_told words status.Refused left left' line is command form bytes e = told_of IsRefused (λ seed size harts a b l own. own) words left left' line is command form bytes e
 line_told words status.Done left left' line is command form bytes e = is
 line_told words status.Illegal left left' line is command form bytes e = is
 line_told words status.Usage left left' line is command form bytes e = is
@@ -179,3 +236,12 @@ line_told words status.TooLong left left' line is command form bytes e = is
 line_told words status.ReadFault left left' line is command form bytes e = is
 line_told words status.WriteFault left left' line is command form bytes e = is
 line_told words status.NoMemory left left' line is command form bytes e = is
+
+-- ---- a made program is spelled by its text
+pub no_output_of_made : (seed size harts : ℕ) (bytes : List ℕ) (why : Fault) → size ≤ 40 → IsNoRun (made_text seed size) why → IsNoOutput (Make seed size harts) bytes why
+no_output_of_made seed size harts bytes fault.Usage few h = h
+no_output_of_made seed size harts bytes fault.TooLong few h = h
+no_output_of_made seed size harts bytes fault.ReadFault few h = h
+no_output_of_made seed size harts bytes (fault.Syntax line) few h = let spelled = made_spelled seed size few in h.nothing spelled.0 spelled.1
+no_output_of_made seed size harts bytes (fault.Refused line) few h = h
+no_output_of_made seed size harts bytes fault.Memory few h = tt

@@ -1,4 +1,4 @@
--- The harts of a command that words give.
+-- The numbers of a command that words give.
 use Rattle.std.proofs.Common.{◌≡◌, ◌≤◌, ◌&&◌, ◌-◌, ◌^◌, ℕ, Bool, true, false, cond, nat_le, List, [], ◌∷◌, length, codes, Option, Some, None, refl, subst, arith}
 use Rattle.std.specs.Option.{option_map, option_and_then}
 use Rattle.std.specs.Str.{bytes_eq, all_ascii_digits}
@@ -8,11 +8,11 @@ use Rattle.std.proofs.lemmas.Option.{option_and_then_some, same_Some}
 use Rattle.command_words.specs.Form.{Given, these, value_of, number_in, number_of, form_of, make_of}
 use Rattle.command_words.specs.declared.command.Command.{Command}
 use Rattle.command_words.specs.declared.command.Command.TheVariants.{Run, Solo, Audit, Make}
-use Rattle.lithe_call.specs.Command.{harts_in}
+use Rattle.lithe_call.specs.Command.{harts_in, size_in}
 
--- one to four harts
+-- one to four harts, and a size of one to forty
 abbrev pub AreFew : Command → Type 0
-AreFew command = (1 ≤ harts_in command) × (harts_in command ≤ 4)
+AreFew command = (1 ≤ harts_in command) × (harts_in command ≤ 4) × (1 ≤ size_in command) × (size_in command ≤ 40)
 
 some_cases : (b : Bool) (n m : ℕ) → cond b (Some n) None ≡ Some m → (b ≡ true) × (n ≡ m)
 some_cases true n m e = (refl, same_Some n m e)
@@ -45,11 +45,12 @@ make_few options command e =
     option_and_then_some (λ seed. option_and_then (λ size. option_map (Make seed size) (number_of 1 4 (codes "harts") options)) (number_of 1 40 (codes "size") options))
     (number_of 0 (2 ^ 64 - 1) (codes "seed") options) command e
     (λ seed _ sized. option_and_then_some (λ size. option_map (Make seed size) (number_of 1 4 (codes "harts") options)) (number_of 1 40 (codes "size") options) command sized
-    (λ size _ given. harts_few (Make seed size) (λ k some most. (some, most)) options command given))
+    (λ size found given. let within = number_within 1 40 (codes "size") options size found in
+    harts_few (Make seed size) (λ k some most. (some, most, within.0, within.1)) options command given))
 
 solo_few : (found : Option (List Given)) (command : Command) → option_map (λ options. Solo) found ≡ Some command → AreFew command
 solo_few None command e = cc e
-solo_few (Some options) command e = subst AreFew (same_Some Solo command e) (omega arith, omega arith)
+solo_few (Some options) command e = subst AreFew (same_Some Solo command e) (omega arith, omega arith, omega arith, omega arith)
 
 either : (b : Bool) (one other : Option Command) (command : Command) → (one ≡ Some command → AreFew command) → (other ≡ Some command → AreFew command) → cond b one other ≡ Some command → AreFew command
 either true one other command first second e = first e
@@ -61,8 +62,8 @@ options_few F few found command e = option_and_then_some (λ options. option_map
 pub form_few : (words : List (List ℕ)) (command : Command) → form_of words ≡ Some command → AreFew command
 form_few [] command e = cc e
 form_few (name ∷ words) command e =
-    either (bytes_eq (codes "run") name) _ _ command (options_few Run (λ k some most. (some, most)) (these (codes "harts" ∷ []) words) command)
+    either (bytes_eq (codes "run") name) _ _ command (options_few Run (λ k some most. (some, most, omega arith, omega arith)) (these (codes "harts" ∷ []) words) command)
     (either (bytes_eq (codes "solo") name) _ _ command (solo_few (these [] words) command)
-    (either (bytes_eq (codes "audit") name) _ _ command (options_few Audit (λ k some most. (some, most)) (these (codes "harts" ∷ []) words) command)
+    (either (bytes_eq (codes "audit") name) _ _ command (options_few Audit (λ k some most. (some, most, omega arith, omega arith)) (these (codes "harts" ∷ []) words) command)
     (either (bytes_eq (codes "make") name) _ _ command (λ given. option_and_then_some make_of (these (codes "seed" ∷ codes "size" ∷ codes "harts" ∷ []) words) command given (λ options _ made. make_few options command made))
     (λ none. cc none)))) e

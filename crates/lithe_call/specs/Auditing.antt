@@ -1,5 +1,5 @@
 -- What an audit is of, and what it finds.
-use Rattle.std.specs.Prelude.{◌≡◌, ℕ, Bool, true, false, List, Some, Result, Ok}
+use Rattle.std.specs.Prelude.{◌≡◌, ℕ, List, Some, Result, Ok}
 use Rattle.array_tree.specs.Trees.{ProgramTree}
 use Rattle.array_meaning.specs.Work.{final_store}
 use Rattle.array_eval.specs.ArrayText.{array_text}
@@ -9,6 +9,8 @@ use Rattle.run_audit.specs.Audit.{audit_of}
 use Rattle.run_audit.specs.declared.verdict.Verdict.{Verdict}
 use Rattle.run_audit.specs.declared.verdict.Verdict.TheVariants as verdict
 use Rattle.lithe_call.specs.Programs.{SpellAccepted, table_plan}
+use Rattle.lithe_call.specs.declared.answer.Ending.{Ending}
+use Rattle.lithe_call.specs.declared.answer.Ending.TheVariants as ending
 use Rattle.lithe_call.specs.declared.status.Status.{Status}
 use Rattle.lithe_call.specs.declared.status.Status.TheVariants as status
 
@@ -39,7 +41,7 @@ status_by (verdict.Legal entries) = status.Done
 status_by (verdict.Differs line) = status.Illegal
 status_by (verdict.Illegal fault) = status.Illegal
 
--- the status of an answer, by whether an output was found illegal
-abbrev pub ending : Bool → Status
-ending false = status.Done
-ending true = status.Illegal
+-- the status of an answer, by what it tells
+abbrev pub ended : Ending → Status
+ended ending.Written = status.Done
+ended ending.Illegal = status.Illegal

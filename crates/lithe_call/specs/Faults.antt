@@ -11,11 +11,10 @@ use Rattle.disjoint_check.specs.declared.fault.CheckFault.{CheckFault}
 use Rattle.disjoint_check.specs.declared.fault.CheckFault.TheVariants as check
 use Rattle.error_text.specs.SyntaxText.{syntax_text}
 use Rattle.error_text.specs.RefusalText.{refusal_text}
-use Rattle.lithe_call.specs.Telling.{GivesAll, GivesMore}
-use Rattle.lithe_call.specs.Command.{served_form}
-use Rattle.lithe_call.specs.Programs.{program_limit, SpellAccepted}
+use Rattle.lithe_call.specs.Inputs.{ReadsAll, GivesTooMuch}
+use Rattle.lithe_call.specs.Programs.{program_limit, made_text, SpellAccepted}
 use Rattle.lithe_call.specs.Auditing.{HasParts, found_in}
-use Rattle.lithe_call.specs.Output.{limit_of}
+use Rattle.command_words.specs.Form.{form_of}
 use Rattle.command_words.specs.declared.command.Command.{Command}
 use Rattle.command_words.specs.declared.command.Command.TheVariants.{Run, Solo, Audit, Make}
 use Rattle.journal_text.specs.declared.fault.TextFault.{TextFault}
@@ -76,7 +75,7 @@ abbrev pub IsRefused : Command → List ℕ → List ℕ → Type 0
 IsRefused (Run harts) bytes line = SpellRefused bytes line
 IsRefused Solo bytes line = SpellRefused bytes line
 IsRefused (Audit harts) bytes line = HasParts (λ first second. SpellRefused first line) bytes
-IsRefused (Make seed size harts) bytes line = ⊥
+IsRefused (Make seed size harts) bytes line = SpellRefused (made_text seed size) line
 
 -- the program part of its input is too long
 abbrev pub IsLong : Command → List ℕ → Type 0
@@ -89,24 +88,24 @@ IsLong (Make seed size harts) bytes = ⊥
 -- before and after. Want of memory has none.
 abbrev pub IsCause : Command → Fault → Option (List ℕ) → Option (List ℕ) → ℕ → ℕ → Type 0
 IsCause command fault.Usage left left' faults faults' = ⊥
-IsCause command fault.TooLong left left' faults faults' = GivesMore left (limit_of command) left' ⊎ ((bytes : List ℕ) × GivesAll left bytes left' × IsLong command bytes)
+IsCause command fault.TooLong left left' faults faults' = GivesTooMuch command left left' ⊎ ((bytes : List ℕ) × ReadsAll command left bytes left' × IsLong command bytes)
 IsCause command fault.ReadFault left left' faults faults' = Rose faults faults'
-IsCause command (fault.Syntax line) left left' faults faults' = (bytes : List ℕ) × GivesAll left bytes left' × IsNoText command bytes line.items
-IsCause command (fault.Refused line) left left' faults faults' = (bytes : List ℕ) × GivesAll left bytes left' × IsRefused command bytes line.items
+IsCause command (fault.Syntax line) left left' faults faults' = (bytes : List ℕ) × ReadsAll command left bytes left' × IsNoText command bytes line.items
+IsCause command (fault.Refused line) left left' faults faults' = (bytes : List ℕ) × ReadsAll command left bytes left' × IsRefused command bytes line.items
 IsCause command fault.Memory left left' faults faults' = Unit {0}
 
--- The words give no command that is served, or memory ran out while they were read.
+-- The words give no command, or memory ran out while they were read.
 abbrev pub IsNoCommand : List (List ℕ) → Fault → Type 0
-IsNoCommand words fault.Usage = served_form words ≡ None
+IsNoCommand words fault.Usage = form_of words ≡ None
 IsNoCommand words fault.Memory = Unit {0}
 IsNoCommand words why = ⊥
 
--- The fault is that of usage only where the words give no command that is served, and there it is that or want of memory,
--- which may come also while the words are read. Any other has its cause.
+-- The fault is that of usage only where the words give no command, and there it is that or want of memory, which may come
+-- also while the words are read. Any other has its cause.
 abbrev pub IsFault : List (List ℕ) → Fault → Option (List ℕ) → Option (List ℕ) → ℕ → ℕ → Type 0
-IsFault words fault.Usage left left' faults faults' = served_form words ≡ None
+IsFault words fault.Usage left left' faults faults' = form_of words ≡ None
 IsFault words fault.Memory left left' faults faults' = Unit {0}
-IsFault words why left left' faults faults' = (command : Command) × (served_form words ≡ Some command) × IsCause command why left left' faults faults'
+IsFault words why left left' faults faults' = (command : Command) × (form_of words ≡ Some command) × IsCause command why left left' faults faults'
 
 -- why the program of these bytes has no output
 abbrev pub IsNoRun : List ℕ → Fault → Type 0

@@ -5,17 +5,21 @@ use Rattle.transfer_table.specs.Journal.{IsComplete}
 use Rattle.transfer_table.specs.declared.entry.Entry.{Entry}
 use Rattle.journal_text.specs.JournalText.{journal_text}
 use Rattle.array_tree.specs.Trees.{ProgramTree}
+use Rattle.array_lang.specs.Spelled.{Spells}
+use Rattle.array_meaning.specs.Accepted.{IsAccepted}
 use Rattle.array_meaning.specs.Stores.{Store}
 use Rattle.array_meaning.specs.Work.{final_store}
 use Rattle.array_eval.specs.ArrayText.{array_text}
 use Rattle.command_words.specs.declared.command.Command.{Command}
 use Rattle.command_words.specs.declared.command.Command.TheVariants.{Run, Solo, Audit, Make}
 use Rattle.run_audit.specs.AuditText.{verdict_text}
+use Rattle.run_summary.specs.Summary.{summary_text}
 use Rattle.run_audit.specs.declared.verdict.Verdict.{Verdict}
-use Rattle.lithe_call.specs.Programs.{SpellAccepted, table_plan, program_limit}
+use Rattle.lithe_call.specs.Programs.{SpellAccepted, table_plan, made_text}
+use Rattle.lithe_call.specs.Inputs.{limit_of}
 use Rattle.lithe_call.specs.Auditing.{HasVerdict, status_by}
 use Rattle.lithe_call.specs.declared.status.Status.{Status}
-use Rattle.lithe_call.specs.declared.status.Status.TheVariants.{Done}
+use Rattle.lithe_call.specs.declared.status.Status.TheVariants.{Done, Refused}
 
 -- the array lines, and then the journal
 abbrev pub output_text : ProgramTree → Plan → Store → List Entry → List ℕ
@@ -27,12 +31,18 @@ pub record IsRunOutput (program : ProgramTree) (harts : ℕ) (text : List ℕ) :
   pub complete : IsComplete (table_plan program harts) journal
   pub whole : text ≡ output_text program (table_plan program harts) (final_store program) journal
 
--- `solo` writes the arrays alone; the others don't run a program
+-- `make` writes the summary of such a run
+pub record IsSummary (program : ProgramTree) (harts : ℕ) (text : List ℕ) : Type 0 where
+  pub journal : List Entry
+  pub complete : IsComplete (table_plan program harts) journal
+  pub whole : text ≡ summary_text (table_plan program harts) (final_store program) journal
+
+-- `solo` writes the arrays alone; an audit doesn't run a program
 abbrev pub IsOutput : Command → ProgramTree → List ℕ → Type 0
 IsOutput (Run harts) program text = IsRunOutput program harts text
 IsOutput Solo program text = text ≡ array_text program (final_store program)
 IsOutput (Audit harts) program text = ⊥
-IsOutput (Make seed size harts) program text = ⊥
+IsOutput (Make seed size harts) program text = IsSummary program harts text
 
 -- the text is what the command writes for the program that these bytes spell
 pub record IsRunOf (command : Command) (bytes text : List ℕ) : Type 0 where
@@ -52,18 +62,17 @@ abbrev pub IsOutputOf : Command → List ℕ → Status → List ℕ → Type 0
 IsOutputOf (Run harts) bytes status text = (status ≡ Done) × IsRunOf (Run harts) bytes text
 IsOutputOf Solo bytes status text = (status ≡ Done) × IsRunOf Solo bytes text
 IsOutputOf (Audit harts) bytes status text = IsAuditOf harts bytes status text
-IsOutputOf (Make seed size harts) bytes status text = ⊥
+IsOutputOf (Make seed size harts) bytes status text = (status ≡ Done) × IsRunOf (Make seed size harts) (made_text seed size) text
 
--- the greatest length of a command's input, in bytes
-abbrev pub limit_of : Command → ℕ
-limit_of (Run harts) = program_limit
-limit_of Solo = program_limit
-limit_of (Audit harts) = 4194304
-limit_of (Make seed size harts) = 0
+-- the text of a made program spells one that is accepted, or one that isn't
+abbrev pub EndsMade : List ℕ → Status → Type 0
+EndsMade text Done = (program : ProgramTree) × SpellAccepted text program
+EndsMade text Refused = (program : ProgramTree) × Spells text program × (IsAccepted program → ⊥)
+EndsMade text status = ⊥
 
--- these bytes are for the command, and it has this status with them
+-- these bytes are for the command, and it has this status with them; `make` has it with any
 abbrev pub EndsWith : Command → List ℕ → Status → Type 0
 EndsWith (Run harts) bytes status = (status ≡ Done) × ((program : ProgramTree) × SpellAccepted bytes program)
 EndsWith Solo bytes status = (status ≡ Done) × ((program : ProgramTree) × SpellAccepted bytes program)
 EndsWith (Audit harts) bytes status = (length bytes ≤ limit_of (Audit harts)) × ((verdict : Verdict) × HasVerdict harts bytes verdict × (status ≡ status_by verdict))
-EndsWith (Make seed size harts) bytes status = ⊥
+EndsWith (Make seed size harts) bytes status = EndsMade (made_text seed size) status

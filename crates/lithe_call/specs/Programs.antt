@@ -1,14 +1,20 @@
--- Programs that are accepted, and their plans.
+-- Programs that are accepted, and their plans; the text of a made program.
 use Rattle.std.specs.Prelude.{ℕ, ◌≤◌, List, length}
 use Rattle.transfer_table.specs.Plan.{Plan}
 use Rattle.array_tree.specs.Trees.{ProgramTree}
 use Rattle.array_lang.specs.Spelled.{Spells}
+use Rattle.array_print.specs.Texts.{printed}
 use Rattle.array_meaning.specs.Plans.{plan_of}
 use Rattle.array_meaning.specs.Accepted.{IsAccepted}
+use Rattle.program_maker.specs.Made.{made_program}
 
 -- the program's plan for so many harts
 abbrev pub table_plan : ProgramTree → ℕ → Plan
 table_plan program harts = record { harts = harts; parents = plan_of program }
+
+-- the text of the program that `make` makes, as it is printed
+abbrev pub made_text : ℕ → ℕ → List ℕ
+made_text seed size = printed (made_program seed size)
 
 -- the greatest length of a program, in bytes
 abbrev pub program_limit : ℕ

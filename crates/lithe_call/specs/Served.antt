@@ -1,22 +1,23 @@
 -- What a call has read, written and told. The bytes are those that the source gave; a source that tells its bytes had
--- just these left.
+-- just these left. `make` reads none.
 use Rattle.std.specs.Prelude.{◌≡◌, ◌⊎◌, ℕ, List, Option, Some}
 use Rattle.outside_io.specs.Outside.{Appends}
-use Rattle.lithe_call.specs.Telling.{GivesAll, GivesMore, AppendsPrefix, Tells}
-use Rattle.lithe_call.specs.Command.{served_form}
-use Rattle.lithe_call.specs.Output.{IsOutputOf, limit_of}
+use Rattle.lithe_call.specs.Telling.{AppendsPrefix, Tells}
+use Rattle.lithe_call.specs.Inputs.{ReadsAll, GivesTooMuch}
+use Rattle.lithe_call.specs.Output.{IsOutputOf}
+use Rattle.command_words.specs.Form.{form_of}
 use Rattle.lithe_call.specs.Faults.{IsNoText, IsRefused, IsLong}
 use Rattle.lithe_call.specs.Status.{constant_text}
 use Rattle.command_words.specs.declared.command.Command.{Command}
 use Rattle.lithe_call.specs.declared.status.Status.{Status}
 use Rattle.lithe_call.specs.declared.status.Status.TheVariants.{Syntax, Refused}
 
--- the source gave these bytes to its end, and this text is what the words' command writes for them with this status
+-- the words' command read these bytes to the end of the source, and this text is what it writes for them with this status
 pub record IsOutputFor (words : List (List ℕ)) (left left' : Option (List ℕ)) (status : Status) (text : List ℕ) : Type 0 where
   pub command : Command
-  pub form : served_form words ≡ Some command
+  pub form : form_of words ≡ Some command
   pub bytes : List ℕ
-  pub given : GivesAll left bytes left'
+  pub given : ReadsAll command left bytes left'
   pub output : IsOutputOf command bytes status text
 
 -- the sink took such a text
@@ -35,15 +36,15 @@ pub record WritesPrefix (words : List (List ℕ)) (left left' taken taken' : Opt
 -- the input is too long for the words' command
 pub record IsTooLong (words : List (List ℕ)) (left left' : Option (List ℕ)) : Type 0 where
   pub command : Command
-  pub form : served_form words ≡ Some command
-  pub longer : GivesMore left (limit_of command) left' ⊎ ((bytes : List ℕ) × GivesAll left bytes left' × IsLong command bytes)
+  pub form : form_of words ≡ Some command
+  pub longer : GivesTooMuch command left left' ⊎ ((bytes : List ℕ) × ReadsAll command left bytes left' × IsLong command bytes)
 
--- the line tells why what the source gave to its end isn't what the words' command takes
+-- the line tells why what the words' command read isn't what it takes, or why it is refused
 pub record IsToldOf (IsSo : Command → List ℕ → List ℕ → Type 0) (words : List (List ℕ)) (left left' : Option (List ℕ)) (line : List ℕ) : Type 0 where
   pub command : Command
-  pub form : served_form words ≡ Some command
+  pub form : form_of words ≡ Some command
   pub bytes : List ℕ
-  pub given : GivesAll left bytes left'
+  pub given : ReadsAll command left bytes left'
   pub is : IsSo command bytes line
 
 -- the text is the status's, for what the source gave

@@ -1,11 +1,12 @@
 //! From bytes to the verdict on the output that stands behind their program.
 ghost use Rattle.std.specs.Prelude.{◌≡◌, ◌≤◌, ◌++◌, ◌∷◌, [], codes, length, IfOk, IfErr, Result, Ok, Err};
 ghost use Rattle.command_words.specs.declared.command.Command.TheVariants.{Audit};
-ghost use Rattle.lithe_call.specs.Auditing.{AreFound, ending, status_by};
+ghost use Rattle.lithe_call.specs.Auditing.{AreFound, ended, status_by};
 ghost use Rattle.lithe_call.specs.Output.{IsAuditOf};
 ghost use Rattle.lithe_call.specs.Faults.{IsNoOutput, HaveNoVerdict};
 ghost use Rattle.lithe_call.specs.Lines.{TellsText};
 
+use crate::answer::{Answer, Ending};
 use crate::fault::Fault;
 use crate::run::{refusal, syntax_fault};
 use array_lang::parse;
@@ -13,13 +14,6 @@ use disjoint_check::check;
 use journal_text::TextFault;
 use run_audit::{Verdict, audit, parts_of, text_fault_line, verdict_line};
 use std::alloc::Global;
-
-/// What a command writes, and whether it found an output illegal.
-#[derive(Drop)]
-pub struct Answer {
-    pub text: Vec<u8>,
-    pub illegal: bool,
-}
 
 /// The greatest length of a program, in bytes.
 const LIMIT: usize = 65_536;
@@ -29,7 +23,7 @@ pub fn audited(alloc: Global, harts: u8, bytes: &[u8]) -> Result<Answer, Fault>
     requires short { length bytes.now ≤ 4194304 }
     requires some_hart { 1 ≤ harts }
     requires few_harts { harts ≤ 4 }
-    ensures output { IfOk result (λ answer. IsAuditOf harts bytes.now (ending answer.illegal) answer.text.items) }
+    ensures output { IfOk result (λ answer. IsAuditOf harts bytes.now (ended answer.ending) answer.text.items) }
     ensures fault { IfErr result (IsNoOutput (Audit harts) bytes.now) }
 {
     let Some((first, second)) = parts_of(bytes) else {
@@ -40,17 +34,17 @@ pub fn audited(alloc: Global, harts: u8, bytes: &[u8]) -> Result<Answer, Fault>
     }
     let verdict = verdict(alloc, harts, first, second)?;
     let text = verdict_line(alloc, verdict)?;
-    let illegal = is_illegal(verdict);
-    Ok(Answer { text, illegal })
+    let ending = ending(verdict);
+    Ok(Answer { text, ending })
 }
 
-// Whether the verdict is that an output isn't the program's.
-fn is_illegal(verdict: Verdict) -> bool
-    ensures { ending result ≡ status_by verdict }
+// What the line of a verdict tells.
+fn ending(verdict: Verdict) -> Ending
+    ensures { ended result ≡ status_by verdict }
 {
     match verdict {
-        Verdict::Legal(_) => false,
-        Verdict::Differs(_) | Verdict::Illegal(_) => true,
+        Verdict::Legal(_) => Ending::Written,
+        Verdict::Differs(_) | Verdict::Illegal(_) => Ending::Illegal,
     }
 }
 

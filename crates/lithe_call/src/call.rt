@@ -1,26 +1,31 @@
 //! The top call: from the words and the input to the output and the status.
-ghost use Rattle.std.specs.Prelude.{◌≡◌, ◌≢◌, ◌⊎◌, ◌≤◌, true, length, ℕ, List, map, string_bytes, Some, None, IfOk, IfErr};
+ghost use Rattle.std.specs.Prelude.{◌≡◌, ◌≢◌, ◌⊎◌, ◌≤◌, true, length, ℕ, List, map, string_bytes, vec_len, Some, None, IfOk, IfErr, IsErrOf};
 ghost use Rattle.outside_io.specs.Outside.{Rose};
 ghost use Rattle.command_words.specs.declared.command.Command.{Command};
+ghost use Rattle.command_words.specs.declared.command.Command.TheVariants.{Make};
 ghost use Rattle.lithe_call.specs.declared.status.Status.{Status};
 ghost use Rattle.lithe_call.specs.Telling.{Tells};
-ghost use Rattle.lithe_call.specs.Command.{is_served, served_form, harts_in};
-ghost use Rattle.lithe_call.specs.Auditing.{ending};
-ghost use Rattle.lithe_call.specs.Output.{IsOutputOf, EndsWith, limit_of};
-ghost use Rattle.lithe_call.specs.Faults.{IsFault, IsNoOutput};
+ghost use Rattle.command_words.specs.Form.{form_of};
+ghost use Rattle.lithe_call.specs.Command.{harts_in, size_in, runs_programs};
+ghost use Rattle.lithe_call.specs.Inputs.{limit_of, AreInput, ReadsAll, GivesTooMuch};
+ghost use Rattle.lithe_call.specs.Auditing.{ended};
+ghost use Rattle.lithe_call.specs.Output.{IsOutputOf, IsRunOf, EndsWith};
+ghost use Rattle.lithe_call.specs.Faults.{IsFault, IsNoOutput, IsNoRun};
 ghost use Rattle.lithe_call.specs.FaultOf.{status_of, line_of};
 ghost use Rattle.lithe_call.specs.Status.{constant_text};
 ghost use Rattle.lithe_call.specs.Served.{IsOutputFor, WritesOutput, WritesPrefix, IsTooLong, TellsStatus};
 
-use crate::audit::{Answer, audited};
-use crate::command::{limit, served_command};
+use crate::answer::{Answer, Ending};
+use crate::audit::audited;
+use crate::command::{asked_command, limit};
 use crate::fault::Fault;
-use crate::reading::read_all;
+use crate::reading::{ReadError, read_all};
 use crate::run::answer;
 use crate::status::{Status, constant_text};
 use crate::writing::write_all;
 use command_words::Command;
 use outside_io::{Gate, Sink, Source};
+use program_maker::made_text;
 use std::alloc::Global;
 use std::sync::Wait;
 use std::thread::Threads;
@@ -29,8 +34,9 @@ use std::thread::Threads;
 ///
 /// `run --harts N`, N from 1 to 4, runs the program on N harts, each of several on a thread, and writes its arrays and the
 /// journal of its transfers; `solo` writes the arrays alone. `audit --harts N` reads a program, a line `%%` and an output of
-/// `run`, and writes whether the output is the program's; where it isn't, the status is Illegal. `make` isn't served, and is
-/// told as usage. The whole output is built before its first byte is written.
+/// `run`, and writes whether the output is the program's; where it isn't, the status is Illegal. `make --seed X --size K
+/// --harts N`, K from 1 to 40, reads nothing: it makes a program, runs its printed text as `run` does, and writes the
+/// summary of the run. The whole output is built before its first byte is written.
 /// Whatever the status, its text was told on `err`, and a failure of `err` changes no status.
 pub fn lithe<R: Threads + Wait + Sync, A: Source, B: Sink, E: Sink, G: Gate>(
     rt: &R,
@@ -42,7 +48,7 @@ pub fn lithe<R: Threads + Wait + Sync, A: Source, B: Sink, E: Sink, G: Gate>(
     gate: &G,
 ) -> Status
     // The arrays are those of the one-thread meaning of the program that the source gave to its end, and the transfers are
-    // a complete legal run of the program's table; an output that was audited is such.
+    // a complete legal run of the program's table; an output that was audited is such, and a summary is that of such a run.
     ensures done { result ≡ Status.Done → WritesOutput (map string_bytes words.now)
         (A.left source.old) (A.left source.new) Status.Done (B.taken out.old) (B.taken out.new) }
 
@@ -51,17 +57,17 @@ pub fn lithe<R: Threads + Wait + Sync, A: Source, B: Sink, E: Sink, G: Gate>(
         (A.left source.old) (A.left source.new) Status.Illegal (B.taken out.old) (B.taken out.new) }
 
     // What is for the command is served with the status that it has, unless memory runs out or the outside fails.
-    ensures complete { (command : Command) → (form : served_form (map string_bytes words.now) ≡ Some command)
-        → (bytes : List ℕ) → (told : A.left source.old ≡ Some bytes)
+    ensures complete { (command : Command) → (form : form_of (map string_bytes words.now) ≡ Some command)
+        → (bytes : List ℕ) → (told : AreInput command (A.left source.old) bytes)
         → (status : Status) → (ends : EndsWith command bytes status)
         → (source_is_calm : Rose (A.faults source.old) (A.faults source.new) → ⊥)
         → (out_is_calm : Rose (B.faults out.old) (B.faults out.new) → ⊥)
         → (result ≡ status) ⊎ (result ≡ Status.NoMemory) }
 
-    // When each other status comes. What is told of Syntax and Refused has their causes. Words that are no form of what is
-    // served are Usage, unless memory runs out while they are read.
-    ensures usage { result ≡ Status.Usage → served_form (map string_bytes words.now) ≡ None }
-    ensures no_form { served_form (map string_bytes words.now) ≡ None → (result ≡ Status.Usage) ⊎ (result ≡ Status.NoMemory) }
+    // When each other status comes. What is told of Syntax and Refused has their causes. Words that are no form are Usage,
+    // unless memory runs out while they are read.
+    ensures usage { result ≡ Status.Usage → form_of (map string_bytes words.now) ≡ None }
+    ensures no_form { form_of (map string_bytes words.now) ≡ None → (result ≡ Status.Usage) ⊎ (result ≡ Status.NoMemory) }
     ensures too_long { result ≡ Status.TooLong → IsTooLong (map string_bytes words.now) (A.left source.old) (A.left source.new) }
     ensures read_fault { result ≡ Status.ReadFault → Rose (A.faults source.old) (A.faults source.new) }
     ensures write_fault { result ≡ Status.WriteFault → Rose (B.faults out.old) (B.faults out.new) }
@@ -71,7 +77,8 @@ pub fn lithe<R: Threads + Wait + Sync, A: Source, B: Sink, E: Sink, G: Gate>(
     // What the source gave and what `out` and `err` took otherwise.
     ensures prefix { result ≡ Status.WriteFault → WritesPrefix (map string_bytes words.now)
         (A.left source.old) (A.left source.new) (B.taken out.old) (B.taken out.new) }
-    ensures source_stays { served_form (map string_bytes words.now) ≡ None → source.new ≡ source.old }
+    ensures source_stays { form_of (map string_bytes words.now) ≡ None → source.new ≡ source.old }
+    ensures made_from_nothing { (seed size harts : ℕ) → form_of (map string_bytes words.now) ≡ Some (Make seed size harts) → source.new ≡ source.old }
     ensures out_stays { result ≢ Status.Done → result ≢ Status.Illegal → result ≢ Status.WriteFault → out.new ≡ out.old }
     ensures err_stays { (result ≡ Status.Done) ⊎ (result ≡ Status.Illegal) → err.new ≡ err.old }
 {
@@ -80,10 +87,8 @@ pub fn lithe<R: Threads + Wait + Sync, A: Source, B: Sink, E: Sink, G: Gate>(
         Ok(answer) => {
             if !write_all(out, &answer.text) {
                 tell(err, Status::WriteFault)
-            } else if answer.illegal {
-                Status::Illegal
             } else {
-                Status::Done
+                ended(answer.ending)
             }
         }
     }
@@ -105,6 +110,16 @@ pub fn no_memory_for_words<E: Sink>(err: &mut E) -> Status
         (E.taken err.new) (E.faults err.new) }
 {
     tell(err, Status::NoMemory)
+}
+
+// The status of an answer that was written.
+fn ended(ending: Ending) -> Status
+    ensures { result ≡ ended ending }
+{
+    match ending {
+        Ending::Written => Status::Done,
+        Ending::Illegal => Status::Illegal,
+    }
 }
 
 // Writes the line that tells the fault, and answers its status.
@@ -136,14 +151,54 @@ fn output_of<R: Threads + Wait + Sync, G: Gate, A: Source>(
     source: &mut A,
 ) -> Result<Answer, Fault>
     ensures output { IfOk result (λ answer. IsOutputFor (map string_bytes words.now)
-        (A.left source.old) (A.left source.new) (ending answer.illegal) answer.text.items) }
+        (A.left source.old) (A.left source.new) (ended answer.ending) answer.text.items) }
     ensures fault { IfErr result (λ fault. IsFault (map string_bytes words.now) fault
         (A.left source.old) (A.left source.new) (A.faults source.old) (A.faults source.new)) }
-    ensures stays { served_form (map string_bytes words.now) ≡ None → source.new ≡ source.old }
+    ensures stays { form_of (map string_bytes words.now) ≡ None → source.new ≡ source.old }
+    ensures made { (seed size harts : ℕ) → form_of (map string_bytes words.now) ≡ Some (Make seed size harts) → source.new ≡ source.old }
 {
-    let command = served_command(alloc, words)?;
-    let bytes = read_all(alloc, source, limit(command))?;
+    let command = asked_command(alloc, words)?;
+    let bytes = input(alloc, source, command)?;
     answer_to(rt, alloc, gate, command, &bytes)
+}
+
+// The command's whole input. `make` has none, and reads nothing.
+fn input<A: Source>(alloc: Global, source: &mut A, command: Command) -> Result<Vec<u8>, ReadError>
+    ensures count { A.faults source.old ≤ A.faults source.new }
+    ensures whole { IfOk result (λ bytes. ReadsAll command (A.left source.old) bytes.items (A.left source.new)) }
+    ensures short { IfOk result (λ bytes. vec_len bytes ≤ limit_of command) }
+    ensures too_long { IsErrOf result ReadError.TooLong → GivesTooMuch command (A.left source.old) (A.left source.new) }
+    ensures failed { IsErrOf result ReadError.Failed → Rose (A.faults source.old) (A.faults source.new) }
+    ensures made { (seed size harts : ℕ) → command ≡ Make seed size harts → source.new ≡ source.old }
+{
+    match command {
+        Command::Make { .. } => Ok(Vec::new(alloc)),
+        Command::Run(_) | Command::Solo | Command::Audit(_) => {
+            read_all(alloc, source, limit(command))
+        }
+    }
+}
+
+// What a run of the program of these bytes comes to.
+fn run_of<R: Threads + Wait + Sync, G: Gate>(
+    rt: &R,
+    alloc: Global,
+    gate: &G,
+    command: Command,
+    bytes: &[u8],
+) -> Result<Answer, Fault>
+    requires short { length bytes.now ≤ 65536 }
+    requires runs { runs_programs command ≡ true }
+    requires some_hart { 1 ≤ harts_in command }
+    requires few_harts { harts_in command ≤ 4 }
+    ensures output { IfOk result (λ answer. IsRunOf command bytes.now answer.text.items) }
+    ensures done { IfOk result (λ answer. ended answer.ending ≡ Status.Done) }
+    ensures fault { IfErr result (IsNoRun bytes.now) }
+{
+    Ok(Answer {
+        text: answer(rt, alloc, gate, command, bytes)?,
+        ending: Ending::Written,
+    })
 }
 
 // The output of the command for these bytes.
@@ -155,18 +210,19 @@ fn answer_to<R: Threads + Wait + Sync, G: Gate>(
     bytes: &[u8],
 ) -> Result<Answer, Fault>
     requires short { length bytes.now ≤ limit_of command }
-    requires served { is_served command ≡ true }
     requires some_hart { 1 ≤ harts_in command }
     requires few_harts { harts_in command ≤ 4 }
-    ensures output { IfOk result (λ answer. IsOutputOf command bytes.now (ending answer.illegal) answer.text.items) }
+    requires some_size { 1 ≤ size_in command }
+    requires small_size { size_in command ≤ 40 }
+    ensures output { IfOk result (λ answer. IsOutputOf command bytes.now (ended answer.ending) answer.text.items) }
     ensures fault { IfErr result (IsNoOutput command bytes.now) }
 {
     match command {
         Command::Audit(harts) => audited(alloc, harts, bytes),
-        Command::Run(_) | Command::Solo => Ok(Answer {
-            text: answer(rt, alloc, gate, command, bytes)?,
-            illegal: false,
-        }),
-        Command::Make { .. } => unreachable!(),
+        Command::Run(_) | Command::Solo => run_of(rt, alloc, gate, command, bytes),
+        Command::Make { seed, size, .. } => {
+            let text = made_text(alloc, seed, size)?;
+            run_of(rt, alloc, gate, command, &text)
+        }
     }
 }

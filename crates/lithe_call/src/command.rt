@@ -1,27 +1,26 @@
 //! The command that the words ask for.
-ghost use Rattle.std.specs.Prelude.{◌≡◌, ◌≤◌, Some, None, true, IfOk, IfErr, map, string_bytes};
-ghost use Rattle.lithe_call.specs.Command.{is_served, served_form, harts_in};
-ghost use Rattle.lithe_call.specs.Output.{limit_of};
+ghost use Rattle.std.specs.Prelude.{◌≡◌, ◌≤◌, Some, IfOk, IfErr, map, string_bytes};
+ghost use Rattle.command_words.specs.Form.{form_of};
+ghost use Rattle.lithe_call.specs.Command.{harts_in, size_in};
+ghost use Rattle.lithe_call.specs.Inputs.{limit_of};
 ghost use Rattle.lithe_call.specs.Faults.{IsNoCommand};
 
 use crate::fault::Fault;
 use command_words::{Command, command_of};
 use std::alloc::Global;
 
-/// The command that the words give, if they are the form of one that is served. Else they are no such form, or memory
-/// ran out while they were read.
-pub fn served_command(alloc: Global, words: &[String]) -> Result<Command, Fault>
-    ensures form { IfOk result (λ command. served_form (map string_bytes words.now) ≡ Some command) }
-    ensures served { IfOk result (λ command. is_served command ≡ true) }
-    ensures some { IfOk result (λ command. 1 ≤ harts_in command) }
-    ensures few { IfOk result (λ command. harts_in command ≤ 4) }
+/// The command that the words give, if they are a form. Else they are none, or memory ran out while they were read.
+pub fn asked_command(alloc: Global, words: &[String]) -> Result<Command, Fault>
+    ensures form { IfOk result (λ command. form_of (map string_bytes words.now) ≡ Some command) }
+    ensures some_hart { IfOk result (λ command. 1 ≤ harts_in command) }
+    ensures few_harts { IfOk result (λ command. harts_in command ≤ 4) }
+    ensures some_size { IfOk result (λ command. 1 ≤ size_in command) }
+    ensures small_size { IfOk result (λ command. size_in command ≤ 40) }
     ensures none { IfErr result (IsNoCommand (map string_bytes words.now)) }
 {
     match command_of(alloc, words)? {
-        Some(Command::Run(harts)) => Ok(Command::Run(harts)),
-        Some(Command::Solo) => Ok(Command::Solo),
-        Some(Command::Audit(harts)) => Ok(Command::Audit(harts)),
-        Some(Command::Make { .. }) | None => Err(Fault::Usage),
+        Some(command) => Ok(command),
+        None => Err(Fault::Usage),
     }
 }
 
@@ -36,7 +35,7 @@ pub fn harts(command: Command) -> u8
     }
 }
 
-/// The greatest length of the command's input, in bytes.
+/// The greatest length of the command's input, in bytes. `make` reads none.
 pub fn limit(command: Command) -> usize
     ensures same { result ≡ limit_of command }
     ensures few { result ≤ 4194304 }

@@ -2,8 +2,8 @@
 ghost use Rattle.std.specs.Prelude.{◌≡◌, ◌<◌, ◌⊎◌, ℕ, List, length, Option, Some};
 ghost use Rattle.command_words.specs.declared.command.Command.{Command};
 ghost use Rattle.lithe_call.specs.declared.status.Status.{Status};
-ghost use Rattle.lithe_call.specs.Command.{served_form};
-ghost use Rattle.lithe_call.specs.Output.{limit_of};
+ghost use Rattle.command_words.specs.Form.{form_of};
+ghost use Rattle.lithe_call.specs.Inputs.{limit_of, AreInput};
 ghost use Rattle.lithe_call.specs.Faults.{IsLong};
 ghost use Rattle.lithe_call.specs.Served.{WritesOutput, WritesPrefix, IsTooLong, TellsStatus};
 ghost use Rattle.lithe_call.specs.Told.{TookOutput, TookPrefix, ToldLine};
@@ -12,17 +12,17 @@ ghost use Rattle.lithe_call.specs.Told.{TookOutput, TookPrefix, ToldLine};
 pub fn told_bytes_are_served()
     ensures done { (words : List (List ℕ)) (status : Status) (left left' taken taken' : Option (List ℕ))
         → WritesOutput words left left' status taken taken'
-        → (command : Command) → served_form words ≡ Some command
-        → (bytes : List ℕ) → left ≡ Some bytes → TookOutput command bytes status taken taken' }
+        → (command : Command) → form_of words ≡ Some command
+        → (bytes : List ℕ) → AreInput command left bytes → TookOutput command bytes status taken taken' }
     ensures prefix { (words : List (List ℕ)) (left left' taken taken' : Option (List ℕ))
         → WritesPrefix words left left' taken taken'
-        → (command : Command) → served_form words ≡ Some command
-        → (bytes : List ℕ) → left ≡ Some bytes → TookPrefix command bytes taken taken' }
+        → (command : Command) → form_of words ≡ Some command
+        → (bytes : List ℕ) → AreInput command left bytes → TookPrefix command bytes taken taken' }
     ensures told { (words : List (List ℕ)) (status : Status) (left left' taken taken' : Option (List ℕ)) (faults faults' : ℕ)
         → TellsStatus words status left left' taken faults taken' faults'
-        → (command : Command) → served_form words ≡ Some command
-        → (bytes : List ℕ) → left ≡ Some bytes → ToldLine command status bytes taken faults taken' faults' }
+        → (command : Command) → form_of words ≡ Some command
+        → (bytes : List ℕ) → AreInput command left bytes → ToldLine command status bytes taken faults taken' faults' }
     ensures too_long { (words : List (List ℕ)) (left left' : Option (List ℕ)) → IsTooLong words left left'
-        → (command : Command) → served_form words ≡ Some command
-        → (bytes : List ℕ) → left ≡ Some bytes → (limit_of command < length bytes) ⊎ IsLong command bytes }
+        → (command : Command) → form_of words ≡ Some command
+        → (bytes : List ℕ) → AreInput command left bytes → (limit_of command < length bytes) ⊎ IsLong command bytes }
 {}

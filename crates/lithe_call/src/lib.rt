@@ -5,6 +5,7 @@
 //! bytes.
 #![tactic(auto)]
 
+mod answer;
 mod audit;
 mod call;
 mod command;

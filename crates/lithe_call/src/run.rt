@@ -4,7 +4,7 @@ ghost use Rattle.array_tree.specs.Trees.{program_of};
 ghost use Rattle.array_lang.specs.Spelled.{HasFault};
 ghost use Rattle.disjoint_check.specs.FaultOf.{check_fault_of};
 ghost use Rattle.disjoint_check.specs.AcceptedProgram.{IsAcceptedProgram};
-ghost use Rattle.lithe_call.specs.Output.{IsOutput, IsRunOf, IsRunOutput};
+ghost use Rattle.lithe_call.specs.Output.{IsOutput, IsRunOf, IsRunOutput, IsSummary};
 ghost use Rattle.lithe_call.specs.Command.{runs_programs, harts_in};
 ghost use Rattle.lithe_call.specs.Faults.{IsNoRun};
 ghost use Rattle.lithe_call.specs.Lines.{TellsSyntax, TellsRefusal};
@@ -24,6 +24,7 @@ use error_text::{refusal_line, syntax_line};
 use hart_loop::{Outcome, run_alone, run_harts};
 use journal_text::write_entries;
 use outside_io::Gate;
+use run_summary::write_summary;
 use std::alloc::{AllocError, Global};
 use std::sync::Wait;
 use std::thread::Threads;
@@ -98,7 +99,8 @@ fn output<R: Threads + Wait + Sync, G: Gate>(
     match command {
         Command::Run(_) => run(rt, alloc, gate, accepted),
         Command::Solo => arrays(alloc, accepted),
-        Command::Audit(_) | Command::Make { .. } => unreachable!(),
+        Command::Make { .. } => summary(rt, alloc, gate, accepted),
+        Command::Audit(_) => unreachable!(),
     }
 }
 
@@ -125,6 +127,26 @@ fn run<R: Threads + Wait + Sync, G: Gate>(
     let entries = write_entries(alloc, accepted.plan(), outcome.journal.entries())?;
     text.extend_from_slice(&entries)?;
     Ok(text)
+}
+
+// The summary of a run.
+fn summary<R: Threads + Wait + Sync, G: Gate>(
+    rt: &R,
+    alloc: Global,
+    gate: &G,
+    accepted: &Accepted<'_>,
+) -> Result<Vec<u8>, AllocError>
+    ensures { IfOk result (λ text. IsSummary (program_of accepted.now.program) accepted.now.plan.harts text.items) }
+{
+    let outcome = outcome(rt, alloc, gate, accepted)?;
+    let entries = outcome.journal.entries();
+    write_summary(
+        alloc,
+        accepted.program(),
+        accepted.plan(),
+        &outcome.store,
+        entries,
+    )
 }
 
 // Runs the program on the harts of its plan. One hart is alone, and waits for nobody.

@@ -6,6 +6,8 @@ mod alone;
 #[cfg(test)]
 mod audits;
 #[cfg(test)]
+mod made;
+#[cfg(test)]
 mod runs;
 #[cfg(test)]
 mod serving;

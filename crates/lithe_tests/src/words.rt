@@ -72,9 +72,20 @@ fn nothing_else_is_a_form(rt: HostRuntime) -> Result<(), Fail> {
 }
 
 #[test]
-fn forms_that_are_not_served_are_told_as_usage(rt: HostRuntime) -> Result<(), Fail> {
-    let words = &["make", "--seed", "7", "--size", "16", "--harts", "4"];
-    usage(&rt, words)
+fn a_made_program_has_a_seed_a_size_and_harts(rt: HostRuntime) -> Result<(), Fail> {
+    usage(&rt, &["make", "--seed", "7", "--size", "1"])?;
+    usage(&rt, &["make", "--seed=7", "--size=0", "--harts=1"])?;
+    usage(&rt, &["make", "--seed=7", "--size=41", "--harts=1"])?;
+    usage(&rt, &["make", "--seed=7", "--size=1", "--harts=5"])?;
+    usage(
+        &rt,
+        &[
+            "make",
+            "--seed=18446744073709551616",
+            "--size=1",
+            "--harts=1",
+        ],
+    )
 }
 
 #[test]

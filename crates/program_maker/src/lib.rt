@@ -4,6 +4,10 @@
 
 mod build;
 mod draw;
+mod laws;
 mod stencil;
+mod text;
 
+pub use laws::made_text_spells;
 pub use stencil::generate;
+pub use text::made_text;

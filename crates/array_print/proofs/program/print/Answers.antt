@@ -1,5 +1,5 @@
 use Rattle.array_tree.specs.Trees.{program_of}
-use Rattle.array_print.proofs.PrintedPrograms.{answer_spells}
+use Rattle.array_print.proofs.LinelessTexts.{answer_spells}
 use Rattle.array_print.proofs.program.print.Goals as goal
 
 pub returns-clause-spelled : goal.returns-clause-spelled

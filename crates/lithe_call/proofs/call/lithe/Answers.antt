@@ -2,16 +2,18 @@ use Rattle.std.proofs.Common.{◌∙◌, ℕ, List, ap, refl, sym, subst, map, s
 use Rattle.lithe_call.specs.declared.status.Status.{Status}
 use Rattle.lithe_call.specs.Served.{TellsStatus}
 use Rattle.lithe_call.specs.Telling.{AppendsPrefix}
-use Rattle.lithe_call.specs.Auditing.{ending}
+use Rattle.lithe_call.specs.Auditing.{ended}
 use Rattle.lithe_call.proofs.Causes.{fault_told}
 use Rattle.lithe_call.proofs.Endings.{only_memory, one_ending, too_long_told}
 use Rattle.lithe_call.proofs.call.lithe.Goals as goal
 
 pub returns-in-Err-clause-complete : goal.returns-in-Err-clause-complete
 returns-in-Err-clause-complete g c = λ command form bytes told status ends calm quiet.
-    inr (c.tell_fault.ensures.same
-    ∙ only_memory (map string_bytes c.args.words.now) c.in-Err.fault (g.A.Source.left c.args.source.now) (g.A.Source.left c.output_of.new.source)
-    (g.A.Source.faults c.args.source.now) (g.A.Source.faults c.output_of.new.source) c.in-Err.ensures.fault command form bytes told status ends calm)
+    elim (only_memory (map string_bytes c.args.words.now) c.in-Err.fault (g.A.Source.left c.args.source.now) (g.A.Source.left c.output_of.new.source)
+    (g.A.Source.faults c.args.source.now) (g.A.Source.faults c.output_of.new.source) c.in-Err.ensures.fault command form bytes told status ends calm) [
+      | inl same ↦ inl (c.tell_fault.ensures.same ∙ same)
+      | inr memory ↦ inr (c.tell_fault.ensures.same ∙ memory)
+    ]
 
 pub returns-in-Err-clause-told : goal.returns-in-Err-clause-told
 returns-in-Err-clause-told g c = λ not_done not_illegal.
@@ -32,16 +34,12 @@ returns-in-Err-clause-too_long g c = λ is.
 
 pub returns-then-not-write_all-clause-prefix : goal.returns-then-not-write_all-clause-prefix
 returns-then-not-write_all-clause-prefix g c = λ _. record {
-  status = ending c.in-Ok.answer.illegal;
+  status = ended c.in-Ok.answer.ending;
   text = c.in-Ok.answer.text.items;
   output = c.in-Ok.ensures.output;
   written = subst (λ (text : List ℕ). AppendsPrefix (g.B.Sink.taken c.args.out.now) text (g.B.Sink.taken c.write_all.new.out)) c.deref.ensures.value (c.if-not-write_all.ensures.prefix refl);
 }
 
-pub returns-then-answer-clause-complete : goal.returns-then-answer-clause-complete
-returns-then-answer-clause-complete g c = λ command form bytes told status ends calm quiet.
-    inl (ap ending (sym c.if-answer.true) ∙ one_ending (map string_bytes c.args.words.now) (g.A.Source.left c.args.source.now) (g.A.Source.left c.output_of.new.source) _ _ c.in-Ok.ensures.output command form bytes told status ends)
-
 pub returns-clause-complete : goal.returns-clause-complete
 returns-clause-complete g c = λ command form bytes told status ends calm quiet.
-    inl (ap ending (sym c.if-answer.false) ∙ one_ending (map string_bytes c.args.words.now) (g.A.Source.left c.args.source.now) (g.A.Source.left c.output_of.new.source) _ _ c.in-Ok.ensures.output command form bytes told status ends)
+    inl (c.ended.ensures ∙ one_ending (map string_bytes c.args.words.now) (g.A.Source.left c.args.source.now) (g.A.Source.left c.output_of.new.source) _ _ c.in-Ok.ensures.output command form bytes told status ends)

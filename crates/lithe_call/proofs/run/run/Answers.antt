@@ -1,25 +1,17 @@
-use Rattle.std.proofs.Common.{◌≡◌, ◌∙◌, ◌++◌, ℕ, List, length, [], ap, sym, subst, pos}
-use Rattle.std.proofs.lemmas.List.{length-replicate}
+use Rattle.std.proofs.Common.{◌≡◌, ◌∙◌, ◌++◌, length, ap, sym, subst}
 use Rattle.transfer_table.specs.Plan.{Plan}
 use Rattle.transfer_table.specs.Journal.{IsComplete}
 use Rattle.journal_text.specs.JournalText.{journal_text}
 use Rattle.array_tree.specs.declared.tree.Program.{Program}
-use Rattle.array_tree.specs.Trees.{ProgramTree, program_of, declarations_of}
+use Rattle.array_tree.specs.Trees.{program_of, declarations_of}
 use Rattle.array_meaning.specs.Stores.{arrays_of, cells_of, AreSized}
-use Rattle.array_meaning.specs.Steps.{writes_of}
-use Rattle.array_meaning.specs.Work.{final_store, first_store, sequence_work}
+use Rattle.array_meaning.specs.Work.{final_store}
 use Rattle.array_meaning.proofs.InsideLemmas.{sized_in_range}
-use Rattle.array_meaning.proofs.StepLemmas.{length_after}
 use Rattle.array_eval.specs.ArrayText.{array_text}
 use Rattle.hart_loop.specs.Journals.{entries_in}
 use Rattle.lithe_call.specs.Programs.{table_plan}
+use Rattle.lithe_call.proofs.Runs.{final_cells, told_plan}
 use Rattle.lithe_call.proofs.run.run.Goals as goal
-
--- the store that a program ends with has its cells
-final_cells : (program : ProgramTree) → length (final_store program) ≡ cells_of (arrays_of program.arrays)
-final_cells program =
-    let arrays = arrays_of program.arrays in
-    length_after (writes_of arrays (sequence_work program.body []) (first_store arrays)) (first_store arrays) ∙ length-replicate (cells_of arrays) (pos 0)
 
 pub write_arrays-requires-clause-sized : goal.write_arrays-requires-clause-sized
 write_arrays-requires-clause-sized g c =
@@ -36,8 +28,7 @@ returns g c =
     let program = program_of c.args.accepted.now.program in
     let journal = entries_in c.in_ok-outcome.outcome.journal in
     let harts = c.args.accepted.now.plan.harts in
-    let with_parents : List ℕ → Plan = λ parents. record { harts = harts; parents = parents } in
-    let told : c.args.accepted.now.plan ≡ table_plan program harts = ap with_parents c.program.ensures.kept.parents in
+    let told : c.args.accepted.now.plan ≡ table_plan program harts = told_plan c.args.accepted.now.plan program c.program.ensures.kept.parents in
     let plan : c.plan.result.now ≡ table_plan program harts = c.plan.ensures.same ∙ told in
     let lines = c.deref.ensures.value ∙ c.in_ok-entries.ensures ∙ ap (journal_text c.plan.result.now) c.entries.ensures ∙ ap (λ p. journal_text p journal) plan in
     let text = c.in_ok-text.ensures ∙ ap (λ (p : Program). array_text (program_of p) c.in_ok-outcome.outcome.store) c.program.ensures.same

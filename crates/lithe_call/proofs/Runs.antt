@@ -1,0 +1,34 @@
+-- What a run leaves, and what is written of it.
+use Rattle.std.proofs.Common.{◌≡◌, ◌∙◌, ℕ, List, length, [], ap, ap₂, subst, pos, Result, Ok, Err, IfOk}
+use Rattle.std.proofs.lemmas.List.{length-replicate}
+use Rattle.transfer_table.specs.Plan.{Plan}
+use Rattle.transfer_table.specs.Journal.{IsComplete}
+use Rattle.transfer_table.specs.declared.entry.Entry.{Entry}
+use Rattle.array_tree.specs.Trees.{ProgramTree}
+use Rattle.array_meaning.specs.Stores.{Store, arrays_of, cells_of}
+use Rattle.array_meaning.specs.Steps.{writes_of}
+use Rattle.array_meaning.specs.Work.{final_store, first_store, sequence_work}
+use Rattle.array_meaning.proofs.StepLemmas.{length_after}
+use Rattle.run_summary.specs.Summary.{summary_text}
+use Rattle.lithe_call.specs.Programs.{table_plan}
+use Rattle.lithe_call.specs.Output.{IsSummary}
+
+-- the store that a program ends with has its cells
+pub final_cells : (program : ProgramTree) → length (final_store program) ≡ cells_of (arrays_of program.arrays)
+final_cells program =
+    let arrays = arrays_of program.arrays in
+    length_after (writes_of arrays (sequence_work program.body []) (first_store arrays)) (first_store arrays) ∙ length-replicate (cells_of arrays) (pos 0)
+
+-- a plan with the parents of the program's
+pub told_plan : (plan : Plan) (program : ProgramTree) → plan.parents ≡ (table_plan program plan.harts).parents → plan ≡ table_plan program plan.harts
+told_plan plan program same = let with_parents : List ℕ → Plan = λ parents. record { harts = plan.harts; parents = parents } in ap with_parents same
+
+pub summarised : {T F : Type 0} (r : Result T F) (view : T → List ℕ) (program : ProgramTree) (harts : ℕ) (plan : Plan) (store : Store) (journal : List Entry)
+    → plan ≡ table_plan program harts → store ≡ final_store program → IsComplete plan journal
+    → IfOk r (λ x. view x ≡ summary_text plan store journal) → IfOk r (λ x. IsSummary program harts (view x))
+summarised (Ok x) view program harts plan store journal same final complete h = record {
+  journal = journal;
+  complete = subst (λ (p : Plan). IsComplete p journal) same complete;
+  whole = h ∙ ap₂ (λ (p : Plan) (s : Store). summary_text p s journal) same final;
+}
+summarised (Err f) view program harts plan store journal same final complete h = tt

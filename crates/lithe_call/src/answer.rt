@@ -1,0 +1,17 @@
+//! What a command writes.
+
+/// What a command writes, and what that tells.
+#[derive(Drop)]
+pub struct Answer {
+    pub text: Vec<u8>,
+    pub ending: Ending,
+}
+
+/// What an answer tells.
+#[derive(Clone, Copy)]
+pub enum Ending {
+    /// What the command was asked for; of an audit, that the output is the program's.
+    Written,
+    /// That an output isn't the program's.
+    Illegal,
+}

@@ -1,0 +1,67 @@
+//! Made programs, through the top call.
+use crate::serving::{ROOM, serve, status_of};
+use lithe_call::Status;
+use outside_io::{Fill, Source, SureSink, SureSource};
+use std::process::Abort;
+use std::sync::Wait;
+use std::test::Fail;
+use std::thread::Threads;
+
+const LARGE: &[u8] = b"cells 528\nsum 85920000\nsites 82\nregisters 82\n";
+
+const SMALL: &[u8] = b"cells 3\nsum 26250\nsites 22\nregisters 22\n";
+
+// Serves words that make a program, and tests the summary.
+fn made<R: AllocGlobal + Abort + Threads + Wait + Sync>(
+    rt: &R,
+    words: &[&str],
+    summary: &[u8],
+) -> Result<(), Fail> {
+    serve(rt, words, b"", Status::Done, summary, b"")
+}
+
+#[test]
+fn a_summary_is_the_same_on_one_hart_and_on_four(rt: HostRuntime) -> Result<(), Fail> {
+    let words = &["make", "--seed", "7", "--size", "16", "--harts", "1"];
+    made(&rt, words, LARGE)?;
+    let words = &["make", "--seed", "7", "--size", "16", "--harts", "4"];
+    made(&rt, words, LARGE)?;
+    let words = &["make", "--harts=1", "--size=1", "--seed=7"];
+    made(&rt, words, SMALL)?;
+    let words = &["make", "--size", "01", "--harts=4", "--seed", "7"];
+    made(&rt, words, SMALL)
+}
+
+#[test]
+fn all_forty_sizes_run(rt: HostRuntime) -> Result<(), Fail> {
+    for size in 1..41u64 {
+        // Each of four sweeps multiplies the grid's sum by 5, and what is added up is the grid, its last sweep and its rows.
+        let cells = size * size;
+        let grid = cells * 14 + 22 * cells * (size - 1) / 2;
+        let (all, sum, sites) = (2 * cells + size, 1875 * grid, 4 * size + 18);
+        let mut word = String::new(rt.alloc());
+        write!(word, "--size={size}")?;
+        let mut summary = String::new(rt.alloc());
+        writeln!(
+            summary,
+            "cells {all}\nsum {sum}\nsites {sites}\nregisters {sites}"
+        )?;
+        let words = &["make", "--seed=7", word.as_str(), "--harts=1"];
+        made(&rt, words, summary.as_bytes())?;
+    }
+    Ok(())
+}
+
+#[test]
+fn making_leaves_the_source(rt: HostRuntime) -> Result<(), Fail> {
+    let mut source = SureSource::new(rt.alloc(), b"abc")?;
+    let mut out = SureSink::new(rt.alloc(), ROOM)?;
+    let mut err = SureSink::new(rt.alloc(), ROOM)?;
+    let words = &["make", "--seed=7", "--size=1", "--harts=2"];
+    let status = status_of(&rt, words, &mut source, &mut out, &mut err)?;
+    assert_eq!(rt; status, Status::Done);
+    assert_eq!(rt; out.bytes(), Some(SMALL));
+    let mut buf = [0; 4];
+    assert_eq!(rt; source.read(&mut buf), Fill::Got(3));
+    Ok(())
+}

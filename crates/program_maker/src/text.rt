@@ -1,0 +1,20 @@
+//! The program as text.
+ghost use Rattle.std.specs.Prelude.{◌≡◌, ◌≤◌, IfOk, length};
+ghost use Rattle.array_print.specs.Texts.{printed};
+ghost use Rattle.program_maker.specs.Made.{made_program};
+
+use crate::stencil::generate;
+use array_print::print;
+use std::alloc::{AllocError, Global};
+
+/// The text of the program of a seed and a size, from 1 to 40, as it is printed. It spells the program up to its line
+/// numbers, and isn't longer than a program may be.
+pub fn made_text(alloc: Global, seed: u64, size: u8) -> Result<Vec<u8>, AllocError>
+    requires some { 1 ≤ size }
+    requires few { size ≤ 40 }
+    ensures printed { IfOk result (λ text. text.items ≡ printed (made_program seed size)) }
+    ensures short { IfOk result (λ text. length text.items ≤ 65536) }
+{
+    let program = generate(alloc, seed, size)?;
+    print(alloc, &program)
+}
