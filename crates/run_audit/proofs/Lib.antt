@@ -1,3 +1,5 @@
 pub mod Comparing
 pub mod Within
 pub mod Cutting
+pub mod Pieces
+pub mod Found

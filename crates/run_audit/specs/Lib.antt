@@ -2,3 +2,4 @@ pub mod Audit
 pub mod AuditText
 pub mod Found
 pub mod Parts
+pub mod Legal
