@@ -101,6 +101,7 @@ ahead-others f x child (p ∷ ps) other = at (p.child == child) refl (ahead-othe
     front : (b : Bool) → weigh f (ahead_of x (others child ps)) ≤ weigh f (ahead_of x ps) → weigh f (if b then [] else p.child ∷ ahead_of x (others child ps)) ≤ weigh f (if b then [] else p.child ∷ ahead_of x ps)
     front true rest = omega arith
     front false rest = omega (arith, rest)
+
     at : (b : Bool) → (p.child == child) ≡ b → weigh f (ahead_of x (others child ps)) ≤ weigh f (ahead_of x ps) →
         weigh f (ahead_of x (if not b then p ∷ others child ps else others child ps)) ≤ weigh f (ahead_of x (p ∷ ps))
     at true e rest =
@@ -151,9 +152,11 @@ wishes_by_cases P child count ring same more new = none (count == 0)
     room : (b : Bool) → has_place child ring.places ≡ false → P (if b then record ring { places = ring.places ++ record { child = child; wishes = count } ∷ [] } else ring)
     room true h = new h
     room false h = same
+
     has : (b : Bool) → has_place child ring.places ≡ b → P (if b then record ring { places = with_more child count ring.places } else with_place child count ring)
     has true e = more e
     has false e = room (nat_lt (length ring.places) ring.room) e
+
     none : (b : Bool) → P (if b then ring else if has_place child ring.places then record ring { places = with_more child count ring.places } else with_place child count ring)
     none true = same
     none false = has (has_place child ring.places) refl
@@ -174,8 +177,8 @@ hear_keeps x child count Unregistered ring has stays =
     record { has = has-others x child ring.places (stays refl) ∙ has; ahead = λ f. ahead-others f x child ring.places (stays refl) }
 hear_keeps x child count Requested ring has stays =
     wishes_by_cases (λ after. Keeps x ring.places after.places) child count ring (keeps_same x _ _ has refl)
-      (λ _. record { has = has-more x child count ring.places ∙ has; ahead = λ f. (let e = ap (weigh f) (ahead-more x child count ring.places) in omega (arith, e)) })
-      (λ _. record { has = has-append x ring.places _ has; ahead = λ f. (let e = ap (weigh f) (ahead-append x ring.places (record { child = child; wishes = count } ∷ []) has) in omega (arith, e)) })
+    (λ _. record { has = has-more x child count ring.places ∙ has; ahead = λ f. (let e = ap (weigh f) (ahead-more x child count ring.places) in omega (arith, e)) })
+    (λ _. record { has = has-append x ring.places _ has; ahead = λ f. (let e = ap (weigh f) (ahead-append x ring.places (record { child = child; wishes = count } ∷ []) has) in omega (arith, e)) })
 hear_keeps x child count Yielded ring has stays = keeps_same x _ _ has refl
 hear_keeps x child count Blocked ring has stays = keeps_same x _ _ has refl
 
@@ -183,13 +186,15 @@ hear_keeps x child count Blocked ring has stays = keeps_same x _ _ has refl
 pub turn_keeps : (x y : ℕ) (ps qs : List Place) → has_place x ps ≡ true → TakesTurn ps y qs → y ≢ x →
     (has_place x qs ≡ true) × ((f : ℕ → ℕ) → f y + weigh f (ahead_of x qs) ≤ weigh f (ahead_of x ps))
 turn_keeps x y [] qs has turn other = absurd turn
-turn_keeps x y (p ∷ ps) qs has turn other =
-    (ap (has_place x) turn.1 ∙ has-append x ps (left_of p) there,
-     λ f. (let e = ap (weigh f) (ap (ahead_of x) turn.1 ∙ ahead-append x ps (left_of p) there) in let g = ap f turn.0 in
-       let front = ap (λ b. weigh f (if b then [] else p.child ∷ ahead_of x ps)) apart in omega (arith, e, g, front)))
+turn_keeps x y (p ∷ ps) qs has turn other = (
+  ap (has_place x) turn.1 ∙ has-append x ps (left_of p) there,
+  λ f. (let e = ap (weigh f) (ap (ahead_of x) turn.1 ∙ ahead-append x ps (left_of p) there) in let g = ap f turn.0 in
+      let front = ap (λ b. weigh f (if b then [] else p.child ∷ ahead_of x ps)) apart in omega (arith, e, g, front)),
+)
   where
     apart : (p.child == x) ≡ false
     apart = ne_eqb p.child x (λ s. other (turn.0 ∙ s))
+
     there : has_place x ps ≡ true
     there = sym (ap (λ b. b || has_place x ps) apart) ∙ has
 
@@ -206,6 +211,7 @@ one_new child count ps one none c = at (child == c) refl
     sum : how_often c (children (ps ++ record { child = child; wishes = count } ∷ [])) ≡ how_often c (children ps) + ((if child == c then 1 else 0) + 0)
     sum = ap (how_often c) (children-append ps (record { child = child; wishes = count } ∷ [])) ∙ often_weighs c _ ∙ weigh-append (is_it c) (children ps) (child ∷ [])
         ∙ ap (λ n. n + ((if child == c then 1 else 0) + 0)) (sym (often_weighs c (children ps)))
+
     at : (b : Bool) → (child == c) ≡ b → how_often c (children (ps ++ record { child = child; wishes = count } ∷ [])) ≤ 1
     at true e =
         let nowhere = subst (λ n. how_often n (children ps) ≡ 0) (eqb-true child c e) (none-children child ps none) in
@@ -217,8 +223,8 @@ hear_one child count Registered ring one = one
 hear_one child count Unregistered ring one = one_from ring.places _ one (λ f. children-others f child ring.places)
 hear_one child count Requested ring one =
     wishes_by_cases (λ after. HasOneEach after.places) child count ring one
-      (λ _. one_from ring.places _ one (λ f. (let e = ap (weigh f) (children-more child count ring.places) in omega (arith, e))))
-      (one_new child count ring.places one)
+    (λ _. one_from ring.places _ one (λ f. (let e = ap (weigh f) (children-more child count ring.places) in omega (arith, e))))
+    (one_new child count ring.places one)
 hear_one child count Yielded ring one = one
 hear_one child count Blocked ring one = one
 
@@ -226,4 +232,4 @@ pub turn_one : (y : ℕ) (ps qs : List Place) → TakesTurn ps y qs → HasOneEa
 turn_one y [] qs turn one = absurd turn
 turn_one y (p ∷ ps) qs turn one = one_from (p ∷ ps) qs one (λ f.
     (let e = ap (weigh f) (ap children turn.1 ∙ children-append ps (left_of p)) ∙ weigh-append f (children ps) (children (left_of p)) in
-     let l = children-left f p in omega (arith, e, l)))
+    let l = children-left f p in omega (arith, e, l)))

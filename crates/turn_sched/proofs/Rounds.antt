@@ -57,16 +57,17 @@ one_in before after _ (Ends m) one = one
 one_in before after _ (Goes b next a event rest does runs) one = one_in next a rest runs (one_after b next event does one)
 
 pub turns_go_round : (C : Type 0) → TurnsGoRound C
-turns_go_round C site room some earlier events before after first later x has over =
-    (λ other.
-        (let lent = lent_were_ahead x (is_it other) before after events later has over in
-         let all = ahead-children (is_it other) x (places before) in
-         let one = one_in _ before earlier first (λ c. omega arith) other in
-         let a = often_weighs other (lent_in events) in let b = often_weighs other (children (places before)) in
-         omega (arith, lent, all, one, a, b)),
-     (let lent = lent_were_ahead x (λ c. 1) before after events later has over in
+turns_go_round C site room some earlier events before after first later x has over = (
+  λ other.
+      (let lent = lent_were_ahead x (is_it other) before after events later has over in
+      let all = ahead-children (is_it other) x (places before) in
+      let one = one_in _ before earlier first (λ c. omega arith) other in
+      let a = often_weighs other (lent_in events) in let b = often_weighs other (children (places before)) in
+      omega (arith, lent, all, one, a, b)),
+  (let lent = lent_were_ahead x (λ c. 1) before after events later has over in
       let a = length_weighs (lent_in events) in let b = length_weighs (ahead_of x (places before)) in
-      omega (arith, lent, a, b)))
+      omega (arith, lent, a, b)),
+)
 
 -- one call more in front
 goes_first : {C : Type 0} (before next : TurnsState C) (event : Event C) (kept run left : List C) → Does before event next →

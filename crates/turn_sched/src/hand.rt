@@ -1,4 +1,4 @@
-//! The scheduler behind a lock.
+//! The scheduler of several harts.
 ghost use Rattle.std.specs.Prelude.{◌≡◌, IfErr};
 
 use crate::turns::{Turns, TurnsHeard};
@@ -6,8 +6,27 @@ use sched_api::{Next, Scheduler};
 use std::marker::PhantomData;
 use std::sync::{Mutex, Wait};
 
-/// One hart's hand on a `Turns` that harts share. Its calls do what those of `Turns` do, under the lock, for which each but
-/// `site` may wait.
+/// A `Turns` that harts share: its site stands beside the lock, since no call changes it.
+#[derive(Drop)]
+pub struct SharedTurns<C> {
+    site: u16,
+    lock: Mutex<Turns<C>>,
+}
+
+impl<C: Drop> SharedTurns<C> {
+    /// Puts the scheduler behind a lock.
+    pub fn new(turns: Turns<C>) -> SharedTurns<C>
+        ensures { result.site ≡ turns.site }
+    {
+        SharedTurns {
+            site: turns.site(),
+            lock: Mutex::new(turns),
+        }
+    }
+}
+
+/// One hart's hand on a shared `Turns`. Its calls do what those of `Turns` do, under the lock, for which each but `site` may
+/// wait.
 pub struct TurnsHand<'a, C, R> {
     site: u16,
     lock: &'a Mutex<Turns<C>>,
@@ -25,13 +44,13 @@ impl<'a, C, R> Drop for TurnsHand<'a, C, R> {
 }
 
 impl<'a, C, R> TurnsHand<'a, C, R> {
-    /// A hand on the scheduler behind the lock, which is that of the site. It doesn't wait.
-    pub fn new(site: u16, lock: &'a Mutex<Turns<C>>) -> TurnsHand<'a, C, R>
-        ensures { result.site ≡ site }
+    /// A hand on the scheduler. It doesn't wait.
+    pub fn new(shared: &'a SharedTurns<C>) -> TurnsHand<'a, C, R>
+        ensures { result.site ≡ shared.now.site }
     {
         TurnsHand {
-            site,
-            lock,
+            site: shared.site,
+            lock: &shared.lock,
             of: PhantomData,
         }
     }

@@ -1,7 +1,7 @@
 //! A small scheduler, complete with its proofs, for authors of schedulers to learn from.
 //!
-//! It runs its contexts in turn, and lends harts to its children by turns. `Turns` is for one thread; a `TurnsHand` is one
-//! hart's hand on one behind a lock. `laws` has what a user may rest on over any run of calls.
+//! It runs its contexts in turn, and lends harts to its children by turns. `Turns` is for one thread. Harts share a
+//! `SharedTurns`, each by a `TurnsHand` of its own. `laws` has what a user may rest on over any run of calls.
 #![tactic(auto)]
 
 mod hand;
@@ -9,9 +9,8 @@ pub mod laws;
 mod ring;
 mod turns;
 
-pub use hand::TurnsHand;
+pub use hand::{SharedTurns, TurnsHand};
 pub use turns::{Turns, TurnsHeard};
-
 
 #[cfg(test)]
 mod tests;

@@ -65,14 +65,15 @@ impl Ring {
         ensures none { IfNone result ((self.old.places ≡ []) × (self.new.places ≡ [])) }
         ensures room { self.new.room ≡ self.old.room }
     {
-        let place = self.places.pop_front()?;
-        if place.wishes > 1 {
-            self.places.push_back_reserved(Place {
-                child: place.child,
-                wishes: place.wishes - 1,
-            });
+        let Place { child, wishes } = self.places.pop_front()?;
+        if wishes > 1 {
+            let left = Place {
+                child,
+                wishes: wishes - 1,
+            };
+            self.places.push_back_reserved(left);
         }
-        Some(place.child)
+        Some(child)
     }
 
     /// Takes the child's place.
