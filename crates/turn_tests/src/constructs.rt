@@ -1,0 +1,71 @@
+//! The constructs in the two branches of a program, with their schedulers.
+
+use array_tree::Program;
+use contexts::{Machine, Step};
+use forkjoin_sched::{Pool, PoolWork};
+use loop_team::{Team, TeamWork};
+use sample_programs::{Answer, first_jobs};
+use sched_api::Next;
+use std::alloc::Global;
+use std::test::Fail;
+use step_eval::{Kind, Nested, StepMachine, jobs_of};
+
+/// A `par` at site 1, with a `par` at site 2 in its first branch and a `team` at site 3 in its second.
+pub const TWO_CONSTRUCTS: &[u8] = b"array a[4]; array b[6]; par {
+    { par { { a[0] = 1; } { a[1] = 2; } } }
+    { team i in 0..6 by 3 { b[i] = i + 1; } }
+}";
+
+// The construct that a branch begins with.
+fn construct_in<'p>(
+    alloc: Global,
+    program: &'p Program,
+    branch: usize,
+) -> Result<Nested<'p>, Fail> {
+    let jobs = first_jobs(alloc, program)?;
+    let Some(job) = jobs.get(branch) else {
+        return Err(Fail::new("no such branch"));
+    };
+    let mut machine = StepMachine::new(alloc, job.copy()?)?;
+    match machine.step() {
+        Step::Nest(nested) => Ok(nested),
+        Step::More | Step::Finished | Step::NoMemory => Err(Fail::new("no construct")),
+    }
+}
+
+/// The pool of the first branch.
+pub fn pool_in<'p>(alloc: Global, program: &'p Program) -> Result<Pool<'p>, Fail> {
+    let nested = construct_in(alloc, program, 0)?;
+    let _phases = nested.phases();
+    let jobs = jobs_of(alloc, &nested, 0, &nested.store)?;
+    Ok(Pool::new(alloc, jobs)?)
+}
+
+/// The team of the second branch.
+pub fn team_in<'p>(alloc: Global, program: &'p Program) -> Result<Team<'p>, Fail> {
+    let nested = construct_in(alloc, program, 1)?;
+    match nested.kind() {
+        Kind::Team => Ok(Team::new(alloc, nested)?),
+        Kind::Par => Err(Fail::new("it is a par")),
+    }
+}
+
+/// What a hart finds in the pool.
+pub fn pool_answer(next: Next<PoolWork>) -> Answer {
+    match next {
+        Next::Run(PoolWork::Begin(job)) => Answer::Begins(job.place),
+        Next::Run(PoolWork::Ready(_)) => Answer::GoesOn,
+        Next::Lend(site) => Answer::Lends(site),
+        Next::Nothing => Answer::Nothing,
+    }
+}
+
+/// What a hart finds in the team.
+pub fn team_answer(next: Next<TeamWork>) -> Answer {
+    match next {
+        Next::Run(TeamWork::Begin(job)) => Answer::Begins(job.place),
+        Next::Run(TeamWork::Ready(_)) => Answer::GoesOn,
+        Next::Lend(site) => Answer::Lends(site),
+        Next::Nothing => Answer::Nothing,
+    }
+}
