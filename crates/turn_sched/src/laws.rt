@@ -3,8 +3,8 @@
 //! They speak of the calls of one `Turns`, as one hart makes them or several under a lock, in the order in which they came.
 ghost use Rattle.turn_sched.specs.Rounds.{TurnsGoRound, ContextsGoInOrder};
 
-/// Turns go round. From when a child has a wish until a hart is lent to it or it has gone, harts are lent to each other child
-/// at most once, and to no more children than had their turn before it.
+/// Turns go round. From when a child has a wish until a hart is lent to it or it has gone, no other child is lent to twice, and
+/// no more children are lent to than had their turn before it.
 ///
 /// That a hart ever comes, or that one that was lent enters the child, isn't said: it is the machine's and the harts' matter.
 /// A wish that found no room isn't one here.

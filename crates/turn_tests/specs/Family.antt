@@ -11,10 +11,6 @@ family_plan = record { harts = 4; parents = 0 ∷ 1 ∷ 1 ∷ [] }
 abbrev pub new_hart : ℕ → PortView
 new_hart hart = (first_locked family_plan hart).view
 
--- the home of the parent, which asked for all others
-abbrev pub parent_home : PortView
-parent_home = requested_by (registered (new_hart 0) 1) 1 3
-
 -- the home of a child, which asked for two harts
 abbrev pub child_home : ℕ → ℕ → PortView
 child_home hart child = requested_by (registered (entered (new_hart hart) 1) child) child 2

@@ -1,5 +1,7 @@
 //! A single hart that runs contexts in turn.
-ghost use Rattle.std.specs.Prelude.{◌≡◌, []};
+ghost use Rattle.std.specs.Prelude.{◌≡◌, [], ◌∷◌, OnOk, false};
+ghost use Rattle.hart_port.specs.PortView.{registered};
+ghost use Rattle.hart_port.specs.Plain.{first_view};
 
 use base_sched::Base;
 use contexts::{
@@ -46,6 +48,15 @@ fn put(alloc: Global, turns: &mut Turns<Paused<Task>>, name: char, left: u8) -> 
     }
 }
 
+// A scheduler of three contexts, with two steps, one and none to do.
+fn three_contexts(alloc: Global) -> Result<Turns<Paused<Task>>, Fail> {
+    let mut turns = Turns::new(alloc, 1, 3, 0)?;
+    put(alloc, &mut turns, 'a', 2)?;
+    put(alloc, &mut turns, 'b', 1)?;
+    put(alloc, &mut turns, 'c', 0)?;
+    Ok(turns)
+}
+
 // Runs a step of the context, and gives it back unless it is done. Whose step it was.
 fn run_step(turns: &mut Turns<Paused<Task>>, context: Paused<Task>) -> Result<char, Fail> {
     let mut running = ctx_resume(context);
@@ -74,23 +85,43 @@ fn run_all(alloc: Global, turns: &mut Turns<Paused<Task>>) -> Result<Vec<char>, 
     Err(Fail::new("it doesn't end"))
 }
 
+// The hart opens the site, as its home.
+fn open(port: &mut PlainPort, base: &mut Base) -> Result<(), Fail>
+    requires plan { port.old.view.plan ≡ record { harts = 1; parents = 0 ∷ [] } }
+    requires first { port.old.view ≡ first_view port.old.view.plan }
+    ensures { OnOk result (port.new.view ≡ registered port.old.view 1) }
+{
+    match sched_register(port, (), base, (), 1) {
+        Ok(_) => Ok(()),
+        Err(_) => Err(Fail::new("the site is taken")),
+    }
+}
+
+// The home of the site closes it, and goes back to the base.
+fn close(port: &mut PlainPort, base: &mut Base) -> Result<(), Fail>
+    requires plan { port.old.view.plan ≡ record { harts = 1; parents = 0 ∷ [] } }
+    requires home { port.old.view ≡ registered (first_view port.old.view.plan) 1 }
+{
+    port.close_site(());
+    if port.see_empty(()) != Seen::Empty {
+        return Err(Fail::new("somebody is inside"));
+    }
+    sched_unregister(port, (), base, ());
+    Ok(())
+}
+
 #[test]
 fn contexts_run_in_turn(rt: HostRuntime) -> Result<(), Fail> {
     let plan = Plan::new(rt.alloc(), 1, &[0])?;
-    assert!(rt; plan.harts() == 1 && plan.sites() == 1 && plan.parent(1) == 0);
     let mut port = PlainPort::new(rt.alloc(), &plan)?;
     let mut base = Base::new(rt.alloc(), 1)?;
-    let mut turns = Turns::new(rt.alloc(), 1, 3, 0)?;
-    assert!(rt; sched_register(&mut port, (), &mut base, (), 1).is_ok());
-    for (name, left) in [('a', 2), ('b', 1), ('c', 0)] {
-        put(rt.alloc(), &mut turns, name, left)?;
-    }
+    let mut turns = three_contexts(rt.alloc())?;
+    open(&mut port, &mut base)?;
     let names = run_all(rt.alloc(), &mut turns)?;
     assert!(rt; names.as_slice() == ['a', 'b', 'c', 'a', 'b', 'a'].as_slice());
-    port.close_site(());
-    assert!(rt; port.see_empty(()) == Seen::Empty);
-    sched_unregister(&mut port, (), &mut base, ());
+    close(&mut port, &mut base)?;
     let entries = port.finish();
+    assert_eq!(rt; entries.as_slice().len(), 2);
     assert_eq!(rt; first_fault(rt.alloc(), &plan, entries.as_slice())?, None);
     Ok(())
 }

@@ -1,10 +1,11 @@
 //! The constructs in the two branches of a program, with their schedulers.
 
+use crate::siblings::Child;
 use array_tree::Program;
 use contexts::{Machine, Step};
 use forkjoin_sched::{Pool, PoolWork};
 use loop_team::{Team, TeamWork};
-use sample_programs::{Answer, first_jobs};
+use sample_programs::first_jobs;
 use sched_api::Next;
 use std::alloc::Global;
 use std::test::Fail;
@@ -50,22 +51,20 @@ pub fn team_in<'p>(alloc: Global, program: &'p Program) -> Result<Team<'p>, Fail
     }
 }
 
-/// What a hart finds in the pool.
-pub fn pool_answer(next: Next<PoolWork>) -> Answer {
-    match next {
-        Next::Run(PoolWork::Begin(job)) => Answer::Begins(job.place),
-        Next::Run(PoolWork::Ready(_)) => Answer::GoesOn,
-        Next::Lend(site) => Answer::Lends(site),
-        Next::Nothing => Answer::Nothing,
+impl<'p> Child for Pool<'p> {
+    fn place(next: Next<PoolWork<'p>>) -> Option<u8> {
+        match next {
+            Next::Run(PoolWork::Begin(job)) => Some(job.place),
+            _ => None,
+        }
     }
 }
 
-/// What a hart finds in the team.
-pub fn team_answer(next: Next<TeamWork>) -> Answer {
-    match next {
-        Next::Run(TeamWork::Begin(job)) => Answer::Begins(job.place),
-        Next::Run(TeamWork::Ready(_)) => Answer::GoesOn,
-        Next::Lend(site) => Answer::Lends(site),
-        Next::Nothing => Answer::Nothing,
+impl<'p> Child for Team<'p> {
+    fn place(next: Next<TeamWork<'p>>) -> Option<u8> {
+        match next {
+            Next::Run(TeamWork::Begin(job)) => Some(job.place),
+            _ => None,
+        }
     }
 }

@@ -2,16 +2,14 @@
 //!
 //! Hart 0 is the home of the parent, hart 1 of the pool and hart 2 of the team. Hart 3 is lent to both.
 ghost use Rattle.std.specs.Prelude.{◌≡◌, ◌+◌, ◌-◌, ◌≤◌, ◌<◌, OnOk, IfOk, false, true};
-ghost use Rattle.transfer_table.specs.Plan.{IsSite, parent};
+ghost use Rattle.transfer_table.specs.Plan.{IsSite, parent as parent_of};
 ghost use Rattle.hart_port.specs.PortView.{is_in, without, registered, requested_by, entered, yielded};
-ghost use Rattle.turn_tests.specs.Family.{family_plan, new_hart, parent_home, child_home, IsGuest};
+ghost use Rattle.turn_tests.specs.Family.{family_plan, new_hart, child_home, IsGuest};
 
-use crate::constructs::{TWO_CONSTRUCTS, pool_answer, pool_in, team_answer, team_in};
+use crate::constructs::{TWO_CONSTRUCTS, pool_in, team_in};
 use base_sched::Base;
-use forkjoin_sched::Pool;
 use hart_port::{Ledger, LockedPort, Port};
-use loop_team::Team;
-use sample_programs::{Answer, parsed};
+use sample_programs::parsed;
 use sched_api::{
     Lent, Next, Scheduler, sched_enter, sched_reenter, sched_register, sched_request,
     sched_unregister, sched_yield,
@@ -25,6 +23,12 @@ use transfer_table::{Plan, first_fault};
 use turn_sched::Turns;
 use waiting_port::WaitingPort;
 
+/// A child of the parent.
+pub trait Child: Scheduler {
+    /// The place of the piece that a hart is to begin there, if it is to begin one.
+    fn place(next: Next<Self::Ctx>) -> Option<u8>;
+}
+
 // The hart opens the site, as its home, and asks the parent for more harts.
 fn open<P: Port, S: Scheduler>(
     port: &mut P,
@@ -35,10 +39,11 @@ fn open<P: Port, S: Scheduler>(
     count: u8,
 ) -> Result<(), Fail>
     requires site { IsSite (P.seen port.old).plan site }
-    requires child { (P.seen port.old).owner ≡ parent (P.seen port.old).plan site }
+    requires child { (P.seen port.old).owner ≡ parent_of (P.seen port.old).plan site }
     requires some { 1 ≤ count }
     requires few { count ≤ (P.seen port.old).plan.harts - 1 }
-    ensures { OnOk result (P.seen port.new ≡ requested_by (registered (P.seen port.old) site) site count) }
+    ensures home { OnOk result (P.seen port.new ≡ requested_by (registered (P.seen port.old) site) site count) }
+    ensures parent { S.site_of parent.new ≡ S.site_of parent.old }
 {
     if sched_register(port, hold, parent, parent_hold, site).is_err() {
         return Err(Fail::new("the site is taken"));
@@ -59,7 +64,7 @@ fn close<P: PatientPort, S: Scheduler>(
     requires shared { (P.seen port.old).alone ≡ false }
     requires home { is_in (P.seen port.old).homes (P.seen port.old).owner ≡ true }
     requires open_yet { is_in (P.seen port.old).closed (P.seen port.old).owner ≡ false }
-    ensures owner { (P.seen port.new).owner ≡ parent (P.seen port.old).plan (P.seen port.old).owner }
+    ensures owner { (P.seen port.new).owner ≡ parent_of (P.seen port.old).plan (P.seen port.old).owner }
     ensures homes { (P.seen port.new).homes ≡ without (P.seen port.old).homes (P.seen port.old).owner }
     ensures plan { (P.seen port.new).plan ≡ (P.seen port.old).plan }
 {
@@ -75,7 +80,7 @@ fn come<P: Port, C: Scheduler>(
     child_hold: C::Hold,
 ) -> Result<Next<C::Ctx>, Fail>
     requires site { IsSite (P.seen port.old).plan (C.site_of child.old) }
-    requires child { (P.seen port.old).owner ≡ parent (P.seen port.old).plan (C.site_of child.old) }
+    requires child { (P.seen port.old).owner ≡ parent_of (P.seen port.old).plan (C.site_of child.old) }
     ensures inside { OnOk result (P.seen port.new ≡ entered (P.seen port.old) (C.site_of child.old)) }
     ensures site { C.site_of child.new ≡ C.site_of child.old }
 {
@@ -96,7 +101,7 @@ fn visit<P: Port, S: Scheduler, C: Scheduler>(
     child_hold: C::Hold,
 ) -> Result<Next<C::Ctx>, Fail>
     requires site { IsSite (P.seen port.old).plan (C.site_of child.old) }
-    requires child { (P.seen port.old).owner ≡ parent (P.seen port.old).plan (C.site_of child.old) }
+    requires child { (P.seen port.old).owner ≡ parent_of (P.seen port.old).plan (C.site_of child.old) }
     requires guest { is_in (P.seen port.old).homes (C.site_of child.old) ≡ false }
     ensures back { OnOk result (P.seen port.new ≡ yielded (entered (P.seen port.old) (C.site_of child.old))) }
     ensures site { C.site_of child.new ≡ C.site_of child.old }
@@ -107,53 +112,57 @@ fn visit<P: Port, S: Scheduler, C: Scheduler>(
     Ok(next)
 }
 
-// The guest goes where the parent lends it, and back to the parent. Where it was, and what it was to do there.
-fn follow<P: Port>(
+// The guest goes where the parent lends it, and back to the parent.
+fn follow<P: Port, C: Child, D: Child>(
     port: &mut P,
     hold: P::Hold,
     turns: &mut Turns<char>,
-    pool: &mut Pool,
-    team: &mut Team,
+    pool: &mut C,
+    pool_hold: C::Hold,
+    team: &mut D,
+    team_hold: D::Hold,
     next: Next<char>,
-) -> Result<(u16, Answer), Fail>
+) -> Result<(u16, Option<u8>), Fail>
     requires guest { IsGuest (P.seen port.old) }
-    requires pool { pool.old.site ≡ 2 }
-    requires team { team.old.nested.site ≡ 3 }
+    requires pool { C.site_of pool.old ≡ 2 }
+    requires team { D.site_of team.old ≡ 3 }
     ensures guest { OnOk result (IsGuest (P.seen port.new)) }
-    ensures pool { pool.new.site ≡ 2 }
-    ensures team { team.new.nested.site ≡ 3 }
+    ensures pool { C.site_of pool.new ≡ 2 }
+    ensures team { D.site_of team.new ≡ 3 }
     ensures turns { turns.new.site ≡ turns.old.site }
 {
     match next {
-        Next::Lend(2) => Ok((2, pool_answer(visit(port, hold, turns, (), pool, ())?))),
-        Next::Lend(3) => Ok((3, team_answer(visit(port, hold, turns, (), team, ())?))),
+        Next::Lend(2) => Ok((2, C::place(visit(port, hold, turns, (), pool, pool_hold)?))),
+        Next::Lend(3) => Ok((3, D::place(visit(port, hold, turns, (), team, team_hold)?))),
         _ => Err(Fail::new("it isn't lent")),
     }
 }
 
-// The guest goes wherever it is lent. Where it was, and whether there was nothing to do in the end.
-fn go_round<P: Port>(
+// The guest goes wherever it is lent, four times. Where it was, and whether there was nothing to do in the end.
+fn go_round<P: Port, C: Child, D: Child>(
     port: &mut P,
     hold: P::Hold,
     turns: &mut Turns<char>,
-    pool: &mut Pool,
-    team: &mut Team,
-) -> Result<([(u16, Answer); 4], bool), Fail>
+    pool: &mut C,
+    pool_hold: C::Hold,
+    team: &mut D,
+    team_hold: D::Hold,
+) -> Result<([(u16, Option<u8>); 4], bool), Fail>
     requires new { P.seen port.old ≡ new_hart 3 }
     requires turns { turns.old.site ≡ 1 }
-    requires pool { pool.old.site ≡ 2 }
-    requires team { team.old.nested.site ≡ 3 }
+    requires pool { C.site_of pool.old ≡ 2 }
+    requires team { D.site_of team.old ≡ 3 }
     ensures guest { OnOk result (IsGuest (P.seen port.new)) }
     ensures turns { turns.new.site ≡ 1 }
 {
     let next = come(port, hold, turns, ())?;
-    let first = follow(port, hold, turns, pool, team, next)?;
+    let first = follow(port, hold, turns, pool, pool_hold, team, team_hold, next)?;
     let next = sched_reenter(turns, ());
-    let second = follow(port, hold, turns, pool, team, next)?;
+    let second = follow(port, hold, turns, pool, pool_hold, team, team_hold, next)?;
     let next = sched_reenter(turns, ());
-    let third = follow(port, hold, turns, pool, team, next)?;
+    let third = follow(port, hold, turns, pool, pool_hold, team, team_hold, next)?;
     let next = sched_reenter(turns, ());
-    let fourth = follow(port, hold, turns, pool, team, next)?;
+    let fourth = follow(port, hold, turns, pool, pool_hold, team, team_hold, next)?;
     let is_idle = matches!(sched_reenter(turns, ()), Next::Nothing);
     Ok(([first, second, third, fourth], is_idle))
 }
@@ -198,7 +207,7 @@ fn close_child<P: PatientPort>(
 }
 
 // All four harts, one call after another. Where the guest was.
-fn share<P: PatientPort>(
+fn share<P: PatientPort, C: Child, D: Child>(
     tree: &SiteTree,
     home: &mut P,
     second: &mut P,
@@ -207,22 +216,24 @@ fn share<P: PatientPort>(
     hold: P::Hold,
     base: &mut Base,
     turns: &mut Turns<char>,
-    pool: &mut Pool,
-    team: &mut Team,
-) -> Result<([(u16, Answer); 4], bool), Fail>
+    pool: &mut C,
+    pool_hold: C::Hold,
+    team: &mut D,
+    team_hold: D::Hold,
+) -> Result<([(u16, Option<u8>); 4], bool), Fail>
     requires plan { tree.now ≡ family_plan }
     requires home { P.seen home.old ≡ new_hart 0 }
     requires second { P.seen second.old ≡ new_hart 1 }
     requires third { P.seen third.old ≡ new_hart 2 }
     requires guest { P.seen guest.old ≡ new_hart 3 }
     requires turns { turns.old.site ≡ 1 }
-    requires pool { pool.old.site ≡ 2 }
-    requires team { team.old.nested.site ≡ 3 }
+    requires pool { C.site_of pool.old ≡ 2 }
+    requires team { D.site_of team.old ≡ 3 }
 {
     open(home, hold, base, (), 1, 3)?;
     open_child(second, hold, turns, 'p', 1, 2)?;
     open_child(third, hold, turns, 't', 2, 3)?;
-    let round = go_round(guest, hold, turns, pool, team)?;
+    let round = go_round(guest, hold, turns, pool, pool_hold, team, team_hold)?;
     sched_yield(guest, hold, base, ());
     close_child(tree, second, hold, base, turns, 1, 2);
     close_child(tree, third, hold, base, turns, 2, 3);
@@ -257,14 +268,16 @@ fn parent_of_two(alloc: Global) -> Result<Turns<char>, Fail>
 }
 
 // Where the guest was, of four harts over locked ports.
-fn shared_by_four<'a, R: Threads + Wait + Sync>(
+fn shared_by_four<'a, C: Child, D: Child, R: Threads + Wait + Sync>(
     rt: &'a R,
     alloc: Global,
     lock: &'a Mutex<Ledger>,
     plan: &'a Plan,
-    pool: &mut Pool,
-    team: &mut Team,
-) -> Result<([(u16, Answer); 4], bool), Fail>
+    pool: &mut C,
+    pool_hold: C::Hold,
+    team: &mut D,
+    team_hold: D::Hold,
+) -> Result<([(u16, Option<u8>); 4], bool), Fail>
     requires plan { plan.now ≡ family_plan }
 {
     if pool.site() != 2 || team.site() != 3 {
@@ -287,17 +300,14 @@ fn shared_by_four<'a, R: Threads + Wait + Sync>(
         &mut base,
         &mut turns,
         pool,
+        pool_hold,
         team,
+        team_hold,
     )
 }
 
 /// Where the guest is: the pool and the team have their turns, and each hands out its first two pieces.
-const ROUND: [(u16, Answer); 4] = [
-    (2, Answer::Begins(0)),
-    (3, Answer::Begins(0)),
-    (2, Answer::Begins(1)),
-    (3, Answer::Begins(1)),
-];
+const ROUND: [(u16, Option<u8>); 4] = [(2, Some(0)), (3, Some(0)), (2, Some(1)), (3, Some(1))];
 
 #[test]
 fn a_pool_and_a_team_have_their_turns(rt: HostRuntime) -> Result<(), Fail> {
@@ -306,7 +316,7 @@ fn a_pool_and_a_team_have_their_turns(rt: HostRuntime) -> Result<(), Fail> {
     let (mut pool, mut team) = (pool_in(alloc, &program)?, team_in(alloc, &program)?);
     let plan = Plan::new(alloc, 4, &[0, 1, 1])?;
     let lock = Mutex::new(Ledger::new(alloc, &plan)?);
-    let (round, is_idle) = shared_by_four(&rt, alloc, &lock, &plan, &mut pool, &mut team)?;
+    let (round, is_idle) = shared_by_four(&rt, alloc, &lock, &plan, &mut pool, (), &mut team, ())?;
     assert!(rt; round == ROUND && is_idle);
     let entries = lock.into_inner().into_entries();
     assert_eq!(rt; entries.as_slice().len(), 23);
