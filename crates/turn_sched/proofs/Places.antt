@@ -1,5 +1,5 @@
 -- The place of a child, found by going over them.
-use Rattle.std.proofs.Common.{◌≡◌, ℕ, zero, suc, ◌+◌, ◌<◌, min, List, [], ◌∷◌, ◌++◌, length, get_or, set, take, drop, refl, ap, ◌∙◌, sym, arith, eq-eqb}
+use Rattle.std.proofs.Common.{◌≡◌, ℕ, zero, suc, ◌+◌, ◌<◌, min, List, [], ◌∷◌, ◌++◌, length, get_or, set, take, drop, ap, sym, arith, eq-eqb}
 use Rattle.turn_sched.specs.declared.ring.Place.{Place}
 use Rattle.turn_sched.specs.Ring.{with_more}
 

@@ -1,13 +1,13 @@
 -- Over any run of calls, turns go round and contexts go in their order.
-use Rattle.std.proofs.Common.{◌≡◌, ◌≢◌, ℕ, ◌+◌, ◌≤◌, Bool, true, false, ◌==◌, if◌then◌else◌, List, [], ◌∷◌, ◌++◌, length, refl, sym, ap, subst, ◌∙◌, arith, append_assoc, Ok, Err}
+use Rattle.std.proofs.Common.{◌≡◌, ℕ, ◌+◌, ◌≤◌, true, List, [], ◌∷◌, ◌++◌, refl, sym, ap, subst, ◌∙◌, arith, append_assoc, Ok, Err}
 use Rattle.std.specs.List.{All}
 use Rattle.std.proofs.lemmas.List.{append-nil}
 use Rattle.std.proofs.lemmas.List.Elements.{All-head, All-tail}
 use Rattle.sched_api.specs.declared.scheduler.Next.TheVariants.{Run, Lend, Nothing}
 use Rattle.turn_sched.specs.declared.ring.Place.{Place}
-use Rattle.turn_sched.specs.Ring.{RingParts, has_place}
-use Rattle.turn_sched.specs.Turns.{TurnsState, ring_after}
-use Rattle.turn_sched.specs.Rounds.{Event, Enter, Hear, Put, Does, Runs, Ends, Goes, lent_by, lent_in, how_often, ahead_of, PassesOver, TurnsGoRound, run_by, kept_by, run_in, kept_in, ContextsGoInOrder}
+use Rattle.turn_sched.specs.Ring.{has_place}
+use Rattle.turn_sched.specs.Turns.{TurnsState}
+use Rattle.turn_sched.specs.Rounds.{Event, Enter, Hear, Put, Does, Runs, Ends, Goes, lent_by, lent_in, ahead_of, PassesOver, TurnsGoRound, run_by, kept_by, run_in, kept_in, ContextsGoInOrder}
 use Rattle.turn_sched.proofs.Rings.{weigh, weigh-append, is_it, often_weighs, length_weighs, children, ahead-children, Keeps, keeps_same, hear_keeps, turn_keeps, HasOneEach, hear_one, turn_one}
 
 -- Of one call that passes the child over: the child keeps its place, and those lent to are no longer ahead of it.

@@ -1,5 +1,5 @@
 -- What `retain` leaves is the filter by the closure's test.
-use Rattle.std.proofs.Common.{rules, ℕ, ◌∙◌, ap, not, eqb}
+use Rattle.std.proofs.Common.{rules, ◌∙◌, ap, not, eqb}
 use Rattle.std.proofs.lemmas.Fn.{filter_same}
 use Rattle.turn_sched.specs.declared.ring.Place.{Place}
 use Rattle.turn_sched.specs.Ring.{RingParts, without_child}
