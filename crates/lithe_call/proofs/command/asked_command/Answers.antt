@@ -1,4 +1,4 @@
-use Rattle.std.proofs.Common.{sym, ◌∙◌, ap, map, string_bytes, Some}
+use Rattle.std.proofs.Common.{sym, ◌∙◌, map, string_bytes}
 use Rattle.lithe_call.proofs.Words.{form_few}
 use Rattle.lithe_call.proofs.command.asked_command.Goals as goal
 
