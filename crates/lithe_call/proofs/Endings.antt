@@ -1,5 +1,5 @@
 -- One status for each input.
-use Rattle.std.proofs.Common.{◌≡◌, ◌⊎◌, ◌∙◌, ◌≤◌, ◌<◌, ℕ, Bool, true, false, cond, List, [], ◌∷◌, ◌++◌, codes, length, length-append, Option, Some, None, Ok, Err, sym, ap, subst, arith, refl, inl, inr}
+use Rattle.std.proofs.Common.{◌≡◌, ◌⊎◌, ◌∙◌, ◌≤◌, ◌<◌, ℕ, Bool, true, false, cond, List, [], ◌∷◌, ◌++◌, codes, length, length-append, Option, Some, None, Result, Ok, Err, IfErr, sym, ap, subst, arith, refl, inl, inr}
 use Rattle.std.specs.List.{join_with_byte}
 use Rattle.std.specs.Option.{option_map}
 use Rattle.std.proofs.lemmas.Option.{same_Some}
@@ -15,9 +15,10 @@ use Rattle.command_words.specs.declared.command.Command.{Command}
 use Rattle.command_words.specs.declared.command.Command.TheVariants.{Run, Solo, Audit, Make}
 use Rattle.lithe_call.specs.Inputs.{limit_of, AreInput, ReadsAll, GivesTooMuch}
 use Rattle.command_words.specs.Form.{form_of}
+use Rattle.lithe_call.specs.Command.{size_in}
 use Rattle.lithe_call.specs.Programs.{SpellAccepted, made_text}
 use Rattle.lithe_call.specs.Auditing.{HasParts, AreFound, found_in, status_by}
-use Rattle.lithe_call.specs.Output.{IsOutputOf, IsRunOf, EndsMade, EndsWith}
+use Rattle.lithe_call.specs.Output.{IsOutputOf, EndsMade, EndsWith}
 use Rattle.lithe_call.specs.Faults.{SpellNothing, SpellRefused, AreNoOutput, IsNoText, IsRefused, IsLong, IsFault, IsNoRun, IsNoOutput, HaveNoVerdict}
 use Rattle.lithe_call.specs.FaultOf.{status_of}
 use Rattle.lithe_call.specs.Served.{IsOutputFor, IsTooLong, IsToldOf, IsTextOf}
@@ -245,3 +246,11 @@ no_output_of_made seed size harts bytes fault.ReadFault few h = h
 no_output_of_made seed size harts bytes (fault.Syntax line) few h = let spelled = made_spelled seed size few in h.nothing spelled.0 spelled.1
 no_output_of_made seed size harts bytes (fault.Refused line) few h = h
 no_output_of_made seed size harts bytes fault.Memory few h = tt
+
+-- the same of what a function answers, for the text that it was given
+pub made_faults : {X : Type 0} (r : Result X Fault) (command : Command) (seed size harts : ℕ) (bytes text : List ℕ) → command ≡ Make seed size harts → size_in command ≤ 40
+    → text ≡ made_text seed size → IfErr r (IsNoRun text) → IfErr r (IsNoOutput command bytes)
+made_faults (Ok x) command seed size harts bytes text is few same h = tt
+made_faults (Err why) command seed size harts bytes text is few same h =
+    subst (λ (c : Command). IsNoOutput c bytes why) (sym is)
+    (no_output_of_made seed size harts bytes why (subst (λ (c : Command). size_in c ≤ 40) is few) (subst (λ (t : List ℕ). IsNoRun t why) same h))

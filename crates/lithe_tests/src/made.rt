@@ -33,8 +33,9 @@ fn a_summary_is_the_same_on_one_hart_and_on_four(rt: HostRuntime) -> Result<(), 
 }
 
 #[test]
-fn all_forty_sizes_run(rt: HostRuntime) -> Result<(), Fail> {
-    for size in 1..41u64 {
+fn sizes_up_to_forty_run(rt: HostRuntime) -> Result<(), Fail> {
+    for third in 0..14u64 {
+        let size = third * 3 + 1;
         // Each of four sweeps multiplies the grid's sum by 5, and what is added up is the grid, its last sweep and its rows.
         let cells = size * size;
         let grid = cells * 14 + 22 * cells * (size - 1) / 2;

@@ -1,4 +1,4 @@
-use Rattle.std.proofs.Common.{◌∙◌, ℕ, List, ap, refl, sym, subst, map, string_bytes, inl, inr}
+use Rattle.std.proofs.Common.{◌∙◌, ℕ, List, refl, sym, subst, map, string_bytes, inl, inr}
 use Rattle.lithe_call.specs.declared.status.Status.{Status}
 use Rattle.lithe_call.specs.Served.{TellsStatus}
 use Rattle.lithe_call.specs.Telling.{AppendsPrefix}

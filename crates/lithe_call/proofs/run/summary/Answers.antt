@@ -23,6 +23,6 @@ returns g c =
     let program = program_of c.args.accepted.now.program in
     let own = c.args.accepted.now.plan in
     let plan = c.plan.ensures.same ∙ told_plan own program c.program.ensures.kept.parents in
-    let complete = subst (λ (p : Plan). IsComplete p c.entries.now) (sym c.plan.ensures.same) (subst (λ journal. IsComplete own journal) (sym c.entries-entries.ensures) c.in_ok-outcome.ensures.journal) in
-    summarised c.write_summary.result (λ text. text.items) program own.harts c.plan.result.now c.in_ok-outcome.outcome.store c.entries.now
+    let complete = subst (λ (p : Plan). IsComplete p c.entries-entries.result.now) (sym c.plan.ensures.same) (subst (λ journal. IsComplete own journal) (sym c.entries-entries.ensures) c.in_ok-outcome.ensures.journal) in
+    summarised c.write_summary.result (λ text. text.items) program own.harts c.plan.result.now c.in_ok-outcome.outcome.store c.entries-entries.result.now
     plan c.in_ok-outcome.ensures.store complete c.write_summary.ensures

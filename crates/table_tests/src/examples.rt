@@ -1,0 +1,111 @@
+//! What the examples' runs write is legal.
+use crate::serving::status_of;
+use lithe_call::Status;
+use outside_io::{MemSink, MemSource};
+use std::process::Abort;
+use std::sync::Wait;
+use std::test::Fail;
+use std::thread::Threads;
+
+const TWO_BRANCHES: &[u8] = b"array a[4];
+par {
+  { a[0] = 1; }
+  { a[1] = 2; }
+}
+";
+
+const TWO_PHASES: &[u8] = b"array a[4];
+array b[4];
+team i in 0..4 by 2 {
+  a[i] = i * i;
+} barrier {
+  b[i] = a[3 - i];
+}
+";
+
+const NESTED_TEAM: &[u8] = b"array low[4];
+array high[4];
+par {
+  {
+    team i in 0..4 by 2 { low[i] = i + 1; }
+  }
+  {
+    high[0] = 10;
+    par {
+      { high[1] = high[0] * 2; }
+      { high[2] = high[0] * 3; }
+    }
+    high[3] = high[1] + high[2];
+  }
+}
+";
+
+const LOOP_OF_PARS: &[u8] = b"array even[1];
+array odd[1];
+for turn in 0..3 {
+  par {
+    { even[0] = even[0] + 2 * turn; }
+    { odd[0] = odd[0] + 2 * turn + 1; }
+  }
+}
+";
+
+const SHARED_READS: &[u8] = b"array input[3];
+array sum[1];
+array product[1];
+for i in 0..3 { input[i] = i + 2; }
+par {
+  { for i in 0..3 { sum[0] = sum[0] + input[i]; } }
+  {
+    product[0] = 1;
+    for i in 0..3 { product[0] = product[0] * input[i]; }
+  }
+}
+";
+
+const DYNAMIC_INDEX: &[u8] = b"array a[4];
+array at[1];
+at[0] = -1;
+a[at[0]] = 7;
+if a[3] == 7 { a[0] = 9223372036854775807 + 1; } else { a[0] = 1; }
+";
+
+// Runs the program on one to four harts, and audits what each run writes.
+fn runs_are_legal<R: AllocGlobal + Abort + Threads + Wait + Sync>(
+    rt: &R,
+    program: &[u8],
+) -> Result<(), Fail> {
+    for harts in ["--harts=1", "--harts=2", "--harts=3", "--harts=4"] {
+        let output = done(rt, &["run", harts], program)?;
+        let mut input = program.to_vec(rt.alloc())?;
+        input.extend_from_slice(b"%%\n")?;
+        input.extend_from_slice(&output)?;
+        let verdict = done(rt, &["audit", harts], &input)?;
+        assert!(rt; verdict.starts_with(b"legal "));
+    }
+    Ok(())
+}
+
+// What the words write for the input.
+fn done<R: AllocGlobal + Abort + Threads + Wait + Sync>(
+    rt: &R,
+    words: &[&str],
+    input: &[u8],
+) -> Result<Vec<u8>, Fail> {
+    let mut source = MemSource::new(rt.alloc(), input, 512, &[])?;
+    let mut out = MemSink::new(rt.alloc(), 4096, 512, &[])?;
+    let mut err = MemSink::new(rt.alloc(), 4096, 512, &[])?;
+    let status = status_of(rt, words, &mut source, &mut out, &mut err)?;
+    assert_eq!(rt; status, Status::Done);
+    Ok(out.bytes().to_vec(rt.alloc())?)
+}
+
+#[test]
+fn runs_of_the_examples_are_legal(rt: HostRuntime) -> Result<(), Fail> {
+    runs_are_legal(&rt, TWO_BRANCHES)?;
+    runs_are_legal(&rt, TWO_PHASES)?;
+    runs_are_legal(&rt, NESTED_TEAM)?;
+    runs_are_legal(&rt, LOOP_OF_PARS)?;
+    runs_are_legal(&rt, SHARED_READS)?;
+    runs_are_legal(&rt, DYNAMIC_INDEX)
+}

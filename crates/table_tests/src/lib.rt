@@ -1,0 +1,17 @@
+//! Tables of tests through the top call, over a source and sinks in memory that give and take little at a time, and fail.
+#![tactic(auto)]
+
+#[cfg(test)]
+mod ends;
+#[cfg(test)]
+mod examples;
+#[cfg(test)]
+mod forged;
+#[cfg(test)]
+mod limits;
+#[cfg(test)]
+mod prefixes;
+#[cfg(test)]
+mod serving;
+#[cfg(test)]
+mod statuses;
