@@ -13,7 +13,7 @@ use Rattle.run_audit.specs.Parts.{parts_of, parts_in, with_front}
 use Rattle.run_audit.specs.declared.verdict.Verdict.{Verdict}
 use Rattle.command_words.specs.declared.command.Command.{Command}
 use Rattle.command_words.specs.declared.command.Command.TheVariants.{Run, Solo, Audit, Make}
-use Rattle.lithe_call.specs.Inputs.{limit_of, AreInput, ReadsAll, GivesTooMuch}
+use Rattle.lithe_call.specs.Inputs.{limit_of, AreInput, ReadsAll, GivesTooMuch, FailsToRead}
 use Rattle.command_words.specs.Form.{form_of}
 use Rattle.lithe_call.specs.Command.{size_in}
 use Rattle.lithe_call.specs.Programs.{SpellAccepted, made_text}
@@ -139,7 +139,7 @@ of_words IsSo any words own command bytes read left left' one other e all is =
 
 -- ---- what is for the command has no fault but the one that it ends with and want of memory, while the source doesn't fail
 pub only_memory : (words : List (List ℕ)) (why : Fault) (left left' : Option (List ℕ)) (faults faults' : ℕ) → IsFault words why left left' faults faults'
-    → (command : Command) → form_of words ≡ Some command → (bytes : List ℕ) → AreInput command left bytes → (ended : Status) → EndsWith command bytes ended → (Rose faults faults' → ⊥)
+    → (command : Command) → form_of words ≡ Some command → (bytes : List ℕ) → AreInput command left bytes → (ended : Status) → EndsWith command bytes ended → (FailsToRead command faults faults' → ⊥)
     → (status_of why ≡ ended) ⊎ (status_of why ≡ status.NoMemory)
 only_memory words fault.Usage left left' faults faults' h command form bytes e ended ends calm = let bad : None ≡ Some command = sym h ∙ form in cc bad
 only_memory words fault.TooLong left left' faults faults' h command form bytes e ended ends calm =
@@ -148,7 +148,8 @@ only_memory words fault.TooLong left left' faults faults' h command form bytes e
       | inl more ↦ absurd (much_ends command left left' bytes ended (subst (λ (c : Command). GivesTooMuch c left left') same more) e ends)
       | inr long ↦ absurd (long_ends command bytes ended (of_words IsLong (λ seed size harts a b is. is) words h.0 command bytes long.0 left left' h.1 form e long.1 long.2) ends)
     ]
-only_memory words fault.ReadFault left left' faults faults' h command form bytes e ended ends calm = absurd (calm h.2)
+only_memory words fault.ReadFault left left' faults faults' h command form bytes e ended ends calm =
+    let same : h.0 ≡ command = same_Some h.0 command (sym h.1 ∙ form) in absurd (calm (subst (λ (c : Command). FailsToRead c faults faults') same h.2))
 only_memory words (fault.Syntax line) left left' faults faults' h command form bytes e ended ends calm =
     absurd (no_text_ends command bytes line.items ended
     (of_words (λ c b. IsNoText c b line.items) (λ seed size harts a b is. is) words h.0 command bytes h.2.0 left left' h.1 form e h.2.1 h.2.2) ends)
@@ -201,6 +202,20 @@ too_long_told words fault.ReadFault left left' faults faults' h e = cc e
 too_long_told words (fault.Syntax line) left left' faults faults' h e = cc e
 too_long_told words (fault.Refused line) left left' faults faults' h e = cc e
 too_long_told words fault.Memory left left' faults faults' h e = cc e
+
+failed_rose : (command : Command) (faults faults' : ℕ) → FailsToRead command faults faults' → Rose faults faults'
+failed_rose (Run harts) faults faults' h = h
+failed_rose Solo faults faults' h = h
+failed_rose (Audit harts) faults faults' h = h
+failed_rose (Make seed size harts) faults faults' h = absurd h
+
+pub read_fault_told : (words : List (List ℕ)) (why : Fault) (left left' : Option (List ℕ)) (faults faults' : ℕ) → IsFault words why left left' faults faults' → status_of why ≡ status.ReadFault → Rose faults faults'
+read_fault_told words fault.Usage left left' faults faults' h e = cc e
+read_fault_told words fault.TooLong left left' faults faults' h e = cc e
+read_fault_told words fault.ReadFault left left' faults faults' h e = failed_rose h.0 faults faults' h.2
+read_fault_told words (fault.Syntax line) left left' faults faults' h e = cc e
+read_fault_told words (fault.Refused line) left left' faults faults' h e = cc e
+read_fault_told words fault.Memory left left' faults faults' h e = cc e
 
 pub no_verdict_of_no_run : (harts : ℕ) (first second : List ℕ) (why : Fault) → IsNoRun first why → HaveNoVerdict harts first second why
 no_verdict_of_no_run harts first second fault.Usage h = h

@@ -1,6 +1,5 @@
 -- Why there is no output.
 use Rattle.std.specs.Prelude.{◌≡◌, ◌≢◌, ◌⊎◌, ℕ, ◌≤◌, ◌<◌, List, [], ◌∷◌, ◌++◌, codes, length, Option, Some, None, Err}
-use Rattle.outside_io.specs.Outside.{Rose}
 use Rattle.array_tree.specs.Trees.{ProgramTree}
 use Rattle.array_lang.specs.Spelled.{Spells, HasFault}
 use Rattle.array_lang.specs.declared.fault.SyntaxFault.{SyntaxFault}
@@ -11,7 +10,7 @@ use Rattle.disjoint_check.specs.declared.fault.CheckFault.{CheckFault}
 use Rattle.disjoint_check.specs.declared.fault.CheckFault.TheVariants as check
 use Rattle.error_text.specs.SyntaxText.{syntax_text}
 use Rattle.error_text.specs.RefusalText.{refusal_text}
-use Rattle.lithe_call.specs.Inputs.{ReadsAll, GivesTooMuch}
+use Rattle.lithe_call.specs.Inputs.{ReadsAll, GivesTooMuch, FailsToRead}
 use Rattle.lithe_call.specs.Programs.{program_limit, made_text, SpellAccepted}
 use Rattle.lithe_call.specs.Auditing.{HasParts, found_in}
 use Rattle.command_words.specs.Form.{form_of}
@@ -89,7 +88,7 @@ IsLong (Make seed size harts) bytes = ⊥
 abbrev pub IsCause : Command → Fault → Option (List ℕ) → Option (List ℕ) → ℕ → ℕ → Type 0
 IsCause command fault.Usage left left' faults faults' = ⊥
 IsCause command fault.TooLong left left' faults faults' = GivesTooMuch command left left' ⊎ ((bytes : List ℕ) × ReadsAll command left bytes left' × IsLong command bytes)
-IsCause command fault.ReadFault left left' faults faults' = Rose faults faults'
+IsCause command fault.ReadFault left left' faults faults' = FailsToRead command faults faults'
 IsCause command (fault.Syntax line) left left' faults faults' = (bytes : List ℕ) × ReadsAll command left bytes left' × IsNoText command bytes line.items
 IsCause command (fault.Refused line) left left' faults faults' = (bytes : List ℕ) × ReadsAll command left bytes left' × IsRefused command bytes line.items
 IsCause command fault.Memory left left' faults faults' = Unit {0}

@@ -1,5 +1,6 @@
 -- What commands read.
 use Rattle.std.specs.Prelude.{◌≡◌, ℕ, List, Option, Some}
+use Rattle.outside_io.specs.Outside.{Rose}
 use Rattle.lithe_call.specs.Telling.{GivesAll, GivesMore}
 use Rattle.lithe_call.specs.Programs.{program_limit}
 use Rattle.command_words.specs.declared.command.Command.{Command}
@@ -32,3 +33,10 @@ AreInput (Run harts) left bytes = left ≡ Some bytes
 AreInput Solo left bytes = left ≡ Some bytes
 AreInput (Audit harts) left bytes = left ≡ Some bytes
 AreInput (Make seed size harts) left bytes = Unit {0}
+
+-- the source failed while the command read, by its count of faults before and after
+abbrev pub FailsToRead : Command → ℕ → ℕ → Type 0
+FailsToRead (Run harts) faults faults' = Rose faults faults'
+FailsToRead Solo faults faults' = Rose faults faults'
+FailsToRead (Audit harts) faults faults' = Rose faults faults'
+FailsToRead (Make seed size harts) faults faults' = ⊥

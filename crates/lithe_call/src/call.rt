@@ -7,7 +7,7 @@ ghost use Rattle.lithe_call.specs.declared.status.Status.{Status};
 ghost use Rattle.lithe_call.specs.Telling.{Tells};
 ghost use Rattle.command_words.specs.Form.{form_of};
 ghost use Rattle.lithe_call.specs.Command.{harts_in, size_in, runs_programs};
-ghost use Rattle.lithe_call.specs.Inputs.{limit_of, AreInput, ReadsAll, GivesTooMuch};
+ghost use Rattle.lithe_call.specs.Inputs.{limit_of, AreInput, ReadsAll, GivesTooMuch, FailsToRead};
 ghost use Rattle.lithe_call.specs.Auditing.{ended};
 ghost use Rattle.lithe_call.specs.Output.{IsOutputOf, IsRunOf, EndsWith};
 ghost use Rattle.lithe_call.specs.Faults.{IsFault, IsNoOutput, IsNoRun};
@@ -60,7 +60,7 @@ pub fn lithe<R: Threads + Wait + Sync, A: Source, B: Sink, E: Sink, G: Gate>(
     ensures complete { (command : Command) → (form : form_of (map string_bytes words.now) ≡ Some command)
         → (bytes : List ℕ) → (told : AreInput command (A.left source.old) bytes)
         → (status : Status) → (ends : EndsWith command bytes status)
-        → (source_is_calm : Rose (A.faults source.old) (A.faults source.new) → ⊥)
+        → (source_is_calm : FailsToRead command (A.faults source.old) (A.faults source.new) → ⊥)
         → (out_is_calm : Rose (B.faults out.old) (B.faults out.new) → ⊥)
         → (result ≡ status) ⊎ (result ≡ Status.NoMemory) }
 
@@ -168,7 +168,7 @@ fn input<A: Source>(alloc: Global, source: &mut A, command: Command) -> Result<V
     ensures whole { IfOk result (λ bytes. ReadsAll command (A.left source.old) bytes.items (A.left source.new)) }
     ensures short { IfOk result (λ bytes. vec_len bytes ≤ limit_of command) }
     ensures too_long { IsErrOf result ReadError.TooLong → GivesTooMuch command (A.left source.old) (A.left source.new) }
-    ensures failed { IsErrOf result ReadError.Failed → Rose (A.faults source.old) (A.faults source.new) }
+    ensures failed { IsErrOf result ReadError.Failed → FailsToRead command (A.faults source.old) (A.faults source.new) }
     ensures made { (seed size harts : ℕ) → command ≡ Make seed size harts → source.new ≡ source.old }
 {
     match command {

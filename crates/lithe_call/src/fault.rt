@@ -9,7 +9,7 @@ use std::alloc::AllocError;
 /// Why a command has no output.
 #[derive(Debug, Drop)]
 pub enum Fault {
-    /// The words are no form of a command that is served.
+    /// The words are no form of a command.
     Usage,
     /// The input, or the program part of an audit's, is longer than its limit.
     TooLong,

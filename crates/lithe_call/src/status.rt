@@ -5,11 +5,11 @@ ghost use Rattle.lithe_call.specs.Status.{constant_text, number_of};
 /// How a run ended. Its number is the process's exit status.
 #[derive(Clone, Copy, Debug, PartialEq, Eq)]
 pub enum Status {
-    /// The input was read to its end, and the whole output was written.
+    /// The input, if the command reads one, was read to its end, and the whole output was written.
     Done = 0,
     /// An output that was audited isn't the program's; the line that says so was written.
     Illegal = 1,
-    /// The words are no form of a command that is served.
+    /// The words are no form of a command.
     Usage = 2,
     /// The input spells no program; of an audit also one without a line `%%`, or whose second part is no output's text.
     Syntax = 3,

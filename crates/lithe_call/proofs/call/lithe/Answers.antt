@@ -4,7 +4,7 @@ use Rattle.lithe_call.specs.Served.{TellsStatus}
 use Rattle.lithe_call.specs.Telling.{AppendsPrefix}
 use Rattle.lithe_call.specs.Auditing.{ended}
 use Rattle.lithe_call.proofs.Causes.{fault_told}
-use Rattle.lithe_call.proofs.Endings.{only_memory, one_ending, too_long_told}
+use Rattle.lithe_call.proofs.Endings.{only_memory, one_ending, too_long_told, read_fault_told}
 use Rattle.lithe_call.proofs.call.lithe.Goals as goal
 
 pub returns-in-Err-clause-complete : goal.returns-in-Err-clause-complete
@@ -30,6 +30,11 @@ returns-in-Err-clause-told g c = λ not_done not_illegal.
 pub returns-in-Err-clause-too_long : goal.returns-in-Err-clause-too_long
 returns-in-Err-clause-too_long g c = λ is.
     too_long_told (map string_bytes c.args.words.now) c.in-Err.fault (g.A.Source.left c.args.source.now) (g.A.Source.left c.output_of.new.source)
+    (g.A.Source.faults c.args.source.now) (g.A.Source.faults c.output_of.new.source) c.in-Err.ensures.fault (sym c.tell_fault.ensures.same ∙ is)
+
+pub returns-in-Err-clause-read_fault : goal.returns-in-Err-clause-read_fault
+returns-in-Err-clause-read_fault g c = λ is.
+    read_fault_told (map string_bytes c.args.words.now) c.in-Err.fault (g.A.Source.left c.args.source.now) (g.A.Source.left c.output_of.new.source)
     (g.A.Source.faults c.args.source.now) (g.A.Source.faults c.output_of.new.source) c.in-Err.ensures.fault (sym c.tell_fault.ensures.same ∙ is)
 
 pub returns-then-not-write_all-clause-prefix : goal.returns-then-not-write_all-clause-prefix
