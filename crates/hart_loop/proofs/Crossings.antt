@@ -8,6 +8,9 @@ use Rattle.std.proofs.Crossing.{crosses}
 use Rattle.atomic_table.proofs.shared.Seat.TheSendSync as SeatCrosses
 use Rattle.atomic_table.proofs.shared.Shared.TheSendSync as SharedCrosses
 use Rattle.atomic_table.proofs.send_lease.SendLease.TheSendSync as LeaseCrosses
+use Rattle.deque_rows.specs.contracts.hart.HartRows as HartRows
+use Rattle.claim_words.specs.contracts.seat.ClaimSeat as ClaimSeat
+use Rattle.claim_words.specs.contracts.table.ClaimTable as ClaimTable
 use Rattle.array_jobs.specs.contracts.piece.Piece as Piece
 use Rattle.word_board.specs.contracts.seat.HartSeat as HartSeat
 use Rattle.word_board.specs.contracts.board.WordBoard as WordBoard
@@ -16,6 +19,8 @@ use Rattle.waiting_port.specs.contracts.waiting.WaitingPort as WaitingPort
 use Rattle.base_sched.specs.contracts.base.Base as Base
 use Rattle.site_directory.specs.contracts.shared_site.SharedSite as SharedSite
 use Rattle.site_directory.proofs.Crossings.{job_send, line_send}
+use Rattle.hart_loop.specs.contracts.claims.Claims as Claims
+use Rattle.hart_loop.specs.contracts.tools.Tools as Tools
 use Rattle.hart_loop.specs.contracts.harts.HartSchedulers as HartSchedulers
 use Rattle.hart_loop.specs.contracts.hart.Hart as Hart
 
@@ -27,6 +32,23 @@ board_sync = search (SharedCrosses.the_sync, LeaseCrosses.the_sync, crosses, sen
 
 base_send : IsSend Base.the_row
 base_send = search (crosses, sendable) depth 60 fits 20000
+
+rows_send : IsSend HartRows.the_row
+rows_send = search (crosses, sendable) depth 60 fits 20000
+
+claim_send : IsSend ClaimSeat.the_row
+claim_send = search (SeatCrosses.the_send, crosses, sendable) depth 60 fits 20000
+
+table_sync : IsSync ClaimTable.the_row
+table_sync = search (SharedCrosses.the_sync, LeaseCrosses.the_sync, crosses, sendable) depth 60 fits 20000
+
+claims_sync : IsSync Claims.the_row
+claims_sync = let table = table_sync in search (crosses, sendable) depth 60 fits 20000
+
+tools_send : (t : NamedLft) → IsSend (Tools.the_row t)
+tools_send t =
+    let rows = rows_send in let seat = claim_send in let claims = claims_sync in
+    search (crosses, sendable) depth 20
 
 port_send : (a : NamedLft) → IsSend (WordPort.the_row a)
 port_send a =
@@ -42,7 +64,7 @@ module _ (a p w b s : NamedLft) (R : RattleType) (shared : IsSync R) where
   waiting_send = let port = port_send b in search (shared, sendable) depth 20
 
   schedulers_send : IsSend (HartSchedulers.the_row a p (SharedSite.the_row s))
-  schedulers_send = let line = line_send a s in search (crosses, sendable) depth 20
+  schedulers_send = let line = line_send a s in let tools = tools_send a in search (crosses, sendable) depth 20
 
   pub hart_send : IsSend (Hart.the_row a p (WaitingPort.the_row w (WordPort.the_row b) R) (SharedSite.the_row s))
   hart_send =

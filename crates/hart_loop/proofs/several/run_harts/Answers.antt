@@ -14,7 +14,7 @@ returns-in-Ok-clause-store g c =
 pub returns-in-Ok-clause-journal : goal.returns-in-Ok-clause-journal
 returns-in-Ok-clause-journal g c =
     let plan : c.in_ok-board.board.plan ≡ c.args.accepted.now.plan = c.in_ok-board.ensures.plan ∙ c.plan-plan.ensures.same in
-    complete_journal c.in_ok-board.board.table.shared.table_id c.in_ok-board.board.plan c.args.accepted.now.plan c.in_ok-piece.seats.items c.in-Ok.closed plan
+    complete_journal c.in_ok-board.board.table.shared.table_id c.in_ok-board.board.plan c.args.accepted.now.plan c.in_ok-piece.stock.seats.items c.in-Ok.closed plan
     c.in_ok-piece.ensures.seats c.in_ok-board.board.is_plan c.in-Ok.ensures.journal
 
 pub returns-in-Ok-clause-short : goal.returns-in-Ok-clause-short
