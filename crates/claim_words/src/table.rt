@@ -15,6 +15,7 @@ pub struct ClaimTable {
     pub(crate) table: Table<u8, Sight, Vec<u8>, ClaimRule, Global>,
     pub(crate) counts: Vec<u8>,
     pub ghost key: { table.shared.key.items ≡ counts.items },
+    pub ghost few: { length counts.items ≤ 65535 },
     pub ghost wide: { table.shared.table_id.words ≡ length counts.items + 1 },
     pub ghost slotless: { table.shared.table_id.slots ≡ 0 },
 }
@@ -69,6 +70,13 @@ impl ClaimTable {
         ClaimSeat {
             seat: self.table.shared.split_seat::<Share>(&mut seat.seat),
         }
+    }
+
+    /// How many members each row has.
+    pub fn counts(&self) -> &[u8]
+        ensures { result.now ≡ self.now.counts.items }
+    {
+        self.counts.as_slice()
     }
 
     /// Claims the lowest member of a row that isn't claimed, by a look at the row's word and, where that shows one, an

@@ -13,7 +13,11 @@ use std::test::Fail;
 fn pool_site<'p>(alloc: Global, program: &'p Program) -> Result<Box<SharedSite<'p>>, Fail> {
     let pool = Pool::new(alloc, first_jobs(alloc, program)?)?;
     let shared = SharedPool::new(alloc, pool)?;
-    Ok(Box::new(alloc, SharedSite::Pool(shared))?)
+    let site = SharedSite::Pool {
+        home: 0,
+        pool: shared,
+    };
+    Ok(Box::new(alloc, site)?)
 }
 
 // Publishes the scheduler of a program that begins with a `par`; whether the cell took it.
@@ -31,7 +35,7 @@ pub fn is_taken<'a, 'p>(
 // How many jobs the scheduler of a `par` has that stands in a cell; 0 where none stands there.
 fn jobs_found(line: &mut SiteLine<'_, SharedSite<'_>>) -> usize {
     match line.find() {
-        Some(SharedSite::Pool(pool)) => pool.jobs().len(),
+        Some(SharedSite::Pool { home: _, pool }) => pool.jobs().len(),
         _ => 0,
     }
 }

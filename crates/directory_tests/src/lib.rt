@@ -1,4 +1,4 @@
-//! Tests of the directory, also by harts on threads that bring their pieces to one pool.
+//! Tests of the directory, also by harts on threads.
 #![tactic(auto)]
 
 #[cfg(test)]

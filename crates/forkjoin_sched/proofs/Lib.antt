@@ -1,1 +1,3 @@
 pub mod PhaseBooks
+mod RowSteps
+mod Offered

@@ -1,15 +1,13 @@
 -- Books of the jobs of a phase.
-use Rattle.std.proofs.Common.{◌≡◌, ℕ, ◌<◌, zero, suc, List, [], ◌∷◌, map, refl, sym, ap, ◌∙◌, subst, arith}
-use Rattle.array_meaning.specs.Stores.{Store, Write, arrays_of}
+use Rattle.std.proofs.Common.{◌≡◌, ℕ, ◌<◌, List, [], ◌∷◌, map, refl, sym, ap, ◌∙◌, subst, arith}
+use Rattle.array_meaning.specs.Stores.{arrays_of}
 use Rattle.array_meaning.specs.Steps.{join, writes_of}
-use Rattle.array_meaning.specs.Pieces.{merged, lays, last_writes}
+use Rattle.array_meaning.specs.Pieces.{merged}
 use Rattle.array_meaning.proofs.MergeLemmas.{lays_last}
-use Rattle.array_jobs.specs.Jobs.{JobParts, JobTree, job_of}
-use Rattle.array_jobs.specs.Groups.{HaveSameJobs}
+use Rattle.array_jobs.specs.Jobs.{JobParts, job_of}
 use Rattle.array_jobs.specs.PieceParts.{piece_of_job}
-use Rattle.join_book.specs.Books.{BookParts, all_writes}
-use Rattle.step_eval.specs.Nests.{NestedTree, IsFitNest, phases_of, jobs_in, nested_writes}
-use Rattle.step_eval.specs.Phases.{phase_writes, round_of, writes_before}
+use Rattle.step_eval.specs.Nests.{phases_of, jobs_in, nested_writes}
+use Rattle.step_eval.specs.Phases.{round_of, writes_before}
 use Rattle.step_eval.proofs.PhaseLemmas.{phases_are_merged, phases_are_constructs}
 use Rattle.forkjoin_sched.specs.Laws.{BooksGivePhases, PoolsGiveConstructs}
 

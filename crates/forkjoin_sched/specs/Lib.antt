@@ -1,3 +1,5 @@
 pub mod Pools
 pub mod Laws
 pub mod Shared
+pub mod Hands
+pub mod HandCalls

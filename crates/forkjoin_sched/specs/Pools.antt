@@ -1,5 +1,5 @@
 -- The scheduler of one `par`.
-use Rattle.std.specs.Prelude.{◌≡◌, ℕ, ◌*◌, List, [], ◌∷◌, length, map, Result}
+use Rattle.std.specs.Prelude.{◌≡◌, ℕ, ◌*◌, List, [], ◌∷◌, ◌++◌, length, map, Option, Some, None, Result}
 use Rattle.sched_api.specs.Wishes.{wishes_after}
 use Rattle.sched_api.specs.declared.hearing.Told.{Told}
 use Rattle.work_agenda.specs.Agenda.{AgendaParts, TakesNext, PutsReady}
@@ -8,7 +8,7 @@ use Rattle.lithe_mutex.specs.Mutex.{Possession, Free, Held}
 use Rattle.array_jobs.specs.Jobs.{JobParts}
 use Rattle.join_book.specs.Books.{BookParts, open_book}
 use Rattle.forkjoin_sched.specs.declared.work.PoolWork.{PoolWork}
-use Rattle.forkjoin_sched.specs.declared.work.PoolWork.TheVariants.{Begin}
+use Rattle.forkjoin_sched.specs.declared.work.PoolWork.TheVariants.{Begin, Ready}
 
 -- What contracts see of a pool: its site, what it has for harts, and the book of its pieces.
 pub record PoolParts : Type 0 where
@@ -54,3 +54,19 @@ pub record Takes (before : PoolParts) (c : PoolWork) (answer : Result (Unit {0})
 
 abbrev pub with_book : PoolParts → BookParts → PoolParts
 with_book pool book = record pool { book = book }
+
+abbrev pub with_agenda : PoolParts → AgendaParts PoolWork → PoolParts
+with_agenda pool agenda = record pool { agenda = agenda }
+
+-- the work is a piece of this place that isn't begun
+abbrev pub IsPieceAt : ℕ → PoolWork → Type 0
+IsPieceAt place (Begin job) = job.place ≡ place
+IsPieceAt place (Ready context) = ⊥
+
+-- The last of the jobs that aren't begun is taken, where it is of this place. Else nothing changes.
+abbrev pub GivesJob : PoolParts → ℕ → Option JobParts → PoolParts → Type 0
+GivesJob before place (Some job) after =
+    (before.agenda.unbegun ≡ after.agenda.unbegun ++ Begin job ∷ []) × (job.place ≡ place)
+    × (after ≡ with_agenda before (record before.agenda { unbegun = after.agenda.unbegun }))
+GivesJob before place None after =
+    ((rest : List PoolWork) (last : PoolWork) → before.agenda.unbegun ≡ rest ++ last ∷ [] → ¬ IsPieceAt place last) × (after ≡ before)

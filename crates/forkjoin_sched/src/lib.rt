@@ -1,15 +1,21 @@
 //! The fork-join pool: the scheduler of one `par`.
 //!
-//! A `Pool` is for one hart. Harts share a `SharedPool`, each by hands of its own.
+//! A `Pool` is for one hart. Harts share a `SharedPool`, each by hands of its own. The home of the site offers the pool's jobs:
+//! their codes go to its row, from which the home pops and guests steal, without the lock of the pool.
 #![tactic(auto)]
 
+mod calls;
 mod hand;
 pub mod laws;
+mod looks;
+mod offering;
+mod pieces;
 mod pool;
 mod shared;
 mod work;
 
 pub use hand::PoolHand;
+pub use looks::{Found, Looks};
 pub use pool::{Pool, PoolHeard};
 pub use shared::SharedPool;
 pub use work::PoolWork;

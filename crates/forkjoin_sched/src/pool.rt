@@ -5,9 +5,10 @@ ghost use Rattle.sched_api.specs.Calls.{registered_told, unregistered_told, requ
 ghost use Rattle.sched_api.specs.Wishes.{with_wishes, without_child};
 ghost use Rattle.array_jobs.specs.Jobs.{job_of};
 ghost use Rattle.array_jobs.specs.Groups.{IsGroup};
+ghost use Rattle.work_agenda.specs.Agenda.{GivesReady};
 ghost use Rattle.join_book.specs.Books.{Open, Failed, IsMarked, IsFull, HasFailed, Deposits, marked_book, all_writes};
 ghost use Rattle.forkjoin_sched.specs.declared.work.PoolWork.TheVariants.{Begin};
-ghost use Rattle.forkjoin_sched.specs.Pools.{new_pool, Answers, Hears, Takes, with_book};
+ghost use Rattle.forkjoin_sched.specs.Pools.{new_pool, Answers, Hears, Takes, with_book, with_agenda, GivesJob};
 
 use crate::work::PoolWork;
 use array_eval::Overlay;
@@ -95,6 +96,37 @@ impl<'p> Pool<'p> {
         let agenda = Agenda::new(alloc, count, WISHES_PER_JOB * count, unbegun)?;
         let book = MutexState::new(alloc, 0, Book::new(alloc, jobs)?)?;
         Ok(Pool { site, agenda, book })
+    }
+
+    /// How many contexts are ready to go on.
+    pub fn ready_count(&self) -> usize
+        ensures { result ≡ length self.now.agenda.ready }
+    {
+        self.agenda.ready_count()
+    }
+
+    /// Takes the first context that is ready to go on, if there is one.
+    pub fn take_ready(&mut self) -> Option<PoolWork<'p>>
+        ensures agenda { GivesReady self.old.agenda result self.new.agenda }
+        ensures rest { self.new ≡ with_agenda self.old self.new.agenda }
+    {
+        self.agenda.take_ready()
+    }
+
+    /// Takes the last of the jobs that aren't begun, where it is that of this place.
+    pub fn take_last(&mut self, place: usize) -> Option<Job<'p>>
+        ensures { GivesJob self.old place result self.new }
+    {
+        match self.agenda.last_unbegun() {
+            Some(PoolWork::Begin(job)) if usize::from(job.place) == place => {}
+            Some(_) => return None,
+            None => return None,
+        }
+        match self.agenda.take_last() {
+            Some(PoolWork::Begin(job)) => Some(job),
+            Some(PoolWork::Ready(_)) => unreachable!(),
+            None => unreachable!(),
+        }
     }
 
     /// Keeps a piece at the place of its job.

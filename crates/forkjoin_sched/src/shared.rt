@@ -1,5 +1,5 @@
 //! Pools that harts share.
-ghost use Rattle.std.specs.Prelude.{◌≡◌, IfOk};
+ghost use Rattle.std.specs.Prelude.{◌≡◌, length, IfOk, vec_len};
 
 use crate::pool::Pool;
 use array_jobs::{Job, copy_jobs};
@@ -7,16 +7,21 @@ use sched_api::Scheduler;
 use std::alloc::{AllocError, Global};
 use std::marker::Model;
 use std::sync::Mutex;
+use std::sync::atomic::{AtomicU64, Ordering};
 
-/// A pool that harts share until it is handed out. Beside the lock stand its site and its jobs, which never change.
+/// A pool that harts share until it is handed out. Beside the lock stand its site and its jobs, which never change, how many
+/// contexts are ready behind the lock, and a slot for each place, from which a hart takes the job whose code it has.
 #[derive(Drop)]
 pub struct SharedPool<'p> {
-    pub(crate) site: u16,
-    pub(crate) lock: Mutex<Option<Pool<'p>>>,
+    site: u16,
+    lock: Mutex<Option<Pool<'p>>>,
+    ready: AtomicU64,
+    slots: Vec<Mutex<Option<Job<'p>>>>,
     jobs: Vec<Job<'p>>,
 }
 
 impl<'p> Model for SharedPool<'p> {
+    ghost use Rattle.std.specs.Prelude.{◌≡◌, vec_len};
     ghost use Rattle.std.specs.Coded.{codes};
     ghost use Rattle.array_tree.specs.contracts.tree.Arrays as arrays_type;
     ghost use Rattle.array_tree.specs.contracts.tree.Block as block_type;
@@ -27,18 +32,23 @@ impl<'p> Model for SharedPool<'p> {
     ghost coded = { Prim.hlevel (codes, arrays_type.the_row.coded, block_type.the_row.coded) };
 
     ghost view = { λ shared. record { site = shared.site; jobs = shared.jobs.items } };
+
+    ghost invariant = { λ shared. vec_len shared.slots ≡ vec_len shared.jobs };
 }
 
 impl<'p> SharedPool<'p> {
-    /// Puts the pool behind a lock, and a copy of its jobs beside it.
+    /// Puts the pool behind a lock, and beside it a copy of its jobs and an empty slot for each. No other call takes memory.
     pub fn new(alloc: Global, pool: Pool<'p>) -> Result<SharedPool<'p>, AllocError>
         ensures { IfOk result (λ shared. shared ≡ record { site = pool.entry.site; jobs = pool.entry.book.jobs }) }
     {
         let site = pool.site();
         let jobs = copy_jobs(alloc, pool.jobs())?;
+        let slots = empty_slots(alloc, jobs.len())?;
         Ok(SharedPool {
             site,
             lock: Mutex::new(Some(pool)),
+            ready: AtomicU64::new(0),
+            slots,
             jobs,
         })
     }
@@ -49,4 +59,45 @@ impl<'p> SharedPool<'p> {
     {
         &self.jobs
     }
+
+    // The site of the jobs.
+    pub(crate) fn site(&self) -> u16
+        ensures { result ≡ self.now.site }
+    {
+        self.site
+    }
+
+    // The slots, one for each job.
+    pub(crate) fn slots(&self) -> &[Mutex<Option<Job<'p>>>]
+        ensures { length result.now ≡ length self.now.jobs }
+    {
+        &self.slots
+    }
+
+    // The lock, with the pool behind it until that is handed out.
+    pub(crate) fn kept(&self) -> &Mutex<Option<Pool<'p>>> {
+        &self.lock
+    }
+
+    // Whether a context is ready behind the lock.
+    pub(crate) fn has_ready(&self) -> bool {
+        0 < self.ready.load(Ordering::SeqCst)
+    }
+
+    // Shows beside the lock how many contexts are ready behind it. Who has the lock calls it.
+    pub(crate) fn show_ready(&self, pool: &Pool<'p>) {
+        self.ready
+            .store(pool.ready_count() as u64, Ordering::SeqCst);
+    }
+}
+
+// So many empty slots.
+fn empty_slots<'p>(alloc: Global, count: usize) -> Result<Vec<Mutex<Option<Job<'p>>>>, AllocError>
+    ensures { IfOk result (λ slots. vec_len slots ≡ count) }
+{
+    let mut slots = Vec::with_capacity(alloc, count)?;
+    for done in 0..count {
+        slots.push(Mutex::new(None))?;
+    }
+    Ok(slots)
 }

@@ -1,5 +1,5 @@
 -- What the harts of a run have done together.
-use Rattle.std.proofs.Common.{◌≡◌, ◌<◌, ◌+◌, ◌∙◌, ℕ, suc, false, List, [], ◌∷◌, ◌-◌, length, reverse, map, get_or, slice_get, slice_set, slice_index_or, Option, Some, IfSome, ap, sym, subst, refl, arith}
+use Rattle.std.proofs.Common.{◌≡◌, ◌<◌, ◌+◌, ◌∙◌, ℕ, zero, suc, false, List, [], ◌∷◌, ◌-◌, length, reverse, map, get_or, slice_get, slice_set, slice_index_or, Option, Some, IfSome, ap, sym, subst, refl, arith}
 use Rattle.std.specs.List.{AllZip}
 use Rattle.std.proofs.lemmas.List.{get_or-map, length-map, length-reverse, get_or-reverse}
 use Rattle.std.proofs.lemmas.List.Elements.{AllZip-get_or}
@@ -15,7 +15,7 @@ use Rattle.word_board.specs.Seats.{IsNewSeat, AreSeats, AreAll, SawGone, IsJourn
 use Rattle.word_board.proofs.Names.{same_table}
 use Rattle.array_jobs.specs.Jobs.{JobParts}
 use Rattle.array_jobs.specs.PieceParts.{PieceParts}
-use Rattle.hart_loop.specs.Harts.{StartsIn, IsSameHart, TopSitesSeenGone, HasRun, AreBack, Member, HaveRun, AreTheSame}
+use Rattle.hart_loop.specs.Harts.{StartsIn, IsSameHart, TopSitesSeenGone, HasRun, AreBack, Member, AllStart, HaveRun, AreTheSame}
 
 -- ---- seats
 
@@ -63,7 +63,14 @@ module _ {R S : Type 0} where
   have_run [] [] ran = tt
   have_run [] (y ∷ ys) ran = absurd ran
   have_run (x ∷ xs) [] ran = absurd ran
-  have_run (x ∷ xs) (y ∷ ys) ran = (ran.0.same, have_run xs ys ran.1)
+  have_run (x ∷ xs) (y ∷ ys) ran = ((ran.0.same, ran.0.lent), have_run xs ys ran.1)
+
+  -- a hart starts in the base with a job, too
+  pub starts_with : (tree : Plan) (xs : List (Member R S)) (d : Member R S) (j : JobParts) → 0 < length xs → AllStart tree xs
+      → AllStart tree (slice_set xs 0 (record (slice_index_or xs 0 d) { job = Some j }))
+  starts_with tree [] d j some all k e below = absurd (omega (arith, some))
+  starts_with tree (x ∷ xs) d j some all zero e below = all 0 e below
+  starts_with tree (x ∷ xs) d j some all (suc k) e below = all (suc k) e below
 
   -- so are they where the first was given a job before, and its piece was taken after
   pub crew_ran : (xs ys : List (Member R S)) (d e : Member R S) (j : JobParts) (piece : Option PieceParts) → 0 < length xs
@@ -71,7 +78,7 @@ module _ {R S : Type 0} where
       → AreTheSame xs (slice_set ys 0 (record (slice_index_or ys 0 e) { piece = piece }))
   crew_ran [] ys d e j piece some ran = absurd (omega (arith, some))
   crew_ran (x ∷ xs) [] d e j piece some ran = absurd ran
-  crew_ran (x ∷ xs) (y ∷ ys) d e j piece some ran = (ran.0.same, have_run xs ys ran.1)
+  crew_ran (x ∷ xs) (y ∷ ys) d e j piece some ran = ((ran.0.same, ran.0.lent), have_run xs ys ran.1)
 
   -- and the first has seen each top site gone
   pub first_ran : (xs ys : List (Member R S)) (d e : Member R S) (j : JobParts) (piece : Option PieceParts) → 0 < length xs
@@ -108,15 +115,15 @@ module _ {R S : Type 0} where
       let before : get_or (reverse xs) (length xs - 1 - k) d ≡ get_or xs k d =
       get_or-reverse xs (length xs - 1 - k) d (omega (arith, below)) ∙ ap (λ i. get_or xs i d) (omega (arith, below)) in
       let after : get_or (reverse ys) k d ≡ get_or ys (length xs - 1 - k) d = get_or-reverse ys k d (omega (arith, below, long, turned)) ∙ ap (λ i. get_or ys i d) there in
-      subst (λ x. HasRun (port_view x.port.port.seat) x.job (port_view (get_or (reverse ys) k d).port.port.seat) (get_or (reverse ys) k d).piece) before
-      (subst (λ y. HasRun (port_view (get_or (reverse xs) (length xs - 1 - k) d).port.port.seat) (get_or (reverse xs) (length xs - 1 - k) d).job (port_view y.port.port.seat) y.piece) (sym after)
+      subst (λ x. HasRun (port_view x.port.port.seat) x.schedulers.tools x.job (port_view (get_or (reverse ys) k d).port.port.seat) (get_or (reverse ys) k d).schedulers.tools (get_or (reverse ys) k d).piece) before
+      (subst (λ y. HasRun (port_view (get_or (reverse xs) (length xs - 1 - k) d).port.port.seat) (get_or (reverse xs) (length xs - 1 - k) d).schedulers.tools (get_or (reverse xs) (length xs - 1 - k) d).job (port_view y.port.port.seat) y.schedulers.tools y.piece) (sym after)
       (AllZip-get_or _ (reverse xs) ys (length xs - 1 - k) d d ran inside)))
 
   seats_stay : (xs ys : List (Member R S)) → AreTheSame xs ys → AllZip (λ q w. IsSameHart (port_view q) (port_view w)) (map seat_of xs) (map seat_of ys)
   seats_stay [] [] same = tt
   seats_stay [] (y ∷ ys) same = absurd same
   seats_stay (x ∷ xs) [] same = absurd same
-  seats_stay (x ∷ xs) (y ∷ ys) same = (same.0, seats_stay xs ys same.1)
+  seats_stay (x ∷ xs) (y ∷ ys) same = (same.0.0, seats_stay xs ys same.1)
 
   first_gone : (ys : List (Member R S)) → 0 < length ys → IfSome (slice_get ys 0) (λ hart. TopSitesSeenGone (port_view hart.port.port.seat))
       → (d : HartSeat) → TopSitesSeenGone (port_view (get_or (map seat_of ys) 0 d))
@@ -143,3 +150,16 @@ module _ {R S : Type 0} where
             };
         gone = first_gone ys (omega (arith, some, as_many xs ys same)) gone;
       }
+
+  -- and with their tools
+  pub rows_stay : (xs ys : List (Member R S)) → AreTheSame xs ys → map (λ hart. hart.schedulers.tools.rows) ys ≡ map (λ hart. hart.schedulers.tools.rows) xs
+  rows_stay [] [] same = refl
+  rows_stay [] (y ∷ ys) same = absurd same
+  rows_stay (x ∷ xs) [] same = absurd same
+  rows_stay (x ∷ xs) (y ∷ ys) same = λ i. (same.0.1 i).rows ∷ rows_stay xs ys same.1 i
+
+  pub claims_stay : (xs ys : List (Member R S)) → AreTheSame xs ys → map (λ hart. hart.schedulers.tools.seat) ys ≡ map (λ hart. hart.schedulers.tools.seat) xs
+  claims_stay [] [] same = refl
+  claims_stay [] (y ∷ ys) same = absurd same
+  claims_stay (x ∷ xs) [] same = absurd same
+  claims_stay (x ∷ xs) (y ∷ ys) same = λ i. (same.0.1 i).seat ∷ claims_stay xs ys same.1 i

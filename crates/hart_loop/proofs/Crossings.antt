@@ -5,44 +5,31 @@ use denote.Param.Send.{IsSend, IsSync, sendable}
 use denote.Param.SendFields.{declared_send}
 use denote.Ref.{NamedLft}
 use Rattle.std.proofs.Crossing.{crosses}
-use Rattle.atomic_table.proofs.shared.Seat.TheSendSync as SeatCrosses
-use Rattle.atomic_table.proofs.shared.Shared.TheSendSync as SharedCrosses
-use Rattle.atomic_table.proofs.send_lease.SendLease.TheSendSync as LeaseCrosses
 use Rattle.array_jobs.specs.contracts.piece.Piece as Piece
-use Rattle.word_board.specs.contracts.seat.HartSeat as HartSeat
-use Rattle.word_board.specs.contracts.board.WordBoard as WordBoard
 use Rattle.word_board.specs.contracts.port.WordPort as WordPort
+use Rattle.word_board.proofs.port.WordPort.TheSendSync as WordPortCrosses
 use Rattle.waiting_port.specs.contracts.waiting.WaitingPort as WaitingPort
+use Rattle.base_sched.proofs.base.Base.TheSendSync as BaseCrosses
 use Rattle.base_sched.specs.contracts.base.Base as Base
 use Rattle.site_directory.specs.contracts.shared_site.SharedSite as SharedSite
 use Rattle.site_directory.proofs.Crossings.{job_send, line_send}
+use Rattle.hart_loop.proofs.tools.Tools.TheSendSync as ToolsCrosses
 use Rattle.hart_loop.specs.contracts.harts.HartSchedulers as HartSchedulers
 use Rattle.hart_loop.specs.contracts.hart.Hart as Hart
-
-seat_send : IsSend HartSeat.the_row
-seat_send = search (SeatCrosses.the_send, crosses, sendable) depth 60 fits 20000
-
-board_sync : IsSync WordBoard.the_row
-board_sync = search (SharedCrosses.the_sync, LeaseCrosses.the_sync, crosses, sendable) depth 60 fits 20000
-
-base_send : IsSend Base.the_row
-base_send = search (crosses, sendable) depth 60 fits 20000
-
-port_send : (a : NamedLft) → IsSend (WordPort.the_row a)
-port_send a =
-    let board = board_sync in let seat = seat_send in
-    declared_send (WordPort.the_type a) (search sendable depth 20, (search sendable depth 20, (search sendable depth 20, tt)))
 
 piece_send : (p : NamedLft) → IsSend (Piece.the_row p)
 piece_send p = let job = job_send p in search (crosses, sendable) depth 60 fits 20000
 
+base_send : IsSend Base.the_row
+base_send = BaseCrosses.the_send
+
 -- each type of a hart names lifetimes of its own
 module _ (a p w b s : NamedLft) (R : RattleType) (shared : IsSync R) where
   waiting_send : IsSend (WaitingPort.the_row w (WordPort.the_row b) R)
-  waiting_send = let port = port_send b in search (shared, sendable) depth 20
+  waiting_send = let port = WordPortCrosses.the_send b in search (shared, sendable) depth 20
 
   schedulers_send : IsSend (HartSchedulers.the_row a p (SharedSite.the_row s))
-  schedulers_send = let line = line_send a s in search (crosses, sendable) depth 20
+  schedulers_send = let line = line_send a s in let tools = ToolsCrosses.the_send a in search (crosses, sendable) depth 20
 
   pub hart_send : IsSend (Hart.the_row a p (WaitingPort.the_row w (WordPort.the_row b) R) (SharedSite.the_row s))
   hart_send =

@@ -4,5 +4,6 @@ pub mod Crews
 pub mod Ends
 pub mod Hearings
 pub mod Steps
+pub mod Stocks
 pub mod Stores
 pub mod TeamAccounts

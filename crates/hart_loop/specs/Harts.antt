@@ -10,6 +10,7 @@ use Rattle.word_board.specs.declared.seat.HartSeat.{HartSeat}
 use Rattle.word_board.specs.PortViews.{port_view}
 use Rattle.word_board.specs.declared.port.WordPort.{WordPort}
 use Rattle.waiting_port.specs.declared.waiting.WaitingPort.{WaitingPort}
+use Rattle.hart_loop.specs.Kins.{ToolKins}
 use Rattle.hart_loop.specs.declared.hart.Hart.{Hart}
 
 -- the hart is in the base, and the home of no site
@@ -34,10 +35,11 @@ pub record IsSameHart (v after : PortView) : Type 0 where
 abbrev pub TopSitesSeenGone : PortView → Type 0
 TopSitesSeenGone v = (s : ℕ) → IsSite v.plan s → parent v.plan s ≡ 0 → is_in v.gone s ≡ true
 
--- The hart has done its part of a run. Where it had a job, it has seen each top site gone, and its piece is that job's, if
--- there is one.
-pub record HasRun (v : PortView) (job : Option JobParts) (after : PortView) (made : Option PieceParts) : Type 0 where
+-- The hart has done its part of a run, with the tools that it was lent. Where it had a job, it has seen each top site gone, and
+-- its piece is that job's, if there is one.
+pub record HasRun (v : PortView) (tools : ToolKins) (job : Option JobParts) (after : PortView) (tools' : ToolKins) (made : Option PieceParts) : Type 0 where
   pub same : IsSameHart v after
+  pub lent : tools' ≡ tools
   pub gone : (j : JobParts) → job ≡ Some j → TopSitesSeenGone after
   pub piece : (j : JobParts) → job ≡ Some j → IfSome made (λ k. k.job ≡ j)
 
@@ -58,8 +60,8 @@ AllStart p = All (λ hart. StartsIn p (port_view hart.port.port.seat))
 
 -- each has done its part of a run
 abbrev pub HaveRun : {R S : Type 0} → List (Member R S) → List (Member R S) → Type 0
-HaveRun = AllZip (λ before after. HasRun (port_view before.port.port.seat) before.job (port_view after.port.port.seat) after.piece)
+HaveRun = AllZip (λ before after. HasRun (port_view before.port.port.seat) before.schedulers.tools before.job (port_view after.port.port.seat) after.schedulers.tools after.piece)
 
--- each is the hart that it was
+-- each is the hart that it was, with the tools that it had
 abbrev pub AreTheSame : {R S : Type 0} → List (Member R S) → List (Member R S) → Type 0
-AreTheSame = AllZip (λ before after. IsSameHart (port_view before.port.port.seat) (port_view after.port.port.seat))
+AreTheSame = AllZip (λ before after. IsSameHart (port_view before.port.port.seat) (port_view after.port.port.seat) × (after.schedulers.tools ≡ before.schedulers.tools))

@@ -2,6 +2,8 @@
 use Rattle.std.specs.Prelude.{◌≡◌, ℕ, Option, Some, None}
 use Rattle.array_jobs.specs.Jobs.{JobParts}
 use Rattle.step_eval.specs.Nests.{NestedParts}
+use Rattle.sched_api.specs.declared.scheduler.Lent.{Lent}
+use Rattle.sched_api.specs.declared.scheduler.Lent.TheVariants as lent
 use Rattle.sched_api.specs.declared.scheduler.Next.{Next}
 use Rattle.sched_api.specs.declared.scheduler.Next.TheVariants.{Run, Lend, Nothing}
 use Rattle.hart_port.specs.PortView.{PortView, entered}
@@ -15,8 +17,8 @@ use Rattle.site_directory.specs.declared.shared_site.SharedSite.{SharedSite}
 use Rattle.hart_loop.specs.Openings.{IsMadeOf, on_shelf}
 use Rattle.hart_loop.specs.declared.hart_site.Keeper.{Keeper}
 use Rattle.hart_loop.specs.declared.hart_site.Keeper.TheVariants.{Base, Guest, Home}
-use Rattle.hart_loop.specs.declared.hart_site.Trial.{Trial}
-use Rattle.hart_loop.specs.declared.hart_site.Trial.TheVariants.{Inside, NotWanted, Moved}
+use Rattle.hart_loop.specs.declared.trial.Trial.{Trial}
+use Rattle.hart_loop.specs.declared.trial.Trial.TheVariants.{Inside, NotWanted, Moved}
 
 -- the construct of a site that the hart opened itself
 abbrev pub opened_by : {S : Type 0} → Keeper S → Option NestedParts
@@ -42,6 +44,17 @@ team_tells (Run (team.Begin job)) = Some (Run job)
 team_tells (Run (team.Ready context)) = None
 team_tells (Lend child) = Some (Lend child)
 team_tells Nothing = Some Nothing
+
+-- what came of a try to enter
+abbrev pub pool_trial : Lent PoolWork → Trial
+pool_trial (lent.Inside next) = Inside (pool_tells next)
+pool_trial (lent.NotWanted shown) = NotWanted
+pool_trial (lent.Moved read found) = Moved
+
+abbrev pub team_trial : Lent TeamWork → Trial
+team_trial (lent.Inside next) = Inside (team_tells next)
+team_trial (lent.NotWanted shown) = NotWanted
+team_trial (lent.Moved read found) = Moved
 
 -- the task in what a hart is told
 abbrev pub task_told : Next JobParts → Task JobParts

@@ -17,7 +17,7 @@ pub record IsSharedPoolOf (nested : NestedParts) (shared : SharedParts) : Type 0
 
 -- a scheduler was made for the construct
 abbrev pub IsMadeOf : NestedParts → SharedSite → Type 0
-IsMadeOf nested (Pool shared) = IsSharedPoolOf nested shared
+IsMadeOf nested (Pool home shared) = IsSharedPoolOf nested shared
 IsMadeOf nested (Team shared) = shared ≡ nested
 
 -- what stands on a shelf

@@ -2,8 +2,10 @@
 ghost use Rattle.std.specs.Prelude.{◌≡◌, IfOk};
 ghost use Rattle.hart_loop.specs.Harts.{StartsIn, IsSameHart, TopSitesSeenGone, HasRun};
 
-use crate::harts::{HartSchedulers, HartSite};
+use crate::hart_site::HartSite;
+use crate::harts::HartSchedulers;
 use crate::in_directory::InDirectory;
+use crate::tools::Tools;
 use array_jobs::{Job, Piece};
 use base_sched::{Base, BaseHand};
 use hart_work::{run_piece, serve};
@@ -23,18 +25,19 @@ pub struct Hart<'a, 'p, P, S> {
 }
 
 impl<'a, 'p, P, S: Drop> Hart<'a, 'p, P, S> {
-    /// The port that it moved by.
-    pub fn into_port(self) -> P
-        ensures { result ≡ self.entry.port }
+    /// The port that it moved by, and the tools that it was lent.
+    pub fn into_parts(self) -> (P, Tools<'a>)
+        ensures port { result.0 ≡ self.entry.port }
+        ensures tools { result.1 ≡ self.entry.schedulers.tools }
     {
         let Hart {
             port,
-            schedulers: _,
+            schedulers,
             base: _,
             job: _,
             piece: _,
         } = self;
-        port
+        (port, schedulers.into_tools())
     }
 }
 
@@ -51,7 +54,7 @@ pub fn work<'a, 'p, P: PatientPort, R: Wait, S: InDirectory<'p>, F: Fn(u8, u16, 
 )
     requires callable { F.IsAlwaysCallable pass.now }
     requires starts { StartsIn tree.now (P.seen hart.old.port) }
-    ensures { HasRun (P.seen hart.old.port) hart.old.job (P.seen hart.new.port) hart.new.piece }
+    ensures { HasRun (P.seen hart.old.port) hart.old.schedulers.tools hart.old.job (P.seen hart.new.port) hart.new.schedulers.tools hart.new.piece }
 {
     match hart.job.take() {
         Some(job) => {
@@ -88,6 +91,7 @@ fn run_body<'a, 'p, P: PatientPort, R: Wait, S: InDirectory<'p>, F: Fn(u8, u16, 
     requires callable { F.IsAlwaysCallable pass.now }
     requires starts { StartsIn tree.now (P.seen hart.old.port) }
     ensures same { IsSameHart (P.seen hart.old.port) (P.seen hart.new.port) }
+    ensures tools { hart.new.schedulers.tools ≡ hart.old.schedulers.tools }
     ensures gone { TopSitesSeenGone (P.seen hart.new.port) }
     ensures piece { IfOk result (λ piece. piece.job ≡ job.entry) }
 {

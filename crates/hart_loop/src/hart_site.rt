@@ -1,22 +1,13 @@
-//! The scheduler of one site, as one of several harts has it.
-ghost use Rattle.std.specs.Prelude.{◌≡◌, ◌<◌, false};
-ghost use Rattle.transfer_table.specs.Plan.{IsSite, parent as parent_of};
-ghost use Rattle.hart_port.specs.PortView.{IsPortView, is_in, Registers, MayRequest, requested_by, yielded, MayUnregister, unregistered};
-ghost use Rattle.hart_loop.specs.Offers.{HasTried, pool_tells, team_tells};
+//! One site, as one of several harts has it.
+ghost use Rattle.std.specs.Prelude.{◌≡◌};
+ghost use Rattle.hart_loop.specs.Places.{Fits};
+ghost use Rattle.hart_loop.specs.Offers.{IsOpened};
 
 use crate::in_directory::InDirectory;
 use crate::opened::OpenSite;
-use array_jobs::{Job, Piece};
-use base_sched::{Base, BaseHand};
-use forkjoin_sched::{PoolHand, PoolWork, SharedPool};
-use hart_port::{Port, Taken};
-use loop_team::{SharedTeam, TeamHand, TeamWork};
-use sched_api::{
-    Lent, Next, Scheduler, sched_enter, sched_reenter, sched_register, sched_request,
-    sched_unregister, sched_yield,
-};
-use site_directory::SharedSite;
-use std::sync::{Mutex, Wait};
+use crate::tools::{Grip, Tools};
+use base_sched::Base;
+use std::sync::Mutex;
 
 /// The scheduler of one site, as one of several harts has it.
 #[derive(Drop)]
@@ -29,286 +20,64 @@ pub enum Keeper<'a, 'p, S> {
     Home(OpenSite<'a, 'p, S>),
 }
 
-/// What a hart makes its hand on.
-#[derive(Clone, Copy)]
-pub enum Grip<'b, 'p> {
-    Base(&'b Mutex<Base>),
-    Pool(&'b SharedPool<'p>),
-    Team(&'b SharedTeam<'p>),
+/// One site, as a hart has it.
+pub struct HartSite<'a, 'p, S> {
+    pub(crate) keeper: Keeper<'a, 'p, S>,
+    // How deep in other sites it is.
+    pub(crate) level: u8,
+    // How many tasks the hart may still be given here. No run comes near its end.
+    pub(crate) turns: u64,
 }
 
-/// What came of a try to enter a site.
-#[derive(Drop)]
-pub enum Trial<'p> {
-    /// The hart is inside, and was told what to do; None is a context, which no run puts there.
-    Inside(Option<Next<Job<'p>>>),
-    /// The site wants no hart.
-    NotWanted,
-    /// Another hart moved at the same time.
-    Moved,
+impl<'a, 'p, S: Drop> Drop for HartSite<'a, 'p, S> {
+    fn drop(self) {
+        let HartSite {
+            keeper: _,
+            level: _,
+            turns: _,
+        } = self;
+    }
 }
 
-impl<'a, 'p, S: InDirectory<'p>> Keeper<'a, 'p, S> {
+impl<'a, 'p, S: InDirectory<'p>> HartSite<'a, 'p, S> {
+    /// A site of which the hart was given no task yet.
+    pub(crate) fn new(keeper: Keeper<'a, 'p, S>, level: u8) -> HartSite<'a, 'p, S>
+        ensures { result.keeper ≡ keeper.entry }
+    {
+        HartSite {
+            keeper,
+            level,
+            turns: u64::MAX,
+        }
+    }
+
+    // What the hart has of the site's scheduler.
+    pub(crate) fn into_keeper(self) -> Keeper<'a, 'p, S>
+        ensures { result ≡ self.entry.keeper }
+    {
+        let HartSite {
+            keeper,
+            level: _,
+            turns: _,
+        } = self;
+        keeper
+    }
+
+    /// The base.
+    pub fn base(lock: &'a Mutex<Base>) -> HartSite<'a, 'p, S>
+        ensures { IsOpened S.held result.keeper }
+    {
+        HartSite::new(Keeper::Base(lock), 0)
+    }
+
     /// What to make a hand on.
-    pub fn grip(&self) -> Grip<'_, 'p> {
-        match self {
+    pub(crate) fn grip<'t>(&self, tools: &Tools<'t>) -> Grip<'t, '_, 'p>
+        ensures { Fits tools.now result }
+    {
+        match &self.keeper {
             Keeper::Base(lock) => Grip::Base(lock),
-            Keeper::Guest(shared) => grip_of(shared.shared()),
-            Keeper::Home(site) => grip_of(site.shared()),
+            Keeper::Guest(shared) => tools.grip(shared.shared(), self.level),
+            Keeper::Home(site) => tools.grip(site.shared(), self.level),
         }
-    }
-}
-
-/// What to make a hand on of a scheduler that harts share.
-pub fn grip_of<'b, 'p>(shared: &'b SharedSite<'p>) -> Grip<'b, 'p> {
-    match shared {
-        SharedSite::Pool(pool) => Grip::Pool(pool),
-        SharedSite::Team(team) => Grip::Team(team),
-    }
-}
-
-impl<'b, 'p> Grip<'b, 'p> {
-    /// Registers the child, and tells the scheduler.
-    pub fn register<P: Port, R: Wait + 'b>(
-        self,
-        rt: &'b R,
-        port: &mut P,
-        hold: P::Hold,
-        child: u16,
-    ) -> Result<(), Taken>
-        requires known { IsSite (P.seen port.old).plan child }
-        requires child { (P.seen port.old).owner ≡ parent_of (P.seen port.old).plan child }
-        ensures does { Registers (P.seen port.old) child result (P.seen port.new) }
-        ensures kept { IsPortView (P.seen port.new) }
-    {
-        match self {
-            Grip::Base(lock) => {
-                sched_register(port, hold, &mut BaseHand::new(lock), rt, child)?;
-            }
-            Grip::Pool(pool) => {
-                sched_register(port, hold, &mut PoolHand::new(pool), rt, child)?;
-            }
-            Grip::Team(team) => {
-                sched_register(port, hold, &mut TeamHand::new(team), rt, child)?;
-            }
-        }
-        Ok(())
-    }
-
-    /// Asks for `count` harts for the child, and tells the scheduler.
-    pub fn request<P: Port, R: Wait + 'b>(
-        self,
-        rt: &'b R,
-        port: &mut P,
-        hold: P::Hold,
-        child: u16,
-        count: u8,
-    )
-        requires known { IsSite (P.seen port.old).plan child }
-        requires may { MayRequest (P.seen port.old) child count }
-        ensures does { P.seen port.new ≡ requested_by (P.seen port.old) child count }
-        ensures kept { IsPortView (P.seen port.new) }
-    {
-        match self {
-            Grip::Base(lock) => {
-                sched_request(port, hold, &mut BaseHand::new(lock), rt, child, count);
-            }
-            Grip::Pool(pool) => {
-                sched_request(port, hold, &mut PoolHand::new(pool), rt, child, count);
-            }
-            Grip::Team(team) => {
-                sched_request(port, hold, &mut TeamHand::new(team), rt, child, count);
-            }
-        }
-    }
-
-    /// Unregisters the port's owner, and tells the scheduler.
-    pub fn unregister<P: Port, R: Wait + 'b>(self, rt: &'b R, port: &mut P, hold: P::Hold)
-        requires { MayUnregister (P.seen port.old) }
-        ensures does { P.seen port.new ≡ unregistered (P.seen port.old) }
-        ensures kept { IsPortView (P.seen port.new) }
-    {
-        match self {
-            Grip::Base(lock) => {
-                sched_unregister(port, hold, &mut BaseHand::new(lock), rt);
-            }
-            Grip::Pool(pool) => {
-                sched_unregister(port, hold, &mut PoolHand::new(pool), rt);
-            }
-            Grip::Team(team) => {
-                sched_unregister(port, hold, &mut TeamHand::new(team), rt);
-            }
-        }
-    }
-
-    /// Gives the hart back from the port's owner, and tells the scheduler.
-    pub fn give_back<P: Port, R: Wait + 'b>(self, rt: &'b R, port: &mut P, hold: P::Hold)
-        requires inside { 0 < (P.seen port.old).owner }
-        requires guest { is_in (P.seen port.old).homes (P.seen port.old).owner ≡ false }
-        ensures does { P.seen port.new ≡ yielded (P.seen port.old) }
-        ensures kept { IsPortView (P.seen port.new) }
-    {
-        match self {
-            Grip::Base(lock) => {
-                sched_yield(port, hold, &mut BaseHand::new(lock), rt);
-            }
-            Grip::Pool(pool) => {
-                sched_yield(port, hold, &mut PoolHand::new(pool), rt);
-            }
-            Grip::Team(team) => {
-                sched_yield(port, hold, &mut TeamHand::new(team), rt);
-            }
-        }
-    }
-
-    /// Tries once to enter the child, whose scheduler this is. A scheduler of another site is not entered.
-    pub fn try_enter<P: Port, R: Wait + 'b>(
-        self,
-        rt: &'b R,
-        port: &mut P,
-        hold: P::Hold,
-        child: u16,
-    ) -> Trial<'p>
-        requires known { IsSite (P.seen port.old).plan child }
-        requires child { (P.seen port.old).owner ≡ parent_of (P.seen port.old).plan child }
-        ensures does { HasTried (P.seen port.old) child result (P.seen port.new) }
-        ensures kept { IsPortView (P.seen port.new) }
-    {
-        match self {
-            Grip::Base(_) => {
-                let _ = port.owner();
-                Trial::NotWanted
-            }
-            Grip::Pool(pool) => try_enter_pool(rt, port, hold, pool, child),
-            Grip::Team(team) => try_enter_team(rt, port, hold, team, child),
-        }
-    }
-
-    /// What a hart is told that is inside; None is a context, which no run puts there.
-    pub fn next<R: Wait + 'b>(self, rt: &'b R) -> Option<Next<Job<'p>>> {
-        match self {
-            Grip::Base(lock) => match sched_reenter(&mut BaseHand::new(lock), rt) {
-                Next::Run(()) => None,
-                Next::Lend(child) => Some(Next::Lend(child)),
-                Next::Nothing => Some(Next::Nothing),
-            },
-            Grip::Pool(pool) => job_of_pool(sched_reenter(&mut PoolHand::new(pool), rt)),
-            Grip::Team(team) => job_of_team(sched_reenter(&mut TeamHand::new(team), rt)),
-        }
-    }
-
-    /// Whether a hart has to leave though it might be told more: the base where it is shut, and the home where the work of
-    /// its site is over.
-    pub fn is_over<R: Wait + 'b>(self, rt: &'b R, is_home: bool) -> bool {
-        match self {
-            Grip::Base(lock) => BaseHand::<R>::new(lock).is_shut(rt),
-            Grip::Pool(pool) => is_home && PoolHand::<R>::new(pool).is_full(rt),
-            Grip::Team(team) => is_home && TeamHand::<R>::new(team).is_over(rt),
-        }
-    }
-
-    /// A piece is done. One that is a stranger there is let go.
-    pub fn deposit<R: Wait + 'b>(self, rt: &'b R, piece: Piece<'p>) {
-        match self {
-            Grip::Base(_) => {}
-            Grip::Pool(pool) => {
-                let _ = PoolHand::<R>::new(pool).deposit(rt, piece);
-            }
-            Grip::Team(team) => {
-                let _ = TeamHand::<R>::new(team).arrive(rt, piece);
-            }
-        }
-    }
-
-    /// The piece at this place found no memory.
-    pub fn fail<R: Wait + 'b>(self, rt: &'b R, place: u8) {
-        match self {
-            Grip::Base(_) => {}
-            Grip::Pool(pool) => PoolHand::<R>::new(pool).fail(rt, place),
-            Grip::Team(team) => TeamHand::<R>::new(team).fail(rt, place),
-        }
-    }
-
-    /// Whether a piece found no memory.
-    pub fn has_failed<R: Wait + 'b>(self, rt: &'b R) -> bool {
-        match self {
-            Grip::Base(_) => false,
-            Grip::Pool(pool) => PoolHand::<R>::new(pool).has_failed(rt),
-            Grip::Team(team) => TeamHand::<R>::new(team).has_failed(rt),
-        }
-    }
-}
-
-// Tries once to enter the site of a pool.
-fn try_enter_pool<'b, 'p, P: Port, R: Wait + 'b>(
-    rt: &'b R,
-    port: &mut P,
-    hold: P::Hold,
-    pool: &'b SharedPool<'p>,
-    child: u16,
-) -> Trial<'p>
-    requires known { IsSite (P.seen port.old).plan child }
-    requires child { (P.seen port.old).owner ≡ parent_of (P.seen port.old).plan child }
-    ensures does { HasTried (P.seen port.old) child result (P.seen port.new) }
-    ensures kept { IsPortView (P.seen port.new) }
-{
-    let mut hand = PoolHand::new(pool);
-    if hand.site() != child {
-        let _ = port.owner();
-        return Trial::NotWanted;
-    }
-    match sched_enter(port, hold, &mut hand, rt) {
-        Lent::Inside(next) => Trial::Inside(job_of_pool(next)),
-        Lent::NotWanted { shown: _ } => Trial::NotWanted,
-        Lent::Moved { read: _, found: _ } => Trial::Moved,
-    }
-}
-
-// Tries once to enter the site of a team.
-fn try_enter_team<'b, 'p, P: Port, R: Wait + 'b>(
-    rt: &'b R,
-    port: &mut P,
-    hold: P::Hold,
-    team: &'b SharedTeam<'p>,
-    child: u16,
-) -> Trial<'p>
-    requires known { IsSite (P.seen port.old).plan child }
-    requires child { (P.seen port.old).owner ≡ parent_of (P.seen port.old).plan child }
-    ensures does { HasTried (P.seen port.old) child result (P.seen port.new) }
-    ensures kept { IsPortView (P.seen port.new) }
-{
-    let mut hand = TeamHand::new(team);
-    if hand.site() != child {
-        let _ = port.owner();
-        return Trial::NotWanted;
-    }
-    match sched_enter(port, hold, &mut hand, rt) {
-        Lent::Inside(next) => Trial::Inside(job_of_team(next)),
-        Lent::NotWanted { shown: _ } => Trial::NotWanted,
-        Lent::Moved { read: _, found: _ } => Trial::Moved,
-    }
-}
-
-// What a pool tells. A context that waits to go on is let go.
-fn job_of_pool<'p>(next: Next<PoolWork<'p>>) -> Option<Next<Job<'p>>>
-    ensures { result ≡ pool_tells next.entry }
-{
-    match next {
-        Next::Run(PoolWork::Begin(job)) => Some(Next::Run(job)),
-        Next::Run(PoolWork::Ready(_)) => None,
-        Next::Lend(child) => Some(Next::Lend(child)),
-        Next::Nothing => Some(Next::Nothing),
-    }
-}
-
-// What a team tells, likewise.
-fn job_of_team<'p>(next: Next<TeamWork<'p>>) -> Option<Next<Job<'p>>>
-    ensures { result ≡ team_tells next.entry }
-{
-    match next {
-        Next::Run(TeamWork::Begin(job)) => Some(Next::Run(job)),
-        Next::Run(TeamWork::Ready(_)) => None,
-        Next::Lend(child) => Some(Next::Lend(child)),
-        Next::Nothing => Some(Next::Nothing),
     }
 }

@@ -7,17 +7,19 @@ ghost use Rattle.step_eval.specs.Machines.{left_of, is_awaiting, IsFinished};
 ghost use Rattle.contexts.specs.declared.machine.Step.TheVariants.{Finished};
 ghost use Rattle.hart_work.specs.Tasks.{Goes, HasEntered};
 ghost use Rattle.hart_loop.specs.Sites.{IsAwaitingWrites};
+ghost use Rattle.hart_loop.specs.Places.{Fits};
 ghost use Rattle.hart_loop.specs.Offers.{opened_by, IsOpened, task_told};
 
-use crate::hart_site::{Grip, Keeper, Trial};
+use crate::hart_site::{HartSite, Keeper};
 use crate::in_directory::InDirectory;
 use crate::machines::started;
 use crate::opened::OpenSite;
+use crate::tools::{Grip, Tools};
+use crate::trial::Trial;
 use crate::turns::take_turn;
 use array_eval::Overlay;
 use array_jobs::{Job, Piece};
 use array_tree::Block;
-use base_sched::Base;
 use contexts::{Running, Step};
 use crossbeam_utils::Backoff;
 use hart_port::{Port, Taken};
@@ -26,7 +28,7 @@ use sched_api::Next;
 use site_directory::SiteLine;
 use std::alloc::{AllocError, Global};
 use std::marker::PhantomData;
-use std::sync::{Mutex, Wait};
+use std::sync::Wait;
 use step_eval::{Nested, StepMachine, compute};
 
 /// The schedulers of the sites, and the machines, as one of several harts has them. They stand behind locks, so nothing is
@@ -34,72 +36,53 @@ use step_eval::{Nested, StepMachine, compute};
 #[derive(Drop)]
 pub struct HartSchedulers<'a, 'p, S> {
     lines: Vec<SiteLine<'a, S>>,
+    tools: Tools<'a>,
     of: PhantomData<&'p Block>,
 }
 
-/// One site, as a hart has it.
-pub struct HartSite<'a, 'p, S> {
-    keeper: Keeper<'a, 'p, S>,
-    // How many tasks the hart may still be given here. No run comes near its end.
-    turns: u64,
-}
-
-impl<'a, 'p, S: Drop> Drop for HartSite<'a, 'p, S> {
-    fn drop(self) {
-        let HartSite {
-            keeper: _,
-            turns: _,
-        } = self;
-    }
-}
-
-impl<'a, 'p, S: InDirectory<'p>> HartSite<'a, 'p, S> {
-    /// A site of which the hart was given no task yet.
-    fn new(keeper: Keeper<'a, 'p, S>) -> HartSite<'a, 'p, S>
-        ensures { result.keeper ≡ keeper.entry }
-    {
-        HartSite {
-            keeper,
-            turns: u64::MAX,
-        }
-    }
-
-    // What the hart has of the site's scheduler.
-    fn into_keeper(self) -> Keeper<'a, 'p, S>
-        ensures { result ≡ self.entry.keeper }
-    {
-        let HartSite { keeper, turns: _ } = self;
-        keeper
-    }
-
-    /// The base.
-    pub fn base(lock: &'a Mutex<Base>) -> HartSite<'a, 'p, S>
-        ensures { IsOpened S.held result.keeper }
-    {
-        HartSite::new(Keeper::Base(lock))
-    }
-}
-
 impl<'a, 'p, S> HartSchedulers<'a, 'p, S> {
-    /// What a hart has to work with, by its lines to the cells of all sites.
-    pub fn new(lines: Vec<SiteLine<'a, S>>) -> HartSchedulers<'a, 'p, S> {
+    /// What a hart has to work with, by its lines to the cells of all sites, and its tools.
+    pub fn new(lines: Vec<SiteLine<'a, S>>, tools: Tools<'a>) -> HartSchedulers<'a, 'p, S>
+        ensures { result.tools ≡ tools.entry }
+    {
         HartSchedulers {
             lines,
+            tools,
             of: PhantomData,
         }
+    }
+
+    /// Its tools.
+    pub fn into_tools(self) -> Tools<'a>
+        ensures { result ≡ self.entry.tools }
+    {
+        let HartSchedulers {
+            lines: _,
+            tools,
+            of: _,
+        } = self;
+        tools
     }
 }
 
 // Waits for what the hart does next at a site. A guest leaves where there is nothing to do, and the base and the home
 // wait until their work is over.
-fn next_task<'p, R: Wait>(rt: &R, grip: Grip<'_, 'p>, is_home: bool) -> Task<Job<'p>> {
+fn next_task<'t, 'p, R: Wait>(
+    rt: &R,
+    tools: &mut Tools<'t>,
+    grip: Grip<'t, '_, 'p>,
+    is_home: bool,
+) -> Task<Job<'p>>
+    requires { Fits tools.old grip }
+    ensures { tools.new ≡ tools.old }
+{
     let is_guest = !is_home && !matches!(grip, Grip::Base(_));
     let backoff = Backoff::new();
     'looks: for _ in rt.forever() {
-        if grip.is_over(rt, is_home) {
+        if tools.is_over(rt, grip, is_home) {
             return Task::Nothing;
         }
-        match grip.next(rt) {
+        match tools.next(rt, grip) {
             Some(Next::Nothing) if !is_guest => backoff.snooze(),
             Some(next) => return task_of(next),
             None => {}
@@ -109,23 +92,26 @@ fn next_task<'p, R: Wait>(rt: &R, grip: Grip<'_, 'p>, is_home: bool) -> Task<Job
 }
 
 // Tries to enter the child until it is inside or isn't wanted: where another hart moved at the same time, it looks again.
-fn enter_child<'p, P: Port, R: Wait>(
+fn enter_child<'t, 'p, P: Port, R: Wait>(
     rt: &R,
+    tools: &mut Tools<'t>,
+    grip: Grip<'t, '_, 'p>,
     port: &mut P,
     hold: P::Hold,
-    grip: Grip<'_, 'p>,
     child: u16,
 ) -> Option<Task<Job<'p>>>
+    requires fits { Fits tools.old grip }
     requires known { IsSite (P.seen port.old).plan child }
     requires child { (P.seen port.old).owner ≡ parent_of (P.seen port.old).plan child }
     ensures does { HasEntered (P.seen port.old) child result (P.seen port.new) }
     ensures kept { IsPortView (P.seen port.new) }
+    ensures tools { tools.new ≡ tools.old }
 {
     let backoff = Backoff::new();
     'tries: for _ in rt.forever() {
-        match grip.try_enter(rt, port, hold, child) {
+        match tools.try_enter(rt, grip, port, hold, child) {
             Trial::Inside(Some(next)) => return Some(task_of(next)),
-            Trial::Inside(None) => return Some(next_task(rt, grip, false)),
+            Trial::Inside(None) => return Some(next_task(rt, tools, grip, false)),
             Trial::NotWanted => return None,
             Trial::Moved => backoff.spin(),
         }
@@ -162,6 +148,11 @@ impl<'a, 'p, S: InDirectory<'p>> Resources for HartSchedulers<'a, 'p, S> {
     type Machine = StepMachine<'p>;
 
     type Site = HartSite<'a, 'p, S>;
+
+    // For contracts alone, which see no lifetime of it.
+    type Tools = Tools<'static>;
+
+    ghost tools = { λ s. s.tools };
 
     ghost job_of = { λ m. m.job };
 
@@ -201,6 +192,7 @@ impl<'a, 'p, S: InDirectory<'p>> Resources for HartSchedulers<'a, 'p, S> {
         requires { is_awaiting running.old.stage ≡ false }
         ensures goes { Goes (λ (n : NestedParts). nested_writes (nested_of n)) result (left_of running.old.stage running.old.rest) (left_of running.new.stage running.new.rest) (is_awaiting running.new.stage ≡ false) (IsAwaitingWrites running.new) (running.new.job ≡ running.old.job) }
         ensures finished { result ≡ Finished → IsFinished running.new }
+        ensures tools { self.new.tools ≡ self.old.tools }
     {
         running.step()
     }
@@ -214,6 +206,7 @@ impl<'a, 'p, S: InDirectory<'p>> Resources for HartSchedulers<'a, 'p, S> {
         ensures job { OnOk result (running.new.job ≡ running.old.job) }
         ensures ready { OnOk result (is_awaiting running.new.stage ≡ false) }
         ensures left { OnOk result (left_of running.new.stage running.new.rest ≡ left_of running.old.stage running.old.rest) }
+        ensures tools { self.new.tools ≡ self.old.tools }
     {
         running.machine().supply(&written)
     }
@@ -239,13 +232,17 @@ impl<'a, 'p, S: InDirectory<'p>> Resources for HartSchedulers<'a, 'p, S> {
         alloc: Global,
         nested: &Nested<'p>,
     ) -> Result<HartSite<'a, 'p, S>, AllocError> {
-        let site = OpenSite::new(alloc, self.lines.as_mut_slice(), nested)?;
-        Ok(HartSite::new(Keeper::Home(site)))
+        let level = self.tools.level(nested.site);
+        let has_room = self.tools.has_room(level, nested);
+        let home = self.tools.hart();
+        let site = OpenSite::new(alloc, self.lines.as_mut_slice(), home, has_room, nested)?;
+        Ok(HartSite::new(Keeper::Home(site), level))
     }
 
     fn wishes(&self, site: &HartSite<'a, 'p, S>) -> u8 {
-        match &site.keeper {
-            Keeper::Home(opened) => opened.wishes(),
+        match (&site.keeper, site.grip(&self.tools)) {
+            (_, Grip::Nobody) => 0,
+            (Keeper::Home(opened), _) => opened.wishes(),
             _ => 0,
         }
     }
@@ -266,7 +263,7 @@ impl<'a, 'p, S: InDirectory<'p>, R: Wait> Schedulers<R> for HartSchedulers<'a, '
     fn find(&mut self, rt: &R, site: u16) -> Option<HartSite<'a, 'p, S>> {
         let line = self.lines.get_mut(usize::from(site))?;
         let shared = line.until_found(rt);
-        Some(HartSite::new(Keeper::Guest(shared)))
+        Some(HartSite::new(Keeper::Guest(shared), self.tools.level(site)))
     }
 
     fn register<P: Port>(
@@ -277,7 +274,13 @@ impl<'a, 'p, S: InDirectory<'p>, R: Wait> Schedulers<R> for HartSchedulers<'a, '
         around: &mut HartSite<'a, 'p, S>,
         child: u16,
     ) -> Result<(), Taken> {
-        around.keeper.grip().register(rt, port, hold, child)
+        let grip = around.grip(&self.tools);
+        self.tools.register(rt, grip, port, hold, child)
+    }
+
+    fn offer(&mut self, rt: &R, site: &HartSite<'a, 'p, S>) {
+        let grip = site.grip(&self.tools);
+        self.tools.offer(rt, grip);
     }
 
     fn request<P: Port>(
@@ -289,7 +292,8 @@ impl<'a, 'p, S: InDirectory<'p>, R: Wait> Schedulers<R> for HartSchedulers<'a, '
         child: u16,
         count: u8,
     ) {
-        around.keeper.grip().request(rt, port, hold, child, count);
+        let grip = around.grip(&self.tools);
+        self.tools.request(rt, grip, port, hold, child, count);
     }
 
     fn unregister<P: Port>(
@@ -299,7 +303,8 @@ impl<'a, 'p, S: InDirectory<'p>, R: Wait> Schedulers<R> for HartSchedulers<'a, '
         hold: P::Hold,
         around: &mut HartSite<'a, 'p, S>,
     ) {
-        around.keeper.grip().unregister(rt, port, hold);
+        let grip = around.grip(&self.tools);
+        self.tools.unregister(rt, grip, port, hold);
     }
 
     fn enter<P: Port>(
@@ -310,7 +315,8 @@ impl<'a, 'p, S: InDirectory<'p>, R: Wait> Schedulers<R> for HartSchedulers<'a, '
         site: &mut HartSite<'a, 'p, S>,
         child: u16,
     ) -> Option<Task<Job<'p>>> {
-        enter_child(rt, port, hold, site.keeper.grip(), child)
+        let grip = site.grip(&self.tools);
+        enter_child(rt, &mut self.tools, grip, port, hold, child)
     }
 
     fn give_back<P: Port>(
@@ -320,13 +326,15 @@ impl<'a, 'p, S: InDirectory<'p>, R: Wait> Schedulers<R> for HartSchedulers<'a, '
         hold: P::Hold,
         around: &mut HartSite<'a, 'p, S>,
     ) {
-        around.keeper.grip().give_back(rt, port, hold);
+        let grip = around.grip(&self.tools);
+        self.tools.give_back(rt, grip, port, hold);
     }
 
     /// It waits where there is nothing to do yet and the hart stays.
     fn next(&mut self, rt: &R, site: &mut HartSite<'a, 'p, S>, is_home: bool) -> Task<Job<'p>> {
         take_turn(rt, &mut site.turns);
-        next_task(rt, site.keeper.grip(), is_home)
+        let grip = site.grip(&self.tools);
+        next_task(rt, &mut self.tools, grip, is_home)
     }
 
     fn deposit(
@@ -336,15 +344,18 @@ impl<'a, 'p, S: InDirectory<'p>, R: Wait> Schedulers<R> for HartSchedulers<'a, '
         site: &mut HartSite<'a, 'p, S>,
         piece: Piece<'p>,
     ) {
-        site.keeper.grip().deposit(rt, piece);
+        let grip = site.grip(&self.tools);
+        self.tools.deposit(rt, grip, piece);
     }
 
     fn fail(&mut self, rt: &R, site: &mut HartSite<'a, 'p, S>, place: u8) {
-        site.keeper.grip().fail(rt, place);
+        let grip = site.grip(&self.tools);
+        self.tools.fail(rt, grip, place);
     }
 
     fn has_failed(&mut self, rt: &R, site: &HartSite<'a, 'p, S>) -> bool {
-        site.keeper.grip().has_failed(rt)
+        let grip = site.grip(&self.tools);
+        self.tools.has_failed(rt, grip)
     }
 
     fn take(
@@ -353,8 +364,9 @@ impl<'a, 'p, S: InDirectory<'p>, R: Wait> Schedulers<R> for HartSchedulers<'a, '
         alloc: Global,
         site: HartSite<'a, 'p, S>,
     ) -> Result<Overlay, AllocError> {
+        let level = site.level;
         match site.into_keeper() {
-            Keeper::Home(opened) => opened.take(rt, alloc),
+            Keeper::Home(opened) => opened.take(rt, alloc, &mut self.tools, level),
             Keeper::Base(_) => unreachable!(),
             Keeper::Guest(_) => unreachable!(),
         }

@@ -7,6 +7,7 @@
 //! where.
 #![tactic(auto)]
 
+mod claims;
 mod hart;
 mod hart_site;
 mod harts;
@@ -15,16 +16,23 @@ mod lone;
 mod machines;
 mod opened;
 mod outcome;
+mod pool_place;
 mod pools;
 mod run;
 mod several;
 mod site;
+mod team_place;
 mod teams;
+mod tools;
+mod trial;
 mod turns;
 
+pub use claims::Claims;
 pub use hart::{Hart, work};
-pub use harts::{HartSchedulers, HartSite};
+pub use hart_site::HartSite;
+pub use harts::HartSchedulers;
 pub use in_directory::InDirectory;
 pub use outcome::{Journal, Outcome};
 pub use run::run_alone;
 pub use several::run_harts;
+pub use tools::{Tools, tools_of};

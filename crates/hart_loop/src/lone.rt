@@ -52,6 +52,11 @@ impl<'p> Resources for LoneSchedulers<'p> {
 
     type Site = LoneSite<'p>;
 
+    // It was lent none.
+    type Tools = ();
+
+    ghost tools = { λ _. tt };
+
     ghost job_of = { λ m. m.job };
 
     ghost job_in = { λ p. p.job };
@@ -175,6 +180,9 @@ impl<'p, R> Schedulers<R> for LoneSchedulers<'p> {
         }
         Ok(())
     }
+
+    /// There is no other hart that could take a piece.
+    fn offer(&mut self, _rt: &R, _site: &LoneSite<'p>) {}
 
     fn request<P: Port>(
         &mut self,

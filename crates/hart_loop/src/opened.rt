@@ -6,9 +6,10 @@ ghost use Rattle.hart_loop.specs.Openings.{IsMadeOf, on_shelf, IsSharedPoolOf};
 
 use crate::in_directory::InDirectory;
 use crate::pools::{open_pool, take_from_pool};
+use crate::tools::Tools;
 use array_eval::Overlay;
-use forkjoin_sched::{PoolHand, SharedPool};
-use loop_team::{SharedTeam, Team, TeamHand};
+use forkjoin_sched::SharedPool;
+use loop_team::{SharedTeam, Team};
 use site_directory::{SharedSite, SiteLine};
 use std::alloc::{AllocError, Global};
 use std::sync::Wait;
@@ -19,7 +20,7 @@ use step_eval::{Kind, Nested, compute};
 pub enum Shelf<'a, S> {
     /// In the directory, for all harts.
     Published(&'a S),
-    /// By itself, since the directory didn't take it.
+    /// By itself, since the directory didn't take it, or the hart's row has too little room.
     Kept(Box<S>),
 }
 
@@ -31,18 +32,24 @@ pub struct OpenSite<'a, 'p, S> {
 }
 
 impl<'a, 'p, S: InDirectory<'p>> OpenSite<'a, 'p, S> {
-    /// Makes a scheduler for the construct, and publishes it.
+    /// Makes a scheduler for the construct, and publishes it with this home, unless its pieces have no room.
     pub fn new(
         alloc: Global,
         lines: &mut [SiteLine<'a, S>],
+        home: u8,
+        has_room: bool,
         nested: &Nested<'p>,
     ) -> Result<OpenSite<'a, 'p, S>, AllocError>
         ensures nested { IfOk result (λ site. site.nested ≡ nested.now) }
         ensures made { IfOk result (λ site. IsMadeOf site.nested (S.held (on_shelf site.shelf))) }
     {
         let own = nested.copy()?;
-        let shared = Box::new(alloc, S::put(shared_site(alloc, nested)?))?;
-        let shelf = publish(lines, nested.site, shared);
+        let shared = Box::new(alloc, S::put(shared_site(alloc, home, nested)?))?;
+        let shelf = if has_room {
+            publish(lines, nested.site, shared)
+        } else {
+            Shelf::Kept(shared)
+        };
         Ok(OpenSite { nested: own, shelf })
     }
 
@@ -66,25 +73,38 @@ impl<'a, 'p, S: InDirectory<'p>> OpenSite<'a, 'p, S> {
 
     /// What the construct writes: what all pieces wrote, where the scheduler is handed out and has the jobs that it was made
     /// with, and else what this hart computes by itself. Where a piece found no memory, the answer is want of memory.
-    pub fn take<R: Wait>(self, rt: &R, alloc: Global) -> Result<Overlay, AllocError>
+    pub fn take<R: Wait>(
+        self,
+        rt: &R,
+        alloc: Global,
+        tools: &mut Tools<'_>,
+        level: u8,
+    ) -> Result<Overlay, AllocError>
         requires { IsMadeOf self.nested (S.held (on_shelf self.shelf)) }
-        ensures { IfOk result (λ written. written.pairs ≡ nested_writes (nested_of self.entry.nested)) }
+        ensures written { IfOk result (λ written. written.pairs ≡ nested_writes (nested_of self.entry.nested)) }
+        ensures tools { tools.new ≡ tools.old }
     {
         match self.shared() {
-            SharedSite::Pool(pool) => take_pool(rt, alloc, &self.nested, pool),
-            SharedSite::Team(team) => take_team(rt, alloc, &self.nested, team),
+            SharedSite::Pool { home, pool } => {
+                take_pool(rt, alloc, tools, &self.nested, pool, *home, level)
+            }
+            SharedSite::Team(team) => take_team(rt, alloc, tools, &self.nested, team),
         }
     }
 }
 
 // The scheduler of a construct.
-fn shared_site<'p>(alloc: Global, nested: &Nested<'p>) -> Result<SharedSite<'p>, AllocError>
+fn shared_site<'p>(
+    alloc: Global,
+    home: u8,
+    nested: &Nested<'p>,
+) -> Result<SharedSite<'p>, AllocError>
     ensures { IfOk result (λ shared. IsMadeOf nested.now shared) }
 {
     match nested.kind() {
         Kind::Par => {
             let pool = SharedPool::new(alloc, open_pool(alloc, nested)?)?;
-            Ok(SharedSite::Pool(pool))
+            Ok(SharedSite::Pool { home, pool })
         }
         Kind::Team => {
             let team = SharedTeam::new(alloc, Team::new(alloc, nested.copy()?)?)?;
@@ -110,16 +130,21 @@ fn publish<'a, S: Drop>(lines: &mut [SiteLine<'a, S>], site: u16, shared: Box<S>
 fn take_pool<'b, 'p, R: Wait + 'b>(
     rt: &'b R,
     alloc: Global,
+    tools: &mut Tools<'_>,
     nested: &Nested<'p>,
     shared: &'b SharedPool<'p>,
+    home: u8,
+    level: u8,
 ) -> Result<Overlay, AllocError>
     requires { IsSharedPoolOf nested.now shared.now }
-    ensures { IfOk result (λ written. written.pairs ≡ nested_writes (nested_of nested.now)) }
+    ensures written { IfOk result (λ written. written.pairs ≡ nested_writes (nested_of nested.now)) }
+    ensures tools { tools.new ≡ tools.old }
 {
-    let hand: PoolHand<'b, 'p, R> = PoolHand::new(shared);
-    if let Some(pool) = hand.take_out(rt) {
-        if pool.jobs() == shared.jobs() {
-            return take_from_pool(nested, pool);
+    if let Some(place) = tools.pool_place(shared, home, level) {
+        if let Some(pool) = tools.take_pool(rt, place) {
+            if pool.jobs() == shared.jobs() {
+                return take_from_pool(nested, pool);
+            }
         }
     }
     compute(alloc, nested)
@@ -129,15 +154,18 @@ fn take_pool<'b, 'p, R: Wait + 'b>(
 fn take_team<'b, 'p, R: Wait + 'b>(
     rt: &'b R,
     alloc: Global,
+    tools: &mut Tools<'_>,
     nested: &Nested<'p>,
     shared: &'b SharedTeam<'p>,
 ) -> Result<Overlay, AllocError>
-    ensures { IfOk result (λ written. written.pairs ≡ nested_writes (nested_of nested.now)) }
+    ensures written { IfOk result (λ written. written.pairs ≡ nested_writes (nested_of nested.now)) }
+    ensures tools { tools.new ≡ tools.old }
 {
-    let hand: TeamHand<'b, 'p, R> = TeamHand::new(shared);
-    if let Some(team) = hand.take_out(rt) {
-        if *team.nested() == *nested {
-            return team.take_all();
+    if let Some(place) = tools.team_place(shared) {
+        if let Some(team) = tools.take_team(rt, place) {
+            if *team.nested() == *nested {
+                return team.take_all();
+            }
         }
     }
     compute(alloc, nested)

@@ -1,5 +1,5 @@
 //! Runs on several harts.
-ghost use Rattle.std.specs.Prelude.{◌≡◌, ◌≤◌, ◌<◌, IfOk, IfSome, All, length, map, slice_get};
+ghost use Rattle.std.specs.Prelude.{◌≡◌, ◌≤◌, ◌<◌, IfOk, IfSome, All, length, map, slice_get, vec_len};
 ghost use Rattle.array_tree.specs.Trees.{program_of};
 ghost use Rattle.array_meaning.specs.Work.{final_store};
 ghost use Rattle.array_jobs.specs.Jobs.{job_of};
@@ -9,15 +9,24 @@ ghost use Rattle.word_board.specs.PortViews.{port_view, table_name};
 ghost use Rattle.word_board.specs.Seats.{AreSeats};
 ghost use Rattle.word_board.specs.Of.{IsOf};
 ghost use Rattle.hart_loop.specs.Journals.{entries_in};
+ghost use Rattle.deque_rows.specs.Rows.{kin as rows_kin};
+ghost use Rattle.claim_words.specs.Seats.{kin as seat_kin};
+ghost use Rattle.hart_loop.specs.Stocks.{AreTools};
 ghost use Rattle.hart_loop.specs.Harts.{TopSitesSeenGone, AreBack, AllStart, HaveRun, AreTheSame};
 
+use crate::claims::Claims;
 use crate::hart::{Hart, work};
 use crate::harts::HartSchedulers;
 use crate::outcome::{Journal, Outcome};
 use crate::run::store_after;
+use crate::tools::tools_of;
 use array_jobs::{Job, Piece, body_job};
 use base_sched::Base;
+use deque_rows::laws::settle;
+use deque_rows::{HartRows, rows};
 use disjoint_check::Accepted;
+use loop_team::ClaimSeat;
+use loop_team::laws::claimed;
 use once_cell::race::OnceBox;
 use outside_io::Gate;
 use site_directory::{SharedSite, cells, lines};
@@ -50,18 +59,26 @@ pub fn run_harts<R: Threads + Wait + Sync, G: Gate>(
     let (board, seats) = WordBoard::new(alloc, plan)?;
     let base = Mutex::new(Base::new(alloc, plan.sites())?);
     let cells = cells(alloc, plan.sites())?;
+    let (words, stock) = lend(alloc, accepted, seats)?;
     let job = body_job(alloc, accepted.program())?;
-    let (piece, seats) = run_on(
+    let (piece, stock) = run_on(
         rt,
         alloc,
         &|hart, site, phase, place| gate.passed(rt, hart, site, phase, place),
         &tree,
         &board,
-        seats,
+        &words,
+        stock,
         &base,
         &cells,
         job,
     )?;
+    let Stock {
+        seats,
+        rows,
+        claims,
+    } = stock;
+    settle_all(words, rows, claims);
     let store = store_after(piece)?;
     match board.close(alloc, seats) {
         Ok(closed) => Ok(Outcome {
@@ -72,30 +89,76 @@ pub fn run_harts<R: Threads + Wait + Sync, G: Gate>(
     }
 }
 
-// Runs all harts on a board that nobody has used, the first of them with this job. Its piece, and the seats in their order.
+/// What a run has for its harts, for each of them in their order.
+#[derive(Drop)]
+struct Stock {
+    /// Their seats of the board.
+    seats: Vec<HartSeat>,
+    /// Their sights of the rows of codes.
+    rows: Vec<HartRows>,
+    /// Their seats of the claim words.
+    claims: Vec<ClaimSeat>,
+}
+
+// What a run has for the harts of these seats, and the words of its claims.
+fn lend(
+    alloc: Global,
+    accepted: &Accepted<'_>,
+    seats: Vec<HartSeat>,
+) -> Result<(Claims, Stock), AllocError>
+    ensures seats { IfOk result (λ t. t.1.seats ≡ seats) }
+    ensures rows { IfOk result (λ t. vec_len t.1.rows ≡ accepted.now.plan.harts) }
+    ensures claims { IfOk result (λ t. vec_len t.1.claims ≡ accepted.now.plan.harts) }
+    ensures tools { IfOk result (λ t. AreTools t.0.table t.1.rows.items t.1.claims.items) }
+{
+    let harts = accepted.plan().harts();
+    let (words, claims) = Claims::new(alloc, accepted, harts)?;
+    let rows = rows(alloc, harts)?;
+    let stock = Stock {
+        seats,
+        rows,
+        claims,
+    };
+    Ok((words, stock))
+}
+
+// Settles the accounts of rows and claims.
+fn settle_all(words: Claims, rows: Vec<HartRows>, claims: Vec<ClaimSeat>)
+    requires { AreTools words.table rows.items claims.items }
+{
+    settle(rows);
+    claimed(words.into_table(), claims);
+}
+
+// Runs all harts on a board that nobody has used, the first of them with this job. Its piece, and what the harts gave back.
 fn run_on<'x, 'p: 'x, R: Threads + Wait + Sync, F: Fn(u8, u16, u8, u8) + Sync>(
     rt: &'x R,
     alloc: Global,
     pass: &F,
     tree: &SiteTree,
     board: &'x WordBoard,
-    seats: Vec<HartSeat>,
+    words: &'x Claims,
+    stock: Stock,
     base: &'x Mutex<Base>,
     cells: &'x [OnceBox<SharedSite<'p>>],
     job: Job<'p>,
-) -> Result<(Piece<'p>, Vec<HartSeat>), AllocError>
+) -> Result<(Piece<'p>, Stock), AllocError>
     requires callable { F.IsAlwaysCallable pass.now }
     requires plan { board.now.plan ≡ tree.now }
-    requires count { length seats.items ≡ board.now.plan.harts }
-    requires seats { AreSeats board.now.table.shared.table_id board.now.plan seats.items }
+    requires count { vec_len stock.seats ≡ board.now.plan.harts }
+    requires rows { vec_len stock.rows ≡ board.now.plan.harts }
+    requires claims { vec_len stock.claims ≡ board.now.plan.harts }
+    requires seats { AreSeats board.now.table.shared.table_id board.now.plan stock.seats.items }
+    requires tools { AreTools words.now.table stock.rows.items stock.claims.items }
     ensures piece { IfOk result (λ back. back.0.job ≡ job.entry) }
-    ensures seats { IfOk result (λ back. AreBack (table_name board.now.table.shared.table_id) board.now.plan back.1.items) }
+    ensures seats { IfOk result (λ back. AreBack (table_name board.now.table.shared.table_id) board.now.plan back.1.seats.items) }
+    ensures tools { IfOk result (λ back. AreTools words.now.table back.1.rows.items back.1.claims.items) }
 {
-    let mut harts = crew(rt, alloc, board, seats, base, cells)?;
+    let mut harts = crew(rt, alloc, board, words, stock, base, cells)?;
     let Some(piece) = run_crew(rt, alloc, pass, tree, harts.as_mut_slice(), job) else {
         return Err(AllocError);
     };
-    Ok((piece, seats_of(alloc, harts)?))
+    Ok((piece, stock_of(alloc, harts)?))
 }
 
 // Runs each hart, the first of them with this job. Its piece, unless memory was wanting.
@@ -124,20 +187,33 @@ fn crew<'x, 'p: 'x, R: Threads + Wait + Sync>(
     rt: &'x R,
     alloc: Global,
     board: &'x WordBoard,
-    seats: Vec<HartSeat>,
+    words: &'x Claims,
+    stock: Stock,
     base: &'x Mutex<Base>,
     cells: &'x [OnceBox<SharedSite<'p>>],
 ) -> Result<Vec<Hart<'x, 'p, WaitingPort<'x, WordPort<'x>, R>, SharedSite<'p>>>, AllocError>
-    requires { All (IsOf board.now) seats.items }
-    ensures { IfOk result (λ harts. map (λ hart. hart.port.port.seat) harts.items ≡ seats.items) }
+    requires seats { All (IsOf board.now) stock.seats.items }
+    requires rows { vec_len stock.rows ≡ vec_len stock.seats }
+    requires claims { vec_len stock.claims ≡ vec_len stock.seats }
+    requires tools { AreTools words.now.table stock.rows.items stock.claims.items }
+    ensures seats { IfOk result (λ harts. map (λ hart. hart.port.port.seat) harts.items ≡ stock.seats.items) }
+    ensures rows { IfOk result (λ harts. map (λ hart. hart.schedulers.tools.rows) harts.items ≡ map rows_kin stock.rows.items) }
+    ensures claims { IfOk result (λ harts. map (λ hart. hart.schedulers.tools.seat) harts.items ≡ map seat_kin stock.claims.items) }
 {
+    let Stock {
+        seats,
+        rows,
+        claims,
+    } = stock;
+    let mut tools = tools_of(alloc, words, rows, claims)?;
     let mut harts = Vec::with_capacity(alloc, seats.len())?;
     for seat in seats {
-        let port = WaitingPort::new(WordPort::new(board, seat), rt);
-        let schedulers = HartSchedulers::new(lines(alloc, cells)?);
+        let Some(own) = tools.pop() else {
+            unreachable!()
+        };
         harts.push(Hart {
-            port,
-            schedulers,
+            port: WaitingPort::new(WordPort::new(board, seat), rt),
+            schedulers: HartSchedulers::new(lines(alloc, cells)?, own),
             base,
             job: None,
             piece: None,
@@ -184,16 +260,26 @@ fn run_each<'x, 'p: 'x, R: Threads + Wait + Sync, F: Fn(u8, u16, u8, u8) + Sync>
     );
 }
 
-// The harts' seats, in their order.
-fn seats_of<'x, 'p: 'x, R>(
+// What the harts give back, in their order.
+fn stock_of<'x, 'p: 'x, R>(
     alloc: Global,
     harts: Vec<Hart<'x, 'p, WaitingPort<'x, WordPort<'x>, R>, SharedSite<'p>>>,
-) -> Result<Vec<HartSeat>, AllocError>
-    ensures { IfOk result (λ seats. seats.items ≡ map (λ hart. hart.port.port.seat) harts.entry.items) }
+) -> Result<Stock, AllocError>
+    ensures seats { IfOk result (λ stock. stock.seats.items ≡ map (λ hart. hart.port.port.seat) harts.entry.items) }
+    ensures rows { IfOk result (λ stock. map rows_kin stock.rows.items ≡ map (λ hart. hart.schedulers.tools.rows) harts.entry.items) }
+    ensures claims { IfOk result (λ stock. map seat_kin stock.claims.items ≡ map (λ hart. hart.schedulers.tools.seat) harts.entry.items) }
 {
-    let mut seats = Vec::with_capacity(alloc, harts.len())?;
+    let mut stock = Stock {
+        seats: Vec::with_capacity(alloc, harts.len())?,
+        rows: Vec::with_capacity(alloc, harts.len())?,
+        claims: Vec::with_capacity(alloc, harts.len())?,
+    };
     for hart in harts {
-        seats.push(hart.into_port().into_port().into_seat())?;
+        let (port, tools) = hart.into_parts();
+        let (rows, seat) = tools.into_parts();
+        stock.seats.push(port.into_port().into_seat())?;
+        stock.rows.push(rows)?;
+        stock.claims.push(seat)?;
     }
-    Ok(seats)
+    Ok(stock)
 }

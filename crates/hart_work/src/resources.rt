@@ -26,6 +26,12 @@ pub trait Resources {
     /// One site's scheduler; the base's is one too.
     type Site: Drop;
 
+    /// What is known of the tools that the hart was lent for all sites.
+    type Tools;
+
+    /// Its tools. No call changes them.
+    ghost tools: { Self → Self.Tools };
+
     /// The job of a machine and of a piece, and the place of a job.
     ghost job_of: { Self.Machine → Self.Job };
 
@@ -59,13 +65,15 @@ pub trait Resources {
     /// A machine for a job.
     fn start(&mut self, alloc: Global, job: Self::Job) -> Result<Running<Self::Machine>, AllocError>
         ensures job { IfOk result (λ machine. job_of machine ≡ job) }
-        ensures ready { IfOk result (λ machine. ready machine) };
+        ensures ready { IfOk result (λ machine. ready machine) }
+        ensures tools { tools self.new ≡ tools self.old };
 
     /// One step of a machine that awaits nothing.
     fn step(&mut self, running: &mut Running<Self::Machine>) -> Step<Self::Nested>
         requires { ready running.old }
         ensures goes { Goes writes_of result (steps_left running.old) (steps_left running.new) (ready running.new) (awaits running.new) (job_of running.new ≡ job_of running.old) }
-        ensures finished { result ≡ Finished → finished running.new };
+        ensures finished { result ≡ Finished → finished running.new }
+        ensures tools { tools self.new ≡ tools self.old };
 
     /// Hands a machine what the construct wrote that it awaits.
     fn supply(
@@ -76,12 +84,14 @@ pub trait Resources {
         requires { awaits running.old (written_in written) }
         ensures job { OnOk result (job_of running.new ≡ job_of running.old) }
         ensures ready { OnOk result (ready running.new) }
-        ensures left { OnOk result (steps_left running.new ≡ steps_left running.old) };
+        ensures left { OnOk result (steps_left running.new ≡ steps_left running.old) }
+        ensures tools { tools self.new ≡ tools self.old };
 
     /// The piece of a machine whose job is done.
     fn end(&mut self, machine: Self::Machine) -> Self::Piece
         requires { finished machine }
-        ensures { job_in result ≡ job_of machine };
+        ensures job { job_in result ≡ job_of machine }
+        ensures tools { tools self.new ≡ tools self.old };
 
     /// The site of a construct.
     fn number(&self, nested: &Self::Nested) -> u16
@@ -93,12 +103,14 @@ pub trait Resources {
 
     /// What the construct writes, computed by this hart alone.
     fn compute(&mut self, alloc: Global, nested: Self::Nested) -> Result<Self::Written, AllocError>
-        ensures { IfOk result (λ written. written_in written ≡ writes_of nested) };
+        ensures written { IfOk result (λ written. written_in written ≡ writes_of nested) }
+        ensures tools { tools self.new ≡ tools self.old };
 
     /// A scheduler for a construct, for all who enter its site.
     fn open(&mut self, alloc: Global, nested: &Self::Nested) -> Result<Self::Site, AllocError>
         ensures construct { IfOk result (λ site. construct site ≡ Some nested.now) }
-        ensures settled { IfOk result (λ site. settled site) };
+        ensures settled { IfOk result (λ site. settled site) }
+        ensures tools { tools self.new ≡ tools self.old };
 
     /// How many harts more than its home the site has work for.
     fn wishes(&self, site: &Self::Site) -> u8;

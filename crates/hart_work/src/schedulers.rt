@@ -40,7 +40,8 @@ pub trait Schedulers<R>: Resources {
 
     /// The scheduler of a site that another hart opened.
     fn find(&mut self, rt: &R, site: u16) -> Option<Self::Site>
-        ensures { ForSome result (λ site. Self.settled site) };
+        ensures settled { ForSome result (λ site. Self.settled site) }
+        ensures tools { Self.tools self.new ≡ Self.tools self.old };
 
     /// Registers the child, and tells the scheduler around it.
     fn register<P: Port>(
@@ -58,7 +59,12 @@ pub trait Schedulers<R>: Resources {
         ensures hears { OnOk result (hears around.old (registered_told child) around.new) }
         ensures construct { Self.construct around.new ≡ Self.construct around.old }
         ensures stays { StaysSettled (Self.settled around.old) (owed around.old) (Self.settled around.new) (owed around.new) }
-        ensures left { left around.new ≤ left around.old };
+        ensures left { left around.new ≤ left around.old }
+        ensures tools { Self.tools self.new ≡ Self.tools self.old };
+
+    /// Lays the pieces of a site that the hart opened and has registered out for the harts that it is going to ask for.
+    fn offer(&mut self, rt: &R, site: &Self::Site)
+        ensures { Self.tools self.new ≡ Self.tools self.old };
 
     /// Asks for `count` harts for the child, and tells the scheduler around it.
     fn request<P: Port>(
@@ -77,7 +83,8 @@ pub trait Schedulers<R>: Resources {
         ensures hears { hears around.old (requested_told child count) around.new }
         ensures construct { Self.construct around.new ≡ Self.construct around.old }
         ensures stays { StaysSettled (Self.settled around.old) (owed around.old) (Self.settled around.new) (owed around.new) }
-        ensures left { left around.new ≤ left around.old };
+        ensures left { left around.new ≤ left around.old }
+        ensures tools { Self.tools self.new ≡ Self.tools self.old };
 
     /// Unregisters the port's owner, and tells the scheduler around it.
     fn unregister<P: Port>(&mut self, rt: &R, port: &mut P, hold: P::Hold, around: &mut Self::Site)
@@ -87,7 +94,8 @@ pub trait Schedulers<R>: Resources {
         ensures hears { hears around.old (unregistered_told (P.seen port.old).owner) around.new }
         ensures construct { Self.construct around.new ≡ Self.construct around.old }
         ensures stays { StaysSettled (Self.settled around.old) (owed around.old) (Self.settled around.new) (owed around.new) }
-        ensures left { left around.new ≤ left around.old };
+        ensures left { left around.new ≤ left around.old }
+        ensures tools { Self.tools self.new ≡ Self.tools self.old };
 
     /// Tries to enter the child. Inside, the child's scheduler says what to do.
     fn enter<P: Port>(
@@ -103,7 +111,8 @@ pub trait Schedulers<R>: Resources {
         requires settled { Self.settled site.old }
         ensures does { HasEntered (P.seen port.old) child result (P.seen port.new) }
         ensures kept { IsPortView (P.seen port.new) }
-        ensures account { ForSome result (HasAccount (Self.settled site.new) (owed site.new)) };
+        ensures account { ForSome result (HasAccount (Self.settled site.new) (owed site.new)) }
+        ensures tools { Self.tools self.new ≡ Self.tools self.old };
 
     /// Gives the hart back from the port's owner, and tells the scheduler around it.
     fn give_back<P: Port>(&mut self, rt: &R, port: &mut P, hold: P::Hold, around: &mut Self::Site)
@@ -114,7 +123,8 @@ pub trait Schedulers<R>: Resources {
         ensures hears { hears around.old (yielded_told (P.seen port.old).owner) around.new }
         ensures construct { Self.construct around.new ≡ Self.construct around.old }
         ensures stays { StaysSettled (Self.settled around.old) (owed around.old) (Self.settled around.new) (owed around.new) }
-        ensures left { left around.new ≤ left around.old };
+        ensures left { left around.new ≤ left around.old }
+        ensures tools { Self.tools self.new ≡ Self.tools self.old };
 
     /// What the hart does next. A home is told that there is nothing only where the site's work is over.
     fn next(&mut self, rt: &R, site: &mut Self::Site, is_home: bool) -> Task<Self::Job>
@@ -122,29 +132,34 @@ pub trait Schedulers<R>: Resources {
         ensures left { HasNext (left site.old) result (left site.new) }
         ensures construct { Self.construct site.new ≡ Self.construct site.old }
         ensures account { HasAccount (Self.settled site.new) (owed site.new) result }
-        ensures over { result ≡ Task.Nothing → is_home ≡ true → over site.new };
+        ensures over { result ≡ Task.Nothing → is_home ≡ true → over site.new }
+        ensures tools { Self.tools self.new ≡ Self.tools self.old };
 
     /// A piece is done.
     fn deposit(&mut self, rt: &R, alloc: Global, site: &mut Self::Site, piece: Self::Piece)
         requires { owed site.old (Self.job_in piece) }
         ensures construct { Self.construct site.new ≡ Self.construct site.old }
         ensures settled { Self.settled site.new }
-        ensures left { left site.new ≤ left site.old };
+        ensures left { left site.new ≤ left site.old }
+        ensures tools { Self.tools self.new ≡ Self.tools self.old };
 
     /// The piece at this place found no memory.
     fn fail(&mut self, rt: &R, site: &mut Self::Site, place: u8)
         requires { (job : Self.Job) × owed site.old job × (Self.place_of job ≡ place) }
         ensures construct { Self.construct site.new ≡ Self.construct site.old }
         ensures settled { Self.settled site.new }
-        ensures left { left site.new ≤ left site.old };
+        ensures left { left site.new ≤ left site.old }
+        ensures tools { Self.tools self.new ≡ Self.tools self.old };
 
     /// Whether a piece of the site has failed.
-    fn has_failed(&mut self, rt: &R, site: &Self::Site) -> bool;
+    fn has_failed(&mut self, rt: &R, site: &Self::Site) -> bool
+        ensures { Self.tools self.new ≡ Self.tools self.old };
 
     /// What all pieces of a site wrote whose work is over. Where the scheduler can't tell, the hart computes the construct
     /// itself.
     fn take(&mut self, rt: &R, alloc: Global, site: Self::Site) -> Result<Self::Written, AllocError>
         requires construct { IsSome (Self.construct site) }
         requires over { over site }
-        ensures { (nested : Self.Nested) → Self.construct site ≡ Some nested → IfOk result (λ written. Self.written_in written ≡ Self.writes_of nested) };
+        ensures written { (nested : Self.Nested) → Self.construct site ≡ Some nested → IfOk result (λ written. Self.written_in written ≡ Self.writes_of nested) }
+        ensures tools { Self.tools self.new ≡ Self.tools self.old };
 }

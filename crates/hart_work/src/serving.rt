@@ -34,6 +34,7 @@ pub fn run_piece<P: PatientPort, R, H: Schedulers<R>, F: Fn(u8, &H::Job)>(
     ensures stays { StaysSettled (H.settled around.old) (H.owed around.old) (H.settled around.new) (H.owed around.new) }
     ensures construct { H.construct around.new ≡ H.construct around.old }
     ensures left { H.left around.new ≤ H.left around.old }
+    ensures tools { H.tools schedulers.new ≡ H.tools schedulers.old }
 {
     let mut running = schedulers.start(alloc, job)?;
     'steps: loop {
@@ -81,6 +82,7 @@ pub fn run_construct<P: PatientPort, R, H: Schedulers<R>, F: Fn(u8, &H::Job)>(
     ensures stays { StaysSettled (H.settled around.old) (H.owed around.old) (H.settled around.new) (H.owed around.new) }
     ensures construct { H.construct around.new ≡ H.construct around.old }
     ensures left { H.left around.new ≤ H.left around.old }
+    ensures tools { H.tools schedulers.new ≡ H.tools schedulers.old }
 {
     let number = schedulers.number(&nested);
     if !tree.is_child(port.owner(), number) {
@@ -89,6 +91,7 @@ pub fn run_construct<P: PatientPort, R, H: Schedulers<R>, F: Fn(u8, &H::Job)>(
     let mut site = schedulers.open(alloc, &nested)?;
     match schedulers.register(rt, port, hold, around, number) {
         Ok(()) => {
+            schedulers.offer(rt, &site);
             ask(
                 rt,
                 tree,
@@ -137,6 +140,7 @@ pub fn serve<P: PatientPort, R, H: Schedulers<R>, F: Fn(u8, &H::Job)>(
     ensures over { is_home ≡ true → H.over site.new }
     ensures construct { H.construct site.new ≡ H.construct site.old }
     ensures left { H.left site.new ≤ H.left site.old }
+    ensures tools { H.tools schedulers.new ≡ H.tools schedulers.old }
 {
     'tasks: loop {
         match schedulers.next(rt, site, is_home) {
@@ -168,6 +172,7 @@ fn run_job<P: PatientPort, R, H: Schedulers<R>, F: Fn(u8, &H::Job)>(
     ensures settled { H.settled site.new }
     ensures construct { H.construct site.new ≡ H.construct site.old }
     ensures left { H.left site.new ≤ H.left site.old }
+    ensures tools { H.tools schedulers.new ≡ H.tools schedulers.old }
 {
     let place = schedulers.place(&job);
     pass(port.hart(), &job);
@@ -197,6 +202,7 @@ fn visit<P: PatientPort, R, H: Schedulers<R>, F: Fn(u8, &H::Job)>(
     ensures stays { StaysSettled (H.settled around.old) (H.owed around.old) (H.settled around.new) (H.owed around.new) }
     ensures construct { H.construct around.new ≡ H.construct around.old }
     ensures left { H.left around.new ≤ H.left around.old }
+    ensures tools { H.tools schedulers.new ≡ H.tools schedulers.old }
 {
     if !tree.is_child(port.owner(), child) {
         return;
@@ -233,6 +239,7 @@ fn be_guest<P: PatientPort, R, H: Schedulers<R>, F: Fn(u8, &H::Job)>(
     requires inner { IsSettled (P.seen port.old) }
     requires account { HasAccount (H.settled site.old) (H.owed site.old) task }
     ensures back { IsBack (P.seen port.old) (P.seen port.new) }
+    ensures tools { H.tools schedulers.new ≡ H.tools schedulers.old }
 {
     match task {
         Task::Piece(job) => run_job(rt, alloc, tree, pass, port, hold, schedulers, site, job),
@@ -264,6 +271,7 @@ fn ask<P: PatientPort, R, H: Schedulers<R>>(
     ensures stays { StaysSettled (H.settled around.old) (H.owed around.old) (H.settled around.new) (H.owed around.new) }
     ensures construct { H.construct around.new ≡ H.construct around.old }
     ensures left { H.left around.new ≤ H.left around.old }
+    ensures tools { H.tools schedulers.new ≡ H.tools schedulers.old }
 {
     let count = most.min(tree.plan().harts() - 1);
     if count >= 1 {
@@ -281,6 +289,7 @@ fn supply<H: Resources>(
     ensures job { OnOk result (H.job_of running.new ≡ H.job_of running.old) }
     ensures ready { OnOk result (H.ready running.new) }
     ensures left { OnOk result (H.steps_left running.new ≡ H.steps_left running.old) }
+    ensures tools { H.tools schedulers.new ≡ H.tools schedulers.old }
 {
     schedulers.supply(running, written?)
 }

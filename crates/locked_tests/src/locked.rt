@@ -1,16 +1,19 @@
 //! Harts that move by ports on one ledger under a lock.
-ghost use Rattle.std.specs.Prelude.{◌≡◌, ◌≤◌, ◌<◌, [], ◌∷◌, All, IfOk, length};
+ghost use Rattle.std.specs.Prelude.{◌≡◌, ◌≤◌, ◌<◌, [], ◌∷◌, All, IfOk, length, map, vec_len};
 ghost use Rattle.transfer_table.specs.Plan.{IsHart};
+ghost use Rattle.claim_words.specs.Seats.{AreAll, kin};
 ghost use Rattle.hart_loop.specs.Harts.{StartsIn};
 
 use array_eval::Overlay;
 use array_jobs::{Job, Piece, body_job};
 use array_tree::Program;
 use base_sched::Base;
+use deque_rows::rows;
 use disjoint_check::{Accepted, check};
-use hart_loop::{Hart, HartSchedulers, HartSite, work};
+use hart_loop::{Claims, Hart, HartSchedulers, HartSite, Tools, tools_of, work};
 use hart_port::{Ledger, LockedPort};
 use hart_work::{Resources, Schedulers, run_construct};
+use loop_team::ClaimSeat;
 use once_cell::race::OnceBox;
 use sample_programs::{
     BOTH_BRANCHES, BOTH_PHASES, TWO_BRANCHES, TWO_PHASES, first_construct, parsed,
@@ -34,13 +37,14 @@ fn hart<'x, 'p: 'x, R: Threads + Wait + Sync>(
     number: u8,
     base: &'x Mutex<Base>,
     cells: &'x [OnceBox<SharedSite<'p>>],
+    tools: Tools<'x>,
     job: Option<Job<'p>>,
 ) -> Result<Hart<'x, 'p, WaitingPort<'x, LockedPort<'x, R>, R>, SharedSite<'p>>, Fail>
     requires { IsHart plan.now number }
     ensures { IfOk result (λ hart. StartsIn plan.now hart.port.port.view) }
 {
     let port = WaitingPort::new(LockedPort::new(alloc, lock, plan, number)?, rt);
-    let schedulers = HartSchedulers::new(lines(alloc, cells)?);
+    let schedulers = HartSchedulers::new(lines(alloc, cells)?, tools);
     Ok(Hart {
         port,
         schedulers,
@@ -48,6 +52,11 @@ fn hart<'x, 'p: 'x, R: Threads + Wait + Sync>(
         job,
         piece: None,
     })
+}
+
+// The tools of the first hart that has none yet.
+fn next_tools<'x>(tools: &mut Vec<Tools<'x>>) -> Result<Tools<'x>, Fail> {
+    Ok(tools.pop().ok_or("too few tools")?)
 }
 
 // A hart for each of the plan's. The first has the job, and stands last.
@@ -58,15 +67,18 @@ fn crew<'x, 'p: 'x, R: Threads + Wait + Sync>(
     plan: &'x Plan,
     base: &'x Mutex<Base>,
     cells: &'x [OnceBox<SharedSite<'p>>],
+    mut tools: Vec<Tools<'x>>,
     job: Job<'p>,
 ) -> Result<Vec<Hart<'x, 'p, WaitingPort<'x, LockedPort<'x, R>, R>, SharedSite<'p>>>, Fail>
     ensures { IfOk result (λ harts. All (λ hart. StartsIn plan.now hart.port.port.view) harts.items) }
 {
+    let first = next_tools(&mut tools)?;
     let mut harts = Vec::with_capacity(alloc, usize::from(plan.harts()))?;
     for number in 1..plan.harts() {
-        harts.push(hart(rt, alloc, lock, plan, number, base, cells, None)?)?;
+        let own = next_tools(&mut tools)?;
+        harts.push(hart(rt, alloc, lock, plan, number, base, cells, own, None)?)?;
     }
-    harts.push(hart(rt, alloc, lock, plan, 0, base, cells, Some(job))?)?;
+    harts.push(hart(rt, alloc, lock, plan, 0, base, cells, first, Some(job))?)?;
     Ok(harts)
 }
 
@@ -97,10 +109,11 @@ fn run_body<'x, 'p: 'x, R: Threads + Wait + Sync>(
     lock: &'x Mutex<Ledger>,
     base: &'x Mutex<Base>,
     cells: &'x [OnceBox<SharedSite<'p>>],
+    tools: Vec<Tools<'x>>,
 ) -> Result<Piece<'p>, Fail> {
     let tree = SiteTree::new(alloc, accepted.plan())?;
     let job = body_job(alloc, accepted.program())?;
-    let mut harts = crew(rt, alloc, lock, accepted.plan(), base, cells, job)?;
+    let mut harts = crew(rt, alloc, lock, accepted.plan(), base, cells, tools, job)?;
     run_each(rt, alloc, &tree, &|_, _, _, _| {}, harts.as_mut_slice());
     let Some(last) = harts.pop() else {
         return Err(Fail::new("no hart"));
@@ -113,6 +126,20 @@ fn run_body<'x, 'p: 'x, R: Threads + Wait + Sync>(
         piece,
     } = last;
     Ok(piece.ok_or("want of memory")?)
+}
+
+// The tools of so many harts.
+fn all_tools<'x>(
+    alloc: Global,
+    words: &'x Claims,
+    claims: Vec<ClaimSeat>,
+    harts: u8,
+) -> Result<Vec<Tools<'x>>, Fail>
+    requires harts { (1 ≤ harts) × (harts ≤ 16) }
+    requires count { vec_len claims ≡ harts }
+    requires all { AreAll words.now.table (map kin claims.items) }
+{
+    Ok(tools_of(alloc, words, rows(alloc, harts)?, claims)?)
 }
 
 // Whether harts over locked ports write these cells, and their ledger is a complete journal.
@@ -130,7 +157,9 @@ fn is_right<R: Threads + Wait + Sync>(
     let lock = Mutex::new(Ledger::new(alloc, accepted.plan())?);
     let base = Mutex::new(Base::new(alloc, accepted.plan().sites())?);
     let cells = cells(alloc, accepted.plan().sites())?;
-    let piece = run_body(rt, alloc, &accepted, &lock, &base, cells.as_slice())?;
+    let (words, claims) = Claims::new(alloc, &accepted, harts)?;
+    let tools = all_tools(alloc, &words, claims, harts)?;
+    let piece = run_body(rt, alloc, &accepted, &lock, &base, cells.as_slice(), tools)?;
     let is_same = piece.written.pairs() == written;
     let entries = lock.into_inner().into_entries();
     if entries.as_slice().len() > 65_535 {
@@ -150,6 +179,20 @@ fn harts_move_by_locked_ports(rt: HostRuntime) -> Result<(), Fail> {
     Ok(())
 }
 
+// The tools of two harts.
+fn two_tools<'x>(
+    alloc: Global,
+    words: &'x Claims,
+    claims: Vec<ClaimSeat>,
+) -> Result<(Tools<'x>, Tools<'x>), Fail>
+    requires count { vec_len claims ≡ 2 }
+    requires all { AreAll words.now.table (map kin claims.items) }
+{
+    let mut tools = all_tools(alloc, words, claims, 2)?;
+    let first = next_tools(&mut tools)?;
+    Ok((first, next_tools(&mut tools)?))
+}
+
 // What a hart computes that comes to the first construct when its site has come and gone: the other has run the whole body.
 fn computed_late<'x, 'p: 'x, R: Threads + Wait + Sync>(
     rt: &'x R,
@@ -159,13 +202,15 @@ fn computed_late<'x, 'p: 'x, R: Threads + Wait + Sync>(
     lock: &'x Mutex<Ledger>,
     base: &'x Mutex<Base>,
     cells: &'x [OnceBox<SharedSite<'p>>],
+    tools: (Tools<'x>, Tools<'x>),
 ) -> Result<Overlay, Fail>
     requires { 1 < accepted.now.plan.harts }
 {
     let plan = accepted.plan();
     let tree = SiteTree::new(alloc, plan)?;
     let job = body_job(alloc, accepted.program())?;
-    let mut first = hart(rt, alloc, lock, plan, 0, base, cells, Some(job))?;
+    let (own, others) = tools;
+    let mut first = hart(rt, alloc, lock, plan, 0, base, cells, own, Some(job))?;
     work(rt, alloc, &tree, &|_, _, _, _| {}, rt, &mut first);
     let Hart {
         mut port,
@@ -173,7 +218,7 @@ fn computed_late<'x, 'p: 'x, R: Threads + Wait + Sync>(
         base: _,
         job: _,
         piece: _,
-    } = hart(rt, alloc, lock, plan, 1, base, cells, None)?;
+    } = hart(rt, alloc, lock, plan, 1, base, cells, others, None)?;
     let mut around: HartSite<'x, 'p, SharedSite<'p>> = HartSite::base(base);
     let nested = first_construct(alloc, program)?;
     Ok(run_construct(
@@ -197,6 +242,8 @@ fn a_construct_whose_site_is_gone_is_computed(rt: HostRuntime) -> Result<(), Fai
     let lock = Mutex::new(Ledger::new(alloc, accepted.plan())?);
     let base = Mutex::new(Base::new(alloc, accepted.plan().sites())?);
     let cells = cells(alloc, accepted.plan().sites())?;
+    let (words, claims) = Claims::new(alloc, &accepted, 2)?;
+    let tools = two_tools(alloc, &words, claims)?;
     let written = computed_late(
         &rt,
         alloc,
@@ -205,6 +252,7 @@ fn a_construct_whose_site_is_gone_is_computed(rt: HostRuntime) -> Result<(), Fai
         &lock,
         &base,
         cells.as_slice(),
+        tools,
     )?;
     assert!(rt; written.pairs() == BOTH_BRANCHES.as_slice());
     Ok(())
@@ -219,13 +267,15 @@ fn enters_by_another<'x, 'p: 'x, R: Threads + Wait + Sync>(
     lock: &'x Mutex<Ledger>,
     base: &'x Mutex<Base>,
     cells: &'x [OnceBox<SharedSite<'p>>],
+    tools: (Tools<'x>, Tools<'x>),
 ) -> Result<bool, Fail>
     requires plan { plan.now ≡ record { harts = 2; parents = 0 ∷ 0 ∷ [] } }
     requires cells { length cells.now ≡ 3 }
 {
     let mut turned = lines(alloc, cells)?;
     turned.swap(1, 2);
-    let mut home = HartSchedulers::new(turned);
+    let (own, others) = tools;
+    let mut home = HartSchedulers::new(turned, own);
     let _opened = home.open(alloc, &first_construct(alloc, program)?)?;
     let Hart {
         mut port,
@@ -233,7 +283,7 @@ fn enters_by_another<'x, 'p: 'x, R: Threads + Wait + Sync>(
         base: _,
         job: _,
         piece: _,
-    } = hart(rt, alloc, lock, plan, 1, base, cells, None)?;
+    } = hart(rt, alloc, lock, plan, 1, base, cells, others, None)?;
     let Some(mut found) = schedulers.find(rt, 2) else {
         return Err(Fail::new("nothing is found"));
     };
@@ -249,7 +299,18 @@ fn a_site_is_not_entered_by_the_pool_of_another(rt: HostRuntime) -> Result<(), F
     let lock = Mutex::new(Ledger::new(alloc, &plan)?);
     let base = Mutex::new(Base::new(alloc, 2)?);
     let cells = cells(alloc, 2)?;
-    let inside = enters_by_another(&rt, alloc, &program, &plan, &lock, &base, cells.as_slice())?;
+    let (words, claims) = Claims::new(alloc, &check(alloc, &program, 2)?, 2)?;
+    let tools = two_tools(alloc, &words, claims)?;
+    let inside = enters_by_another(
+        &rt,
+        alloc,
+        &program,
+        &plan,
+        &lock,
+        &base,
+        cells.as_slice(),
+        tools,
+    )?;
     assert!(rt; !inside);
     Ok(())
 }

@@ -1,1 +1,3 @@
+pub mod Crossings
 mod TeamLemmas
+mod HandLemmas

@@ -1,5 +1,5 @@
 -- Teams as their phases open.
-use Rattle.std.proofs.Common.{◌≡◌, ℕ, suc, ◌+◌, ◌<◌, List, [], ◌∷◌, map, length, drop, false, Result, Ok, Err, inl, inr, sym, ap, ◌∙◌, subst, add-one}
+use Rattle.std.proofs.Common.{◌≡◌, ℕ, zero, suc, ◌+◌, ◌<◌, List, [], ◌∷◌, map, length, drop, false, Result, Ok, Err, inl, inr, sym, ap, ◌∙◌, subst, add-one}
 use Rattle.std.specs.Result.{IsErr}
 use Rattle.std.proofs.Math.Seq.{drop-drop}
 use Rattle.std.proofs.lemmas.Bool.{false≢true}
@@ -12,7 +12,7 @@ use Rattle.array_eval.specs.Traces.{Trace, noted_all}
 use Rattle.array_meaning.proofs.BelowLemmas.{AreBelow, below_of, below_lays}
 use Rattle.array_eval.proofs.TraceLemmas.{cells_after, marked_after, length_marks}
 use Rattle.array_jobs.specs.Works.{WorkTree, sites_of}
-use Rattle.array_jobs.specs.Jobs.{JobTree, job_of}
+use Rattle.array_jobs.specs.Jobs.{JobTree, JobParts, job_of}
 use Rattle.array_jobs.specs.PieceParts.{PieceParts, piece_of_job}
 use Rattle.join_book.specs.Books.{BookParts, IsFull, all_writes}
 use Rattle.join_book.proofs.BookLemmas.{piece_below}
@@ -27,6 +27,8 @@ use Rattle.step_eval.specs.Nests.{NestedTree, NestedParts, nested_of, phases_of,
 use Rattle.step_eval.specs.Phases.{phase_writes, store_before}
 use Rattle.step_eval.proofs.PieceLemmas.{fit_other_store}
 use Rattle.step_eval.proofs.PhaseLemmas.{phases_are_merged}
+use Rattle.loop_team.specs.declared.work.TeamWork.{TeamWork}
+use Rattle.loop_team.specs.declared.work.TeamWork.TheVariants.{Begin, Ready}
 use Rattle.loop_team.specs.Teams.{TeamParts, AreJobsIn, IsOver, GoesOn, Opens, FailsToGoOn, MovesOn, phases_in, writes_in, opened_team, failed_team, with_barrier}
 
 -- ---- what a phase writes
@@ -118,3 +120,25 @@ pub ready_in_order : {C : Type 0} → (all : List C) (before later : AgendaParts
     (begun : ℕ) × (before.unbegun ≡ drop begun all) → (begun : ℕ) × (later.unbegun ≡ drop begun all)
 ready_in_order all before later c (Ok done) put known = (known.0, ap (λ a. a.unbegun) put.1 ∙ known.1)
 ready_in_order all before later c (Err back) put known = (known.0, ap (λ a. a.unbegun) put.2 ∙ known.1)
+
+-- and are members, of which the first may be taken by itself
+pub member_in_order : {C : Type 0} → (all : List C) (before later : AgendaParts C) (c : C) → before.unbegun ≡ c ∷ later.unbegun →
+    (begun : ℕ) × (before.unbegun ≡ drop begun all) → (begun : ℕ) × (later.unbegun ≡ drop begun all)
+member_in_order all before later c taken known = (known.0 + 1, ap (drop 1) (sym taken ∙ known.1) ∙ drop-drop 1 known.0 all)
+
+abbrev pub IsMember : TeamWork → Type 0
+IsMember (Begin job) = Unit {0}
+IsMember (Ready context) = ⊥
+
+abbrev FirstIsMember : List TeamWork → Type 0
+FirstIsMember [] = Unit {0}
+FirstIsMember (work ∷ rest) = IsMember work
+
+first_member : (jobs : List JobParts) (begun : ℕ) → FirstIsMember (drop begun (map Begin jobs))
+first_member [] zero = tt
+first_member [] (suc begun) = tt
+first_member (job ∷ jobs) zero = tt
+first_member (job ∷ jobs) (suc begun) = first_member jobs begun
+
+pub is_member : (jobs : List JobParts) (work : TeamWork) (unbegun rest : List TeamWork) → unbegun ≡ work ∷ rest → (begun : ℕ) × (unbegun ≡ drop begun (map Begin jobs)) → IsMember work
+is_member jobs work unbegun rest taken known = subst FirstIsMember (sym known.1 ∙ taken) (first_member jobs known.0)

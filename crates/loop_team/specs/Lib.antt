@@ -1,1 +1,4 @@
+pub mod Hands
+pub mod Looks
+pub mod Rows
 pub mod Teams

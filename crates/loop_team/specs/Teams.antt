@@ -1,5 +1,5 @@
 -- The scheduler of one `team`.
-use Rattle.std.specs.Prelude.{◌≡◌, ◌⊎◌, ℕ, suc, ◌*◌, ◌<◌, [], map, drop, true, false, Bool, Result, Ok, Err, List}
+use Rattle.std.specs.Prelude.{◌≡◌, ◌⊎◌, ℕ, suc, ◌*◌, ◌<◌, [], map, drop, true, false, Bool, Option, Some, None, Result, Ok, Err, List}
 use Rattle.array_tree.specs.Trees.{statement_of}
 use Rattle.array_meaning.specs.Stores.{Write}
 use Rattle.array_eval.specs.Overlays.{Laid}
@@ -13,7 +13,7 @@ use Rattle.lithe_barrier.specs.declared.state.Arrival.TheVariants.{Kept, Opened,
 use Rattle.sched_api.specs.Wishes.{wishes_after}
 use Rattle.sched_api.specs.declared.hearing.Told.{Told}
 use Rattle.sched_api.specs.declared.scheduler.Next.{Next}
-use Rattle.work_agenda.specs.Agenda.{AgendaParts, TakesNext, PutsReady}
+use Rattle.work_agenda.specs.Agenda.{AgendaParts, TakesNext, PutsReady, GivesReady, GivesUnbegun}
 use Rattle.step_eval.specs.Computed.{HasReached}
 use Rattle.step_eval.specs.Nests.{NestedParts, nested_of, phases_of, jobs_in, IsFitNest}
 use Rattle.step_eval.specs.Phases.{phase_writes, store_before}
@@ -137,6 +137,15 @@ Hears before told after = after ≡ with_agenda before (record before.agenda { w
 pub record Takes (before : TeamParts) (c : TeamWork) (answer : Result (Unit {0}) TeamWork) (after : TeamParts) : Type 0 where
   pub ready : PutsReady before.agenda c answer after.agenda
   pub rest : after ≡ with_agenda before after.agenda
+
+-- A hand takes a context that is ready, or a member, by itself.
+pub record TakesReady (before : TeamParts) (answer : Option TeamWork) (after : TeamParts) : Type 0 where
+  pub given : GivesReady before.agenda answer after.agenda
+  pub rest : after ≡ with_agenda before after.agenda
+
+abbrev pub TakesMember : TeamParts → Option JobParts → TeamParts → Type 0
+TakesMember before (Some job) after = GivesUnbegun before.agenda (Some (Begin job)) after.agenda × (after ≡ with_agenda before after.agenda)
+TakesMember before None after = GivesUnbegun before.agenda None after.agenda × (after ≡ before)
 
 -- What the type keeps: the store has what the phases that have opened wrote; while a place is free, the places are those of
 -- the next phase's jobs; and the members are handed out in order.

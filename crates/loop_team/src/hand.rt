@@ -1,56 +1,96 @@
 //! A hart's hand on a team that harts share.
-ghost use Rattle.std.specs.Prelude.{◌≡◌, IfSome, IfOk, IfErr};
+ghost use Rattle.std.specs.Prelude.{◌≡◌, ◌<◌, IfSome, IfOk, IfErr};
 ghost use Rattle.lithe_barrier.specs.Arrivals.{GivesBack};
-ghost use Rattle.loop_team.specs.Teams.{IsOver};
+ghost use Rattle.claim_words.specs.Seats.{IsOf, kin};
+ghost use Rattle.loop_team.specs.declared.found.Found.TheVariants.{Unlooked};
+ghost use Rattle.loop_team.specs.Rows.{RowsFit};
 
+use crate::found::Found;
 use crate::shared::SharedTeam;
 use crate::team::{Team, TeamHeard, heard};
 use crate::work::TeamWork;
 use array_jobs::Piece;
+use claim_words::{ClaimSeat, ClaimTable, Claimed};
 use lithe_barrier::Arrival;
 use sched_api::{Call, Next, Scheduler};
 use std::alloc::AllocError;
 use std::marker::PhantomData;
-use std::sync::{Mutex, Wait};
+use std::sync::Wait;
 
-/// One hart's hand on a shared team. Its calls do what those of `Team` do, under the lock, for which each but `site` may
-/// wait. Once the team is handed out, `enter` answers Nothing and `unblock` gives its context back.
-pub struct TeamHand<'a, 'p, R> {
-    site: u16,
-    lock: &'a Mutex<Option<Team<'p>>>,
-    of: PhantomData<&'a R>,
+/// One hart's hand on a shared team. It claims the members of the phase that runs with the hart's seat, beside the lock. Its
+/// other calls do what those of `Team` do, under the lock, for which each but `site` may wait. Once the team is handed out,
+/// `enter` answers Nothing and `unblock` gives its context back.
+pub struct TeamHand<'a, 'r, 'p, R> {
+    pub seat: &'r mut ClaimSeat,
+    pub shared: &'a SharedTeam<'p>,
+    pub claims: &'a ClaimTable,
+    /// The row of the first phase.
+    pub row: u16,
+    /// How often it looked under the lock for what there is to do.
+    pub looks: u64,
+    /// What the last of these looks found.
+    pub found: Found,
+    pub of: PhantomData<R>,
+    pub ghost seated: { IsOf claims.now (kin seat.now) },
+    pub ghost fits: { RowsFit claims.now.counts.items row shared.now },
 }
 
-impl<'a, 'p, R> Drop for TeamHand<'a, 'p, R> {
-    fn drop(self) {
+impl<'a, 'r, 'p, R> Drop for TeamHand<'a, 'r, 'p, R> {
+    fn drop(self)
+        ensures { self.exit.0.now ≡ self.entry.seat.now }
+    {
         let TeamHand {
-            site: _,
-            lock: _,
+            seat: _,
+            shared: _,
+            claims: _,
+            row: _,
+            looks: _,
+            found: _,
             of: _,
         } = self;
     }
 }
 
-impl<'a, 'p, R> TeamHand<'a, 'p, R> {
-    /// A hand on the team. It doesn't wait.
-    pub fn new(shared: &'a SharedTeam<'p>) -> TeamHand<'a, 'p, R>
-        ensures { result.site ≡ shared.now.site }
+impl<'a, 'r, 'p, R> TeamHand<'a, 'r, 'p, R> {
+    /// A hand on the team, with the hart's seat of the table whose row is that of the team's first phase. It doesn't wait.
+    pub fn new(
+        shared: &'a SharedTeam<'p>,
+        claims: &'a ClaimTable,
+        seat: &'r mut ClaimSeat,
+        row: u16,
+    ) -> TeamHand<'a, 'r, 'p, R>
+        requires seat { IsOf claims.now (kin seat.old) }
+        requires rows { RowsFit claims.now.counts.items row shared.now }
+        ensures team { result.shared.now ≡ shared.now }
+        ensures rows { (result.claims.now ≡ claims.now) × (result.row ≡ row) }
+        ensures name { result.seat.ghost_name ≡ seat.entry.ghost_name }
+        ensures seat { result.seat.now ≡ seat.old }
+        ensures unlooked { (result.looks ≡ 0) × (result.found ≡ Unlooked) }
     {
         TeamHand {
-            site: shared.nested.site,
-            lock: &shared.lock,
+            seat,
+            shared,
+            claims,
+            row,
+            looks: 0,
+            found: Found::Unlooked,
             of: PhantomData,
         }
     }
 }
 
-impl<'a, 'p, R: Wait + 'a> TeamHand<'a, 'p, R> {
+impl<'a, 'r, 'p, R: Wait + 'a> TeamHand<'a, 'r, 'p, R> {
+    ghost use Rattle.loop_team.specs.Hands.{HasLooked, HasTried, Turns};
+    ghost use Rattle.loop_team.specs.Looks.{TellsReady, TellsRest};
+    ghost use Rattle.loop_team.specs.Teams.{IsOver, phases_in};
+
     /// What `arrive` of the team does. Where the team was handed out, each piece is a Stranger.
     pub fn arrive(&self, rt: &R, piece: Piece<'p>) -> Result<Arrival<'p>, AllocError>
         ensures { IfOk result (λ arrival. GivesBack piece.entry arrival) }
     {
-        match self.lock.lock(rt).as_mut() {
-            Some(team) => team.arrive(piece),
+        let shared = self.shared;
+        match shared.lock.lock(rt).as_mut() {
+            Some(team) => shared.arrive(rt, team, piece),
             None => Ok(Arrival::Stranger(piece)),
         }
     }
@@ -58,7 +98,8 @@ impl<'a, 'p, R: Wait + 'a> TeamHand<'a, 'p, R> {
     /// What `fail` of the team does. Where the place isn't there in the phase that runs, or its piece has come, it does
     /// nothing.
     pub fn fail(&self, rt: &R, place: u8) {
-        if let Some(team) = self.lock.lock(rt).as_mut() {
+        let shared = self.shared;
+        if let Some(team) = shared.lock.lock(rt).as_mut() {
             if team.is_open(place) {
                 team.fail(place);
             }
@@ -67,7 +108,8 @@ impl<'a, 'p, R: Wait + 'a> TeamHand<'a, 'p, R> {
 
     /// Whether the last phase of the team has opened or the team is failed. One that was handed out is over.
     pub fn is_over(&self, rt: &R) -> bool {
-        match self.lock.lock(rt).as_ref() {
+        let shared = self.shared;
+        match shared.lock.lock(rt).as_ref() {
             Some(team) => team.is_over(),
             None => true,
         }
@@ -75,7 +117,8 @@ impl<'a, 'p, R: Wait + 'a> TeamHand<'a, 'p, R> {
 
     /// Whether the team is failed. It is false where the team was handed out.
     pub fn has_failed(&self, rt: &R) -> bool {
-        match self.lock.lock(rt).as_ref() {
+        let shared = self.shared;
+        match shared.lock.lock(rt).as_ref() {
             Some(team) => team.has_failed(),
             None => false,
         }
@@ -85,81 +128,152 @@ impl<'a, 'p, R: Wait + 'a> TeamHand<'a, 'p, R> {
     pub fn take_out(&self, rt: &R) -> Option<Team<'p>>
         ensures { IfSome result (λ team. IsOver team) }
     {
-        let mut kept = self.lock.lock(rt);
+        let shared = self.shared;
+        let mut kept = shared.lock.lock(rt);
         match kept.as_ref() {
-            Some(team) if team.is_over() => {}
+            Some(team) if team.is_over() => shared.shut(),
             Some(_) => return None,
             None => return None,
         }
         kept.take()
     }
+
+    // Looks for what there is to do, once. None where the hand has to look again.
+    fn turn(&mut self, rt: &R) -> Option<Next<TeamWork<'p>>>
+        ensures { Turns self.old result self.new }
+    {
+        let Some(phase) = self.shared.phase() else {
+            return self.look_ready(rt);
+        };
+        match self.claim(phase) {
+            Claimed::Member(place) => {
+                let job = self.shared.take_member(rt, phase, place)?;
+                Some(Next::Run(TeamWork::Begin(job)))
+            }
+            Claimed::NoneLeft { shown: _ } => self.look_rest(rt, phase),
+        }
+    }
+
+    // Claims a member of a phase.
+    fn claim(&mut self, phase: u8) -> Claimed
+        requires { phase < phases_in self.old.shared.now }
+        ensures { HasTried self.old phase result self.new }
+    {
+        let row = self.row + u16::from(phase);
+        self.claims.claim(&mut *self.seat, row)
+    }
+
+    // Looks for a ready context under the lock. None where the hand has to look for more.
+    fn look_ready(&mut self, rt: &R) -> Option<Next<TeamWork<'p>>>
+        ensures looked { HasLooked self.old self.new }
+        ensures tells { TellsReady self.new.found result }
+    {
+        let (found, next) = self.shared.find_ready(rt);
+        self.note(found);
+        next
+    }
+
+    // Looks under the lock for what there is to do where no member of the phase is left. None where the hand has to look
+    // again.
+    fn look_rest(&mut self, rt: &R, phase: u8) -> Option<Next<TeamWork<'p>>>
+        ensures looked { HasLooked self.old self.new }
+        ensures tells { TellsRest self.new.found result }
+    {
+        let (found, next) = self.shared.find_rest(rt, phase);
+        self.note(found);
+        next
+    }
+
+    // Notes what a look under the lock found.
+    fn note(&mut self, found: Found)
+        ensures looked { HasLooked self.old self.new }
+        ensures found { self.new.found ≡ found }
+    {
+        self.looks = self.looks.saturating_add(1);
+        self.found = found;
+    }
 }
 
-impl<'a, 'p, R: Wait + 'a> Scheduler for TeamHand<'a, 'p, R> {
+impl<'a, 'r, 'p, R: Wait + 'a> Scheduler for TeamHand<'a, 'r, 'p, R> {
     type Hold = &'a R;
 
     type Heard = TeamHeard;
 
     type Ctx = TeamWork<'p>;
 
-    ghost site_of = { λ hand. hand.site };
+    ghost use Rattle.loop_team.specs.Hands.{Enters};
 
-    // Nothing is known of what the lock holds, so any answer may come.
-    ghost answers = { λ _ _ _. Unit {0} };
+    ghost site_of = { λ hand. hand.shared.now.site };
 
-    ghost hears = { λ _ _ _. Unit {0} };
+    // Nothing is known of what the lock holds, so any answer may come that has its cause in what the call found.
+    ghost answers = { λ before next after. Enters before next after };
 
-    ghost takes = { λ _ c answer _. IfErr answer (λ back. back ≡ c) };
+    ghost hears = { λ before _ after. after ≡ before };
+
+    ghost takes = { λ before c answer after. IfErr answer (λ back. back ≡ c) × (after ≡ before) };
 
     fn site(&self) -> u16 {
-        self.site
+        self.shared.nested().site
     }
 
     fn register(&mut self, hold: &'a R, child: u16) -> TeamHeard {
-        match self.lock.lock(hold).as_mut() {
+        let shared = self.shared;
+        match shared.lock.lock(hold).as_mut() {
             Some(team) => team.register((), child),
             None => heard(Call::Registered, child, 0),
         }
     }
 
     fn unregister(&mut self, hold: &'a R, child: u16) -> TeamHeard {
-        match self.lock.lock(hold).as_mut() {
+        let shared = self.shared;
+        match shared.lock.lock(hold).as_mut() {
             Some(team) => team.unregister((), child),
             None => heard(Call::Unregistered, child, 0),
         }
     }
 
     fn request(&mut self, hold: &'a R, child: u16, count: u8) -> TeamHeard {
-        match self.lock.lock(hold).as_mut() {
+        let shared = self.shared;
+        match shared.lock.lock(hold).as_mut() {
             Some(team) => team.request((), child, count),
             None => heard(Call::Requested, child, count),
         }
     }
 
     fn yielded(&mut self, hold: &'a R, child: u16) -> TeamHeard {
-        match self.lock.lock(hold).as_mut() {
+        let shared = self.shared;
+        match shared.lock.lock(hold).as_mut() {
             Some(team) => team.yielded((), child),
             None => heard(Call::Yielded, child, 0),
         }
     }
 
     fn enter(&mut self, hold: &'a R) -> Next<TeamWork<'p>> {
-        match self.lock.lock(hold).as_mut() {
-            Some(team) => team.enter(()),
-            None => Next::Nothing,
+        if self.shared.shows_ready() {
+            if let Some(next) = self.look_ready(hold) {
+                return next;
+            }
         }
+        for _ in hold.forever() {
+            if let Some(next) = self.turn(hold) {
+                return next;
+            }
+        }
+        unreachable!()
     }
 
     fn block(&mut self, hold: &'a R) -> TeamHeard {
-        match self.lock.lock(hold).as_mut() {
+        let shared = self.shared;
+        match shared.lock.lock(hold).as_mut() {
             Some(team) => team.block(()),
             None => heard(Call::Blocked, 0, 0),
         }
     }
 
     fn unblock(&mut self, hold: &'a R, c: TeamWork<'p>) -> Result<(), TeamWork<'p>> {
-        match self.lock.lock(hold).as_mut() {
-            Some(team) => team.unblock((), c),
+        let shared = self.shared;
+        match shared.lock.lock(hold).as_mut() {
+            Some(team) => shared.unblock(team, c),
             None => Err(c),
         }
     }

@@ -1,14 +1,20 @@
 //! The loop team: the scheduler of one `team`.
 //!
-//! A `Team` is for one hart. Harts share a `SharedTeam`, each by hands of its own.
+//! A `Team` is for one hart. Harts share a `SharedTeam`, each by hands of its own, and claim its members by a `ClaimTable`.
 #![tactic(auto)]
 
+mod found;
 mod hand;
+pub mod laws;
+mod rows;
 mod shared;
 mod team;
 mod work;
 
+pub use claim_words::{ClaimSeat, ClaimTable, Claimed};
+pub use found::Found;
 pub use hand::TeamHand;
+pub use rows::rows_fit;
 pub use shared::SharedTeam;
 pub use team::{Team, TeamHeard};
 pub use work::TeamWork;

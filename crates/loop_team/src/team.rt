@@ -1,5 +1,5 @@
 //! Teams.
-ghost use Rattle.std.specs.Prelude.{◌≡◌, ◌↔◌, ◌+◌, ◌<◌, IsTrue, IfOk, IsErr, OnOk, OnErr, Some, true, map};
+ghost use Rattle.std.specs.Prelude.{◌≡◌, ◌↔◌, ◌+◌, ◌<◌, IsTrue, IfOk, IsErr, OnOk, OnErr, Some, true, length, map};
 ghost use Rattle.sched_api.specs.declared.hearing.Told.{Told};
 ghost use Rattle.sched_api.specs.Calls.{registered_told, unregistered_told, requested_told, yielded_told, blocked_told};
 ghost use Rattle.sched_api.specs.Wishes.{with_wishes, without_child};
@@ -10,7 +10,7 @@ ghost use Rattle.step_eval.specs.Computed.{HasReached};
 ghost use Rattle.step_eval.specs.Nests.{nested_of, phases_of, nested_writes, IsFitNest};
 ghost use Rattle.step_eval.specs.Shapes.{kind_of};
 ghost use Rattle.loop_team.specs.declared.work.TeamWork.TheVariants.{Begin};
-ghost use Rattle.loop_team.specs.Teams.{IsNew, IsOver, MovesOn, GoesOn, Answers, Hears, Takes, IsPhase, phases_in, writes_in, opened_team, failed_team};
+ghost use Rattle.loop_team.specs.Teams.{IsNew, IsOver, MovesOn, GoesOn, Answers, Hears, Takes, TakesReady, TakesMember, IsPhase, phases_in, writes_in, opened_team, failed_team};
 
 use crate::work::TeamWork;
 use array_eval::{MarkedStore, Overlay};
@@ -119,6 +119,38 @@ impl<'p> Team<'p> {
         ensures fit { IsFitNest (nested_of self.now.nested) }
     {
         &self.nested
+    }
+
+    // How many phases have opened.
+    pub(crate) fn opened(&self) -> u8
+        ensures { result ≡ self.now.opened }
+    {
+        self.opened
+    }
+
+    // How many contexts are ready to go on.
+    pub(crate) fn ready_count(&self) -> usize
+        ensures { result ≡ length self.now.agenda.ready }
+    {
+        self.agenda.ready_count()
+    }
+
+    // Takes the oldest context that is ready to go on, if there is one.
+    pub(crate) fn take_ready(&mut self) -> Option<TeamWork<'p>>
+        ensures { TakesReady self.old result self.new }
+    {
+        self.agenda.take_ready()
+    }
+
+    // Takes the lowest member that hasn't begun, if there is one.
+    pub(crate) fn take_member(&mut self) -> Option<Job<'p>>
+        ensures { TakesMember self.old result self.new }
+    {
+        match self.agenda.take_unbegun() {
+            Some(TeamWork::Begin(job)) => Some(job),
+            Some(TeamWork::Ready(_)) => unreachable!(),
+            None => None,
+        }
     }
 
     /// Takes a piece to the barrier of the phase that runs. Where it opens, what the phase wrote is put on the store, and

@@ -5,3 +5,5 @@
 mod hands;
 #[cfg(test)]
 mod pools;
+#[cfg(test)]
+mod rows;

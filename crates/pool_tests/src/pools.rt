@@ -100,3 +100,27 @@ fn a_full_pool_gives_the_writes_of_all(rt: HostRuntime) -> Result<(), Fail> {
     assert_eq!(rt; taken(pool)?.pairs(), BOTH_BRANCHES.as_slice());
     Ok(())
 }
+
+// The place of the job that is taken as the last one.
+fn last_taken(pool: &mut Pool, place: usize) -> Option<u8> {
+    match pool.take_last(place) {
+        Some(job) => Some(job.place),
+        None => None,
+    }
+}
+
+#[test]
+fn the_last_job_is_taken_by_its_place(rt: HostRuntime) -> Result<(), Fail> {
+    let alloc = rt.alloc();
+    let program = parsed(alloc, TWO_BRANCHES)?;
+    let mut pool = pool_of(alloc, &program)?;
+    let copies = copy_jobs(alloc, pool.jobs())?;
+    assert!(rt; last_taken(&mut pool, 0) == None && last_taken(&mut pool, 1) == Some(1));
+    assert!(rt; last_taken(&mut pool, 1) == None && last_taken(&mut pool, 0) == Some(0));
+    assert!(rt; unblocked(&mut pool, waiting(alloc, &copies)?) && pool.ready_count() == 1);
+    assert!(rt;
+        matches!(pool.take_ready(), Some(PoolWork::Ready(_))) && pool.take_ready().is_none()
+    );
+    assert_eq!(rt; answer_of(pool.enter(())), Answer::Nothing);
+    Ok(())
+}

@@ -63,7 +63,7 @@ module _ (l : NamedLft) where
   shared_pool_send = let pool = pool_send in let job = job_send in search (crosses, sendable) depth 60 fits 20000
 
   shared_pool_sync : IsSync (SharedPool.the_row l)
-  shared_pool_sync = let pool = pool_send in let job = job_sync in search (crosses, sendable) depth 60 fits 20000
+  shared_pool_sync = let pool = pool_send in let job = job_send in let jobs = job_sync in search (crosses, sendable) depth 60 fits 20000
 
   team_work_send : IsSend (TeamWork.the_row l)
   team_work_send = let job = job_send in let paused = paused_send in search (crosses, sendable) depth 60 fits 20000
@@ -75,10 +75,10 @@ module _ (l : NamedLft) where
   team_send = let nested = nested_send in let agenda = team_agenda_send in let barrier = barrier_send in search (crosses, sendable) depth 60 fits 20000
 
   shared_team_send : IsSend (SharedTeam.the_row l)
-  shared_team_send = let team = team_send in let nested = nested_send in search (crosses, sendable) depth 60 fits 20000
+  shared_team_send = let team = team_send in let nested = nested_send in let job = job_send in search (crosses, sendable) depth 60 fits 20000
 
   shared_team_sync : IsSync (SharedTeam.the_row l)
-  shared_team_sync = let team = team_send in let nested = nested_sync in search (crosses, sendable) depth 60 fits 20000
+  shared_team_sync = let team = team_send in let nested = nested_sync in let job = job_send in search (crosses, sendable) depth 60 fits 20000
 
   pub shared_site_send : IsSend (SharedSite.the_row l)
   shared_site_send = let pool = shared_pool_send in let team = shared_team_send in search (crosses, sendable) depth 60 fits 20000

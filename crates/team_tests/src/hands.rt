@@ -1,39 +1,38 @@
-//! Teams that harts share.
+//! Teams that harts share, by one hand.
 
 use crate::samples::{
     CONTEXTS_THEN_MEMBERS, MEMBERS_THEN_WISH, answers, begun, gives, gives_nothing,
     one_of_two_leaves, opened_by, put_back, team_of,
 };
+use crate::tables::table_of;
 use array_eval::Overlay;
 use array_jobs::Job;
 use array_tree::Program;
 use lithe_barrier::Arrival;
-use loop_team::{SharedTeam, Team, TeamHand};
+use loop_team::{SharedTeam, TeamHand, rows_fit};
 use sample_programs::{
     Answer, BOTH_PHASES, FIRST_PHASE, SECOND_PHASE, TOLD, TWO_PHASES, first_jobs, parsed, piece_at,
     tells,
 };
-use sched_api::{Scheduler, Told};
+use sched_api::Scheduler;
 use std::alloc::Global;
 use std::sync::Wait;
 use std::test::Fail;
-use std::thread::Threads;
 
-// A shared team of a program that begins with one.
-fn shared_team<'p>(alloc: Global, program: &'p Program) -> Result<SharedTeam<'p>, Fail> {
+/// A shared team of a program that begins with one.
+pub fn shared_team<'p>(alloc: Global, program: &'p Program) -> Result<SharedTeam<'p>, Fail> {
     Ok(SharedTeam::new(alloc, team_of(alloc, program)?)?)
 }
 
 // Runs the three members of a phase in their order. What the phase wrote.
-fn run_phase<'a, R: Threads + Wait + Sync + 'a>(
+fn run_phase<'a, 'r, 'p, R: Wait + 'a>(
     rt: &'a R,
-    shared: &'a SharedTeam,
+    hand: &mut TeamHand<'a, 'r, 'p, R>,
     alloc: Global,
     phase: u8,
 ) -> Result<Overlay, Fail> {
-    let mut hand = TeamHand::new(shared);
     for place in 0..3 {
-        let piece = begun(&mut hand, rt, alloc, phase, place)?;
+        let piece = begun(hand, rt, alloc, phase, place)?;
         if let Some(written) = opened_by(hand.arrive(rt, piece)?)? {
             return Ok(written);
         }
@@ -41,41 +40,36 @@ fn run_phase<'a, R: Threads + Wait + Sync + 'a>(
     Err(Fail::new("it didn't open"))
 }
 
-// Hands the team out, if it can be.
-fn taken_out<'a, 'p, R: Threads + Wait + Sync + 'a>(
-    rt: &'a R,
-    shared: &'a SharedTeam<'p>,
-) -> Option<Team<'p>> {
-    let hand = TeamHand::new(shared);
-    hand.take_out(rt)
-}
-
-// Hands the team out, if it can be. Whether it could.
-fn hands_out<'a, R: Threads + Wait + Sync + 'a>(rt: &'a R, shared: &'a SharedTeam) -> bool {
-    taken_out(rt, shared).is_some()
-}
-
 // Runs two phases. Whether each wrote what it should, and the team wasn't handed out after the first.
-fn runs_two<'a, R: Threads + Wait + Sync + 'a>(
+fn runs_two<'a, 'r, 'p, R: Wait + 'a>(
     rt: &'a R,
-    shared: &'a SharedTeam,
+    hand: &mut TeamHand<'a, 'r, 'p, R>,
     alloc: Global,
 ) -> Result<bool, Fail> {
-    let first = run_phase(rt, shared, alloc, 0)?.pairs() == FIRST_PHASE.as_slice();
-    let goes_on = !hands_out(rt, shared);
-    let second = run_phase(rt, shared, alloc, 1)?.pairs() == SECOND_PHASE.as_slice();
+    let first = run_phase(rt, hand, alloc, 0)?.pairs() == FIRST_PHASE.as_slice();
+    let goes_on = hand.take_out(rt).is_none();
+    let second = run_phase(rt, hand, alloc, 1)?.pairs() == SECOND_PHASE.as_slice();
     Ok(first && goes_on && second)
 }
 
-// Whether a team is handed out that gives all that its phases wrote.
-fn gives_all<'a, R: Threads + Wait + Sync + 'a>(
+// Whether a team is handed out that gives all that its phases wrote, and no second time.
+fn gives_all<'a, 'r, 'p, R: Wait + 'a>(
     rt: &'a R,
-    shared: &'a SharedTeam,
+    hand: &TeamHand<'a, 'r, 'p, R>,
 ) -> Result<bool, Fail> {
-    match taken_out(rt, shared) {
-        Some(team) => gives(team, BOTH_PHASES.as_slice()),
+    match hand.take_out(rt) {
+        Some(team) => Ok(gives(team, BOTH_PHASES.as_slice())? && hand.take_out(rt).is_none()),
         None => Ok(false),
     }
+}
+
+// Runs the whole team. Whether each phase and all together wrote what they should.
+fn runs_whole<'a, 'r, 'p, R: Wait + 'a>(
+    rt: &'a R,
+    hand: &mut TeamHand<'a, 'r, 'p, R>,
+    alloc: Global,
+) -> Result<bool, Fail> {
+    Ok(runs_two(rt, hand, alloc)? && gives_all(rt, hand)?)
 }
 
 #[test]
@@ -83,25 +77,13 @@ fn phases_run_by_hands(rt: HostRuntime) -> Result<(), Fail> {
     let alloc = rt.alloc();
     let program = parsed(alloc, TWO_PHASES)?;
     let shared = shared_team(alloc, &program)?;
-    assert!(rt; runs_two(&rt, &shared, alloc)?);
-    assert!(rt; gives_all(&rt, &shared)?);
-    assert!(rt; !hands_out(&rt, &shared));
+    let (table, mut seat) = table_of(alloc)?;
+    assert!(rt; rows_fit(&table, 0, shared.nested()));
+    let mut hand = TeamHand::new(&shared, &table, &mut seat, 0);
+    let ran = runs_whole(&rt, &mut hand, alloc);
+    drop(hand);
+    assert!(rt; ran?);
     Ok(())
-}
-
-// What a hart finds by a hand of its own that enters five times.
-fn hand_answers<'a, R: Threads + Wait + Sync + 'a>(
-    rt: &'a R,
-    shared: &'a SharedTeam,
-) -> [Answer; 5] {
-    let mut hand = TeamHand::new(shared);
-    answers(&mut hand, rt)
-}
-
-// Two children ask for harts through a hand, and one of them leaves.
-fn hand_hears<'a, R: Threads + Wait + Sync + 'a>(rt: &'a R, shared: &'a SharedTeam) {
-    let mut hand = TeamHand::new(shared);
-    one_of_two_leaves(&mut hand, rt);
 }
 
 #[test]
@@ -109,20 +91,14 @@ fn a_hand_answers_as_the_team_does(rt: HostRuntime) -> Result<(), Fail> {
     let alloc = rt.alloc();
     let program = parsed(alloc, TWO_PHASES)?;
     let shared = shared_team(alloc, &program)?;
-    hand_hears(&rt, &shared);
-    assert!(rt; hand_answers(&rt, &shared) == MEMBERS_THEN_WISH);
+    let (table, mut seat) = table_of(alloc)?;
+    assert!(rt; rows_fit(&table, 0, shared.nested()));
+    let mut hand = TeamHand::new(&shared, &table, &mut seat, 0);
+    one_of_two_leaves(&mut hand, &rt);
+    let found = answers(&mut hand, &rt);
+    drop(hand);
+    assert!(rt; found == MEMBERS_THEN_WISH);
     Ok(())
-}
-
-// Puts four contexts back through a hand; whether there was room for each.
-fn hand_puts_back<'a, 'p, R: Threads + Wait + Sync + 'a>(
-    rt: &'a R,
-    shared: &'a SharedTeam<'p>,
-    alloc: Global,
-    jobs: &[Job<'p>],
-) -> Result<[bool; 4], Fail> {
-    let mut hand = TeamHand::new(shared);
-    put_back(&mut hand, rt, alloc, jobs)
 }
 
 #[test]
@@ -131,14 +107,19 @@ fn a_hand_puts_contexts_back(rt: HostRuntime) -> Result<(), Fail> {
     let program = parsed(alloc, TWO_PHASES)?;
     let jobs = first_jobs(alloc, &program)?;
     let shared = shared_team(alloc, &program)?;
-    assert!(rt; hand_puts_back(&rt, &shared, alloc, &jobs)? == [true, true, true, false]);
-    assert!(rt; hand_answers(&rt, &shared) == CONTEXTS_THEN_MEMBERS);
+    let (table, mut seat) = table_of(alloc)?;
+    assert!(rt; rows_fit(&table, 0, shared.nested()));
+    let mut hand = TeamHand::new(&shared, &table, &mut seat, 0);
+    let taken = put_back(&mut hand, &rt, alloc, &jobs);
+    let found = answers(&mut hand, &rt);
+    drop(hand);
+    assert!(rt; taken? == [true, true, true, false]);
+    assert!(rt; found == CONTEXTS_THEN_MEMBERS);
     Ok(())
 }
 
 // Tries to fail a place that isn't there, then one that is. Whether the team was failed and over at the end alone.
-fn fails<'a, R: Threads + Wait + Sync + 'a>(rt: &'a R, shared: &'a SharedTeam) -> bool {
-    let hand = TeamHand::new(shared);
+fn fails<'a, 'r, 'p, R: Wait + 'a>(rt: &'a R, hand: &TeamHand<'a, 'r, 'p, R>) -> bool {
     hand.fail(rt, 3);
     let goes_on = !hand.has_failed(rt) && !hand.is_over(rt);
     hand.fail(rt, 1);
@@ -146,33 +127,20 @@ fn fails<'a, R: Threads + Wait + Sync + 'a>(rt: &'a R, shared: &'a SharedTeam) -
 }
 
 // Fails a team and hands it out. Whether it gives nothing.
-fn hands_out_failed<'a, R: Threads + Wait + Sync + 'a>(rt: &'a R, shared: &'a SharedTeam) -> bool {
-    if !fails(rt, shared) {
+fn hands_out_failed<'a, 'r, 'p, R: Wait + 'a>(rt: &'a R, hand: &TeamHand<'a, 'r, 'p, R>) -> bool {
+    if !fails(rt, hand) {
         return false;
     }
-    match taken_out(rt, shared) {
+    match hand.take_out(rt) {
         Some(team) => gives_nothing(team),
         None => false,
     }
 }
 
-// Whether the piece of the first job is a stranger.
-fn is_stranger<'a, 'p, R: Threads + Wait + Sync + 'a>(
-    rt: &'a R,
-    shared: &'a SharedTeam<'p>,
-    alloc: Global,
-    jobs: &[Job<'p>],
-) -> Result<bool, Fail> {
-    let piece = piece_at(alloc, jobs, 0)?;
-    let hand = TeamHand::new(shared);
-    Ok(matches!(hand.arrive(rt, piece)?, Arrival::Stranger(_)))
-}
-
 // Of a team that was handed out, whether it isn't again, and is over and not failed also after a place failed.
-fn stays_over<'a, R: Threads + Wait + Sync + 'a>(rt: &'a R, shared: &'a SharedTeam) -> bool {
-    let hand = TeamHand::new(shared);
+fn stays_over<'a, 'r, 'p, R: Wait + 'a>(rt: &'a R, hand: &TeamHand<'a, 'r, 'p, R>) -> bool {
     hand.fail(rt, 0);
-    !hands_out(rt, shared) && hand.is_over(rt) && !hand.has_failed(rt)
+    hand.take_out(rt).is_none() && hand.is_over(rt) && !hand.has_failed(rt)
 }
 
 #[test]
@@ -180,9 +148,27 @@ fn a_failed_team_is_handed_out_once(rt: HostRuntime) -> Result<(), Fail> {
     let alloc = rt.alloc();
     let program = parsed(alloc, TWO_PHASES)?;
     let shared = shared_team(alloc, &program)?;
-    assert!(rt; hands_out_failed(&rt, &shared));
-    assert!(rt; stays_over(&rt, &shared));
+    let (table, mut seat) = table_of(alloc)?;
+    assert!(rt; rows_fit(&table, 0, shared.nested()));
+    let hand = TeamHand::new(&shared, &table, &mut seat, 0);
+    let out = hands_out_failed(&rt, &hand);
+    let over = stays_over(&rt, &hand);
+    drop(hand);
+    assert!(rt; out && over);
     Ok(())
+}
+
+// Of a team that was handed out: whether it has nothing for a hart, no room for a context, and no place for a piece.
+fn has_nothing<'a, 'r, 'p, R: Wait + 'a>(
+    rt: &'a R,
+    hand: &mut TeamHand<'a, 'r, 'p, R>,
+    alloc: Global,
+    jobs: &[Job<'p>],
+) -> Result<bool, Fail> {
+    let found = answers(hand, rt) == [Answer::Nothing; 5];
+    let full = put_back(hand, rt, alloc, jobs)? == [false; 4];
+    let piece = piece_at(alloc, jobs, 0)?;
+    Ok(found && full && matches!(hand.arrive(rt, piece)?, Arrival::Stranger(_)))
 }
 
 #[test]
@@ -191,23 +177,21 @@ fn nothing_is_left_of_a_team_that_is_handed_out(rt: HostRuntime) -> Result<(), F
     let program = parsed(alloc, TWO_PHASES)?;
     let jobs = first_jobs(alloc, &program)?;
     let shared = shared_team(alloc, &program)?;
-    assert!(rt; hands_out_failed(&rt, &shared));
-    assert!(rt; hand_answers(&rt, &shared) == [Answer::Nothing; 5]);
-    assert!(rt; hand_puts_back(&rt, &shared, alloc, &jobs)? == [false; 4]);
-    assert!(rt; is_stranger(&rt, &shared, alloc, &jobs)?);
+    let (table, mut seat) = table_of(alloc)?;
+    assert!(rt; rows_fit(&table, 0, shared.nested()));
+    let mut hand = TeamHand::new(&shared, &table, &mut seat, 0);
+    let out = hands_out_failed(&rt, &hand);
+    let nothing = has_nothing(&rt, &mut hand, alloc, &jobs);
+    drop(hand);
+    let nothing = nothing?;
+    assert!(rt; out && nothing);
     Ok(())
 }
 
-// What a hand tells of each call that a scheduler hears.
-fn hand_tells<'a, R: Threads + Wait + Sync + 'a>(rt: &'a R, shared: &'a SharedTeam) -> [Told; 5] {
-    let mut hand = TeamHand::new(shared);
-    tells(&mut hand, rt)
-}
-
-// The site that a hand tells.
-fn hand_site<'a, R: Threads + Wait + Sync + 'a>(_rt: &'a R, shared: &'a SharedTeam) -> u16 {
-    let hand = TeamHand::<R>::new(shared);
-    hand.site()
+// Whether a hand tells each call that a scheduler hears, and its site, before and after its team is handed out.
+fn tells_all<'a, 'r, 'p, R: Wait + 'a>(rt: &'a R, hand: &mut TeamHand<'a, 'r, 'p, R>) -> bool {
+    let before = hand.site() == 1 && tells(hand, rt) == TOLD;
+    before && hands_out_failed(rt, hand) && tells(hand, rt) == TOLD
 }
 
 #[test]
@@ -215,9 +199,22 @@ fn a_hand_tells_what_it_hears(rt: HostRuntime) -> Result<(), Fail> {
     let alloc = rt.alloc();
     let program = parsed(alloc, TWO_PHASES)?;
     let shared = shared_team(alloc, &program)?;
-    assert!(rt; hand_site(&rt, &shared) == 1 && shared.nested().members() == 3);
-    assert!(rt; hand_tells(&rt, &shared) == TOLD);
-    assert!(rt; hands_out_failed(&rt, &shared));
-    assert!(rt; hand_tells(&rt, &shared) == TOLD);
+    let (table, mut seat) = table_of(alloc)?;
+    assert!(rt; shared.nested().members() == 3);
+    assert!(rt; rows_fit(&table, 0, shared.nested()));
+    let mut hand = TeamHand::new(&shared, &table, &mut seat, 0);
+    let told = tells_all(&rt, &mut hand);
+    drop(hand);
+    assert!(rt; told);
+    Ok(())
+}
+
+#[test]
+fn rows_of_another_shape_don_t_fit(rt: HostRuntime) -> Result<(), Fail> {
+    let alloc = rt.alloc();
+    let program = parsed(alloc, TWO_PHASES)?;
+    let shared = shared_team(alloc, &program)?;
+    let (table, _seat) = table_of(alloc)?;
+    assert!(rt; !rows_fit(&table, 1, shared.nested()));
     Ok(())
 }

@@ -6,4 +6,10 @@ mod hands;
 #[cfg(test)]
 mod samples;
 #[cfg(test)]
+mod seats;
+#[cfg(test)]
+mod tables;
+#[cfg(test)]
 mod teams;
+#[cfg(test)]
+mod threads;

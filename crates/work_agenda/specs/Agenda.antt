@@ -1,5 +1,6 @@
 -- What a scheduler has for harts: contexts that are ready, those that are not begun, and the wishes of its children.
-use Rattle.std.specs.Prelude.{◌≡◌, ◌⊎◌, ℕ, ◌<◌, ◌≤◌, List, [], ◌∷◌, ◌++◌, length, Result, Ok, Err}
+use Rattle.std.specs.Prelude.{◌≡◌, ◌⊎◌, ℕ, ◌<◌, ◌≤◌, List, [], ◌∷◌, ◌++◌, length, Option, Some, None, Result, Ok, Err}
+use Rattle.std.specs.Borrow.{Bor}
 use Rattle.sched_api.specs.Wishes.{WishList}
 use Rattle.sched_api.specs.declared.scheduler.Next.{Next}
 use Rattle.sched_api.specs.declared.scheduler.Next.TheVariants.{Run, Lend, Nothing}
@@ -44,3 +45,22 @@ TakesNext before Nothing after = IsIdle before × (after ≡ before)
 abbrev pub PutsReady : {C : Type 0} → AgendaParts C → C → Result (Unit {0}) C → AgendaParts C → Type 0
 PutsReady before c (Ok done) after = (length before.ready < before.room) × (after ≡ record before { ready = before.ready ++ c ∷ [] })
 PutsReady before c (Err back) after = (before.room ≤ length before.ready) × (back ≡ c) × (after ≡ before)
+
+-- The first context that is ready is taken, or there is none.
+abbrev pub GivesReady : {C : Type 0} → AgendaParts C → Option C → AgendaParts C → Type 0
+GivesReady before (Some c) after = TakesReady before c after
+GivesReady before None after = (before.ready ≡ []) × (after ≡ before)
+
+-- The last context that is not begun, or there is none.
+abbrev pub IsLastUnbegun : {C : Type 0} → AgendaParts C → Option (Bor C) → Type 0
+IsLastUnbegun {C} agenda (Some c) = (rest : List C) × (agenda.unbegun ≡ rest ++ c.now ∷ [])
+IsLastUnbegun agenda None = agenda.unbegun ≡ []
+
+abbrev pub GivesLast : {C : Type 0} → AgendaParts C → Option C → AgendaParts C → Type 0
+GivesLast before (Some c) after = (before.unbegun ≡ after.unbegun ++ c ∷ []) × (after ≡ record before { unbegun = after.unbegun })
+GivesLast before None after = (before.unbegun ≡ []) × (after ≡ before)
+
+-- The first context that is not begun, or there is none.
+abbrev pub GivesUnbegun : {C : Type 0} → AgendaParts C → Option C → AgendaParts C → Type 0
+GivesUnbegun before (Some c) after = (before.unbegun ≡ c ∷ after.unbegun) × (after ≡ record before { unbegun = after.unbegun })
+GivesUnbegun before None after = (before.unbegun ≡ []) × (after ≡ before)

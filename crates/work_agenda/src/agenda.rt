@@ -1,8 +1,8 @@
 //! Agendas.
-ghost use Rattle.std.specs.Prelude.{◌≡◌, ◌*◌, [], IfOk};
+ghost use Rattle.std.specs.Prelude.{◌≡◌, ◌*◌, [], length, IfOk};
 ghost use Rattle.std.specs.VecDeque.{deque_len};
 ghost use Rattle.sched_api.specs.Wishes.{with_wishes, without_child};
-ghost use Rattle.work_agenda.specs.Agenda.{TakesNext, PutsReady};
+ghost use Rattle.work_agenda.specs.Agenda.{TakesNext, PutsReady, GivesReady, GivesUnbegun, IsLastUnbegun, GivesLast};
 
 use sched_api::{Next, Wishes};
 use std::alloc::{AllocError, Global};
@@ -64,6 +64,41 @@ impl<C: Drop> Agenda<C> {
             Some(site) => Next::Lend(site),
             None => Next::Nothing,
         }
+    }
+
+    /// How many contexts are ready.
+    pub fn ready_count(&self) -> usize
+        ensures { result ≡ length self.now.ready }
+    {
+        self.ready.len()
+    }
+
+    /// Takes the first context that is ready, if there is one.
+    pub fn take_ready(&mut self) -> Option<C>
+        ensures { GivesReady self.old result self.new }
+    {
+        self.ready.pop_front()
+    }
+
+    /// Takes the first context that is not begun, if there is one, also where contexts are ready.
+    pub fn take_unbegun(&mut self) -> Option<C>
+        ensures { GivesUnbegun self.old result self.new }
+    {
+        self.unbegun.pop_front()
+    }
+
+    /// The last of the contexts that are not begun, if there is one.
+    pub fn last_unbegun(&self) -> Option<&C>
+        ensures { IsLastUnbegun self.now result }
+    {
+        self.unbegun.back()
+    }
+
+    /// Takes the last of the contexts that are not begun, if there is one.
+    pub fn take_last(&mut self) -> Option<C>
+        ensures { GivesLast self.old result self.new }
+    {
+        self.unbegun.pop_back()
     }
 
     /// Puts a context last among those that are ready. Where they fill their room, it is given back.

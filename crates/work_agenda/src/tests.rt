@@ -26,3 +26,32 @@ fn ready_contexts_go_before_new_ones_and_these_before_wishes(rt: HostRuntime) ->
     assert_eq!(rt; agenda.take_next(), Next::Nothing);
     Ok(())
 }
+
+#[test]
+fn ready_contexts_and_the_last_new_one_are_taken_by_themselves(
+    rt: HostRuntime,
+) -> Result<(), Fail> {
+    let mut agenda = agenda(rt.alloc())?;
+    assert_eq!(rt; agenda.put_ready('c'), Ok(()));
+    assert_eq!(rt; agenda.ready_count(), 1);
+    assert_eq!(rt; agenda.take_ready(), Some('c'));
+    assert_eq!(rt; agenda.take_ready(), None);
+    assert_eq!(rt; agenda.last_unbegun(), Some(&'b'));
+    assert_eq!(rt; agenda.take_last(), Some('b'));
+    assert_eq!(rt; agenda.take_next(), Next::Run('a'));
+    assert_eq!(rt; agenda.take_last(), None);
+    Ok(())
+}
+
+#[test]
+fn each_list_gives_its_first(rt: HostRuntime) -> Result<(), Fail> {
+    let mut agenda = agenda(rt.alloc())?;
+    assert_eq!(rt; agenda.take_ready(), None);
+    assert_eq!(rt; agenda.put_ready('c'), Ok(()));
+    assert_eq!(rt; agenda.ready_count(), 1);
+    assert_eq!(rt; agenda.take_unbegun(), Some('a'));
+    assert_eq!(rt; agenda.take_ready(), Some('c'));
+    assert_eq!(rt; agenda.take_unbegun(), Some('b'));
+    assert_eq!(rt; agenda.take_unbegun(), None);
+    Ok(())
+}

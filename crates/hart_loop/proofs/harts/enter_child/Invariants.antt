@@ -7,4 +7,5 @@ invariant-tries g l = record {
   next : (goal.iterator-tries g).can_next l.iterator';
   finite : (goal.iterator-tries g).is_finite l.iterator';
   same : g.P.Port.seen l.port ≡ g.P.Port.seen l.fn.port;
+  tools : l.tools ≡ l.fn.tools;
 }

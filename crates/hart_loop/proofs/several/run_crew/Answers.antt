@@ -1,5 +1,8 @@
-use Rattle.hart_loop.proofs.Crews.{crew_ran, first_ran}
+use Rattle.hart_loop.proofs.Crews.{starts_with, crew_ran, first_ran}
 use Rattle.hart_loop.proofs.several.run_crew.Goals as goal
+
+pub run_all-requires-clause-starts : goal.run_all-requires-clause-starts
+run_all-requires-clause-starts g c κs within = starts_with c.args.tree.now c.args.harts.now c.index-harts-0.result c.args.job c.requires.some c.requires.starts
 
 pub returns-clause-same : goal.returns-clause-same
 returns-clause-same g c = crew_ran c.args.harts.now c.run_all.new.harts c.index-harts-0.result c.index-harts-0-2.result c.args.job c.take.new.self c.requires.some c.run_all.ensures

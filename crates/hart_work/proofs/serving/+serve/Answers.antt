@@ -1,4 +1,4 @@
-use Rattle.std.proofs.Common.{◌≡◌, ◌≤◌, ℕ, true, sym, ◌∙◌, subst, arith, rules, Result, Ok, Err}
+use Rattle.std.proofs.Common.{◌≡◌, ◌≤◌, ℕ, true, sym, ◌∙◌, ap, subst, arith, rules, Result, Ok, Err}
 use Rattle.std.specs.Prelude.{OnOk}
 use Rattle.std.proofs.lemmas.Grind.{common_steps}
 use Rattle.transfer_table.specs.Plan.{IsSite, parent, Plan}
@@ -54,6 +54,7 @@ run_piece-steps-preserved g t c =
       left = (let a = run.left in let b = inv.left in omega arith);
       job = first_of (search rules, grind (arith, common_steps));
       ready = first_of (search rules, grind (arith, common_steps));
+      tools = first_of (search rules, grind (arith, common_steps));
     }
 
 pub serve-tasks-preserved-in-Piece : goal.serve-tasks-preserved-in-Piece
@@ -65,6 +66,7 @@ serve-tasks-preserved-in-Piece g t c =
       construct = run.construct ∙ c.in-Piece.ensures.construct ∙ inv.construct;
       settled = run.settled;
       left = (let a = run.left in let b = inv.left in let n = c.in-Piece.ensures.left in omega arith);
+      tools = run.tools ∙ c.in-Piece.ensures.tools ∙ inv.tools;
     }
 
 pub serve-tasks-preserved : goal.serve-tasks-preserved
@@ -76,6 +78,7 @@ serve-tasks-preserved g t c =
       construct = run.construct ∙ c.in-Visit.ensures.construct ∙ inv.construct;
       settled = run.stays.0 c.in-Visit.ensures.account;
       left = (let a = run.left in let b = inv.left in let n = c.in-Visit.ensures.left in omega arith);
+      tools = run.tools ∙ c.in-Visit.ensures.tools ∙ inv.tools;
     }
 
 pub visit-returns-in-Some-enter-clause-back : goal.visit-returns-in-Some-enter-clause-back
@@ -89,8 +92,8 @@ visit-returns-in-Some-enter-clause-back g t c =
     let child = child_of c.args.tree.now h s c.owner.result c.requires.plan c.owner.ensures.same is_one.0 is_one.1 in
     subst (IsBack h) (sym c.give_back.ensures.does) (back_visited h a served s c.owner.ensures.kept.plan child.0 child.1 c.requires.inner c.in-Some-enter.ensures.does c.be_guest.ensures.back)
 
-pub be_guest-returns : goal.be_guest-returns
-be_guest-returns g t c =
+pub be_guest-returns-clause-back : goal.be_guest-returns-clause-back
+be_guest-returns-clause-back g t c =
     let a = g.P.Port.seen c.args.port.now in
     let begun = g.P.Port.seen c.match-task.port in
     let first : IsBack a begun = elim c.match-task.branch [
@@ -98,7 +101,16 @@ be_guest-returns g t c =
       | be_guest-in-Visit w ↦ subst (λ x. IsBack a (g.P.Port.seen x)) (sym w.port-is) w.visit.ensures.back
       | be_guest-in-Nothing w ↦ subst (λ x. IsBack a (g.P.Port.seen x)) (sym w.port-is) (back_refl a c.requires.inner)
     ] in
-    record { back = back_then a begun (g.P.Port.seen c.serve.new.port) first c.serve.ensures.back }
+    back_then a begun (g.P.Port.seen c.serve.new.port) first c.serve.ensures.back
+
+pub be_guest-returns-clause-tools : goal.be_guest-returns-clause-tools
+be_guest-returns-clause-tools g t c =
+    let first : g.H.Resources.tools c.match-task.schedulers ≡ g.H.Resources.tools c.args.schedulers.now = elim c.match-task.branch [
+      | be_guest-in-Piece w ↦ ap g.H.Resources.tools w.schedulers-is ∙ w.run_job.ensures.tools
+      | be_guest-in-Visit w ↦ ap g.H.Resources.tools w.schedulers-is ∙ w.visit.ensures.tools
+      | be_guest-in-Nothing w ↦ ap g.H.Resources.tools w.schedulers-is
+    ] in
+    c.serve.ensures.tools ∙ first
 
 -- what holds at any answer
 at_any : {A E : Type 0} (r : Result A E) (Q : Type 0) → Q → OnOk r Q

@@ -29,6 +29,7 @@ invariant-serve-tasks g l = record {
   construct : g.H.Resources.construct l.site ≡ g.H.Resources.construct l.fn.site;
   settled : g.H.Resources.settled l.site;
   left : g.H.Schedulers.left l.site ≤ g.H.Schedulers.left l.fn.site;
+  tools : g.H.Resources.tools l.schedulers ≡ g.H.Resources.tools l.fn.schedulers;
 }
 
 abbrev pub decreases-serve-tasks : goal.decreases-serve-tasks
@@ -42,6 +43,7 @@ invariant-run_piece-steps g l = record {
   left : g.H.Schedulers.left l.around ≤ g.H.Schedulers.left l.fn.around;
   job : g.H.Resources.job_of l.running ≡ l.fn.job;
   ready : g.H.Resources.ready l.running;
+  tools : g.H.Resources.tools l.schedulers ≡ g.H.Resources.tools l.fn.schedulers;
 }
 
 abbrev pub decreases-run_piece-steps : goal.decreases-run_piece-steps

@@ -1,0 +1,173 @@
+-- What a hand's calls do to the rows, one after another.
+use Rattle.std.proofs.Common.{◌≡◌, ◌<◌, ◌≤◌, ◌*◌, ◌+◌, ◌-◌, ℕ, zero, suc, List, [], ◌∷◌, ◌++◌, length, map, get_or, set, slice_index, sym, ap, subst, ◌∙◌, arith, refl, inl, inr}
+use Rattle.std.proofs.lemmas.List.{get_or-set_same, set-set, set-get_or, append-nil, append_assoc, map-append, length-map, length-append}
+use Rattle.std.proofs.lemmas.Bool.{cases_eq}
+use Rattle.std.proofs.Math.Seq.{map-set_same}
+use Rattle.std.specs.Prelude.{Option, Some, None, IfSome}
+use Rattle.crossbeam_deque.specs.Handles.{view, worker_view}
+use Rattle.deque_rows.specs.declared.account.Log.{Log}
+use Rattle.deque_rows.specs.declared.ends.HomeEnd.{HomeEnd}
+use Rattle.deque_rows.specs.declared.ends.StealingEnd.{StealingEnd}
+use Rattle.deque_rows.specs.declared.hart.HartRows.{HartRows}
+use Rattle.deque_rows.specs.declared.stolen.Stolen.{Stolen}
+use Rattle.deque_rows.specs.declared.stolen.Stolen.TheVariants.{Code, Empty}
+use Rattle.deque_rows.specs.Account.{idle, after_push, after_steal, HeldAtMost, Rose}
+use Rattle.deque_rows.specs.Rows.{IsLevel, kin, home_logs, pass_logs, bares, home_log, pass_log, bare, place}
+use Rattle.deque_rows.specs.Calls.{FoundBare, Pushes, PopGives, StealGives}
+use Rattle.forkjoin_sched.specs.Hands.{Keeps, IsFoundBare, HasTaken, PushesCodes, IsFalling, code_at}
+
+-- how many rows there are
+own_count : (r : HartRows) → length (home_logs r) ≡ 3
+own_count r = let l = length-map r.own.items (λ (h : HomeEnd). worker_view h.worker) in let k = r.own.ok in let n = r.levels in omega (arith, l, k, n)
+
+pass_count : (r : HartRows) → length (pass_logs r) ≡ 3 * r.harts
+pass_count r = let l = length-map r.ends.items (λ (s : StealingEnd). view s.pass) in let k = r.ends.ok in let n = r.reaches in omega (arith, l, k, n)
+
+-- what stands at a row that changed
+pub home_set : (old new : HartRows) (level : ℕ) (w : Log) → IsLevel level → home_logs new ≡ set (home_logs old) (level - 1) w → home_log new level ≡ w
+home_set old new level w is e = ap (λ l. get_or l (level - 1) idle) e ∙ get_or-set_same (home_logs old) (level - 1) w idle (let n = own_count old in omega (arith, n, is.0, is.1))
+
+pub pass_set : (old new : HartRows) (hart level : ℕ) (w : Log) → IsLevel level → hart < old.harts → pass_logs new ≡ set (pass_logs old) (place hart level) w → pass_log new hart level ≡ w
+pass_set old new hart level w is few e = ap (λ l. get_or l (place hart level) idle) e ∙ get_or-set_same (pass_logs old) (place hart level) w idle (let n = pass_count old in omega (arith, n, few, is.0, is.1))
+
+-- counts that rise
+rises : (xs : List ℕ) (i n r : ℕ) → get_or xs i 0 ≤ n → get_or xs r 0 ≤ get_or (set xs i n) r 0
+rises [] i n r h = let e : 0 ≤ get_or (set [] i n) r 0 = omega arith in e
+rises (x ∷ xs) zero n zero h = h
+rises (x ∷ xs) zero n (suc r) h = let e : get_or xs r 0 ≤ get_or xs r 0 = omega arith in e
+rises (x ∷ xs) (suc i) n zero h = let e : x ≤ x = omega arith in e
+rises (x ∷ xs) (suc i) n (suc r) h = rises xs i n r h
+
+rose_least : (a b : ℕ) → Rose a b → a ≤ b
+rose_least a b (inl h) = omega (arith, h)
+rose_least a b (inr h) = let e = h.1 in omega (arith, e)
+
+rose_on : (a b c : ℕ) → a ≤ b → Rose b c → Rose a c
+rose_on a b c least (inl h) = inl (omega (arith, h, least))
+rose_on a b c least (inr h) = elim (cases_eq a b) [
+  | inl same ↦ inr (same ∙ h.0, h.1 ∙ sym same)
+  | inr other ↦ inl (let e = h.1 in omega (arith, e, least, other))
+]
+
+found_least : (old new : HartRows) (hart level : ℕ) → FoundBare old hart level new → (r : ℕ) → slice_index (bares old) r ≤ slice_index (bares new) r
+found_least old new hart level f r =
+    subst (λ xs. slice_index (bares old) r ≤ slice_index xs r) (sym f.2) (rises (bares old) (place hart level) f.0 r (rose_least (bare old hart level) f.0 f.1))
+
+same_least : (old new : HartRows) → bares new ≡ bares old → (r : ℕ) → slice_index (bares old) r ≤ slice_index (bares new) r
+same_least old new same r = subst (λ xs. slice_index (bares old) r ≤ slice_index xs r) (sym same) (omega arith)
+
+pushed : Log → List ℕ
+pushed v = v.pushed
+
+-- the steps of a hart that takes a code
+pub keeps_none : (rows : HartRows) → Keeps rows rows
+keeps_none rows = record { kin = refl; pushed = refl; bares = same_least rows rows refl }
+
+pub keeps_then : (a b c : HartRows) → Keeps a b → Keeps b c → Keeps a c
+keeps_then a b c h k = record {
+  kin = k.kin ∙ h.kin;
+  pushed = k.pushed ∙ h.pushed;
+  bares = λ r. let x = h.bares r in let y = k.bares r in omega (arith, x, y);
+}
+
+pub keeps_pop : (old new : HartRows) (level : ℕ) (result : Option ℕ) → kin new ≡ kin old → PopGives old level result new → Keeps old new
+keeps_pop old new level (Some code) same gives = record {
+  kin = same;
+  pushed = ap (map (λ (v : Log). v.pushed)) gives.2 ∙ map-set_same (λ (v : Log). v.pushed) (home_logs old) (level - 1) gives.0 idle (ap (λ (v : Log). v.pushed) gives.1.1);
+  bares = same_least old new gives.4;
+}
+keeps_pop old new level None same gives = record {
+  kin = same;
+  pushed = ap (map (λ (v : Log). v.pushed)) gives.2;
+  bares = found_least old new old.hart level gives.1;
+}
+
+pub keeps_steal : (old new : HartRows) (hart level : ℕ) (result : Stolen) → kin new ≡ kin old → StealGives old hart level result new → Keeps old new
+keeps_steal old new hart level (Code code) same gives = record {
+  kin = same;
+  pushed = ap (map (λ (v : Log). v.pushed)) gives.1;
+  bares = same_least old new gives.2;
+}
+keeps_steal old new hart level Empty same gives = record {
+  kin = same;
+  pushed = ap (map (λ (v : Log). v.pushed)) gives.2;
+  bares = found_least old new hart level gives.1;
+}
+
+pub taken_by_pop : (old new : HartRows) (home level code : ℕ) → IsLevel level → PopGives old level (Some code) new → HasTaken home level code new
+taken_by_pop old new home level code is gives =
+    inl ((home_log old level).popped, ap (λ (v : Log). v.popped) (home_set old new level gives.0 is gives.2) ∙ ap (λ (v : Log). v.popped) gives.1.1)
+
+pub taken_if : (old new : HartRows) (level : ℕ) (result : Option ℕ) → IsLevel level → PopGives old level result new → IfSome result (λ code. (home : ℕ) → HasTaken home level code new)
+taken_if old new level (Some code) is gives = λ home. taken_by_pop old new home level code is gives
+taken_if old new level None is gives = tt
+
+pub taken_by_steal : (old new : HartRows) (home level code : ℕ) → IsLevel level → home < old.harts → StealGives old home level (Code code) new → HasTaken home level code new
+taken_by_steal old new home level code is few gives =
+    inr ((pass_log old home level).stolen, ap (λ (v : Log). v.stolen) (pass_set old new home level (after_steal (pass_log old home level) (code ∷ [])) is few gives.0))
+
+-- none is taken where the row was found bare
+pub bare_by_steal : (old new : HartRows) (home level : ℕ) → IsLevel level → home < old.harts → StealGives old home level Empty new → IsFoundBare home level old new
+bare_by_steal old new home level is few gives = (
+  subst (Rose (bare old home level)) (sym (ap (λ xs. get_or xs (place home level) 0) gives.1.2 ∙ get_or-set_same (bares old) (place home level) gives.1.0 0
+      (let n = old.bare.ok in let k = old.ends.ok in let c = old.counts in let r = old.reaches in omega (arith, n, k, c, r, few, is.0, is.1)))) gives.1.1,
+  subst (HeldAtMost 1) (ap (λ l. get_or l (place home level) idle) (sym gives.3)) gives.0,
+)
+
+pub bare_on : (a b c : HartRows) (home level : ℕ) → Keeps a b → IsFoundBare home level b c → IsFoundBare home level a c
+bare_on a b c home level kept bare = (rose_on (bare_of a) (bare_of b) (bare_of c) (kept.bares (place home level)) bare.0, bare.1)
+  where
+    bare_of : HartRows → ℕ
+    bare_of r = slice_index (bares r) (place home level)
+
+-- the steps of a home that offers
+push_none : (v : Log) → after_push v [] ≡ v
+push_none v = λ i. record v { pushed = append-nil v.pushed i; kept = append-nil v.kept i }
+
+push_twice : (v : Log) (xs ys : List ℕ) → after_push (after_push v xs) ys ≡ after_push v (xs ++ ys)
+push_twice v xs ys = λ i. record v { pushed = append_assoc v.pushed xs ys i; kept = append_assoc v.kept xs ys i }
+
+pub pushes_none : (site level : ℕ) (rows : HartRows) → PushesCodes site level [] rows rows
+pushes_none site level rows = record {
+  kin = refl;
+  own = sym (ap (set (home_logs rows) (level - 1)) (push_none (home_log rows level)) ∙ set-get_or (home_logs rows) (level - 1) idle);
+  passes = refl;
+  bares = refl;
+}
+
+pub pushes_more : (site level : ℕ) (places : List ℕ) (place : ℕ) (before mid after : HartRows) → IsLevel level → PushesCodes site level places before mid
+    → kin after ≡ kin mid → Pushes mid level (code_at site place) after → PushesCodes site level (places ++ place ∷ []) before after
+pushes_more site level places place before mid after is h same push =
+    let codes = map (code_at site) places in
+    let v = home_log before level in
+    let x = after_push v codes in
+    let at = home_set before mid level x is h.own in
+    let logs = home_logs before in record {
+      kin = same ∙ h.kin;
+      own = push.0 ∙ ap (λ u. set (home_logs mid) (level - 1) (after_push u (code_at site place ∷ []))) at
+          ∙ ap (λ l. set l (level - 1) (after_push x (code_at site place ∷ []))) h.own
+          ∙ set-set logs (level - 1) x (after_push x (code_at site place ∷ []))
+          ∙ ap (set logs (level - 1)) (push_twice v codes (code_at site place ∷ []) ∙ ap (after_push v) (sym (map-append (code_at site) places (place ∷ []))));
+      passes = push.1 ∙ h.passes;
+      bares = push.2 ∙ h.bares;
+    }
+
+pub room_after : (site level : ℕ) (places : List ℕ) (before after : HartRows) → IsLevel level → PushesCodes site level places before after
+    → length (home_log after level).pushed ≡ length (home_log before level).pushed + length places
+room_after site level places before after is h =
+    ap (λ (v : Log). length v.pushed) (home_set before after level (after_push (home_log before level) (map (code_at site) places)) is h.own)
+    ∙ length-append (home_log before level).pushed (map (code_at site) places)
+    ∙ ap (λ n. length (home_log before level).pushed + n) (length-map places (code_at site))
+
+-- places that fall
+pub falls_on : (n least : ℕ) (places : List ℕ) → IsFalling n (suc least) places → IsFalling n least places
+falls_on n least [] h = omega (arith, h)
+falls_on n least (p ∷ ps) h = (h.0, falls_on p least ps h.1)
+
+pub falls_more : (n least : ℕ) (places : List ℕ) → IsFalling n (suc least) places → IsFalling n least (places ++ least ∷ [])
+falls_more n least [] h = (let e : least < n = omega (arith, h) in e, let e : least ≤ least = omega arith in e)
+falls_more n least (p ∷ ps) h = (h.0, falls_more p least ps h.1)
+
+pub falls_count : (n least : ℕ) (places : List ℕ) → IsFalling n least places → length places + least ≤ n
+falls_count n least [] h = omega (arith, h)
+falls_count n least (p ∷ ps) h = let e = falls_count p least ps h.1 in omega (arith, h.0, e)

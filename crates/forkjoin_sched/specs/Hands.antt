@@ -1,0 +1,110 @@
+-- What a hart's hand on a shared pool does.
+use Rattle.std.specs.Prelude.{◌≡◌, ◌⊎◌, ℕ, ◌+◌, ◌-◌, ◌*◌, ◌<◌, ◌≤◌, List, [], ◌∷◌, ◌++◌, length, map, slice_set, slice_index, Option, Some, None}
+use Rattle.array_jobs.specs.Jobs.{JobParts}
+use Rattle.sched_api.specs.declared.scheduler.Next.{Next}
+use Rattle.sched_api.specs.declared.scheduler.Next.TheVariants.{Run, Lend, Nothing}
+use Rattle.deque_rows.specs.declared.account.Log.{Log}
+use Rattle.deque_rows.specs.declared.hart.HartRows.{HartRows}
+use Rattle.deque_rows.specs.Account.{HeldAtMost, Rose, after_push}
+use Rattle.deque_rows.specs.Rows.{kin, home_logs, pass_logs, bares, home_log, pass_log, bare}
+use Rattle.work_agenda.specs.Agenda.{GivesReady}
+use Rattle.forkjoin_sched.specs.Pools.{PoolParts, Answers, with_agenda}
+use Rattle.forkjoin_sched.specs.declared.work.PoolWork.{PoolWork}
+use Rattle.forkjoin_sched.specs.declared.work.PoolWork.TheVariants.{Begin, Ready}
+use Rattle.forkjoin_sched.specs.declared.looks.Found.{Found}
+use Rattle.forkjoin_sched.specs.declared.looks.Found.TheVariants.{HandedOut, NoneLeft, Work}
+use Rattle.forkjoin_sched.specs.declared.looks.Looks.{Looks}
+
+-- the code of a job
+abbrev pub code_at : ℕ → ℕ → ℕ
+code_at site place = 64 * site + place
+
+abbrev pub code_of : JobParts → ℕ
+code_of job = code_at job.site job.place
+
+-- Under the lock --
+
+-- a further look, which found this
+abbrev pub Sees : Looks → Found → Looks → Type 0
+Sees before found after = Rose before.count after.count × (after.last ≡ Some found)
+
+-- what is found by a hart that asks for work
+abbrev pub found_by : Option PoolParts → Next PoolWork → Found
+found_by None next = HandedOut
+found_by (Some pool) Nothing = NoneLeft
+found_by (Some pool) (Run work) = Work
+found_by (Some pool) (Lend site) = Work
+
+-- the pool answers, and of one that was handed out nothing is left
+abbrev pub AnswersUnder : Option PoolParts → Next PoolWork → Option PoolParts → Type 0
+AnswersUnder None next after = (next ≡ Nothing) × (after ≡ None)
+AnswersUnder (Some pool) next None = ⊥
+AnswersUnder (Some pool) next (Some after) = Answers pool next after
+
+-- the first context that is ready
+abbrev pub GivesReadyUnder : Option PoolParts → Option PoolWork → Option PoolParts → Type 0
+GivesReadyUnder None ready after = (ready ≡ None) × (after ≡ None)
+GivesReadyUnder (Some pool) ready None = ⊥
+GivesReadyUnder (Some pool) ready (Some after) = GivesReady pool.agenda ready after.agenda × (after ≡ with_agenda pool after.agenda)
+
+-- The rows --
+
+-- the same rows, to which nothing was pushed; no count of moments at which one was found bare fell
+pub record Keeps (before after : HartRows) : Type 0 where
+  pub kin : kin after ≡ kin before
+  pub pushed : map (λ (v : Log). v.pushed) (home_logs after) ≡ map (λ (v : Log). v.pushed) (home_logs before)
+  pub bares : (r : ℕ) → slice_index (bares before) r ≤ slice_index (bares after) r
+
+-- The row was found bare: its count of such moments rose, and what is known of it fits a moment at which it held at most one code.
+abbrev pub IsFoundBare : ℕ → ℕ → HartRows → HartRows → Type 0
+IsFoundBare home level before after = Rose (bare before home level) (bare after home level) × HeldAtMost 1 (pass_log after home level)
+
+-- the last code that was taken from the row, by a pop or by a steal, is this one
+abbrev pub HasTaken : ℕ → ℕ → ℕ → HartRows → Type 0
+HasTaken home level code rows =
+    ((codes : List ℕ) × ((home_log rows level).popped ≡ codes ++ code ∷ []))
+    ⊎ ((codes : List ℕ) × ((pass_log rows home level).stolen ≡ codes ++ code ∷ []))
+
+-- a code of the row, or none, and it was found bare
+abbrev pub TakesCode : ℕ → ℕ → HartRows → Option ℕ → HartRows → Type 0
+TakesCode home level before (Some code) after = HasTaken home level code after
+TakesCode home level before None after = IsFoundBare home level before after
+
+-- a job whose code was taken, or none, and the row was found bare
+abbrev pub TakesPiece : ℕ → ℕ → HartRows → Option JobParts → HartRows → Type 0
+TakesPiece home level before (Some job) after = HasTaken home level (code_of job) after
+TakesPiece home level before None after = IsFoundBare home level before after
+
+-- the places fall, each of them below n and none below `least`
+abbrev pub IsFalling : ℕ → ℕ → List ℕ → Type 0
+IsFalling n least [] = least ≤ n
+IsFalling n least (place ∷ places) = (place < n) × IsFalling place least places
+
+-- The codes of these places of the site are pushed, in this order, and nothing else is done.
+pub record PushesCodes (site level : ℕ) (places : List ℕ) (before after : HartRows) : Type 0 where
+  pub kin : kin after ≡ kin before
+  pub own : home_logs after ≡ slice_set (home_logs before) (level - 1) (after_push (home_log before level) (map (code_at site) places))
+  pub passes : pass_logs after ≡ pass_logs before
+  pub bares : bares after ≡ bares before
+
+-- The jobs are those from some place on to the one before n, in order.
+abbrev pub RunsTo : ℕ → List PoolWork → Type 0
+RunsTo n [] = Unit {0}
+RunsTo n (Begin job ∷ works) = (job.place + length works + 1 ≡ n) × RunsTo n works
+RunsTo n (Ready context ∷ works) = ⊥
+
+-- Jobs leave a pool that are not begun, and the code of each is pushed, the last place first. Where they are the last of n jobs,
+-- all leave it.
+pub record OffersJobs (site level n : ℕ) (pool : PoolParts) (rows : HartRows) (places : List ℕ) (pool' : PoolParts) (rows' : HartRows) : Type 0 where
+  pub falling : IsFalling n 0 places
+  pub pushes : PushesCodes site level places rows rows'
+  pub rest : pool' ≡ with_agenda pool (record pool.agenda { unbegun = pool'.agenda.unbegun })
+  pub each : length pool.agenda.unbegun ≡ length pool'.agenda.unbegun + length places
+  pub all : RunsTo n pool.agenda.unbegun → pool'.agenda.unbegun ≡ []
+
+-- A further look, and the jobs of a pool that wasn't handed out are offered.
+abbrev pub OffersUnder : ℕ → ℕ → ℕ → Looks × Option PoolParts × HartRows → Looks × Option PoolParts × HartRows → Type 0
+OffersUnder site level n (looks, None, rows) (looks', kept', rows') = Sees looks HandedOut looks' × (kept' ≡ None) × (rows' ≡ rows)
+OffersUnder site level n (looks, Some pool, rows) (looks', None, rows') = ⊥
+OffersUnder site level n (looks, Some pool, rows) (looks', Some pool', rows') =
+    Sees looks Work looks' × (places : List ℕ) × OffersJobs site level n pool rows places pool' rows'

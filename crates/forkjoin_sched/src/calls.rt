@@ -1,0 +1,194 @@
+//! What a hart does with its hand on a pool.
+ghost use Rattle.std.specs.Prelude.{◌≡◌, ◌≤◌, ◌+◌, length, IfSome, IfErr};
+ghost use Rattle.deque_rows.specs.Rows.{home_log};
+ghost use Rattle.join_book.specs.Books.{IsFull};
+ghost use Rattle.forkjoin_sched.specs.Shared.{GivesBack};
+ghost use Rattle.forkjoin_sched.specs.HandCalls.{AnswersHand, IsStill, Offers, TakesReadyBy, LooksBy};
+
+use crate::hand::PoolHand;
+use crate::pieces::take_piece;
+use crate::pool::{Pool, PoolHeard, heard};
+use crate::work::PoolWork;
+use array_jobs::{Job, Piece};
+use join_book::Deposit;
+use sched_api::{Call, Next, Scheduler};
+use std::sync::{Mutex, Wait};
+
+impl<'a, 'r, 'p, R: Wait + 'a> PoolHand<'a, 'r, 'p, R> {
+    /// Puts the jobs that aren't begun up for all harts: their codes go to the home's row, the last place first. The hart must
+    /// be the home, and its row must have room for a code of each job. It takes no memory.
+    pub fn offer(&mut self, rt: &R)
+        requires home { self.old.rows.now.hart ≡ self.old.home }
+        requires room { length self.old.shared.now.jobs + length (home_log self.old.rows.now self.old.level).pushed ≤ 16384 }
+        ensures { Offers self.old self.new }
+    {
+        let site = self.shared.site();
+        let mut kept = self.shared.kept().lock(rt);
+        let slots = self.shared.slots();
+        self.looks
+            .offer(rt, &mut kept, slots, self.rows, site, self.level);
+    }
+
+    /// What `deposit` of the pool does. Where the pool was handed out, each piece is a Stranger.
+    pub fn deposit(&self, rt: &R, piece: Piece<'p>) -> Deposit<'p>
+        ensures { GivesBack piece.entry result }
+    {
+        match self.shared.kept().lock(rt).as_mut() {
+            Some(pool) => pool.deposit(piece),
+            None => Deposit::Stranger(piece),
+        }
+    }
+
+    /// What `fail` of the pool does. Where the place isn't there, or is filled or failed, it does nothing.
+    pub fn fail(&self, rt: &R, place: u8) {
+        if let Some(pool) = self.shared.kept().lock(rt).as_mut() {
+            if pool.is_open(place) {
+                pool.fail(place);
+            }
+        }
+    }
+
+    /// Whether every place of the pool is filled or failed. One that was handed out is full.
+    pub fn is_full(&self, rt: &R) -> bool {
+        match self.shared.kept().lock(rt).as_ref() {
+            Some(pool) => pool.is_full(),
+            None => true,
+        }
+    }
+
+    /// Whether the piece of some place found no memory. It is false where the pool was handed out.
+    pub fn has_failed(&self, rt: &R) -> bool {
+        match self.shared.kept().lock(rt).as_ref() {
+            Some(pool) => pool.has_failed(),
+            None => false,
+        }
+    }
+
+    /// Hands the pool out, once. None exactly where it was handed out before, or isn't full. A None changes nothing.
+    pub fn take_out(&self, rt: &R) -> Option<Pool<'p>>
+        ensures { IfSome result (λ pool. IsFull pool.book) }
+    {
+        let mut kept = self.shared.kept().lock(rt);
+        match kept.as_ref() {
+            Some(pool) if pool.is_full() => {}
+            Some(_) => return None,
+            None => return None,
+        }
+        let pool = kept.take();
+        clear(rt, self.shared.slots());
+        pool
+    }
+}
+
+impl<'a, 'r, 'p, R: Wait + 'a> Scheduler for PoolHand<'a, 'r, 'p, R> {
+    type Hold = &'a R;
+
+    type Heard = PoolHeard;
+
+    type Ctx = PoolWork<'p>;
+
+    ghost site_of = { λ hand. hand.shared.now.site };
+
+    // Of what the lock holds nothing is known but what a look found.
+    ghost answers = { λ before next after. AnswersHand before next after };
+
+    ghost hears = { λ before _ after. IsStill before after };
+
+    ghost takes = { λ before c answer after. IsStill before after × IfErr answer (λ back. back ≡ c) };
+
+    fn site(&self) -> u16 {
+        self.shared.site()
+    }
+
+    fn register(&mut self, hold: &'a R, child: u16) -> PoolHeard {
+        match self.shared.kept().lock(hold).as_mut() {
+            Some(pool) => pool.register((), child),
+            None => heard(Call::Registered, child, 0),
+        }
+    }
+
+    fn unregister(&mut self, hold: &'a R, child: u16) -> PoolHeard {
+        match self.shared.kept().lock(hold).as_mut() {
+            Some(pool) => pool.unregister((), child),
+            None => heard(Call::Unregistered, child, 0),
+        }
+    }
+
+    fn request(&mut self, hold: &'a R, child: u16, count: u8) -> PoolHeard {
+        match self.shared.kept().lock(hold).as_mut() {
+            Some(pool) => pool.request((), child, count),
+            None => heard(Call::Requested, child, count),
+        }
+    }
+
+    fn yielded(&mut self, hold: &'a R, child: u16) -> PoolHeard {
+        match self.shared.kept().lock(hold).as_mut() {
+            Some(pool) => pool.yielded((), child),
+            None => heard(Call::Yielded, child, 0),
+        }
+    }
+
+    fn enter(&mut self, hold: &'a R) -> Next<PoolWork<'p>> {
+        if let Some(work) = self.take_ready(hold) {
+            return Next::Run(work);
+        }
+        match take_piece(hold, self.shared, self.rows, self.home, self.level) {
+            Some(job) => Next::Run(PoolWork::Begin(job)),
+            None => self.look(hold),
+        }
+    }
+
+    fn block(&mut self, hold: &'a R) -> PoolHeard {
+        match self.shared.kept().lock(hold).as_mut() {
+            Some(pool) => pool.block(()),
+            None => heard(Call::Blocked, 0, 0),
+        }
+    }
+
+    fn unblock(&mut self, hold: &'a R, c: PoolWork<'p>) -> Result<(), PoolWork<'p>> {
+        match self.shared.kept().lock(hold).as_mut() {
+            Some(pool) => {
+                let answer = pool.unblock((), c);
+                self.shared.show_ready(pool);
+                answer
+            }
+            None => Err(c),
+        }
+    }
+}
+
+impl<'a, 'r, 'p, R: Wait + 'a> PoolHand<'a, 'r, 'p, R> {
+    // A context that is ready, where the pool shows one without its lock.
+    fn take_ready(&mut self, rt: &R) -> Option<PoolWork<'p>>
+        ensures { TakesReadyBy self.old result self.new }
+    {
+        if !self.shared.has_ready() {
+            return None;
+        }
+        let mut kept = self.shared.kept().lock(rt);
+        let ready = self.looks.take_ready(&mut kept);
+        if let Some(pool) = kept.as_ref() {
+            self.shared.show_ready(pool);
+        }
+        ready
+    }
+
+    // What the pool has behind its lock.
+    fn look(&mut self, rt: &R) -> Next<PoolWork<'p>>
+        ensures { LooksBy self.old result self.new }
+    {
+        let mut kept = self.shared.kept().lock(rt);
+        let next = self.looks.enter(&mut kept);
+        if let Some(pool) = kept.as_ref() {
+            self.shared.show_ready(pool);
+        }
+        next
+    }
+}
+
+// Lets go what lies in the slots.
+fn clear<R: Wait>(rt: &R, slots: &[Mutex<Option<Job>>]) {
+    for slot in slots {
+        let _ = slot.lock(rt).take();
+    }
+}

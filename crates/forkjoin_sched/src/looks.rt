@@ -1,0 +1,103 @@
+//! What a hand does under the lock of its pool.
+ghost use Rattle.std.specs.Prelude.{◌≡◌, ◌+◌, ◌≤◌, ℕ, List, length, MatchOption};
+ghost use Rattle.work_agenda.specs.Agenda.{GivesReady};
+ghost use Rattle.deque_rows.specs.Rows.{IsLevel, home_log};
+ghost use Rattle.forkjoin_sched.specs.declared.looks.Found.TheVariants.{HandedOut, Work};
+ghost use Rattle.forkjoin_sched.specs.Hands.{Sees, found_by, AnswersUnder, GivesReadyUnder, OffersUnder};
+
+use crate::offering::offer_jobs;
+use crate::pool::Pool;
+use crate::work::PoolWork;
+use array_jobs::Job;
+use deque_rows::HartRows;
+use sched_api::{Next, Scheduler};
+use std::sync::{Mutex, Wait};
+
+/// What a look under the lock of a pool found.
+#[derive(Clone, Copy, Debug, PartialEq, Drop)]
+pub enum Found {
+    /// The pool was handed out before.
+    HandedOut,
+    /// No context was ready, no job lay there to be begun, and no child wished for a hart.
+    NoneLeft,
+    /// The pool, which had work for the hart, or took what the hart did.
+    Work,
+}
+
+/// How often a hand looked under the lock of its pool, up to the last number, and what it found there last. Only a look
+/// changes it.
+#[derive(Drop)]
+pub struct Looks {
+    count: u64,
+    last: Option<Found>,
+}
+
+impl Looks {
+    /// No look.
+    pub(crate) fn new() -> Looks {
+        Looks {
+            count: 0,
+            last: None,
+        }
+    }
+
+    // A further look, which found this.
+    fn note(&mut self, found: Found)
+        ensures { Sees self.old found self.new }
+    {
+        self.count = self.count.saturating_add(1);
+        self.last = Some(found);
+    }
+
+    /// What the pool has for a hart.
+    pub(crate) fn enter<'p>(&mut self, kept: &mut Option<Pool<'p>>) -> Next<PoolWork<'p>>
+        ensures sees { Sees self.old (found_by kept.old result) self.new }
+        ensures answers { AnswersUnder kept.old result kept.new }
+    {
+        let Some(pool) = kept else {
+            self.note(Found::HandedOut);
+            return Next::Nothing;
+        };
+        let next = pool.enter(());
+        match next {
+            Next::Nothing => self.note(Found::NoneLeft),
+            _ => self.note(Found::Work),
+        }
+        next
+    }
+
+    /// The first context that is ready to go on, if there is one.
+    pub(crate) fn take_ready<'p>(&mut self, kept: &mut Option<Pool<'p>>) -> Option<PoolWork<'p>>
+        ensures sees { MatchOption result (self.new ≡ self.old) (λ work. Sees self.old Work self.new) }
+        ensures gives { GivesReadyUnder kept.old result kept.new }
+    {
+        let Some(pool) = kept else { return None };
+        let ready = pool.take_ready();
+        if ready.is_some() {
+            self.note(Found::Work);
+        }
+        ready
+    }
+
+    /// Moves the jobs that aren't begun into the slots of their places, and pushes the code of each, the last place first.
+    pub(crate) fn offer<'p, R: Wait>(
+        &mut self,
+        rt: &R,
+        kept: &mut Option<Pool<'p>>,
+        slots: &[Mutex<Option<Job<'p>>>],
+        rows: &mut HartRows,
+        site: u16,
+        level: u8,
+    )
+        requires level { IsLevel level }
+        requires room { length slots.now + length (home_log rows.old level).pushed ≤ 16384 }
+        ensures { OffersUnder site level (length slots.now) (self.old, kept.old, rows.old) (self.new, kept.new, rows.new) }
+    {
+        let Some(pool) = kept else {
+            self.note(Found::HandedOut);
+            return;
+        };
+        offer_jobs(rt, pool, slots, rows, site, level);
+        self.note(Found::Work);
+    }
+}

@@ -1,0 +1,37 @@
+//! How the jobs of a pool come to its home's row.
+ghost use Rattle.std.specs.Prelude.{◌≡◌, ◌+◌, ◌*◌, ◌≤◌, ◌<◌, ℕ, List, length};
+ghost use Rattle.deque_rows.specs.Rows.{IsLevel, home_log};
+ghost use Rattle.forkjoin_sched.specs.Hands.{OffersJobs, code_at};
+
+use crate::pool::Pool;
+use array_jobs::Job;
+use deque_rows::HartRows;
+use std::sync::{Mutex, Wait};
+
+/// The code of a place of a site.
+pub(crate) fn code_at(site: u16, place: u8) -> u32
+    ensures { result ≡ code_at site place }
+{
+    64 * u32::from(site) + u32::from(place)
+}
+
+/// Moves the jobs that aren't begun into the slots of their places, and pushes the code of each, the last place first.
+pub(crate) fn offer_jobs<'p, R: Wait>(
+    rt: &R,
+    pool: &mut Pool<'p>,
+    slots: &[Mutex<Option<Job<'p>>>],
+    rows: &mut HartRows,
+    site: u16,
+    level: u8,
+)
+    requires level { IsLevel level }
+    requires room { length slots.now + length (home_log rows.old level).pushed ≤ 16384 }
+    ensures { (places : List ℕ) × OffersJobs site level (length slots.now) pool.old rows.old places pool.new rows.new }
+{
+    for place in (0..slots.len()).rev() {
+        if let Some(job) = pool.take_last(place) {
+            rows.push(level, code_at(site, job.place));
+            *slots[place].lock(rt) = Some(job);
+        }
+    }
+}

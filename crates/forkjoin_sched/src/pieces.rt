@@ -1,0 +1,81 @@
+//! How pieces that are not begun come to harts, by the codes of a row.
+ghost use Rattle.std.specs.Prelude.{◌≡◌, ◌<◌, ℕ, IfSome};
+ghost use Rattle.deque_rows.specs.Rows.{IsLevel};
+ghost use Rattle.forkjoin_sched.specs.Hands.{Keeps, HasTaken, TakesCode, TakesPiece, code_of};
+
+use crate::offering::code_at;
+use crate::shared::SharedPool;
+use array_jobs::Job;
+use deque_rows::{HartRows, Stolen};
+use std::sync::Wait;
+
+/// A piece of the pool that isn't begun, and whose code stood in the row of this home. A code of another site, or one whose
+/// job isn't there any more, is let go. None comes only where the row was found bare.
+pub(crate) fn take_piece<'p, R: Wait>(
+    rt: &R,
+    shared: &SharedPool<'p>,
+    rows: &mut HartRows,
+    home: u8,
+    level: u8,
+) -> Option<Job<'p>>
+    requires row { IsLevel level × (home < rows.old.harts) }
+    ensures keeps { Keeps rows.old rows.new }
+    ensures takes { TakesPiece home level rows.old result rows.new }
+{
+    for _ in rt.forever() {
+        let code = take_code(rt, rows, home, level)?;
+        if let Some(job) = job_of(rt, shared, code) {
+            return Some(job);
+        }
+    }
+    unreachable!()
+}
+
+// A code of the row: the home pops, and steals where that gives none; a guest steals.
+fn take_code<R: Wait>(rt: &R, rows: &mut HartRows, home: u8, level: u8) -> Option<u32>
+    requires row { IsLevel level × (home < rows.old.harts) }
+    ensures keeps { Keeps rows.old rows.new }
+    ensures takes { TakesCode home level rows.old result rows.new }
+{
+    if rows.hart() == home {
+        if let Some(code) = pop_code(rows, level) {
+            return Some(code);
+        }
+    }
+    steal_code(rt, rows, home, level)
+}
+
+// The last code of one's own row.
+fn pop_code(rows: &mut HartRows, level: u8) -> Option<u32>
+    requires { IsLevel level }
+    ensures keeps { Keeps rows.old rows.new }
+    ensures harts { rows.new.harts ≡ rows.old.harts }
+    ensures taken { IfSome result (λ code. (home : ℕ) → HasTaken home level code rows.new) }
+{
+    rows.pop(level)
+}
+
+// The first code of the row.
+fn steal_code<R: Wait>(rt: &R, rows: &mut HartRows, home: u8, level: u8) -> Option<u32>
+    requires row { IsLevel level × (home < rows.old.harts) }
+    ensures keeps { Keeps rows.old rows.new }
+    ensures takes { TakesCode home level rows.old result rows.new }
+{
+    match rows.steal(rt, home, level) {
+        Stolen::Code(code) => Some(code),
+        Stolen::Empty => None,
+    }
+}
+
+// The job of this code, where it lies in its slot, from which it is taken.
+fn job_of<'p, R: Wait>(rt: &R, shared: &SharedPool<'p>, code: u32) -> Option<Job<'p>>
+    ensures { IfSome result (λ job. code_of job ≡ code) }
+{
+    let mut slot = shared.slots().get((code % 64) as usize)?.lock(rt);
+    match slot.as_ref() {
+        Some(job) if code_at(job.site, job.place) == code => {}
+        Some(_) => return None,
+        None => return None,
+    }
+    slot.take()
+}

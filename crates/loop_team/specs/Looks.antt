@@ -1,0 +1,21 @@
+-- What a look under the lock of a shared team found, and what a hart does then, if that is the answer.
+use Rattle.std.specs.Prelude.{◌≡◌, ◌⊎◌, Option, Some, None}
+use Rattle.sched_api.specs.declared.scheduler.Next.{Next}
+use Rattle.sched_api.specs.declared.scheduler.Next.TheVariants.{Run, Lend, Nothing}
+use Rattle.loop_team.specs.declared.found.Found.{Found}
+use Rattle.loop_team.specs.declared.found.Found.TheVariants as found
+use Rattle.loop_team.specs.declared.work.TeamWork.{TeamWork}
+
+-- Of a look for a ready context.
+abbrev pub TellsReady : Found → Option (Next TeamWork) → Type 0
+TellsReady what None = Unit {0}
+TellsReady what (Some (Run work)) = what ≡ found.Work
+TellsReady what (Some (Lend child)) = ⊥
+TellsReady what (Some Nothing) = what ≡ found.HandedOut
+
+-- Of a look where no member was left.
+abbrev pub TellsRest : Found → Option (Next TeamWork) → Type 0
+TellsRest what None = Unit {0}
+TellsRest what (Some (Run work)) = what ≡ found.Work
+TellsRest what (Some (Lend child)) = what ≡ found.Wish
+TellsRest what (Some Nothing) = (what ≡ found.HandedOut) ⊎ (what ≡ found.Idle)

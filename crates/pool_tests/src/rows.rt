@@ -1,0 +1,129 @@
+//! Pools whose codes stand in rows.
+ghost use Rattle.std.specs.Prelude.{◌≡◌, ◌<◌, IfOk};
+ghost use Rattle.deque_rows.specs.Rows.{IsLevel, kin};
+
+use crate::hands::{entered, finds, is_offered, own_rows, shared_pool};
+use crate::pools::answer_of;
+use deque_rows::{HartRows, rows};
+use forkjoin_sched::{PoolHand, SharedPool};
+use sample_programs::{Answer, TWO_BRANCHES, parsed};
+use sched_api::Scheduler;
+use std::alloc::Global;
+use std::sync::Wait;
+use std::test::Fail;
+
+// Puts a code into the hart's own row, if it has room.
+fn put<R>(hand: &mut PoolHand<'_, '_, '_, R>, code: u32) {
+    if 0 < hand.rows.room(hand.level) {
+        hand.rows.push(hand.level, code);
+    }
+}
+
+#[test]
+fn a_code_of_no_job_of_the_pool_is_let_go(rt: HostRuntime) -> Result<(), Fail> {
+    let alloc = rt.alloc();
+    let program = parsed(alloc, TWO_BRANCHES)?;
+    let shared = shared_pool(alloc, &program)?;
+    let mut rows = own_rows(alloc)?;
+    let mut hand = PoolHand::new(&shared, &mut rows, 0, 1);
+    assert!(rt; is_offered(&rt, &mut hand));
+    // The one is of site 5, the other of a place that the pool doesn't have.
+    put(&mut hand, 320);
+    put(&mut hand, 66);
+    assert_eq!(rt; entered(&rt, &mut hand), Answer::Begins(0));
+    // Those of jobs that are begun.
+    put(&mut hand, 64);
+    put(&mut hand, 64);
+    assert!(rt; finds(&rt, &mut hand, &[Answer::Begins(1), Answer::Nothing]));
+    Ok(())
+}
+
+#[test]
+fn jobs_that_are_not_offered_are_handed_out_under_the_lock(rt: HostRuntime) -> Result<(), Fail> {
+    let alloc = rt.alloc();
+    let program = parsed(alloc, TWO_BRANCHES)?;
+    let shared = shared_pool(alloc, &program)?;
+    let mut rows = own_rows(alloc)?;
+    let mut hand = PoolHand::new(&shared, &mut rows, 0, 1);
+    assert_eq!(rt; entered(&rt, &mut hand), Answer::Begins(0));
+    assert_eq!(rt; hand.rows.room(1), 16_384);
+    assert!(rt; is_offered(&rt, &mut hand));
+    assert_eq!(rt; hand.rows.room(1), 16_383);
+    assert!(rt; finds(&rt, &mut hand, &[Answer::Begins(1), Answer::Nothing]));
+    Ok(())
+}
+
+// The rows of two harts.
+fn rows_of_two(alloc: Global) -> Result<(HartRows, HartRows), Fail>
+    ensures { IfOk result (λ both. (0 < both.0.harts) × (0 < both.1.harts)) }
+{
+    let mut all = rows(alloc, 2)?;
+    let Some(second) = all.pop() else {
+        return Err(Fail::new("there are no rows"));
+    };
+    match all.pop() {
+        Some(first) => Ok((first, second)),
+        None => Err(Fail::new("there is one hart's row")),
+    }
+}
+
+// What a hart finds by a hand that it makes for this one use. Its rows stay those that they were.
+fn found_once<'a, R: Wait + 'a>(
+    rt: &'a R,
+    shared: &'a SharedPool,
+    rows: &mut HartRows,
+    home: u8,
+    level: u8,
+) -> Answer
+    requires row { IsLevel level × (home < rows.old.harts) }
+    ensures { kin rows.new ≡ kin rows.old }
+{
+    let mut hand = PoolHand::new(shared, rows, home, level);
+    let next = hand.enter(rt);
+    answer_of(next)
+}
+
+// The home offers; the guest steals the first code, and the home pops the last.
+fn is_shared_out<'a, R: Wait + 'a>(
+    rt: &'a R,
+    home: &mut PoolHand<'a, '_, '_, R>,
+    guest: &mut PoolHand<'a, '_, '_, R>,
+) -> bool {
+    let before = !is_offered(rt, guest) && is_offered(rt, home);
+    let steals = entered(rt, guest) == Answer::Begins(1);
+    let pops = entered(rt, home) == Answer::Begins(0);
+    let none = entered(rt, guest) == Answer::Nothing && entered(rt, home) == Answer::Nothing;
+    before && steals && pops && none
+}
+
+#[test]
+fn the_home_pops_and_a_guest_steals(rt: HostRuntime) -> Result<(), Fail> {
+    let alloc = rt.alloc();
+    let program = parsed(alloc, TWO_BRANCHES)?;
+    let shared = shared_pool(alloc, &program)?;
+    let (mut first, mut second) = rows_of_two(alloc)?;
+    let mut home = PoolHand::new(&shared, &mut first, 0, 1);
+    let mut guest = PoolHand::new(&shared, &mut second, 0, 1);
+    assert!(rt; is_shared_out(&rt, &mut home, &mut guest));
+    let PoolHand {
+        shared: _,
+        rows: _,
+        home: _,
+        level: _,
+        looks: _,
+        of: _,
+    } = home;
+    let PoolHand {
+        shared: _,
+        rows: _,
+        home: _,
+        level: _,
+        looks: _,
+        of: _,
+    } = guest;
+    assert_eq!(rt;
+        found_once(&rt, &shared, &mut second, 0, 1),
+        Answer::Nothing
+    );
+    Ok(())
+}

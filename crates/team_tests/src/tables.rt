@@ -1,0 +1,21 @@
+//! Tables by which the members of small teams are claimed.
+ghost use Rattle.std.specs.Prelude.{◌≡◌, ◌≤◌, length, map, vec_len, IfOk};
+ghost use Rattle.claim_words.specs.Seats.{AreAll, IsOf, kin};
+
+use loop_team::{ClaimSeat, ClaimTable};
+use std::alloc::Global;
+use std::test::Fail;
+
+/// A row for each of two phases of three members.
+pub const TWO_ROWS: [u8; 2] = [3, 3];
+
+/// A table of these rows, and its one seat.
+pub fn table_of(alloc: Global) -> Result<(ClaimTable, ClaimSeat), Fail>
+    ensures { IfOk result (λ t. IsOf t.0 (kin t.1)) }
+{
+    let (table, mut seats) = ClaimTable::new(alloc, &TWO_ROWS, 1)?;
+    let Some(seat) = seats.pop() else {
+        unreachable!()
+    };
+    Ok((table, seat))
+}

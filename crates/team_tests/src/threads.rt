@@ -1,0 +1,133 @@
+//! Two harts on threads that run one team, each by a hand with a seat of its own.
+ghost use Rattle.std.specs.Prelude.{◌≡◌, map};
+ghost use Rattle.claim_words.specs.Seats.{AreAll, IsOf, kin};
+ghost use Rattle.loop_team.specs.Hands.{IsSameHand};
+ghost use Rattle.loop_team.specs.Rows.{RowsFit};
+
+use crate::hands::shared_team;
+use crate::tables::TWO_ROWS;
+use array_jobs::{Job, piece_of};
+use loop_team::laws::claimed;
+use loop_team::{ClaimSeat, ClaimTable, SharedTeam, TeamHand, TeamWork, rows_fit};
+use sample_programs::{TWO_PHASES, parsed};
+use sched_api::{Next, Scheduler};
+use std::alloc::Global;
+use std::sync::Wait;
+use std::sync::atomic::{AtomicU64, Ordering};
+use std::test::Fail;
+use std::thread::{Threads, for_each_mut};
+
+// How often each of three members began each of two phases, in eight bits each.
+#[derive(Drop)]
+struct Begun {
+    counts: AtomicU64,
+}
+
+impl Begun {
+    fn note(&self, phase: u8, place: u8) {
+        let member = 3 * (phase % 2) + place % 3;
+        self.counts.fetch_add(1 << (8 * member), Ordering::SeqCst);
+    }
+
+    fn is_each_once(&self) -> bool {
+        self.counts.load(Ordering::SeqCst) == 0x01_01_01_01_01_01
+    }
+}
+
+// Runs a member, and brings its piece.
+fn run_member<'a, 'r, 'p, R: Wait + 'a>(
+    rt: &'a R,
+    hand: &TeamHand<'a, 'r, 'p, R>,
+    alloc: Global,
+    job: Job<'p>,
+) {
+    let place = job.place;
+    match piece_of(alloc, job) {
+        Ok(piece) => {
+            let _ = hand.arrive(rt, piece);
+        }
+        Err(_) => hand.fail(rt, place),
+    }
+}
+
+// Runs members until the team is over.
+fn run_members<'a, 'r, 'p, R: Wait + 'a>(
+    rt: &'a R,
+    hand: &mut TeamHand<'a, 'r, 'p, R>,
+    alloc: Global,
+    begun: &Begun,
+)
+    ensures { IsSameHand hand.old hand.new }
+{
+    for _ in rt.forever() {
+        if hand.is_over(rt) {
+            return;
+        }
+        if let Next::Run(TeamWork::Begin(job)) = hand.enter(rt) {
+            begun.note(job.phase, job.place);
+            run_member(rt, hand, alloc, job);
+        }
+    }
+}
+
+// What one hart does.
+fn run_by_seat<'a, 'p, R: Wait + 'a>(
+    rt: &'a R,
+    shared: &'a SharedTeam<'p>,
+    table: &'a ClaimTable,
+    alloc: Global,
+    begun: &Begun,
+    seat: &mut ClaimSeat,
+)
+    requires of { IsOf table.now (kin seat.old) }
+    requires rows { RowsFit table.now.counts.items 0 shared.now }
+    ensures { kin seat.new ≡ kin seat.old }
+{
+    let mut hand = TeamHand::new(shared, table, seat, 0);
+    run_members(rt, &mut hand, alloc, begun);
+}
+
+// All do so at once.
+fn run_by_all<'a, 'p: 'a, R: Threads + Wait + Sync>(
+    rt: &'a R,
+    shared: &'a SharedTeam<'p>,
+    table: &'a ClaimTable,
+    alloc: Global,
+    begun: &Begun,
+    seats: &mut [ClaimSeat],
+)
+    requires all { AreAll table.now (map kin seats.old) }
+    requires rows { RowsFit table.now.counts.items 0 shared.now }
+    ensures { map kin seats.new ≡ map kin seats.old }
+{
+    let go = |_hart: usize, seat: &mut ClaimSeat|
+        requires of { IsOf table.now (kin seat.old) }
+        requires rows { RowsFit table.now.counts.items 0 shared.now }
+        ensures { kin seat.new ≡ kin seat.old }
+    { run_by_seat(rt, shared, table, alloc, begun, seat) };
+    for_each_mut(rt, seats, 2, &go);
+}
+
+// Whether two harts begin each member of each phase once. Then the account of their claims is settled.
+fn is_shared_out<R: Threads + Wait + Sync>(rt: &R, alloc: Global) -> Result<bool, Fail> {
+    let program = parsed(alloc, TWO_PHASES)?;
+    let shared = shared_team(alloc, &program)?;
+    let (table, mut seats) = ClaimTable::new(alloc, &TWO_ROWS, 2)?;
+    if !rows_fit(&table, 0, shared.nested()) {
+        return Err(Fail::new("other rows"));
+    }
+    let begun = Begun {
+        counts: AtomicU64::new(0),
+    };
+    run_by_all(rt, &shared, &table, alloc, &begun, seats.as_mut_slice());
+    claimed(table, seats);
+    Ok(begun.is_each_once())
+}
+
+#[test]
+fn two_threads_begin_each_member_of_each_phase_once(rt: HostRuntime) -> Result<(), Fail> {
+    for _ in 0..20 {
+        assert!(rt; is_shared_out(&rt, rt.alloc())?);
+    }
+    Ok(())
+}
