@@ -1,6 +1,6 @@
 -- What a caller of the rows of all harts needs.
-use Rattle.std.proofs.Common.{◌≡◌, ◌<◌, ℕ, suc, List, [], ◌∷◌, map, length, get_or, set, sym, ap, subst, ◌∙◌, arith, refl}
-use Rattle.std.proofs.lemmas.List.{length-map}
+use Rattle.std.proofs.Common.{◌≡◌, ◌<◌, ℕ, suc, List, [], ◌∷◌, ◌++◌, map, length, get_or, set, sym, ap, subst, ◌∙◌, arith, refl}
+use Rattle.std.proofs.lemmas.List.{length-map, length-append, get_or_push, get_or_append_left}
 use Rattle.std.proofs.Math.Seq.{map-set_same}
 use Rattle.std.proofs.Math.ListN.{get_or-map as get_or-map_same}
 use Rattle.deque_rows.specs.declared.hart.HartRows.{HartRows}
@@ -10,6 +10,18 @@ use Rattle.deque_rows.specs.Rows.{Kin, kin, AreAll}
 pub reaches_all : (rows : List HartRows) → AreAll (map kin rows) → (h : ℕ) (d : HartRows) → h < length rows → (get_or rows h d).harts ≡ length rows
 reaches_all rows all h d there =
     ap (λ (k : Kin). k.harts) (sym (get_or-map_same kin rows h d)) ∙ all.reaches h (kin d) (subst (λ n. h < n) (sym (length-map rows kin)) there) ∙ length-map rows kin
+
+-- of rows that all reach as many harts: so does the last, and so do those before it
+pub last_reaches : (rs rs' : List HartRows) (r : HartRows) (n : ℕ) → rs ≡ rs' ++ r ∷ [] → ((h : ℕ) (d : HartRows) → h < length rs → (get_or rs h d).harts ≡ n) → r.harts ≡ n
+last_reaches rs rs' r n split all =
+    let there : length rs' < length rs = omega (arith, ap length split, length-append rs' (r ∷ [])) in
+    ap (λ (x : HartRows). x.harts) (sym (get_or_push rs' r r (length rs') refl) ∙ ap (λ xs. get_or xs (length rs') r) (sym split)) ∙ all (length rs') r there
+
+pub rest_reach : (rs rs' : List HartRows) (r : HartRows) (n : ℕ) → rs ≡ rs' ++ r ∷ [] → ((h : ℕ) (d : HartRows) → h < length rs → (get_or rs h d).harts ≡ n)
+    → (h : ℕ) (d : HartRows) → h < length rs' → (get_or rs' h d).harts ≡ n
+rest_reach rs rs' r n split all h d below =
+    let there : h < length rs = omega (arith, below, ap length split, length-append rs' (r ∷ [])) in
+    ap (λ (x : HartRows). x.harts) (sym (get_or_append_left rs' (r ∷ []) d h below) ∙ ap (λ xs. get_or xs h d) (sym split)) ∙ all h d there
 
 -- one hart's rows moved on, or each hart's
 pub one_moved : (rows : List HartRows) (h : ℕ) (y d : HartRows) → kin y ≡ kin (get_or rows h d) → map kin (set rows h y) ≡ map kin rows

@@ -1,7 +1,6 @@
 -- How tools are taken and given.
-use Rattle.std.proofs.Common.{◌≡◌, ◌<◌, ◌+◌, ◌∙◌, ℕ, List, [], ◌∷◌, ◌++◌, map, length, reverse, get_or, ap, sym, subst, refl, arith}
-use Rattle.std.proofs.lemmas.List.{reverse-append, append_assoc, map-append, length-append, get_or_push, get_or_append_left}
-use Rattle.deque_rows.specs.declared.hart.HartRows.{HartRows}
+use Rattle.std.proofs.Common.{◌≡◌, ◌∙◌, List, [], ◌∷◌, ◌++◌, map, reverse, ap, sym}
+use Rattle.std.proofs.lemmas.List.{reverse-append, append_assoc, map-append}
 use Rattle.claim_words.specs.declared.seat.ClaimSeat.{ClaimSeat}
 use Rattle.claim_words.specs.declared.table.ClaimTable.{ClaimTable}
 use Rattle.claim_words.specs.Seats.{kin, IsOf, AreOf}
@@ -25,18 +24,6 @@ taken h f hs hs' x ts ts' t all more split same before =
     ∙ ap (λ z. map h hs ++ z ∷ map f (reverse ts')) same
     ∙ ap (λ zs. map h hs ++ map f zs) (sym (ap reverse split ∙ reverse-append ts' (t ∷ [])))
     ∙ before
-
--- of rows that all reach as many harts: so does the last, and so do those before it
-pub last_reaches : (rs rs' : List HartRows) (r : HartRows) (n : ℕ) → rs ≡ rs' ++ r ∷ [] → ((h : ℕ) (d : HartRows) → h < length rs → (get_or rs h d).harts ≡ n) → r.harts ≡ n
-last_reaches rs rs' r n split all =
-    let there : length rs' < length rs = omega (arith, ap length split, length-append rs' (r ∷ [])) in
-    ap (λ (x : HartRows). x.harts) (sym (get_or_push rs' r r (length rs') refl) ∙ ap (λ xs. get_or xs (length rs') r) (sym split)) ∙ all (length rs') r there
-
-pub rest_reach : (rs rs' : List HartRows) (r : HartRows) (n : ℕ) → rs ≡ rs' ++ r ∷ [] → ((h : ℕ) (d : HartRows) → h < length rs → (get_or rs h d).harts ≡ n)
-    → (h : ℕ) (d : HartRows) → h < length rs' → (get_or rs' h d).harts ≡ n
-rest_reach rs rs' r n split all h d below =
-    let there : h < length rs = omega (arith, below, ap length split, length-append rs' (r ∷ [])) in
-    ap (λ (x : HartRows). x.harts) (sym (get_or_append_left rs' (r ∷ []) d h below) ∙ ap (λ xs. get_or xs h d) (sym split)) ∙ all h d there
 
 -- of seats of a table: so are those before the last, and so is the last
 pub split_of : (t : ClaimTable) (ss : List ClaimSeat) (s : ClaimSeat) → AreOf t (map kin (ss ++ s ∷ [])) → AreOf t (map kin ss) × IsOf t (kin s)

@@ -1,6 +1,5 @@
 //! Pools whose codes stand in rows.
 ghost use Rattle.std.specs.Prelude.{◌≡◌, ◌<◌, IfOk};
-ghost use Rattle.deque_rows.specs.Rows.{IsLevel, kin};
 
 use crate::hands::{entered, finds, is_offered, own_rows, shared_pool};
 use crate::pools::answer_of;
@@ -67,33 +66,29 @@ fn rows_of_two(alloc: Global) -> Result<(HartRows, HartRows), Fail>
     }
 }
 
-// What a hart finds by a hand that it makes for this one use. Its rows stay those that they were.
-fn found_once<'a, R: Wait + 'a>(
-    rt: &'a R,
-    shared: &'a SharedPool,
-    rows: &mut HartRows,
-    home: u8,
-    level: u8,
-) -> Answer
-    requires row { IsLevel level × (home < rows.old.harts) }
-    ensures { kin rows.new ≡ kin rows.old }
+// What a hart finds by a hand that it makes for this one use, on a pool of hart 0 at level 1.
+fn found_once<'a, R: Wait + 'a>(rt: &'a R, shared: &'a SharedPool, rows: &mut HartRows) -> Answer
+    requires { 0 < rows.old.harts }
+    ensures { rows.new.harts ≡ rows.old.harts }
 {
-    let mut hand = PoolHand::new(shared, rows, home, level);
-    let next = hand.enter(rt);
-    answer_of(next)
+    let mut hand = PoolHand::new(shared, rows, 0, 1);
+    answer_of(hand.enter(rt))
 }
 
 // The home offers; the guest steals the first code, and the home pops the last.
 fn is_shared_out<'a, R: Wait + 'a>(
     rt: &'a R,
+    shared: &'a SharedPool,
     home: &mut PoolHand<'a, '_, '_, R>,
-    guest: &mut PoolHand<'a, '_, '_, R>,
-) -> bool {
-    let before = !is_offered(rt, guest) && is_offered(rt, home);
-    let steals = entered(rt, guest) == Answer::Begins(1);
+    guest: &mut HartRows,
+) -> bool
+    requires { 0 < guest.old.harts }
+{
+    let offered = is_offered(rt, home);
+    let steals = found_once(rt, shared, guest) == Answer::Begins(1);
     let pops = entered(rt, home) == Answer::Begins(0);
-    let none = entered(rt, guest) == Answer::Nothing && entered(rt, home) == Answer::Nothing;
-    before && steals && pops && none
+    let none = found_once(rt, shared, guest) == Answer::Nothing;
+    offered && steals && pops && none && entered(rt, home) == Answer::Nothing
 }
 
 #[test]
@@ -103,27 +98,6 @@ fn the_home_pops_and_a_guest_steals(rt: HostRuntime) -> Result<(), Fail> {
     let shared = shared_pool(alloc, &program)?;
     let (mut first, mut second) = rows_of_two(alloc)?;
     let mut home = PoolHand::new(&shared, &mut first, 0, 1);
-    let mut guest = PoolHand::new(&shared, &mut second, 0, 1);
-    assert!(rt; is_shared_out(&rt, &mut home, &mut guest));
-    let PoolHand {
-        shared: _,
-        rows: _,
-        home: _,
-        level: _,
-        looks: _,
-        of: _,
-    } = home;
-    let PoolHand {
-        shared: _,
-        rows: _,
-        home: _,
-        level: _,
-        looks: _,
-        of: _,
-    } = guest;
-    assert_eq!(rt;
-        found_once(&rt, &shared, &mut second, 0, 1),
-        Answer::Nothing
-    );
+    assert!(rt; is_shared_out(&rt, &shared, &mut home, &mut second));
     Ok(())
 }

@@ -1,11 +1,11 @@
-use Rattle.std.proofs.Common.{◌≡◌, ◌<◌, ◌∙◌, List, ◌++◌, map, reverse, ap, sym, subst, arith}
+use Rattle.std.proofs.Common.{◌∙◌, List, ◌++◌, map, reverse, ap, sym, subst, arith}
 use Rattle.std.proofs.lemmas.List.{append-nil}
 use Rattle.deque_rows.specs.Rows as codes
-use Rattle.deque_rows.proofs.Callers.{reaches_all}
+use Rattle.deque_rows.proofs.Callers.{reaches_all, last_reaches, rest_reach}
 use Rattle.claim_words.specs.Seats as words
 use Rattle.claim_words.specs.declared.seat.ClaimSeat.{ClaimSeat}
 use Rattle.hart_loop.specs.declared.tools.Tools.{Tools}
-use Rattle.hart_loop.proofs.Stocks.{given, last_reaches, rest_reach, split_of}
+use Rattle.hart_loop.proofs.Stocks.{given, split_of}
 use Rattle.hart_loop.proofs.tools.tools_of.Goals as goal
 
 pub loop-own-init : goal.loop-own-init
