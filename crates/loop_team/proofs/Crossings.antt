@@ -17,7 +17,7 @@ use Rattle.loop_team.specs.contracts.team.Team as Team
 use Rattle.loop_team.specs.contracts.shared.SharedTeam as SharedTeam
 
 module _ (l : NamedLft) where
-  job_send : IsSend (Job.the_row l)
+  pub job_send : IsSend (Job.the_row l)
   job_send = search (crosses, ExprKnot.crosses, StmtKnot.crosses, sendable) depth 60 fits 20000
 
   nested_send : IsSend (Nested.the_row l)
@@ -29,10 +29,10 @@ module _ (l : NamedLft) where
   machine_send : IsSend (StepMachine.the_row l)
   machine_send = search (crosses, ExprKnot.crosses, StmtKnot.crosses, sendable) depth 60 fits 20000
 
-  paused_send : IsSend (Paused.the_row (StepMachine.the_row l))
+  pub paused_send : IsSend (Paused.the_row (StepMachine.the_row l))
   paused_send = let machine = machine_send in search (crosses, sendable) depth 60 fits 20000
 
-  book_send : IsSend (Book.the_row l)
+  pub book_send : IsSend (Book.the_row l)
   book_send = let job = job_send in search (crosses, sendable) depth 60 fits 20000
 
   barrier_send : IsSend (BarrierState.the_row l)

@@ -6,18 +6,11 @@ use Rattle.std.proofs.Crossing.{crosses}
 use Rattle.array_tree.proofs.tree.Expr.TheLaws.TheKnot as ExprKnot
 use Rattle.array_tree.proofs.tree.Stmt.TheLaws.TheKnot as StmtKnot
 use Rattle.array_jobs.specs.contracts.job.Job as Job
-use Rattle.contexts.specs.contracts.context.Paused as Paused
-use Rattle.step_eval.specs.contracts.machine.StepMachine as StepMachine
-use Rattle.step_eval.specs.contracts.nested.Nested as Nested
 use Rattle.work_agenda.specs.contracts.agenda.Agenda as Agenda
-use Rattle.join_book.specs.contracts.book.Book as Book
-use Rattle.lithe_barrier.specs.contracts.state.BarrierState as BarrierState
 use Rattle.forkjoin_sched.specs.contracts.work.PoolWork as PoolWork
 use Rattle.forkjoin_sched.specs.contracts.pool.Pool as Pool
 use Rattle.forkjoin_sched.specs.contracts.shared.SharedPool as SharedPool
-use Rattle.loop_team.specs.contracts.work.TeamWork as TeamWork
-use Rattle.loop_team.specs.contracts.team.Team as Team
-use Rattle.loop_team.specs.contracts.shared.SharedTeam as SharedTeam
+use Rattle.loop_team.proofs.Crossings.{job_send, paused_send, book_send, shared_team_send, shared_team_sync}
 use Rattle.once_cell.specs.contracts.race.once_box.OnceBox as OnceBox
 use Rattle.once_cell.specs.contracts.race.note.Note as Note
 use Rattle.once_cell.proofs.race.once_box.OnceBox.TheSendSync as OnceBoxCrosses
@@ -26,65 +19,29 @@ use Rattle.site_directory.specs.contracts.shared_site.SharedSite as SharedSite
 use Rattle.site_directory.specs.contracts.directory.SiteLine as SiteLine
 
 module _ (l : NamedLft) where
-  pub job_send : IsSend (Job.the_row l)
-  job_send = search (crosses, ExprKnot.crosses, StmtKnot.crosses, sendable) depth 60 fits 20000
-
   job_sync : IsSync (Job.the_row l)
   job_sync = search (crosses, ExprKnot.crosses, StmtKnot.crosses, sendable) depth 60 fits 20000
 
-  nested_send : IsSend (Nested.the_row l)
-  nested_send = search (crosses, ExprKnot.crosses, StmtKnot.crosses, sendable) depth 60 fits 20000
-
-  nested_sync : IsSync (Nested.the_row l)
-  nested_sync = search (crosses, ExprKnot.crosses, StmtKnot.crosses, sendable) depth 60 fits 20000
-
-  machine_send : IsSend (StepMachine.the_row l)
-  machine_send = search (crosses, ExprKnot.crosses, StmtKnot.crosses, sendable) depth 60 fits 20000
-
-  paused_send : IsSend (Paused.the_row (StepMachine.the_row l))
-  paused_send = let machine = machine_send in search (crosses, sendable) depth 60 fits 20000
-
-  book_send : IsSend (Book.the_row l)
-  book_send = let job = job_send in search (crosses, sendable) depth 60 fits 20000
-
-  barrier_send : IsSend (BarrierState.the_row l)
-  barrier_send = let book = book_send in search (crosses, sendable) depth 60 fits 20000
-
   pool_work_send : IsSend (PoolWork.the_row l)
-  pool_work_send = let job = job_send in let paused = paused_send in search (crosses, sendable) depth 60 fits 20000
+  pool_work_send = let job = job_send l in let paused = paused_send l in search (crosses, sendable) depth 60 fits 20000
 
   pool_agenda_send : IsSend (Agenda.the_row (PoolWork.the_row l))
   pool_agenda_send = let work = pool_work_send in search (crosses, sendable) depth 60 fits 20000
 
   pool_send : IsSend (Pool.the_row l)
-  pool_send = let agenda = pool_agenda_send in let book = book_send in search (crosses, sendable) depth 60 fits 20000
+  pool_send = let agenda = pool_agenda_send in let book = book_send l in search (crosses, sendable) depth 60 fits 20000
 
   shared_pool_send : IsSend (SharedPool.the_row l)
-  shared_pool_send = let pool = pool_send in let job = job_send in search (crosses, sendable) depth 60 fits 20000
+  shared_pool_send = let pool = pool_send in let job = job_send l in search (crosses, sendable) depth 60 fits 20000
 
   shared_pool_sync : IsSync (SharedPool.the_row l)
-  shared_pool_sync = let pool = pool_send in let job = job_send in let jobs = job_sync in search (crosses, sendable) depth 60 fits 20000
-
-  team_work_send : IsSend (TeamWork.the_row l)
-  team_work_send = let job = job_send in let paused = paused_send in search (crosses, sendable) depth 60 fits 20000
-
-  team_agenda_send : IsSend (Agenda.the_row (TeamWork.the_row l))
-  team_agenda_send = let work = team_work_send in search (crosses, sendable) depth 60 fits 20000
-
-  team_send : IsSend (Team.the_row l)
-  team_send = let nested = nested_send in let agenda = team_agenda_send in let barrier = barrier_send in search (crosses, sendable) depth 60 fits 20000
-
-  shared_team_send : IsSend (SharedTeam.the_row l)
-  shared_team_send = let team = team_send in let nested = nested_send in let job = job_send in search (crosses, sendable) depth 60 fits 20000
-
-  shared_team_sync : IsSync (SharedTeam.the_row l)
-  shared_team_sync = let team = team_send in let nested = nested_sync in let job = job_send in search (crosses, sendable) depth 60 fits 20000
+  shared_pool_sync = let pool = pool_send in let job = job_send l in let jobs = job_sync in search (crosses, sendable) depth 60 fits 20000
 
   pub shared_site_send : IsSend (SharedSite.the_row l)
-  shared_site_send = let pool = shared_pool_send in let team = shared_team_send in search (crosses, sendable) depth 60 fits 20000
+  shared_site_send = let pool = shared_pool_send in let team = shared_team_send l in search (crosses, sendable) depth 60 fits 20000
 
   pub shared_site_sync : IsSync (SharedSite.the_row l)
-  shared_site_sync = let pool = shared_pool_sync in let team = shared_team_sync in search (crosses, sendable) depth 60 fits 20000
+  shared_site_sync = let pool = shared_pool_sync in let team = shared_team_sync l in search (crosses, sendable) depth 60 fits 20000
 
 -- a line to a cell goes from thread to thread with what the cell shares
 pub line_send : (a p : NamedLft) → IsSend (SiteLine.the_row a (SharedSite.the_row p))

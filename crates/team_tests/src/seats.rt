@@ -93,26 +93,7 @@ fn share_by_seats<'a, 'p, R: Wait + 'a>(
 {
     let mut first = TeamHand::new(shared, table, one, 0);
     let mut second = TeamHand::new(shared, table, other, 0);
-    let ran = share_team(rt, &mut first, &mut second, alloc);
-    let TeamHand {
-        seat: _,
-        shared: _,
-        claims: _,
-        row: _,
-        looks: _,
-        found: _,
-        of: _,
-    } = first;
-    let TeamHand {
-        seat: _,
-        shared: _,
-        claims: _,
-        row: _,
-        looks: _,
-        found: _,
-        of: _,
-    } = second;
-    ran
+    share_team(rt, &mut first, &mut second, alloc)
 }
 
 // Takes two seats out of the list, and puts them back.
