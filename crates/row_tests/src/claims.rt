@@ -53,7 +53,7 @@ fn are_claims_right(table: &ClaimTable, seats: &mut Vec<ClaimSeat>) -> bool
 #[test]
 fn each_member_is_claimed_once(rt: HostRuntime) -> Result<(), Fail> {
     let (table, mut seats) = ClaimTable::new(rt.alloc(), &[2, 0, 3], 2)?;
-    assert!(rt; table.counts() == [2, 0, 3]);
+    assert!(rt; table.counts() == [2, 0, 3].as_slice());
     assert!(rt; are_claims_right(&table, &mut seats));
     claimed(table, seats);
     Ok(())
