@@ -1,85 +1,116 @@
 //! Two hands on one team, each with a seat of its own.
 ghost use Rattle.std.specs.Prelude.{◌≡◌, ◌≤◌, length, map, vec_len};
 ghost use Rattle.claim_words.specs.Seats.{AreAll, IsOf, kin};
-ghost use Rattle.loop_team.specs.Hands.{IsSameHand};
 ghost use Rattle.loop_team.specs.Rows.{RowsFit};
 
 use crate::hands::shared_team;
-use crate::samples::{entered, gives, opened_by};
+use crate::samples::{gives, opened_by};
 use crate::tables::TWO_ROWS;
 use array_jobs::{Piece, piece_of};
 use loop_team::laws::claimed;
 use loop_team::{ClaimSeat, ClaimTable, SharedTeam, TeamHand, TeamWork, rows_fit};
-use sample_programs::{Answer, BOTH_PHASES, TWO_PHASES, parsed};
+use sample_programs::{BOTH_PHASES, TWO_PHASES, parsed};
 use sched_api::{Next, Scheduler};
 use std::alloc::Global;
 use std::sync::Wait;
 use std::test::Fail;
 
-// The piece of the member that a hand begins next, which must be this one of this phase.
-fn begun<'a, 'r, 'p, R: Wait + 'a>(
+// The piece of the member that a hart begins next by its seat, which must be this one of this phase.
+fn begun<'a, 'p, R: Wait + 'a>(
     rt: &'a R,
-    hand: &mut TeamHand<'a, 'r, 'p, R>,
+    shared: &'a SharedTeam<'p>,
+    table: &'a ClaimTable,
+    seat: &mut ClaimSeat,
     alloc: Global,
-    phase: u8,
-    place: u8,
+    member: (u8, u8),
 ) -> Result<Piece<'p>, Fail>
-    ensures { IsSameHand hand.old hand.new }
+    requires of { IsOf table.now (kin seat.old) }
+    requires rows { RowsFit table.now.counts.items 0 shared.now }
+    ensures { kin seat.new ≡ kin seat.old }
 {
-    match hand.enter(rt) {
-        Next::Run(TeamWork::Begin(job)) if job.phase == phase && job.place == place => {
+    match TeamHand::new(shared, table, seat, 0).enter(rt) {
+        Next::Run(TeamWork::Begin(job)) if (job.phase, job.place) == member => {
             Ok(piece_of(alloc, job)?)
         }
         _ => Err(Fail::new("another member")),
     }
 }
 
-// Whether a hand finds nothing.
-fn finds_nothing<'a, 'r, 'p, R: Wait + 'a>(rt: &'a R, hand: &mut TeamHand<'a, 'r, 'p, R>) -> bool
-    ensures { IsSameHand hand.old hand.new }
+// Whether a hart finds nothing by its seat.
+fn finds_nothing<'a, 'p, R: Wait + 'a>(
+    rt: &'a R,
+    shared: &'a SharedTeam<'p>,
+    table: &'a ClaimTable,
+    seat: &mut ClaimSeat,
+) -> bool
+    requires of { IsOf table.now (kin seat.old) }
+    requires rows { RowsFit table.now.counts.items 0 shared.now }
+    ensures { kin seat.new ≡ kin seat.old }
 {
+    let mut hand = TeamHand::new(shared, table, seat, 0);
     matches!(hand.enter(rt), Next::Nothing)
 }
 
-// Two hands take up the three members of a phase in turn, and bring their pieces. Whether neither found a further member
-// before the last piece came.
-fn share_phase<'a, 'r, 's, 'p, R: Wait + 'a>(
+// Whether a piece is kept, and the phase doesn't open.
+fn is_kept<'a, 'p, R: Wait + 'a>(
     rt: &'a R,
-    one: &mut TeamHand<'a, 'r, 'p, R>,
-    other: &mut TeamHand<'a, 's, 'p, R>,
+    shared: &'a SharedTeam<'p>,
+    table: &'a ClaimTable,
+    seat: &mut ClaimSeat,
+    piece: Piece<'p>,
+) -> Result<bool, Fail>
+    requires of { IsOf table.now (kin seat.old) }
+    requires rows { RowsFit table.now.counts.items 0 shared.now }
+    ensures { kin seat.new ≡ kin seat.old }
+{
+    let arrival = TeamHand::new(shared, table, seat, 0).arrive(rt, piece)?;
+    Ok(opened_by(arrival)?.is_none())
+}
+
+// Two harts take up the three members of a phase in turn, and bring their pieces. Whether neither found a further member
+// before the last piece came.
+fn share_phase<'a, 'p, R: Wait + 'a>(
+    rt: &'a R,
+    shared: &'a SharedTeam<'p>,
+    table: &'a ClaimTable,
+    one: &mut ClaimSeat,
+    other: &mut ClaimSeat,
     alloc: Global,
     phase: u8,
 ) -> Result<bool, Fail>
-    ensures { IsSameHand one.old one.new × IsSameHand other.old other.new }
+    requires of { IsOf table.now (kin one.old) × IsOf table.now (kin other.old) }
+    requires rows { RowsFit table.now.counts.items 0 shared.now }
+    ensures { (kin one.new ≡ kin one.old) × (kin other.new ≡ kin other.old) }
 {
-    let first = begun(rt, one, alloc, phase, 0)?;
-    let second = begun(rt, other, alloc, phase, 1)?;
-    let third = begun(rt, one, alloc, phase, 2)?;
-    let none = finds_nothing(rt, one) && finds_nothing(rt, other);
-    let kept = opened_by(one.arrive(rt, first)?)?.is_none();
-    let kept = kept && opened_by(other.arrive(rt, second)?)?.is_none();
-    Ok(none && kept && opened_by(one.arrive(rt, third)?)?.is_some())
+    let first = begun(rt, shared, table, one, alloc, (phase, 0))?;
+    let second = begun(rt, shared, table, other, alloc, (phase, 1))?;
+    let third = begun(rt, shared, table, one, alloc, (phase, 2))?;
+    let none = finds_nothing(rt, shared, table, one) && finds_nothing(rt, shared, table, other);
+    let first = is_kept(rt, shared, table, one, first)?;
+    let second = is_kept(rt, shared, table, other, second)?;
+    let third = is_kept(rt, shared, table, one, third)?;
+    Ok(none && first && second && !third)
 }
 
-// Two hands run both phases. Whether each member ran once, and the team gives what they wrote.
-fn share_team<'a, 'r, 's, 'p, R: Wait + 'a>(
+// Hands the team out; whether it gives what both phases write.
+fn gives_both<'a, 'p, R: Wait + 'a>(
     rt: &'a R,
-    one: &mut TeamHand<'a, 'r, 'p, R>,
-    other: &mut TeamHand<'a, 's, 'p, R>,
-    alloc: Global,
+    shared: &'a SharedTeam<'p>,
+    table: &'a ClaimTable,
+    seat: &mut ClaimSeat,
 ) -> Result<bool, Fail>
-    ensures { IsSameHand one.old one.new × IsSameHand other.old other.new }
+    requires of { IsOf table.now (kin seat.old) }
+    requires rows { RowsFit table.now.counts.items 0 shared.now }
+    ensures { kin seat.new ≡ kin seat.old }
 {
-    let both = share_phase(rt, one, other, alloc, 0)? && share_phase(rt, other, one, alloc, 1)?;
-    let none = finds_nothing(rt, one) && finds_nothing(rt, other);
-    match one.take_out(rt) {
-        Some(team) => Ok(both && none && gives(team, BOTH_PHASES.as_slice())?),
+    match TeamHand::new(shared, table, seat, 0).take_out(rt) {
+        Some(team) => Ok(gives(team, BOTH_PHASES.as_slice())?),
         None => Ok(false),
     }
 }
 
-// Makes a hand of each seat, by which the team is run.
-fn share_by_seats<'a, 'p, R: Wait + 'a>(
+// Two harts run both phases. Whether each member ran once, and the team gives what they wrote.
+fn share_team<'a, 'p, R: Wait + 'a>(
     rt: &'a R,
     shared: &'a SharedTeam<'p>,
     table: &'a ClaimTable,
@@ -91,9 +122,10 @@ fn share_by_seats<'a, 'p, R: Wait + 'a>(
     requires rows { RowsFit table.now.counts.items 0 shared.now }
     ensures { (kin one.new ≡ kin one.old) × (kin other.new ≡ kin other.old) }
 {
-    let mut first = TeamHand::new(shared, table, one, 0);
-    let mut second = TeamHand::new(shared, table, other, 0);
-    share_team(rt, &mut first, &mut second, alloc)
+    let first = share_phase(rt, shared, table, one, other, alloc, 0)?;
+    let second = share_phase(rt, shared, table, other, one, alloc, 1)?;
+    let none = finds_nothing(rt, shared, table, one) && finds_nothing(rt, shared, table, other);
+    Ok(first && second && none && gives_both(rt, shared, table, one)?)
 }
 
 // Takes two seats out of the list, and puts them back.
@@ -115,7 +147,7 @@ fn share_by_all<'a, 'p, R: Wait + 'a>(
     let Some(mut one) = seats.pop() else {
         unreachable!()
     };
-    let ran = share_by_seats(rt, shared, table, &mut one, &mut other, alloc);
+    let ran = share_team(rt, shared, table, &mut one, &mut other, alloc);
     seats.push_reserved(one);
     seats.push_reserved(other);
     ran

@@ -7,7 +7,6 @@ ghost use Rattle.loop_team.specs.Rows.{RowsFit};
 use crate::hands::shared_team;
 use crate::tables::TWO_ROWS;
 use array_jobs::{Job, piece_of};
-use loop_team::laws::claimed;
 use loop_team::{ClaimSeat, ClaimTable, SharedTeam, TeamHand, TeamWork, rows_fit};
 use sample_programs::{TWO_PHASES, parsed};
 use sched_api::{Next, Scheduler};
@@ -87,40 +86,74 @@ fn run_by_seat<'a, 'p, R: Wait + 'a>(
     run_members(rt, &mut hand, alloc, begun);
 }
 
-// All do so at once.
-fn run_by_all<'a, 'p: 'a, R: Threads + Wait + Sync>(
-    rt: &'a R,
-    shared: &'a SharedTeam<'p>,
-    table: &'a ClaimTable,
-    alloc: Global,
-    begun: &Begun,
-    seats: &mut [ClaimSeat],
-)
-    requires all { AreAll table.now (map kin seats.old) }
-    requires rows { RowsFit table.now.counts.items 0 shared.now }
-    ensures { map kin seats.new ≡ map kin seats.old }
-{
-    let go = |_hart: usize, seat: &mut ClaimSeat|
-        requires of { IsOf table.now (kin seat.old) }
-        requires rows { RowsFit table.now.counts.items 0 shared.now }
-        ensures { kin seat.new ≡ kin seat.old }
-    { run_by_seat(rt, shared, table, alloc, begun, seat) };
-    for_each_mut(rt, seats, 2, &go);
+// A hart, with what all harts of a team share.
+#[derive(Drop)]
+struct Runner<'x, 'p> {
+    shared: &'x SharedTeam<'p>,
+    table: &'x ClaimTable,
+    begun: &'x Begun,
+    seat: ClaimSeat,
+    ghost seated: { IsOf table.now (kin seat) },
+    ghost fits: { RowsFit table.now.counts.items 0 shared.now },
 }
 
-// Whether two harts begin each member of each phase once. Then the account of their claims is settled.
+// What it does.
+fn run<'x, 'p, R: Wait>(rt: &R, alloc: Global, runner: &mut Runner<'x, 'p>) {
+    run_by_seat(
+        rt,
+        runner.shared,
+        runner.table,
+        alloc,
+        runner.begun,
+        &mut runner.seat,
+    );
+}
+
+// All do so at once.
+fn run_by_all<'x, 'p: 'x, R: Threads + Wait + Sync>(
+    rt: &'x R,
+    alloc: Global,
+    runners: &mut [Runner<'x, 'p>],
+) {
+    for_each_mut(rt, runners, 2, &|_, runner| run(rt, alloc, runner));
+}
+
+// A hart for each seat.
+fn runners<'x, 'p: 'x>(
+    alloc: Global,
+    shared: &'x SharedTeam<'p>,
+    table: &'x ClaimTable,
+    begun: &'x Begun,
+    seats: Vec<ClaimSeat>,
+) -> Result<Vec<Runner<'x, 'p>>, Fail>
+    requires all { AreAll table.now (map kin seats.items) }
+    requires rows { RowsFit table.now.counts.items 0 shared.now }
+{
+    let mut runners = Vec::new(alloc);
+    for seat in seats {
+        runners.push(Runner {
+            shared,
+            table,
+            begun,
+            seat,
+        })?;
+    }
+    Ok(runners)
+}
+
+// Whether two harts begin each member of each phase once.
 fn is_shared_out<R: Threads + Wait + Sync>(rt: &R, alloc: Global) -> Result<bool, Fail> {
     let program = parsed(alloc, TWO_PHASES)?;
     let shared = shared_team(alloc, &program)?;
-    let (table, mut seats) = ClaimTable::new(alloc, &TWO_ROWS, 2)?;
+    let (table, seats) = ClaimTable::new(alloc, &TWO_ROWS, 2)?;
     if !rows_fit(&table, 0, shared.nested()) {
         return Err(Fail::new("other rows"));
     }
     let begun = Begun {
         counts: AtomicU64::new(0),
     };
-    run_by_all(rt, &shared, &table, alloc, &begun, seats.as_mut_slice());
-    claimed(table, seats);
+    let mut runners = runners(alloc, &shared, &table, &begun, seats)?;
+    run_by_all(rt, alloc, runners.as_mut_slice());
     Ok(begun.is_each_once())
 }
 

@@ -1,18 +1,19 @@
-use denote.Param.Send.{sendable}
-use Rattle.std.proofs.Common.{sym, ap, subst, ◌∙◌}
-use Rattle.claim_words.specs.declared.seat.ClaimSeat.{ClaimSeat}
-use Rattle.claim_words.specs.Seats.{kin, IsOf}
-use Rattle.claim_words.proofs.Callers.{each_moved, each_of}
+-- A hart that runs a team may go to a thread of its own.
+use denote.Param.Send.{IsSend, sendable}
+use denote.Param.SendFields.{declared_send}
+use denote.Ref.{NamedLft}
+use Rattle.claim_words.proofs.seat.ClaimSeat.TheSendSync as ClaimSeatCrosses
+use Rattle.claim_words.proofs.table.ClaimTable.TheSendSync as ClaimTableCrosses
 use Rattle.loop_team.proofs.Crossings.{shared_team_sync}
+use Rattle.team_tests.specs.contracts.threads.Runner as Runner
+use Rattle.team_tests.proofs.threads.Begun.TheSendSync as BegunCrosses
 use Rattle.team_tests.proofs.threads.run_by_all.Goals as goal
 
-pub for_each_mut-requires-clause-accepts : goal.for_each_mut-requires-clause-accepts
-for_each_mut-requires-clause-accepts g c κs within = λ i p there is. (
-  subst (λ (s : ClaimSeat). IsOf c.args.table.now (kin s)) (sym is) (each_of c.args.table.now c.args.seats.now c.requires.all.of i p.now there),
-  c.requires.rows,
-)
+runner_send : (x p : NamedLft) → IsSend (Runner.the_row x p)
+runner_send x p =
+    let team = shared_team_sync p in let table = ClaimTableCrosses.the_sync in let begun = BegunCrosses.the_sync in let seat = ClaimSeatCrosses.the_send in
+    declared_send (Runner.the_type x p)
+    (search sendable depth 20, (search sendable depth 20, (search sendable depth 20, (search sendable depth 20, tt))))
 
-pub returns : goal.returns
-returns g c = each_moved c.args.seats.now c.for_each_mut.new.s c.for_each_mut.auto.s (λ h d below.
-    let moved = (c.for_each_mut.ensures h d below).1 in
-    ap kin (sym moved.left) ∙ moved.call ∙ ap kin moved.argument_is)
+pub for_each_mut-requires-send-T : goal.for_each_mut-requires-send-T
+for_each_mut-requires-send-T g c κs within = search (runner_send, sendable) depth 20
