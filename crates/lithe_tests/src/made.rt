@@ -47,7 +47,7 @@ fn sizes_up_to_forty_run(rt: HostRuntime) -> Result<(), Fail> {
             summary,
             "cells {all}\nsum {sum}\nsites {sites}\nregisters {sites}"
         )?;
-        let words = &["make", "--seed=7", word.as_str(), "--harts=1"];
+        let words = &["make", "--seed=7", word.as_str(), "--harts=4"];
         made(&rt, words, summary.as_bytes())?;
     }
     Ok(())
