@@ -1,11 +1,41 @@
 //! Whole programs as jobs.
+ghost use Rattle.std.specs.Prelude.{◌≡◌};
 
-use crate::driving::{driven, parsed};
-use array_jobs::{Piece, body_job, piece_of, sites_in};
-use disjoint_check::check;
-use std::alloc::Global;
+use crate::driving::{driven, holds, parsed};
+use array_jobs::{Job, Piece, body_job, piece_of, sites_in};
+use disjoint_check::{Accepted, check};
+use std::alloc::{AllocError, Global};
 use std::process::Abort;
 use std::test::Fail;
+
+// Whether the machine of a program's body writes this.
+fn machine_writes(
+    alloc: Global,
+    accepted: &Accepted,
+    expected: &[(u16, i64)],
+) -> Result<bool, Fail> {
+    let piece = driven(alloc, body_job(alloc, accepted.program())?)?;
+    Ok(piece.written.pairs() == expected)
+}
+
+// Whether the piece of a program's body writes this.
+fn piece_writes(
+    alloc: Global,
+    accepted: &Accepted,
+    expected: &[(u16, i64)],
+) -> Result<bool, AllocError> {
+    let piece = piece_of(alloc, body_job(alloc, accepted.program())?)?;
+    Ok(piece.written.pairs() == expected)
+}
+
+// Whether the machine of a program's body writes this, and its piece the same.
+fn both_write(alloc: Global, text: &[u8], expected: &[(u16, i64)]) -> Result<bool, Fail> {
+    let program = parsed(alloc, text)?;
+    let accepted = check(alloc, &program, 1)?;
+    let by_machine = machine_writes(alloc, &accepted, expected)?;
+    let by_piece = piece_writes(alloc, &accepted, expected)?;
+    Ok(by_machine && by_piece)
+}
 
 // Stops unless the machine of a program's body writes this, and its piece the same.
 fn expect_writes(
@@ -14,12 +44,7 @@ fn expect_writes(
     text: &[u8],
     expected: &[(u16, i64)],
 ) -> Result<(), Fail> {
-    let program = parsed(alloc, text)?;
-    let accepted = check(alloc, &program, 1)?;
-    let piece = driven(alloc, body_job(alloc, accepted.program())?)?;
-    assert!(rt; piece.written.pairs() == expected);
-    let direct = piece_of(alloc, body_job(alloc, accepted.program())?)?;
-    assert!(rt; direct.written.pairs() == expected);
+    assert!(rt; both_write(alloc, text, expected)?);
     Ok(())
 }
 
@@ -88,19 +113,31 @@ fn a_loop_in_a_choice(rt: HostRuntime) -> Result<(), Fail> {
     )
 }
 
-#[test]
-fn a_job_is_copied_whole(rt: HostRuntime) -> Result<(), Fail> {
-    let alloc = rt.alloc();
-    let program = parsed(
-        alloc,
-        b"array a[4]; team i in 0..2 by 2 { a[i] = i + 5; }".as_slice(),
-    )?;
-    let accepted = check(alloc, &program, 1)?;
+// Whether a copy is equal to a job and has one site.
+fn is_copy(copy: &Job, job: &Job) -> bool {
+    copy == job && sites_in(&copy.work) == 1
+}
+
+// Whether the piece of a job's copy, with what the job writes, begins with site 1.
+fn begins_with_one<'p>(alloc: Global, job: Job<'p>, copy: Job<'p>) -> Result<bool, AllocError>
+    requires { copy ≡ job }
+{
+    let Piece { written, .. } = piece_of(alloc, job)?;
+    Ok(Piece::new(copy, written).job.first == 1)
+}
+
+// Whether the job of a program's body has such a copy.
+fn copies_its_job(alloc: Global, accepted: &Accepted) -> Result<bool, Fail> {
     let job = body_job(alloc, accepted.program())?;
     let copy = job.copy()?;
-    assert!(rt; copy == job);
-    assert_eq!(rt; sites_in(&copy.work), 1);
-    let Piece { written, .. } = piece_of(alloc, job)?;
-    assert_eq!(rt; Piece::new(copy, written).job.first, 1);
+    let is_same = is_copy(&copy, &job);
+    let begins = begins_with_one(alloc, job, copy)?;
+    Ok(is_same && begins)
+}
+
+#[test]
+fn a_job_is_copied_whole(rt: HostRuntime) -> Result<(), Fail> {
+    let text = b"array a[4]; team i in 0..2 by 2 { a[i] = i + 5; }";
+    assert!(rt; holds(rt.alloc(), text.as_slice(), &copies_its_job)?);
     Ok(())
 }

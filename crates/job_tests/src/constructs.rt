@@ -1,12 +1,11 @@
 //! Constructs that are handed out, their jobs, and the pieces of these.
 
 use crate::driving::{parsed, stepped};
-use array_eval::{MarkedStore, Overlay, Store};
+use array_eval::{MarkedStore, Store};
 use array_jobs::{Job, body_job, copy_jobs, written_by};
 use contexts::Step;
 use disjoint_check::{Accepted, check};
 use std::alloc::{AllocError, Global};
-use std::process::Abort;
 use std::test::Fail;
 use step_eval::{Kind, Nested, StepMachine, compute, jobs_of};
 
@@ -19,106 +18,171 @@ pub fn first_construct<'p>(alloc: Global, accepted: &Accepted<'p>) -> Result<Nes
     }
 }
 
+// Whether this holds of the first construct of the program of a text.
+fn holds<F: Fn(Global, &Nested) -> Result<bool, Fail>>(
+    alloc: Global,
+    text: &[u8],
+    looks: &F,
+) -> Result<bool, Fail>
+    requires { F.IsAlwaysCallable looks.now }
+{
+    let program = parsed(alloc, text)?;
+    let nested = first_construct(alloc, &check(alloc, &program, 1)?)?;
+    looks(alloc, &nested)
+}
+
+// Whether a construct writes this.
+fn writes(alloc: Global, nested: &Nested, expected: &[(u16, i64)]) -> Result<bool, AllocError> {
+    let written = compute(alloc, nested)?;
+    Ok(written.pairs() == expected)
+}
+
+// Whether a construct is the first of all and a `par` of three branches, of which the second writes nothing.
+fn is_a_par(alloc: Global, nested: &Nested) -> Result<bool, Fail> {
+    if nested.kind() != Kind::Par || nested.site != 1 {
+        return Ok(false);
+    }
+    if nested.phases() != 1 || nested.members() != 3 {
+        return Ok(false);
+    }
+    Ok(writes(alloc, nested, [(0, 1), (2, 3)].as_slice())?)
+}
+
 #[test]
 fn a_par_has_one_phase(rt: HostRuntime) -> Result<(), Fail> {
-    let alloc = rt.alloc();
-    let program = parsed(
-        alloc,
-        b"array a[3]; par { { a[0] = 1; } { } { a[2] = 3; } }".as_slice(),
-    )?;
-    let nested = first_construct(alloc, &check(alloc, &program, 1)?)?;
-    assert!(rt; nested.kind() == Kind::Par);
-    assert_eq!(rt; (nested.phases(), nested.members()), (1, 3));
-    assert_eq!(rt; nested.site, 1);
-    assert_eq!(rt;
-        compute(alloc, &nested)?.pairs(),
-        [(0, 1), (2, 3)].as_slice()
-    );
+    let text = b"array a[3]; par { { a[0] = 1; } { } { a[2] = 3; } }";
+    assert!(rt; holds(rt.alloc(), text.as_slice(), &is_a_par)?);
     Ok(())
+}
+
+// Whether a construct is a `team` of two phases and three members.
+fn is_a_team(alloc: Global, nested: &Nested) -> Result<bool, Fail> {
+    if nested.kind() != Kind::Team || nested.phases() != 2 || nested.members() != 3 {
+        return Ok(false);
+    }
+    let expected = [(0, 5), (1, 6), (2, 7), (3, 8)];
+    Ok(writes(alloc, nested, expected.as_slice())?)
 }
 
 #[test]
 fn a_team_has_its_phases(rt: HostRuntime) -> Result<(), Fail> {
-    let alloc = rt.alloc();
     let text = b"array a[4]; team i in 0..4 by 3 { a[i] = i; } barrier { a[i] = a[i] + 5; }";
-    let program = parsed(alloc, text.as_slice())?;
-    let nested = first_construct(alloc, &check(alloc, &program, 1)?)?;
-    assert!(rt; nested.kind() == Kind::Team);
-    assert_eq!(rt; (nested.phases(), nested.members()), (2, 3));
-    let expected = [(0, 5), (1, 6), (2, 7), (3, 8)];
-    assert_eq!(rt; compute(alloc, &nested)?.pairs(), expected.as_slice());
+    assert!(rt; holds(rt.alloc(), text.as_slice(), &is_a_team)?);
     Ok(())
 }
 
-// What is written where pieces are merged in this order.
-fn merged_in(
-    rt: &impl Abort,
+// The jobs of a construct's first phase.
+fn first_jobs<'p>(alloc: Global, nested: &Nested<'p>) -> Result<Vec<Job<'p>>, AllocError> {
+    let _phases = nested.phases();
+    jobs_of(alloc, nested, 0, &nested.store)
+}
+
+// Whether this is written where the pieces of jobs are merged in an order.
+fn merge_to(
     alloc: Global,
     store: &Store,
     jobs: &[Job],
     order: &[usize],
-) -> Result<Overlay, Fail> {
+    expected: &[(u16, i64)],
+) -> Result<bool, Fail> {
     let mut marked = MarkedStore::new(alloc, store)?;
     for place in order {
         if let Some(job) = jobs.get(*place) {
-            marked.merge(&written_by(alloc, job)?);
+            merge(alloc, &mut marked, job)?;
         }
     }
-    assert!(rt; marked.cells().len() < 65_536);
-    Ok(marked.written(alloc)?)
+    if marked.cells().len() >= 65_536 {
+        return Err(Fail::new("more cells than any program has"));
+    }
+    let written = marked.written(alloc)?;
+    Ok(written.pairs() == expected)
+}
+
+// Merges what a job writes into a store.
+fn merge(alloc: Global, marked: &mut MarkedStore, job: &Job) -> Result<(), AllocError> {
+    marked.merge(&written_by(alloc, job)?);
+    Ok(())
+}
+
+// Whether the pieces of the three branches of a `par` write the same in each order.
+fn merges_in_any_order(alloc: Global, nested: &Nested) -> Result<bool, Fail> {
+    let jobs = first_jobs(alloc, nested)?;
+    merge_in_any_order(alloc, &nested.store, &jobs)
+}
+
+// Whether the pieces of three jobs write the same in each order.
+fn merge_in_any_order(alloc: Global, store: &Store, jobs: &[Job]) -> Result<bool, Fail> {
+    let expected = [(0, 3), (1, 0), (3, 1)];
+    for order in [[0, 1, 2], [2, 1, 0], [1, 2, 0]] {
+        if !merge_to(alloc, store, jobs, order.as_slice(), expected.as_slice())? {
+            return Ok(false);
+        }
+    }
+    Ok(true)
 }
 
 #[test]
 fn pieces_are_merged_in_any_order(rt: HostRuntime) -> Result<(), Fail> {
-    let alloc = rt.alloc();
     let text = b"array a[4]; par { { a[3] = 1; } { a[0] = 2; a[0] = 3; } { a[1] = 0; } }";
-    let program = parsed(alloc, text.as_slice())?;
-    let nested = first_construct(alloc, &check(alloc, &program, 1)?)?;
-    assert!(rt; nested.phases() > 0);
-    let jobs = jobs_of(alloc, &nested, 0, &nested.store)?;
-    let expected = [(0, 3), (1, 0), (3, 1)];
-    for order in [[0, 1, 2], [2, 1, 0], [1, 2, 0]] {
-        let merged = merged_in(&rt, alloc, &nested.store, &jobs, order.as_slice())?;
-        assert_eq!(rt; merged.pairs(), expected.as_slice());
-    }
+    assert!(rt; holds(rt.alloc(), text.as_slice(), &merges_in_any_order)?);
     Ok(())
+}
+
+// Whether the copies of a construct's jobs equal them, and are two, of which the second is the branch at place 1.
+fn has_copied_jobs(alloc: Global, nested: &Nested) -> Result<bool, Fail> {
+    let jobs = first_jobs(alloc, nested)?;
+    Ok(are_copied(alloc, &jobs)?)
+}
+
+// Whether the copies of jobs equal them, and are two, of which the second is at place 1.
+fn are_copied(alloc: Global, jobs: &[Job]) -> Result<bool, AllocError> {
+    let copies = copy_jobs(alloc, jobs)?;
+    Ok(copies.as_slice() == jobs && is_second_at_one(&copies))
+}
+
+// Whether there are two jobs, of which the second is at place 1 and begins with site 2.
+fn is_second_at_one(jobs: &[Job]) -> bool {
+    match jobs {
+        [_, second] => second.place == 1 && second.first == 2,
+        _ => false,
+    }
 }
 
 #[test]
 fn jobs_are_copied_in_order(rt: HostRuntime) -> Result<(), Fail> {
-    let alloc = rt.alloc();
-    let program = parsed(
-        alloc,
-        b"array a[2]; par { { a[0] = 1; } { a[1] = 2; } }".as_slice(),
-    )?;
-    let nested = first_construct(alloc, &check(alloc, &program, 1)?)?;
-    assert!(rt; nested.phases() > 0);
-    let jobs = jobs_of(alloc, &nested, 0, &nested.store)?;
-    let copies = copy_jobs(alloc, &jobs)?;
-    assert!(rt; copies.as_slice() == jobs.as_slice());
-    assert_eq!(rt; copies.len(), 2);
-    assert_eq!(rt; (copies[1].place, copies[1].first), (1, 2));
+    let text = b"array a[2]; par { { a[0] = 1; } { a[1] = 2; } }";
+    assert!(rt; holds(rt.alloc(), text.as_slice(), &has_copied_jobs)?);
     Ok(())
 }
 
-// The places of the jobs of a construct's first phase, and the numbers of their first sites.
-fn places_and_sites(alloc: Global, nested: &Nested) -> Result<Vec<(u8, u16)>, AllocError> {
-    let _phases = nested.phases();
-    let mut found = Vec::new(alloc);
-    for job in &jobs_of(alloc, nested, 0, &nested.store)? {
-        found.push((job.place, job.first))?;
+// Whether a construct equals its copy.
+fn is_copied(nested: &Nested) -> Result<bool, AllocError> {
+    let copy = nested.copy()?;
+    Ok(&copy == nested)
+}
+
+// Whether a construct equals its copy, and its members' first sites are 2 and 4.
+fn counts_sites_before(alloc: Global, nested: &Nested) -> Result<bool, Fail> {
+    if !is_copied(nested)? {
+        return Ok(false);
     }
-    Ok(found)
+    let jobs = first_jobs(alloc, nested)?;
+    Ok(begin_with_two_and_four(&jobs))
+}
+
+// Whether there are two jobs, at the places 0 and 1, that begin with the sites 2 and 4.
+fn begin_with_two_and_four(jobs: &[Job]) -> bool {
+    match jobs {
+        [first, second] => {
+            (first.place, first.first) == (0, 2) && (second.place, second.first) == (1, 4)
+        }
+        _ => false,
+    }
 }
 
 #[test]
 fn a_member_counts_the_sites_of_those_before_it(rt: HostRuntime) -> Result<(), Fail> {
-    let alloc = rt.alloc();
     let text = b"array a[4]; team i in 0..4 by 2 { par { { a[i] = i + 5; } { } } }";
-    let program = parsed(alloc, text.as_slice())?;
-    let nested = first_construct(alloc, &check(alloc, &program, 1)?)?;
-    assert!(rt; nested.copy()? == nested);
-    let found = places_and_sites(alloc, &nested)?;
-    assert_eq!(rt; found.as_slice(), [(0, 2), (1, 4)].as_slice());
+    assert!(rt; holds(rt.alloc(), text.as_slice(), &counts_sites_before)?);
     Ok(())
 }

@@ -6,6 +6,7 @@ use array_jobs::{Job, Piece};
 use array_lang::parse;
 use array_tree::Program;
 use contexts::{Machine, Step};
+use disjoint_check::{Accepted, check};
 use std::alloc::Global;
 use std::test::Fail;
 use step_eval::{Nested, StepMachine, compute};
@@ -16,6 +17,19 @@ pub fn parsed(alloc: Global, text: &[u8]) -> Result<Program, Fail> {
         return Err(Fail::new("a longer text than any program's"));
     }
     Ok(parse(alloc, text)?)
+}
+
+/// Whether this holds of the program of a text, which must be accepted.
+pub fn holds<F: Fn(Global, &Accepted) -> Result<bool, Fail>>(
+    alloc: Global,
+    text: &[u8],
+    looks: &F,
+) -> Result<bool, Fail>
+    requires { F.IsAlwaysCallable looks.now }
+{
+    let program = parsed(alloc, text)?;
+    let accepted = check(alloc, &program, 1)?;
+    looks(alloc, &accepted)
 }
 
 /// One step.

@@ -3,7 +3,8 @@
 use crate::constructs::first_construct;
 use crate::driving::{driven, parsed};
 use array_jobs::body_job;
-use disjoint_check::check;
+use disjoint_check::{Accepted, check};
+use std::alloc::{AllocError, Global};
 use std::test::Fail;
 use std::thread;
 use std::thread::Threads;
@@ -18,27 +19,51 @@ fn crossed<R: Threads, T: Send + Sync + Drop>(rt: &R, value: T) -> T {
     value
 }
 
+// Whether a program's job and its piece come back from threads, and the piece writes this.
+fn job_and_piece_cross<R: Threads>(
+    rt: &R,
+    alloc: Global,
+    accepted: &Accepted,
+    expected: &[(u16, i64)],
+) -> Result<bool, Fail> {
+    let job = body_job(alloc, accepted.program())?;
+    let piece = driven(alloc, crossed(rt, job))?;
+    Ok(crossed(rt, piece).written.pairs() == expected)
+}
+
 #[test]
 fn jobs_and_pieces_cross_threads(rt: HostRuntime) -> Result<(), Fail> {
     let alloc = rt.alloc();
     let program = parsed(alloc, b"array a[2]; a[1] = 5;".as_slice())?;
-    let job = body_job(alloc, check(alloc, &program, 1)?.program())?;
-    let piece = driven(alloc, crossed(&rt, job))?;
-    assert_eq!(rt; crossed(&rt, piece).written.pairs(), [(1, 5)].as_slice());
+    let accepted = check(alloc, &program, 1)?;
+    assert!(rt; job_and_piece_cross(&rt, alloc, &accepted, [(1, 5)].as_slice())?);
     Ok(())
+}
+
+// Takes the machine of a program's body through threads.
+fn machine_crosses<R: Threads>(
+    rt: &R,
+    alloc: Global,
+    accepted: &Accepted,
+) -> Result<(), AllocError> {
+    let machine = StepMachine::new(alloc, body_job(alloc, accepted.program())?)?;
+    drop(crossed(rt, machine));
+    Ok(())
+}
+
+// How many members a program's first construct has when it comes back from threads.
+fn members_across<R: Threads>(rt: &R, alloc: Global, accepted: &Accepted) -> Result<u8, Fail> {
+    let nested = first_construct(alloc, accepted)?;
+    Ok(crossed(rt, nested).members())
 }
 
 #[test]
 fn machines_and_constructs_cross_threads(rt: HostRuntime) -> Result<(), Fail> {
     let alloc = rt.alloc();
-    let program = parsed(
-        alloc,
-        b"array a[2]; par { { a[0] = 1; } { a[1] = 2; } }".as_slice(),
-    )?;
+    let text = b"array a[2]; par { { a[0] = 1; } { a[1] = 2; } }";
+    let program = parsed(alloc, text.as_slice())?;
     let accepted = check(alloc, &program, 1)?;
-    let machine = StepMachine::new(alloc, body_job(alloc, accepted.program())?)?;
-    drop(crossed(&rt, machine));
-    let nested = first_construct(alloc, &accepted)?;
-    assert_eq!(rt; crossed(&rt, nested).members(), 2);
+    machine_crosses(&rt, alloc, &accepted)?;
+    assert_eq!(rt; members_across(&rt, alloc, &accepted)?, 2);
     Ok(())
 }
