@@ -103,16 +103,23 @@ fn accepted_programs_are_planned(rt: HostRuntime) -> Result<(), Fail> {
     let nested = b"array a[4]; par { { team i in 0..2 by 64 { a[i] = i + 5; } } { a[3] = 9; } }";
     let program = parse(alloc, nested.as_slice())?;
     let accepted = check(alloc, &program, 3)?;
-    assert_eq!(rt; accepted.pieces(), 66);
-    let plan = accepted.plan();
-    assert_eq!(rt; plan.harts(), 3);
-    assert_eq!(rt; plan.sites(), 2);
-    assert_eq!(rt; plan.parent(1), 0);
-    assert_eq!(rt; plan.parent(2), 1);
-    assert!(rt; has_shape(&accepted, 1, 2, 0));
-    assert!(rt; has_shape(&accepted, 2, 64, 1));
+    assert!(rt; is_planned(&accepted));
     assert!(rt; accepted.program() == &program);
     Ok(())
+}
+
+// Whether a program on three harts has 66 pieces and two sites, a team of 64 in a `par` of two.
+fn is_planned(accepted: &Accepted<'_>) -> bool {
+    accepted.pieces() == 66
+        && has_sites(accepted)
+        && has_shape(accepted, 1, 2, 0)
+        && has_shape(accepted, 2, 64, 1)
+}
+
+// Whether a plan for three harts has two sites, the second inside the first.
+fn has_sites(accepted: &Accepted<'_>) -> bool {
+    let plan = accepted.plan();
+    plan.harts() == 3 && plan.sites() == 2 && plan.parent(1) == 0 && plan.parent(2) == 1
 }
 
 // Whether there is such a site, with so many members and phases.

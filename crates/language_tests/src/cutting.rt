@@ -6,23 +6,30 @@ use std::test::Fail;
 #[test]
 fn cuts_the_longest_tokens(rt: HostRuntime) -> Result<(), Fail> {
     let found = tokens(rt.alloc(), b"forx<=007..\n<#<\n par}")?;
-    assert_eq!(rt; found.len(), 7);
-    assert!(rt; matches!(found[0].kind, Kind::Name(name) if name == b"forx".as_slice()));
-    assert!(rt; is_sign_at(&found[1], Sign::LessEq, 4, 1));
-    assert!(rt; matches!(found[2].kind, Kind::Number(7)));
-    assert!(rt; is_sign_at(&found[3], Sign::Range, 9, 1));
-    assert!(rt; is_sign_at(&found[4], Sign::Less, 12, 2));
-    assert!(rt; matches!(found[5].kind, Kind::Word(Word::Par)));
-    assert!(rt; is_sign_at(&found[6], Sign::CloseBlock, 20, 3));
+    assert!(rt; are_the_longest(&found));
     Ok(())
+}
+
+// Whether these are a name, three signs around a number, a word, and a sign on the third line.
+fn are_the_longest(found: &[Token<'_>]) -> bool {
+    match found {
+        [name, first, number, range, second, word, last] => {
+            matches!(name.kind, Kind::Name(name) if name == b"forx".as_slice())
+                && is_sign_at(first, Sign::LessEq, 4, 1)
+                && matches!(number.kind, Kind::Number(7))
+                && is_sign_at(range, Sign::Range, 9, 1)
+                && is_sign_at(second, Sign::Less, 12, 2)
+                && matches!(word.kind, Kind::Word(Word::Par))
+                && is_sign_at(last, Sign::CloseBlock, 20, 3)
+        }
+        _ => false,
+    }
 }
 
 #[test]
 fn tells_the_first_fault(rt: HostRuntime) -> Result<(), Fail> {
     let alloc = rt.alloc();
-    let largest = tokens(alloc, b"9223372036854775807")?;
-    assert_eq!(rt; largest.len(), 1);
-    assert!(rt; matches!(largest[0].kind, Kind::Number(i64::MAX)));
+    assert!(rt; is_largest(&tokens(alloc, b"9223372036854775807")?));
     assert!(rt;
         fault(tokens(alloc, b" 9223372036854775808 $"))
             == Some(TokenFault::NumberTooLarge { at: 1 })
@@ -30,6 +37,14 @@ fn tells_the_first_fault(rt: HostRuntime) -> Result<(), Fail> {
     assert!(rt; fault(tokens(alloc, b"a . b")) == Some(TokenFault::BadToken { at: 2 }));
     assert!(rt; fault(tokens(alloc, b"$ #\x80")) == Some(TokenFault::NotAscii { at: 3 }));
     Ok(())
+}
+
+// Whether this is the largest number alone.
+fn is_largest(found: &[Token<'_>]) -> bool {
+    match found {
+        [number] => matches!(number.kind, Kind::Number(i64::MAX)),
+        _ => false,
+    }
 }
 
 fn is_sign_at(token: &Token<'_>, sign: Sign, at: u32, line: u32) -> bool {

@@ -2,6 +2,7 @@
 
 use array_lang::{SyntaxFault, parse};
 use array_tree::{Program, Stmt};
+use std::test::Fail;
 
 const EVERY_CONSTRUCT: &[u8] = b"array a[4]; array b[0008];\n\
     # a comment\n\
@@ -11,14 +12,17 @@ const EVERY_CONSTRUCT: &[u8] = b"array a[4]; array b[0008];\n\
     team j in 0..6 by 3 { b[j] = j; } barrier { b[j] = b[j] / 2; }";
 
 #[test]
-fn every_construct_is_read(rt: HostRuntime) {
-    let parsed = parse(rt.alloc(), EVERY_CONSTRUCT);
-    assert!(rt; matches!(&parsed, Ok(_)));
-    if let Ok(program) = parsed {
-        assert!(rt; program.arrays.declarations.len() == 2);
-        assert!(rt; has_these_lines(&program));
-        assert!(rt; loops_from_minus_nine(&program));
-    }
+fn every_construct_is_read(rt: HostRuntime) -> Result<(), Fail> {
+    let program = parse(rt.alloc(), EVERY_CONSTRUCT)?;
+    assert!(rt; has_every_construct(&program));
+    Ok(())
+}
+
+// Two arrays, and the statements on their lines.
+fn has_every_construct(program: &Program) -> bool {
+    program.arrays.declarations.len() == 2
+        && has_these_lines(program)
+        && loops_from_minus_nine(program)
 }
 
 // Four statements, on the lines 3 to 6.

@@ -1,16 +1,23 @@
 //! What the walk through programs finds.
 
 use crate::programs::{are_sized, parsed};
+use array_tree::Program;
 use site_walk::{WalkFault, walk_program};
 use std::alloc::Global;
-use std::process::Abort;
 use std::test::Fail;
 
-// What the walk through a program finds.
-fn found(rt: &impl Abort, alloc: Global, text: &str) -> Result<Option<WalkFault>, Fail> {
+// What the walk through the program of a text finds.
+fn found(alloc: Global, text: &str) -> Result<Option<WalkFault>, Fail> {
     let program = parsed(alloc, text)?;
-    assert!(rt; are_sized(&program.arrays));
-    Ok(walk_program(alloc, &program).err())
+    found_in(alloc, &program)
+}
+
+// What the walk through a program finds.
+fn found_in(alloc: Global, program: &Program) -> Result<Option<WalkFault>, Fail> {
+    if !are_sized(&program.arrays) {
+        return Err(Fail::new("arrays of no size that a program may have"));
+    }
+    Ok(walk_program(alloc, program).err())
 }
 
 #[test]
@@ -23,7 +30,7 @@ fn an_index_outside_its_array_comes_before_overlaps(rt: HostRuntime) -> Result<(
         index: 4,
         length: 4,
     };
-    assert!(rt; found(&rt, rt.alloc(), text)? == Some(fault));
+    assert!(rt; found(rt.alloc(), text)? == Some(fault));
     Ok(())
 }
 
@@ -37,7 +44,7 @@ fn an_index_that_is_read_is_inside_too(rt: HostRuntime) -> Result<(), Fail> {
         index: 4,
         length: 4,
     };
-    assert!(rt; found(&rt, rt.alloc(), text)? == Some(fault));
+    assert!(rt; found(rt.alloc(), text)? == Some(fault));
     Ok(())
 }
 
@@ -47,7 +54,7 @@ fn branches_may_share_what_none_writes(rt: HostRuntime) -> Result<(), Fail> {
         par { { b[0] = a[0]; } { b[1] = a[0]; } }
         par { { b[2] = 1; } { b[2] = 2; } }";
     let fault = WalkFault::Overlap { line: 3, cell: 6 };
-    assert!(rt; found(&rt, rt.alloc(), text)? == Some(fault));
+    assert!(rt; found(rt.alloc(), text)? == Some(fault));
     Ok(())
 }
 
@@ -57,7 +64,7 @@ fn a_dynamic_index_touches_the_whole_array(rt: HostRuntime) -> Result<(), Fail> 
         par { { a[1] = b[a[0]]; } { a[2] = b[3]; } }
         par { { a[1] = b[a[0]]; } { b[2] = 1; } }";
     let fault = WalkFault::Overlap { line: 3, cell: 6 };
-    assert!(rt; found(&rt, rt.alloc(), text)? == Some(fault));
+    assert!(rt; found(rt.alloc(), text)? == Some(fault));
     Ok(())
 }
 
@@ -67,6 +74,6 @@ fn members_have_their_own_iterations(rt: HostRuntime) -> Result<(), Fail> {
         team i in 0..4 by 2 { a[i] = 1; }
         team i in 0..4 by 2 { b[1] = i; }";
     let fault = WalkFault::Overlap { line: 3, cell: 5 };
-    assert!(rt; found(&rt, rt.alloc(), text)? == Some(fault));
+    assert!(rt; found(rt.alloc(), text)? == Some(fault));
     Ok(())
 }
