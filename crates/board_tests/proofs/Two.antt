@@ -1,7 +1,7 @@
--- Two seats of a board, and a plan of one site.
-use Rattle.std.proofs.Common.{◌≡◌, ◌≢◌, ℕ, zero, suc, ◌<◌, List, [], ◌∷◌, length, slice_index, slice_index_or, sym, ap, arith}
+-- Two seats of a board.
+use Rattle.std.proofs.Common.{◌≡◌, ℕ, zero, suc, ◌<◌, List, [], ◌∷◌, length, slice_index_or, sym, arith}
 use Rattle.atomic_table.specs.Seated.{TableId}
-use Rattle.transfer_table.specs.Plan.{Plan, IsSite, parent}
+use Rattle.transfer_table.specs.Plan.{Plan}
 use Rattle.word_board.specs.declared.seat.HartSeat.{HartSeat}
 use Rattle.word_board.specs.Seats.{AreAll}
 
@@ -23,9 +23,3 @@ both z p a b two first second = record {
     each zero d lt = first
     each (suc zero) d lt = second
     each (suc (suc h)) d lt = absurd (omega arith)
-
--- the one site has no child
-pub childless : (p : Plan) → p.parents ≡ 0 ∷ [] → (c : ℕ) → IsSite p c → parent p c ≢ 1
-childless p is zero site up = let low = site.0 in absurd (omega arith)
-childless p is (suc zero) site up = let top : parent p 1 ≡ 0 = ap (λ (l : List ℕ). slice_index l 0) is in absurd (omega arith)
-childless p is (suc (suc c)) site up = let high = site.1 in let one : length p.parents ≡ 1 = ap (λ (l : List ℕ). length l) is in absurd (omega arith)

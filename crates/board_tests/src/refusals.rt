@@ -1,42 +1,64 @@
 //! What a hart is refused, and a run that isn't complete.
+ghost use Rattle.std.specs.Prelude.{◌≡◌, [], ◌∷◌};
+ghost use Rattle.board_rule.specs.Views.{fresh_view};
+ghost use Rattle.word_board.specs.Of.{IsOf};
 
 use crate::seats::{close_two, open_two};
 use std::test::Fail;
 use transfer_table::{Fault, Plan, Why, first_fault};
-use word_board::{Entered, Seen, Taken};
+use word_board::{Entered, HartSeat, Seen, Taken, WordBoard};
+
+// Whether a guest is refused at a site that is unclaimed, that wants nobody, and that is closing with a want.
+fn is_not_wanted(board: &WordBoard, home: &mut HartSeat, guest: &mut HartSeat) -> bool
+    requires plan { board.now.plan ≡ record { harts = 2; parents = 0 ∷ [] } }
+    requires of { IsOf board.now home.old × IsOf board.now guest.old }
+    requires home { home.old.seat.me.0 ≡ record (fresh_view board.now.plan 0) { made = 2 } }
+    requires guest { guest.old.seat.me.0 ≡ fresh_view board.now.plan 1 }
+{
+    if board.try_enter(guest, 1) != (Entered::NotWanted { shown: 0 })
+        || board.register(home, 1) != Ok(())
+        || board.register(guest, 1) != Err(Taken { shown: 1 })
+        || board.try_enter(guest, 1) != (Entered::NotWanted { shown: 1 })
+    {
+        return false;
+    }
+    board.request(home, 1, 1);
+    board.close_site(home);
+    board.try_enter(guest, 1) == Entered::NotWanted { shown: 259 }
+}
 
 #[test]
 fn a_hart_that_is_not_wanted(rt: HostRuntime) -> Result<(), Fail> {
     let plan = Plan::new(rt.alloc(), 2, &[0])?;
     let (board, mut a, mut b) = open_two(rt.alloc(), &plan)?;
-    // Unclaimed.
-    assert_eq!(rt; board.try_enter(&mut b, 1), Entered::NotWanted { shown: 0 });
-    assert_eq!(rt; board.register(&mut a, 1), Ok(()));
-    assert_eq!(rt; board.register(&mut b, 1), Err(Taken { shown: 1 }));
-    // No want.
-    assert_eq!(rt; board.try_enter(&mut b, 1), Entered::NotWanted { shown: 1 });
-    board.request(&mut a, 1, 1);
-    board.close_site(&mut a);
-    // Closing, with a want.
-    assert_eq!(rt;
-        board.try_enter(&mut b, 1),
-        Entered::NotWanted { shown: 259 }
-    );
+    assert!(rt; is_not_wanted(&board, &mut a, &mut b));
     Ok(())
+}
+
+// Whether a site that its home has left refuses a guest and another home by the word of one that is gone.
+fn is_gone(board: &WordBoard, home: &mut HartSeat, other: &mut HartSeat) -> bool
+    requires plan { board.now.plan ≡ record { harts = 2; parents = 0 ∷ [] } }
+    requires of { IsOf board.now home.old × IsOf board.now other.old }
+    requires home { home.old.seat.me.0 ≡ record (fresh_view board.now.plan 0) { made = 2 } }
+    requires other { other.old.seat.me.0 ≡ fresh_view board.now.plan 1 }
+{
+    if board.register(home, 1) != Ok(()) {
+        return false;
+    }
+    board.close_site(home);
+    let Seen::Empty = board.see_empty(home) else {
+        return false;
+    };
+    board.unregister(home);
+    board.try_enter(other, 1) == Entered::NotWanted { shown: 7 }
+        && board.register(other, 1) == Err(Taken { shown: 7 })
 }
 
 #[test]
 fn a_site_that_is_gone(rt: HostRuntime) -> Result<(), Fail> {
     let plan = Plan::new(rt.alloc(), 2, &[0])?;
     let (board, mut a, mut b) = open_two(rt.alloc(), &plan)?;
-    assert_eq!(rt; board.register(&mut a, 1), Ok(()));
-    board.close_site(&mut a);
-    let Seen::Empty = board.see_empty(&mut a) else {
-        return Err(Fail::new("a hart is inside"));
-    };
-    board.unregister(&mut a);
-    assert_eq!(rt; board.try_enter(&mut b, 1), Entered::NotWanted { shown: 7 });
-    assert_eq!(rt; board.register(&mut b, 1), Err(Taken { shown: 7 }));
+    assert!(rt; is_gone(&board, &mut a, &mut b));
     Ok(())
 }
 

@@ -1,46 +1,94 @@
 //! Two harts at one site: five entries.
+ghost use Rattle.std.specs.Prelude.{◌≡◌, [], ◌∷◌, true, false};
+ghost use Rattle.hart_port.specs.PortView.{is_in};
+ghost use Rattle.board_rule.specs.Views.{fresh_view};
+ghost use Rattle.word_board.specs.Of.{IsOf};
 
 use crate::seats::{close_two, open_two};
+use std::alloc::Global;
 use std::test::Fail;
 use transfer_table::{Entry, Plan, first_fault};
-use word_board::{Entered, Seen, Taken};
+use word_board::{Entered, HartSeat, Seen, Taken, WordBoard};
+
+const ROW: [Entry; 5] = [
+    Entry::Register { hart: 0, site: 1 },
+    Entry::Request {
+        hart: 0,
+        site: 1,
+        count: 1,
+    },
+    Entry::Enter { hart: 1, site: 1 },
+    Entry::Yield { hart: 1, site: 1 },
+    Entry::Unregister { hart: 0, site: 1 },
+];
+
+/// Whether the entries are the five of the row, and complete.
+pub(crate) fn is_row(alloc: Global, plan: &Plan, entries: &[Entry]) -> Result<bool, Fail> {
+    if entries.len() != 5 || entries != ROW.as_slice() {
+        return Ok(false);
+    }
+    Ok(first_fault(alloc, plan, entries)? == None)
+}
+
+// Whether one hart registers the site and asks for the other, which comes then and not before.
+fn has_come(board: &WordBoard, home: &mut HartSeat, guest: &mut HartSeat) -> bool
+    requires plan { board.now.plan ≡ record { harts = 2; parents = 0 ∷ [] } }
+    requires of { IsOf board.now home.old × IsOf board.now guest.old }
+    requires home { home.old.seat.me.0 ≡ record (fresh_view board.now.plan 0) { made = 2 } }
+    requires guest { guest.old.seat.me.0 ≡ fresh_view board.now.plan 1 }
+    ensures of { IsOf board.now home.new × IsOf board.now guest.new }
+    ensures harts { (home.new.seat.me.0.hart ≡ 0) × (guest.new.seat.me.0.hart ≡ 1) }
+    ensures owner { result ≡ true → home.new.seat.me.0.owner ≡ 1 }
+    ensures home { result ≡ true → is_in home.new.seat.me.0.marks.homes 1 ≡ true }
+    ensures open_yet { result ≡ true → is_in home.new.seat.me.0.marks.closed 1 ≡ false }
+    ensures inside { result ≡ true → guest.new.seat.me.0.owner ≡ 1 }
+    ensures guest { result ≡ true → is_in guest.new.seat.me.0.marks.homes 1 ≡ false }
+{
+    if board.register(home, 1) != Ok(())
+        || board.register(guest, 1) != Err(Taken { shown: 1 })
+        || board.try_enter(guest, 1) != (Entered::NotWanted { shown: 1 })
+    {
+        return false;
+    }
+    board.request(home, 1, 1);
+    board.try_enter(guest, 1) == Entered::Inside
+}
+
+// Whether the site, once it is closed, is held by the guest, empty without it, and gone when its home has left.
+fn has_gone(board: &WordBoard, home: &mut HartSeat, guest: &mut HartSeat) -> bool
+    requires plan { board.now.plan ≡ record { harts = 2; parents = 0 ∷ [] } }
+    requires of { IsOf board.now home.old × IsOf board.now guest.old }
+    requires harts { (home.old.seat.me.0.hart ≡ 0) × (guest.old.seat.me.0.hart ≡ 1) }
+    requires owner { home.old.seat.me.0.owner ≡ 1 }
+    requires home { is_in home.old.seat.me.0.marks.homes 1 ≡ true }
+    requires open_yet { is_in home.old.seat.me.0.marks.closed 1 ≡ false }
+    requires inside { guest.old.seat.me.0.owner ≡ 1 }
+    requires guest { is_in guest.old.seat.me.0.marks.homes 1 ≡ false }
+    ensures of { IsOf board.now home.new × IsOf board.now guest.new }
+    ensures harts { (home.new.seat.me.0.hart ≡ 0) × (guest.new.seat.me.0.hart ≡ 1) }
+{
+    board.close_site(home);
+    let held = Seen::Held {
+        shown: 844424930136065,
+    };
+    if board.see_empty(home) != held {
+        return false;
+    }
+    board.yield_hart(guest);
+    let Seen::Empty = board.see_empty(home) else {
+        return false;
+    };
+    board.unregister(home);
+    board.see_gone(home, 1)
+}
 
 #[test]
 fn two_harts_at_one_site(rt: HostRuntime) -> Result<(), Fail> {
     let plan = Plan::new(rt.alloc(), 2, &[0])?;
     let (board, mut a, mut b) = open_two(rt.alloc(), &plan)?;
-    assert_eq!(rt; board.register(&mut a, 1), Ok(()));
-    assert_eq!(rt; board.register(&mut b, 1), Err(Taken { shown: 1 }));
-    assert_eq!(rt; board.try_enter(&mut b, 1), Entered::NotWanted { shown: 1 });
-    board.request(&mut a, 1, 1);
-    assert_eq!(rt; board.try_enter(&mut b, 1), Entered::Inside);
-    board.close_site(&mut a);
-    assert_eq!(rt;
-        board.see_empty(&mut a),
-        Seen::Held {
-            shown: 844424930136065
-        }
-    );
-    board.yield_hart(&mut b);
-    assert_eq!(rt; board.see_empty(&mut a), Seen::Empty);
-    board.unregister(&mut a);
-    assert!(rt; board.see_gone(&mut a, 1));
+    assert!(rt; has_come(&board, &mut a, &mut b));
+    assert!(rt; has_gone(&board, &mut a, &mut b));
     let closed = close_two(rt.alloc(), board, a, b)?;
-    assert_eq!(rt;
-        closed.entries(),
-        [
-            Entry::Register { hart: 0, site: 1 },
-            Entry::Request {
-                hart: 0,
-                site: 1,
-                count: 1
-            },
-            Entry::Enter { hart: 1, site: 1 },
-            Entry::Yield { hart: 1, site: 1 },
-            Entry::Unregister { hart: 0, site: 1 },
-        ]
-        .as_slice()
-    );
-    assert_eq!(rt; first_fault(rt.alloc(), &plan, closed.entries())?, None);
+    assert!(rt; is_row(rt.alloc(), &plan, closed.entries())?);
     Ok(())
 }
