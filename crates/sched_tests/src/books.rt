@@ -2,6 +2,7 @@
 
 use array_eval::Overlay;
 use array_jobs::{Job, body_job, copy_jobs, piece_of};
+use array_tree::Program;
 use join_book::Book;
 use sample_programs::{
     BOTH_BRANCHES, Came, TWO_BRANCHES, accepted, first_jobs, outcome_of, parsed, piece_at,
@@ -33,50 +34,77 @@ fn gives_nothing(book: Book) -> bool {
     book.is_full() && book.has_failed() && book.take_all().is_err()
 }
 
-// Marks a place whose piece found no memory.
-fn fail(book: &mut Book, place: u8) -> Result<(), Fail> {
+// Marks a place whose piece found no memory. Whether it was open.
+fn fail(book: &mut Book, place: u8) -> bool {
     if !book.is_open(place) {
-        return Err(Fail::new("it isn't open"));
+        return false;
     }
     book.fail(place);
-    Ok(())
+    true
+}
+
+// A book for the first jobs of a program, and copies of the jobs.
+fn begun<'p>(alloc: Global, program: &'p Program) -> Result<(Book<'p>, Vec<Job<'p>>), Fail> {
+    let jobs = first_jobs(alloc, program)?;
+    let copies = copy_jobs(alloc, &jobs)?;
+    Ok((Book::new(alloc, jobs)?, copies))
+}
+
+// Whether the book keeps the piece of each of two jobs, and the first one not twice.
+fn keeps_each_once<'p>(book: &mut Book<'p>, alloc: Global, jobs: &[Job<'p>]) -> Result<bool, Fail> {
+    Ok(
+        bring(book, alloc, jobs, 0)? == Came::Kept
+            && bring(book, alloc, jobs, 0)? == Came::Double
+            && bring(book, alloc, jobs, 1)? == Came::Kept,
+    )
+}
+
+// Whether a full book gives the writes of both branches.
+fn gives_both(book: Book) -> Result<bool, Fail> {
+    Ok(taken(book)?.pairs() == BOTH_BRANCHES.as_slice())
 }
 
 #[test]
 fn a_full_book_gives_the_writes_of_all(rt: HostRuntime) -> Result<(), Fail> {
     let alloc = rt.alloc();
     let program = parsed(alloc, TWO_BRANCHES)?;
-    let jobs = first_jobs(alloc, &program)?;
-    let copies = copy_jobs(alloc, &jobs)?;
-    let mut book = Book::new(alloc, jobs)?;
-    assert_eq!(rt; bring(&mut book, alloc, &copies, 0)?, Came::Kept);
-    assert_eq!(rt; bring(&mut book, alloc, &copies, 0)?, Came::Double);
-    assert_eq!(rt; bring(&mut book, alloc, &copies, 1)?, Came::Kept);
-    assert_eq!(rt; taken(book)?.pairs(), BOTH_BRANCHES.as_slice());
+    let (mut book, copies) = begun(alloc, &program)?;
+    assert!(rt; keeps_each_once(&mut book, alloc, &copies)?);
+    assert!(rt; gives_both(book)?);
     Ok(())
+}
+
+// Deposits the piece of the whole body of a program.
+fn bring_body<'p>(book: &mut Book<'p>, alloc: Global, program: &'p Program) -> Result<Came, Fail> {
+    let accepted = accepted(alloc, program)?;
+    let stranger = piece_of(alloc, body_job(alloc, accepted.program())?)?;
+    Ok(outcome_of(book.deposit(stranger)))
 }
 
 #[test]
 fn a_piece_of_another_job_is_a_stranger(rt: HostRuntime) -> Result<(), Fail> {
     let alloc = rt.alloc();
     let program = parsed(alloc, TWO_BRANCHES)?;
-    let accepted = accepted(alloc, &program)?;
     let mut book = Book::new(alloc, first_jobs(alloc, &program)?)?;
-    let stranger = piece_of(alloc, body_job(alloc, accepted.program())?)?;
-    assert_eq!(rt; outcome_of(book.deposit(stranger)), Came::Stranger);
+    assert_eq!(rt; bring_body(&mut book, alloc, &program)?, Came::Stranger);
     Ok(())
+}
+
+// Whether a place that has failed takes no piece, while the other one does.
+fn fails_at_one<'p>(book: &mut Book<'p>, alloc: Global, jobs: &[Job<'p>]) -> Result<bool, Fail> {
+    Ok(
+        fail(book, 1)
+            && bring(book, alloc, jobs, 1)? == Came::Double
+            && bring(book, alloc, jobs, 0)? == Came::Kept,
+    )
 }
 
 #[test]
 fn a_failed_place_is_want_of_memory(rt: HostRuntime) -> Result<(), Fail> {
     let alloc = rt.alloc();
     let program = parsed(alloc, TWO_BRANCHES)?;
-    let jobs = first_jobs(alloc, &program)?;
-    let copies = copy_jobs(alloc, &jobs)?;
-    let mut book = Book::new(alloc, jobs)?;
-    fail(&mut book, 1)?;
-    assert_eq!(rt; bring(&mut book, alloc, &copies, 1)?, Came::Double);
-    assert_eq!(rt; bring(&mut book, alloc, &copies, 0)?, Came::Kept);
+    let (mut book, copies) = begun(alloc, &program)?;
+    assert!(rt; fails_at_one(&mut book, alloc, &copies)?);
     assert!(rt; gives_nothing(book));
     Ok(())
 }
