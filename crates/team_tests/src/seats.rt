@@ -15,22 +15,23 @@ use std::alloc::Global;
 use std::sync::Wait;
 use std::test::Fail;
 
-// The piece of the member that a hart begins next by its seat, which must be this one of this phase.
-fn begun<'a, 'p, R: Wait + 'a>(
+// Adds the piece of the member that a hart begins next by its seat, which must be this one of this phase.
+fn takes_up<'a, 'p, R: Wait + 'a>(
     rt: &'a R,
     shared: &'a SharedTeam<'p>,
     table: &'a ClaimTable,
     seat: &mut ClaimSeat,
     alloc: Global,
     member: (u8, u8),
-) -> Result<Piece<'p>, Fail>
+    pieces: &mut Vec<Piece<'p>>,
+) -> Result<(), Fail>
     requires of { IsOf table.now (kin seat.old) }
     requires rows { RowsFit table.now.counts.items 0 shared.now }
     ensures { kin seat.new ≡ kin seat.old }
 {
     match TeamHand::new(shared, table, seat, 0).enter(rt) {
         Next::Run(TeamWork::Begin(job)) if (job.phase, job.place) == member => {
-            Ok(piece_of(alloc, job)?)
+            Ok(pieces.push(piece_of(alloc, job)?)?)
         }
         _ => Err(Fail::new("another member")),
     }
@@ -51,18 +52,21 @@ fn finds_nothing<'a, 'p, R: Wait + 'a>(
     matches!(hand.enter(rt), Next::Nothing)
 }
 
-// Whether a piece is kept, and the phase doesn't open.
+// Brings the last of the pieces. Whether it is kept, and the phase doesn't open.
 fn is_kept<'a, 'p, R: Wait + 'a>(
     rt: &'a R,
     shared: &'a SharedTeam<'p>,
     table: &'a ClaimTable,
     seat: &mut ClaimSeat,
-    piece: Piece<'p>,
+    pieces: &mut Vec<Piece<'p>>,
 ) -> Result<bool, Fail>
     requires of { IsOf table.now (kin seat.old) }
     requires rows { RowsFit table.now.counts.items 0 shared.now }
     ensures { kin seat.new ≡ kin seat.old }
 {
+    let Some(piece) = pieces.pop() else {
+        return Err(Fail::new("no piece"));
+    };
     let arrival = TeamHand::new(shared, table, seat, 0).arrive(rt, piece)?;
     Ok(opened_by(arrival)?.is_none())
 }
@@ -82,13 +86,15 @@ fn share_phase<'a, 'p, R: Wait + 'a>(
     requires rows { RowsFit table.now.counts.items 0 shared.now }
     ensures { (kin one.new ≡ kin one.old) × (kin other.new ≡ kin other.old) }
 {
-    let first = begun(rt, shared, table, one, alloc, (phase, 0))?;
-    let second = begun(rt, shared, table, other, alloc, (phase, 1))?;
-    let third = begun(rt, shared, table, one, alloc, (phase, 2))?;
+    let mut pieces = Vec::new(alloc);
+    takes_up(rt, shared, table, one, alloc, (phase, 0), &mut pieces)?;
+    takes_up(rt, shared, table, other, alloc, (phase, 1), &mut pieces)?;
+    takes_up(rt, shared, table, one, alloc, (phase, 2), &mut pieces)?;
+    pieces.reverse();
     let none = finds_nothing(rt, shared, table, one) && finds_nothing(rt, shared, table, other);
-    let first = is_kept(rt, shared, table, one, first)?;
-    let second = is_kept(rt, shared, table, other, second)?;
-    let third = is_kept(rt, shared, table, one, third)?;
+    let first = is_kept(rt, shared, table, one, &mut pieces)?;
+    let second = is_kept(rt, shared, table, other, &mut pieces)?;
+    let third = is_kept(rt, shared, table, one, &mut pieces)?;
     Ok(none && first && second && !third)
 }
 

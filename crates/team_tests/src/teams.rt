@@ -6,6 +6,7 @@ use crate::samples::{
 };
 use array_eval::Overlay;
 use array_jobs::Job;
+use array_tree::Program;
 use lithe_barrier::Arrival;
 use loop_team::Team;
 use sample_programs::{
@@ -85,15 +86,24 @@ fn waits_for_all<'p>(team: &mut Team<'p>, alloc: Global, jobs: &[Job<'p>]) -> Re
     Ok(!third && waits && !first && still_waits && second)
 }
 
+// Runs the first phase. Whether its members and those of the second began, and nobody in between.
+fn waits_between<'p>(
+    team: &mut Team<'p>,
+    alloc: Global,
+    program: &'p Program,
+) -> Result<bool, Fail> {
+    let jobs = first_jobs(alloc, program)?;
+    let begins = answers(team, ()) == MEMBERS;
+    let waits = waits_for_all(team, alloc, &jobs)?;
+    Ok(begins && waits && answers(team, ()) == MEMBERS)
+}
+
 #[test]
 fn the_next_phase_waits_for_the_barrier(rt: HostRuntime) -> Result<(), Fail> {
     let alloc = rt.alloc();
     let program = parsed(alloc, TWO_PHASES)?;
-    let jobs = first_jobs(alloc, &program)?;
     let mut team = team_of(alloc, &program)?;
-    assert!(rt; answers(&mut team, ()) == MEMBERS);
-    assert!(rt; waits_for_all(&mut team, alloc, &jobs)?);
-    assert!(rt; answers(&mut team, ()) == MEMBERS);
+    assert!(rt; waits_between(&mut team, alloc, &program)?);
     Ok(())
 }
 
@@ -107,14 +117,23 @@ fn members_go_before_wishes(rt: HostRuntime) -> Result<(), Fail> {
     Ok(())
 }
 
+// Puts four contexts back. Whether there was room for three, and they go before the members.
+fn contexts_go_first<'p>(
+    team: &mut Team<'p>,
+    alloc: Global,
+    program: &'p Program,
+) -> Result<bool, Fail> {
+    let jobs = first_jobs(alloc, program)?;
+    let taken = put_back(team, (), alloc, &jobs)?;
+    Ok(taken == [true, true, true, false] && answers(team, ()) == CONTEXTS_THEN_MEMBERS)
+}
+
 #[test]
 fn ready_contexts_go_before_members(rt: HostRuntime) -> Result<(), Fail> {
     let alloc = rt.alloc();
     let program = parsed(alloc, TWO_PHASES)?;
-    let jobs = first_jobs(alloc, &program)?;
     let mut team = team_of(alloc, &program)?;
-    assert!(rt; put_back(&mut team, (), alloc, &jobs)? == [true, true, true, false]);
-    assert!(rt; answers(&mut team, ()) == CONTEXTS_THEN_MEMBERS);
+    assert!(rt; contexts_go_first(&mut team, alloc, &program)?);
     Ok(())
 }
 
@@ -125,9 +144,10 @@ fn is_stranger<'p>(team: &mut Team<'p>, alloc: Global, jobs: &[Job<'p>]) -> Resu
 }
 
 // Runs the first phase, and brings a piece of it again. Whether that is a stranger, and the next phase can begin.
-fn turns_away<'p>(team: &mut Team<'p>, alloc: Global, jobs: &[Job<'p>]) -> Result<bool, Fail> {
+fn turns_away<'p>(team: &mut Team<'p>, alloc: Global, program: &'p Program) -> Result<bool, Fail> {
+    let jobs = first_jobs(alloc, program)?;
     run_phase(team, alloc, 0, 3)?;
-    let stranger = is_stranger(team, alloc, jobs)?;
+    let stranger = is_stranger(team, alloc, &jobs)?;
     Ok(stranger && entered(team, ()) == Answer::Begins(0))
 }
 
@@ -135,9 +155,8 @@ fn turns_away<'p>(team: &mut Team<'p>, alloc: Global, jobs: &[Job<'p>]) -> Resul
 fn a_piece_of_an_earlier_phase_is_a_stranger(rt: HostRuntime) -> Result<(), Fail> {
     let alloc = rt.alloc();
     let program = parsed(alloc, TWO_PHASES)?;
-    let jobs = first_jobs(alloc, &program)?;
     let mut team = team_of(alloc, &program)?;
-    assert!(rt; turns_away(&mut team, alloc, &jobs)?);
+    assert!(rt; turns_away(&mut team, alloc, &program)?);
     Ok(())
 }
 

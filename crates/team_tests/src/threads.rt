@@ -141,10 +141,12 @@ fn runners<'x, 'p: 'x>(
     Ok(runners)
 }
 
-// Whether two harts begin each member of each phase once.
-fn is_shared_out<R: Threads + Wait + Sync>(rt: &R, alloc: Global) -> Result<bool, Fail> {
-    let program = parsed(alloc, TWO_PHASES)?;
-    let shared = shared_team(alloc, &program)?;
+// Runs a team by two harts. Whether they begin each member of each phase once.
+fn begin_each_once<'p, R: Threads + Wait + Sync>(
+    rt: &R,
+    alloc: Global,
+    shared: &SharedTeam<'p>,
+) -> Result<bool, Fail> {
     let (table, seats) = ClaimTable::new(alloc, &TWO_ROWS, 2)?;
     if !rows_fit(&table, 0, shared.nested()) {
         return Err(Fail::new("other rows"));
@@ -152,9 +154,16 @@ fn is_shared_out<R: Threads + Wait + Sync>(rt: &R, alloc: Global) -> Result<bool
     let begun = Begun {
         counts: AtomicU64::new(0),
     };
-    let mut runners = runners(alloc, &shared, &table, &begun, seats)?;
+    let mut runners = runners(alloc, shared, &table, &begun, seats)?;
     run_by_all(rt, alloc, runners.as_mut_slice());
     Ok(begun.is_each_once())
+}
+
+// Whether two harts begin each member of each phase of a team once.
+fn is_shared_out<R: Threads + Wait + Sync>(rt: &R, alloc: Global) -> Result<bool, Fail> {
+    let program = parsed(alloc, TWO_PHASES)?;
+    let shared = shared_team(alloc, &program)?;
+    begin_each_once(rt, alloc, &shared)
 }
 
 #[test]
