@@ -1,41 +1,68 @@
 //! The table, by hand-made plans and entries.
+ghost use Rattle.std.specs.Prelude.{◌≡◌, [], ◌∷◌};
 
+use std::alloc::{AllocError, Global};
 use std::test::Fail;
 use transfer_table::NotAdmitted::*;
 use transfer_table::{Board, Entries, Entry, Fault, Plan, PlanFault, Stage, Why, first_fault};
 
-const REGISTER: Entry = Entry::Register { hart: 0, site: 1 };
+pub(crate) const REGISTER: Entry = Entry::Register { hart: 0, site: 1 };
 
-const REQUEST: Entry = Entry::Request {
+pub(crate) const REQUEST: Entry = Entry::Request {
     hart: 0,
     site: 1,
     count: 1,
 };
 
-const ENTER: Entry = Entry::Enter { hart: 1, site: 1 };
+pub(crate) const ENTER: Entry = Entry::Enter { hart: 1, site: 1 };
 
-const YIELD: Entry = Entry::Yield { hart: 1, site: 1 };
+pub(crate) const YIELD: Entry = Entry::Yield { hart: 1, site: 1 };
 
-const UNREGISTER: Entry = Entry::Unregister { hart: 0, site: 1 };
+pub(crate) const UNREGISTER: Entry = Entry::Unregister { hart: 0, site: 1 };
+
+// Whether a plan is one of two harts, with a site inside another.
+fn is_nested(plan: &Plan) -> bool {
+    plan.harts() == 2 && plan.sites() == 2 && plan.parent(2) == 1 && plan.parent(3) == 0
+}
+
+// What a plan is refused for.
+fn fault_of(alloc: Global, harts: u8, parents: &[u16]) -> Option<PlanFault> {
+    Plan::new(alloc, harts, parents).err()
+}
+
+// The fault of a plan with so many sites under the base.
+fn fault_of_flat(alloc: Global, sites: usize) -> Result<Option<PlanFault>, AllocError> {
+    let parents = vec![in alloc; 0; sites]?;
+    Ok(fault_of(alloc, 4, parents.as_slice()))
+}
 
 #[test]
 fn plans(rt: HostRuntime) -> Result<(), Fail> {
     let alloc = rt.alloc();
     let plan = Plan::new(alloc, 2, &[0, 1])?.copy(alloc)?;
-    assert_eq!(rt; plan.harts(), 2);
-    assert_eq!(rt; plan.sites(), 2);
-    assert_eq!(rt; plan.parent(2), 1);
-    assert_eq!(rt; plan.parent(3), 0);
+    assert!(rt; is_nested(&plan));
     assert_eq!(rt;
-        Plan::new(alloc, 5, &[1]).err(),
+        fault_of(alloc, 5, &[1]),
         Some(PlanFault::BadHarts { found: 5 })
     );
-    let long = vec![in alloc; 0; 4096]?;
-    let fault = Plan::new(alloc, 4, long.as_slice()).err();
-    assert_eq!(rt; fault, Some(PlanFault::TooManySites { found: 4096 }));
-    let fault = Plan::new(alloc, 1, &[0, 1, 3, 4]).err();
-    assert_eq!(rt; fault, Some(PlanFault::BadParent { site: 3 }));
+    assert_eq!(rt;
+        fault_of_flat(alloc, 4096)?,
+        Some(PlanFault::TooManySites { found: 4096 })
+    );
+    assert_eq!(rt;
+        fault_of(alloc, 1, &[0, 1, 3, 4]),
+        Some(PlanFault::BadParent { site: 3 })
+    );
     Ok(())
+}
+
+// Whether a board shows a site with its home, and the hart that the home asked for.
+fn shows_the_home(board: &Board) -> bool
+    requires { board.now.plan ≡ record { harts = 2; parents = 0 ∷ [] } }
+{
+    (board.owner(0), board.owner(1)) == (1, 0)
+        && (board.home(1), board.stage(1)) == (Some(0), Stage::Live)
+        && (board.wishes(1), board.asked(1)) == (1, 1)
 }
 
 #[test]
@@ -43,11 +70,8 @@ fn one_site_with_a_guest(rt: HostRuntime) -> Result<(), Fail> {
     let plan = Plan::new(rt.alloc(), 2, &[0])?;
     let mut board = Board::new(rt.alloc(), &plan)?;
     assert_eq!(rt; (board.plan().harts(), board.plan().sites()), (2, 1));
-    assert_eq!(rt; board.admit(REGISTER), Ok(()));
-    assert_eq!(rt; board.admit(REQUEST), Ok(()));
-    assert_eq!(rt; (board.owner(0), board.owner(1)), (1, 0));
-    assert_eq!(rt; (board.home(1), board.stage(1)), (Some(0), Stage::Live));
-    assert_eq!(rt; (board.wishes(1), board.asked(1)), (1, 1));
+    assert!(rt; board.admit(REGISTER) == Ok(()) && board.admit(REQUEST) == Ok(()));
+    assert!(rt; shows_the_home(&board));
     for entry in [ENTER, YIELD, UNREGISTER] {
         assert_eq!(rt; board.admit(entry), Ok(()));
     }
