@@ -1,13 +1,14 @@
 //! Sites that a hart opens, and that another finds.
 ghost use Rattle.std.specs.Prelude.{◌≡◌, map, vec_len};
 ghost use Rattle.claim_words.specs.Seats.{AreAll, kin};
+ghost use Rattle.hart_loop.specs.Offers.{IsOpened, opened_by};
 
 use array_eval::Overlay;
-use array_jobs::piece_of;
+use array_jobs::{Piece, piece_of};
 use array_tree::Program;
 use deque_rows::rows;
 use disjoint_check::check;
-use hart_loop::{Claims, HartSchedulers, InDirectory, Tools, tools_of};
+use hart_loop::{Claims, HartSchedulers, HartSite, InDirectory, Tools, tools_of};
 use hart_work::{Resources, Schedulers, Task};
 use loop_team::ClaimSeat;
 use once_cell::race::OnceBox;
@@ -18,6 +19,7 @@ use site_directory::{SharedSite, cells, lines};
 use std::alloc::Global;
 use std::sync::Wait;
 use std::test::Fail;
+use step_eval::Nested;
 
 // The tools of two harts, in their order.
 fn two_tools<'x>(
@@ -35,6 +37,44 @@ fn two_tools<'x>(
     }
 }
 
+// A piece that a hart is given at the site, and has done.
+fn next_piece<'a, 'p, R: Wait, S: InDirectory<'p>>(
+    rt: &'a R,
+    alloc: Global,
+    hart: &mut HartSchedulers<'a, 'p, S>,
+    site: &mut HartSite<'a, 'p, S>,
+    is_home: bool,
+) -> Option<Piece<'p>>
+    requires opened { IsOpened S.held site.old.keeper }
+    ensures opened { IsOpened S.held site.new.keeper }
+    ensures construct { opened_by site.new.keeper ≡ opened_by site.old.keeper }
+{
+    match hart.next(rt, site, is_home) {
+        Task::Piece(job) => piece_of(alloc, job).ok(),
+        _ => None,
+    }
+}
+
+// Whether a home does a piece.
+fn does_a_piece<'a, 'p, R: Wait, S: InDirectory<'p>>(
+    rt: &'a R,
+    alloc: Global,
+    home: &mut HartSchedulers<'a, 'p, S>,
+    site: &mut HartSite<'a, 'p, S>,
+) -> bool
+    requires opened { IsOpened S.held site.old.keeper }
+    ensures opened { IsOpened S.held site.new.keeper }
+    ensures construct { opened_by site.new.keeper ≡ opened_by site.old.keeper }
+{
+    match next_piece(rt, alloc, home, site, true) {
+        Some(piece) => {
+            home.deposit(rt, alloc, site, piece);
+            true
+        }
+        None => false,
+    }
+}
+
 // What the pool of a `par` of two branches writes whose home does all of it.
 fn by_the_home<'a, 'p, R: Wait, S: InDirectory<'p>>(
     rt: &'a R,
@@ -47,72 +87,134 @@ fn by_the_home<'a, 'p, R: Wait, S: InDirectory<'p>>(
     let mut home = HartSchedulers::new(lines(alloc, cells)?, tools);
     let mut site = home.open(alloc, &nested)?;
     home.offer(rt, &site);
-    let Task::Piece(first) = home.next(rt, &mut site, true) else {
-        return Err(Fail::new("no first piece"));
-    };
-    home.deposit(rt, alloc, &mut site, piece_of(alloc, first)?);
-    let Task::Piece(second) = home.next(rt, &mut site, true) else {
-        return Err(Fail::new("no second piece"));
-    };
-    home.deposit(rt, alloc, &mut site, piece_of(alloc, second)?);
-    let Task::Nothing = home.next(rt, &mut site, true) else {
-        return Err(Fail::new("a third piece"));
-    };
-    Ok(home.take(rt, alloc, site)?)
+    let first = does_a_piece(rt, alloc, &mut home, &mut site);
+    let second = does_a_piece(rt, alloc, &mut home, &mut site);
+    let third = does_a_piece(rt, alloc, &mut home, &mut site);
+    let written = home.take(rt, alloc, site)?;
+    if first && second && !third {
+        return Ok(written);
+    }
+    Err(Fail::new("not two pieces"))
+}
+
+// Whether this is what both branches of the program write.
+fn are_both(written: &Overlay) -> bool {
+    written.pairs() == BOTH_BRANCHES.as_slice()
+}
+
+// Whether a home that does all pieces writes what both branches do.
+fn writes_both<R: Wait>(rt: &R, alloc: Global, program: &Program) -> Result<bool, Fail> {
+    let cells = cells::<SharedSite<'_>>(alloc, 1)?;
+    let (words, claims) = Claims::new(alloc, &check(alloc, program, 2)?, 2)?;
+    let (tools, _) = two_tools(alloc, &words, claims)?;
+    let written = by_the_home(rt, alloc, program, cells.as_slice(), tools)?;
+    Ok(are_both(&written))
 }
 
 #[test]
 fn a_home_does_all_pieces(rt: HostRuntime) -> Result<(), Fail> {
     let alloc = rt.alloc();
     let program = parsed(alloc, TWO_BRANCHES)?;
-    let cells = cells::<SharedSite<'_>>(alloc, 1)?;
-    let (words, claims) = Claims::new(alloc, &check(alloc, &program, 2)?, 2)?;
-    let (tools, _) = two_tools(alloc, &words, claims)?;
-    let written = by_the_home(&rt, alloc, &program, cells.as_slice(), tools)?;
-    assert!(rt; written.pairs() == BOTH_BRANCHES.as_slice());
+    assert!(rt; writes_both(&rt, alloc, &program)?);
     Ok(())
 }
 
-// The same, where a guest does the second branch.
+// Whether a guest does one piece while the home has the other, and is then told that there is nothing.
+fn does_one<'a, 'p, R: Wait, S: InDirectory<'p>>(
+    rt: &'a R,
+    alloc: Global,
+    guest: &mut HartSchedulers<'a, 'p, S>,
+    found: &mut HartSite<'a, 'p, S>,
+) -> bool
+    requires opened { IsOpened S.held found.old.keeper }
+{
+    let Some(piece) = next_piece(rt, alloc, guest, found, false) else {
+        return false;
+    };
+    let none = matches!(guest.next(rt, found, false), Task::Nothing);
+    guest.deposit(rt, alloc, found, piece);
+    none
+}
+
+// The same of a guest that finds the site by its lines.
+fn helps<'a, 'p, R: Wait, S: InDirectory<'p>>(
+    rt: &'a R,
+    alloc: Global,
+    guest: &mut HartSchedulers<'a, 'p, S>,
+) -> bool {
+    match guest.find(rt, 1) {
+        Some(mut found) => does_one(rt, alloc, guest, &mut found),
+        None => false,
+    }
+}
+
+// Whether a home does a piece while a guest does the other.
+fn is_helped<'a, 'p, R: Wait, S: InDirectory<'p>>(
+    rt: &'a R,
+    alloc: Global,
+    home: &mut HartSchedulers<'a, 'p, S>,
+    site: &mut HartSite<'a, 'p, S>,
+    guest: &mut HartSchedulers<'a, 'p, S>,
+) -> bool
+    requires opened { IsOpened S.held site.old.keeper }
+    ensures opened { IsOpened S.held site.new.keeper }
+    ensures construct { opened_by site.new.keeper ≡ opened_by site.old.keeper }
+{
+    let Some(piece) = next_piece(rt, alloc, home, site, true) else {
+        return false;
+    };
+    let helped = helps(rt, alloc, guest);
+    home.deposit(rt, alloc, site, piece);
+    helped
+}
+
+// What the pool of a `par` of two branches writes of which a guest does the second.
 fn with_a_guest<'a, 'p, R: Wait, S: InDirectory<'p>>(
     rt: &'a R,
     alloc: Global,
-    program: &'p Program,
-    cells: &'a [OnceBox<S>],
-    first: Tools<'a>,
-    second: Tools<'a>,
+    nested: &Nested<'p>,
+    home: &mut HartSchedulers<'a, 'p, S>,
+    guest: &mut HartSchedulers<'a, 'p, S>,
 ) -> Result<Overlay, Fail> {
-    let nested = first_construct(alloc, program)?;
+    let mut site = home.open(alloc, nested)?;
+    home.offer(rt, &site);
+    let helped = is_helped(rt, alloc, home, &mut site, guest);
+    let written = home.take(rt, alloc, site)?;
+    if helped {
+        return Ok(written);
+    }
+    Err(Fail::new("the guest had another part"))
+}
+
+// The same by harts that are made for it.
+fn by_two<'a, 'p, R: Wait, S: InDirectory<'p>>(
+    rt: &'a R,
+    alloc: Global,
+    nested: &Nested<'p>,
+    cells: &'a [OnceBox<S>],
+    tools: (Tools<'a>, Tools<'a>),
+) -> Result<Overlay, Fail> {
+    let (first, second) = tools;
     let mut home = HartSchedulers::new(lines(alloc, cells)?, first);
     let mut guest = HartSchedulers::new(lines(alloc, cells)?, second);
-    let mut site = home.open(alloc, &nested)?;
-    home.offer(rt, &site);
-    let Some(mut found) = guest.find(rt, 1) else {
-        return Err(Fail::new("the guest finds nothing"));
-    };
-    let Task::Piece(first) = home.next(rt, &mut site, true) else {
-        return Err(Fail::new("no first piece"));
-    };
-    let Task::Piece(second) = guest.next(rt, &mut found, false) else {
-        return Err(Fail::new("no second piece"));
-    };
-    let Task::Nothing = guest.next(rt, &mut found, false) else {
-        return Err(Fail::new("a third piece"));
-    };
-    guest.deposit(rt, alloc, &mut found, piece_of(alloc, second)?);
-    home.deposit(rt, alloc, &mut site, piece_of(alloc, first)?);
-    Ok(home.take(rt, alloc, site)?)
+    with_a_guest(rt, alloc, nested, &mut home, &mut guest)
+}
+
+// Whether both branches are written where a guest does one.
+fn shares_both<R: Wait>(rt: &R, alloc: Global, program: &Program) -> Result<bool, Fail> {
+    let cells = cells::<SharedSite<'_>>(alloc, 1)?;
+    let (words, claims) = Claims::new(alloc, &check(alloc, program, 2)?, 2)?;
+    let tools = two_tools(alloc, &words, claims)?;
+    let nested = first_construct(alloc, program)?;
+    let written = by_two(rt, alloc, &nested, cells.as_slice(), tools)?;
+    Ok(are_both(&written))
 }
 
 #[test]
 fn a_guest_does_a_piece_and_is_told_nothing_more(rt: HostRuntime) -> Result<(), Fail> {
     let alloc = rt.alloc();
     let program = parsed(alloc, TWO_BRANCHES)?;
-    let cells = cells::<SharedSite<'_>>(alloc, 1)?;
-    let (words, claims) = Claims::new(alloc, &check(alloc, &program, 2)?, 2)?;
-    let (first, second) = two_tools(alloc, &words, claims)?;
-    let written = with_a_guest(&rt, alloc, &program, cells.as_slice(), first, second)?;
-    assert!(rt; written.pairs() == BOTH_BRANCHES.as_slice());
+    assert!(rt; shares_both(&rt, alloc, &program)?);
     Ok(())
 }
 
@@ -131,34 +233,45 @@ fn untouched<'a, 'p, R: Wait, S: InDirectory<'p>>(
     Ok((home.take(rt, alloc, site)?, wishes))
 }
 
+// Whether a home takes this from an untouched site that it alone knows, and had work for so many harts.
+fn takes<R: Wait>(
+    rt: &R,
+    alloc: Global,
+    program: &Program,
+    expected: &[(u16, i64)],
+    harts: u8,
+) -> Result<bool, Fail> {
+    let cells = cells::<SharedSite<'_>>(alloc, 1)?;
+    let (words, claims) = Claims::new(alloc, &check(alloc, program, 2)?, 2)?;
+    let (tools, _) = two_tools(alloc, &words, claims)?;
+    let (written, wishes) = untouched(rt, alloc, program, cells.as_slice(), tools)?;
+    Ok(wishes == harts && written.pairs() == expected)
+}
+
 #[test]
 fn a_construct_whose_pieces_are_not_there_is_computed(rt: HostRuntime) -> Result<(), Fail> {
     let alloc = rt.alloc();
     let program = parsed(alloc, TWO_BRANCHES)?;
-    let cells_of_pool = cells::<SharedSite<'_>>(alloc, 1)?;
-    let (words, claims) = Claims::new(alloc, &check(alloc, &program, 2)?, 2)?;
-    let (tools, _) = two_tools(alloc, &words, claims)?;
-    let (written, wishes) = untouched(&rt, alloc, &program, cells_of_pool.as_slice(), tools)?;
-    assert!(rt; wishes == 1 && written.pairs() == BOTH_BRANCHES.as_slice());
+    assert!(rt; takes(&rt, alloc, &program, BOTH_BRANCHES.as_slice(), 1)?);
     let program = parsed(alloc, TWO_PHASES)?;
-    let cells_of_team = cells::<SharedSite<'_>>(alloc, 1)?;
-    let (words, claims) = Claims::new(alloc, &check(alloc, &program, 2)?, 2)?;
-    let (tools, _) = two_tools(alloc, &words, claims)?;
-    let (written, wishes) = untouched(&rt, alloc, &program, cells_of_team.as_slice(), tools)?;
-    assert!(rt; wishes == 2 && written.pairs() == BOTH_PHASES.as_slice());
+    assert!(rt; takes(&rt, alloc, &program, BOTH_PHASES.as_slice(), 2)?);
     Ok(())
+}
+
+// Whether the second of two homes whose cell is one and the same asks for nobody, and computes its construct.
+fn asks_for_nobody<R: Wait>(rt: &R, alloc: Global, program: &Program) -> Result<bool, Fail> {
+    let cells = cells::<SharedSite<'_>>(alloc, 1)?;
+    let (words, claims) = Claims::new(alloc, &check(alloc, program, 2)?, 2)?;
+    let (first, second) = two_tools(alloc, &words, claims)?;
+    let (_, one) = untouched(rt, alloc, program, cells.as_slice(), first)?;
+    let (written, none) = untouched(rt, alloc, program, cells.as_slice(), second)?;
+    Ok(one == 1 && none == 0 && are_both(&written))
 }
 
 #[test]
 fn a_hart_whose_cell_is_taken_asks_for_nobody(rt: HostRuntime) -> Result<(), Fail> {
     let alloc = rt.alloc();
     let program = parsed(alloc, TWO_BRANCHES)?;
-    let cells = cells::<SharedSite<'_>>(alloc, 1)?;
-    let (words, claims) = Claims::new(alloc, &check(alloc, &program, 2)?, 2)?;
-    let (first, second) = two_tools(alloc, &words, claims)?;
-    let (_, one) = untouched(&rt, alloc, &program, cells.as_slice(), first)?;
-    let (written, none) = untouched(&rt, alloc, &program, cells.as_slice(), second)?;
-    assert!(rt; one == 1 && none == 0);
-    assert!(rt; written.pairs() == BOTH_BRANCHES.as_slice());
+    assert!(rt; asks_for_nobody(&rt, alloc, &program)?);
     Ok(())
 }
