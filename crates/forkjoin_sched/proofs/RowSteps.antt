@@ -14,7 +14,7 @@ use Rattle.deque_rows.specs.declared.stolen.Stolen.TheVariants.{Code, Empty}
 use Rattle.deque_rows.specs.Account.{idle, after_push, after_steal, HeldAtMost, Rose}
 use Rattle.deque_rows.specs.Rows.{IsLevel, kin, home_logs, pass_logs, bares, home_log, pass_log, bare, place}
 use Rattle.deque_rows.specs.Calls.{FoundBare, Pushes, PopGives, StealGives}
-use Rattle.forkjoin_sched.specs.Hands.{Keeps, IsFoundBare, HasTaken, PushesCodes, IsFalling, code_at}
+use Rattle.forkjoin_sched.specs.Hands.{Keeps, IsFoundBare, HasTaken, TakesMore, PushesCodes, IsFalling, code_at}
 
 -- how many rows there are
 own_count : (r : HartRows) → length (home_logs r) ≡ 3
@@ -94,17 +94,78 @@ keeps_steal old new hart level Empty same gives = record {
   bares = found_least old new hart level gives.1;
 }
 
-pub taken_by_pop : (old new : HartRows) (home level code : ℕ) → IsLevel level → PopGives old level (Some code) new → HasTaken home level code new
-taken_by_pop old new home level code is gives =
-    inl ((home_log old level).popped, ap (λ (v : Log). v.popped) (home_set old new level gives.0 is gives.2) ∙ ap (λ (v : Log). v.popped) gives.1.1)
+-- what the hart has taken from a row only grows
+pub takes_none : (rows : HartRows) (home level : ℕ) → TakesMore home level rows rows
+takes_none rows home level = record {
+  popped = [];
+  stolen = [];
+  pops = sym (append-nil (home_log rows level).popped);
+  steals = sym (append-nil (pass_log rows home level).stolen);
+}
 
-pub taken_if : (old new : HartRows) (level : ℕ) (result : Option ℕ) → IsLevel level → PopGives old level result new → IfSome result (λ code. (home : ℕ) → HasTaken home level code new)
-taken_if old new level (Some code) is gives = λ home. taken_by_pop old new home level code is gives
+pub takes_then : (a b c : HartRows) (home level : ℕ) → TakesMore home level a b → TakesMore home level b c → TakesMore home level a c
+takes_then a b c home level h k = record {
+  popped = h.popped ++ k.popped;
+  stolen = h.stolen ++ k.stolen;
+  pops = k.pops ∙ ap (λ l. l ++ k.popped) h.pops ∙ append_assoc (home_log a level).popped h.popped k.popped;
+  steals = k.steals ∙ ap (λ l. l ++ k.stolen) h.steals ∙ append_assoc (pass_log a home level).stolen h.stolen k.stolen;
+}
+
+pub taken_then : (a b c : HartRows) (home level code : ℕ) → TakesMore home level a b → HasTaken home level code b c → HasTaken home level code a c
+taken_then a b c home level code h (inl k) =
+    inl (h.popped ++ k.0, k.1 ∙ ap (λ l. (l ++ k.0) ++ code ∷ []) h.pops ∙ ap (λ l. l ++ code ∷ []) (append_assoc (home_log a level).popped h.popped k.0))
+taken_then a b c home level code h (inr k) =
+    inr (h.stolen ++ k.0, k.1 ∙ ap (λ l. (l ++ k.0) ++ code ∷ []) h.steals ∙ ap (λ l. l ++ code ∷ []) (append_assoc (pass_log a home level).stolen h.stolen k.0))
+
+none_more : (l : List ℕ) → l ≡ l ++ []
+none_more l = sym (append-nil l)
+
+-- a pop
+popped_to : (old new : HartRows) (level code : ℕ) → IsLevel level → PopGives old level (Some code) new → (home_log new level).popped ≡ (home_log old level).popped ++ code ∷ []
+popped_to old new level code is gives = ap (λ (v : Log). v.popped) (home_set old new level gives.0 is gives.2) ∙ ap (λ (v : Log). v.popped) gives.1.1
+
+pub more_by_pop : (old new : HartRows) (home level : ℕ) (result : Option ℕ) → IsLevel level → PopGives old level result new → TakesMore home level old new
+more_by_pop old new home level (Some code) is gives = record {
+  popped = code ∷ [];
+  stolen = [];
+  pops = popped_to old new level code is gives;
+  steals = ap (λ l. (get_or l (place home level) idle).stolen) gives.3 ∙ none_more (pass_log old home level).stolen;
+}
+more_by_pop old new home level None is gives = record {
+  popped = [];
+  stolen = [];
+  pops = ap (λ l. (get_or l (level - 1) idle).popped) gives.2 ∙ none_more (home_log old level).popped;
+  steals = ap (λ l. (get_or l (place home level) idle).stolen) gives.3 ∙ none_more (pass_log old home level).stolen;
+}
+
+pub taken_if : (old new : HartRows) (level : ℕ) (result : Option ℕ) → IsLevel level → PopGives old level result new → IfSome result (λ code. (home : ℕ) → HasTaken home level code old new)
+taken_if old new level (Some code) is gives =
+    λ home. inl ([], popped_to old new level code is gives ∙ ap (λ l. l ++ code ∷ []) (none_more (home_log old level).popped))
 taken_if old new level None is gives = tt
 
-pub taken_by_steal : (old new : HartRows) (home level code : ℕ) → IsLevel level → home < old.harts → StealGives old home level (Code code) new → HasTaken home level code new
+-- a steal
+stolen_to : (old new : HartRows) (home level code : ℕ) → IsLevel level → home < old.harts → StealGives old home level (Code code) new
+    → (pass_log new home level).stolen ≡ (pass_log old home level).stolen ++ code ∷ []
+stolen_to old new home level code is few gives =
+    ap (λ (v : Log). v.stolen) (pass_set old new home level (after_steal (pass_log old home level) (code ∷ [])) is few gives.0)
+
+pub more_by_steal : (old new : HartRows) (home level : ℕ) (result : Stolen) → IsLevel level → home < old.harts → StealGives old home level result new → TakesMore home level old new
+more_by_steal old new home level (Code code) is few gives = record {
+  popped = [];
+  stolen = code ∷ [];
+  pops = ap (λ l. (get_or l (level - 1) idle).popped) gives.1 ∙ none_more (home_log old level).popped;
+  steals = stolen_to old new home level code is few gives;
+}
+more_by_steal old new home level Empty is few gives = record {
+  popped = [];
+  stolen = [];
+  pops = ap (λ l. (get_or l (level - 1) idle).popped) gives.2 ∙ none_more (home_log old level).popped;
+  steals = ap (λ l. (get_or l (place home level) idle).stolen) gives.3 ∙ none_more (pass_log old home level).stolen;
+}
+
+pub taken_by_steal : (old new : HartRows) (home level code : ℕ) → IsLevel level → home < old.harts → StealGives old home level (Code code) new → HasTaken home level code old new
 taken_by_steal old new home level code is few gives =
-    inr ((pass_log old home level).stolen, ap (λ (v : Log). v.stolen) (pass_set old new home level (after_steal (pass_log old home level) (code ∷ [])) is few gives.0))
+    inr ([], stolen_to old new home level code is few gives ∙ ap (λ l. l ++ code ∷ []) (none_more (pass_log old home level).stolen))
 
 -- none is taken where the row was found bare
 pub bare_by_steal : (old new : HartRows) (home level : ℕ) → IsLevel level → home < old.harts → StealGives old home level Empty new → IsFoundBare home level old new

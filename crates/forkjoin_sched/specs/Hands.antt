@@ -59,20 +59,27 @@ pub record Keeps (before after : HartRows) : Type 0 where
 abbrev pub IsFoundBare : ℕ → ℕ → HartRows → HartRows → Type 0
 IsFoundBare home level before after = Rose (bare before home level) (bare after home level) × HeldAtMost 1 (pass_log after home level)
 
--- the last code that was taken from the row, by a pop or by a steal, is this one
-abbrev pub HasTaken : ℕ → ℕ → ℕ → HartRows → Type 0
-HasTaken home level code rows =
-    ((codes : List ℕ) × ((home_log rows level).popped ≡ codes ++ code ∷ []))
-    ⊎ ((codes : List ℕ) × ((pass_log rows home level).stolen ≡ codes ++ code ∷ []))
+-- What the hart popped and stole from the row before, it has still popped and stolen, and perhaps more since.
+pub record TakesMore (home level : ℕ) (before after : HartRows) : Type 0 where
+  pub popped : List ℕ
+  pub stolen : List ℕ
+  pub pops : (home_log after level).popped ≡ (home_log before level).popped ++ popped
+  pub steals : (pass_log after home level).stolen ≡ (pass_log before home level).stolen ++ stolen
+
+-- The last code that was taken from the row since, by a pop or by a steal, is this one.
+abbrev pub HasTaken : ℕ → ℕ → ℕ → HartRows → HartRows → Type 0
+HasTaken home level code before after =
+    ((earlier : List ℕ) × ((home_log after level).popped ≡ ((home_log before level).popped ++ earlier) ++ code ∷ []))
+    ⊎ ((earlier : List ℕ) × ((pass_log after home level).stolen ≡ ((pass_log before home level).stolen ++ earlier) ++ code ∷ []))
 
 -- a code of the row, or none, and it was found bare
 abbrev pub TakesCode : ℕ → ℕ → HartRows → Option ℕ → HartRows → Type 0
-TakesCode home level before (Some code) after = HasTaken home level code after
+TakesCode home level before (Some code) after = HasTaken home level code before after
 TakesCode home level before None after = IsFoundBare home level before after
 
 -- a job whose code was taken, or none, and the row was found bare
 abbrev pub TakesPiece : ℕ → ℕ → HartRows → Option JobParts → HartRows → Type 0
-TakesPiece home level before (Some job) after = HasTaken home level (code_of job) after
+TakesPiece home level before (Some job) after = HasTaken home level (code_of job) before after
 TakesPiece home level before None after = IsFoundBare home level before after
 
 -- the places fall, each of them below n and none below `least`

@@ -1,7 +1,7 @@
 //! How pieces that are not begun come to harts, by the codes of a row.
 ghost use Rattle.std.specs.Prelude.{◌≡◌, ◌<◌, ℕ, IfSome};
 ghost use Rattle.deque_rows.specs.Rows.{IsLevel};
-ghost use Rattle.forkjoin_sched.specs.Hands.{Keeps, HasTaken, TakesCode, TakesPiece, code_of};
+ghost use Rattle.forkjoin_sched.specs.Hands.{Keeps, HasTaken, TakesCode, TakesMore, TakesPiece, code_of};
 
 use crate::offering::code_at;
 use crate::shared::SharedPool;
@@ -35,6 +35,7 @@ pub(crate) fn take_piece<'p, R: Wait>(
 fn take_code<R: Wait>(rt: &R, rows: &mut HartRows, home: u8, level: u8) -> Option<u32>
     requires row { IsLevel level × (home < rows.old.harts) }
     ensures keeps { Keeps rows.old rows.new }
+    ensures more { TakesMore home level rows.old rows.new }
     ensures takes { TakesCode home level rows.old result rows.new }
 {
     if rows.hart() == home {
@@ -50,7 +51,8 @@ fn pop_code(rows: &mut HartRows, level: u8) -> Option<u32>
     requires { IsLevel level }
     ensures keeps { Keeps rows.old rows.new }
     ensures harts { rows.new.harts ≡ rows.old.harts }
-    ensures taken { IfSome result (λ code. (home : ℕ) → HasTaken home level code rows.new) }
+    ensures more { (home : ℕ) → TakesMore home level rows.old rows.new }
+    ensures taken { IfSome result (λ code. (home : ℕ) → HasTaken home level code rows.old rows.new) }
 {
     rows.pop(level)
 }
@@ -59,6 +61,7 @@ fn pop_code(rows: &mut HartRows, level: u8) -> Option<u32>
 fn steal_code<R: Wait>(rt: &R, rows: &mut HartRows, home: u8, level: u8) -> Option<u32>
     requires row { IsLevel level × (home < rows.old.harts) }
     ensures keeps { Keeps rows.old rows.new }
+    ensures more { TakesMore home level rows.old rows.new }
     ensures takes { TakesCode home level rows.old result rows.new }
 {
     match rows.steal(rt, home, level) {
