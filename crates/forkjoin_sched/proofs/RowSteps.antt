@@ -14,7 +14,7 @@ use Rattle.deque_rows.specs.declared.stolen.Stolen.TheVariants.{Code, Empty}
 use Rattle.deque_rows.specs.Account.{idle, after_push, after_steal, HeldAtMost, Rose}
 use Rattle.deque_rows.specs.Rows.{IsLevel, kin, home_logs, pass_logs, bares, home_log, pass_log, bare, place}
 use Rattle.deque_rows.specs.Calls.{FoundBare, Pushes, PopGives, StealGives}
-use Rattle.forkjoin_sched.specs.Hands.{Keeps, IsFoundBare, HasTaken, TakesMore, PushesCodes, IsFalling, code_at}
+use Rattle.forkjoin_sched.specs.Hands.{Keeps, IsFoundBare, HasTaken, TakesCode, TakesMore, PushesCodes, IsFalling, code_at}
 
 -- how many rows there are
 own_count : (r : HartRows) → length (home_logs r) ≡ 3
@@ -180,6 +180,11 @@ bare_on a b c home level kept bare = (rose_on (bare_of a) (bare_of b) (bare_of c
   where
     bare_of : HartRows → ℕ
     bare_of r = slice_index (bares r) (place home level)
+
+-- what comes of a code after other steps
+pub takes_on : (a b c : HartRows) (home level : ℕ) (result : Option ℕ) → Keeps a b → TakesMore home level a b → TakesCode home level b result c → TakesCode home level a result c
+takes_on a b c home level (Some code) kept more takes = taken_then a b c home level code more takes
+takes_on a b c home level None kept more takes = bare_on a b c home level kept takes
 
 -- the steps of a home that offers
 push_none : (v : Log) → after_push v [] ≡ v
