@@ -1,6 +1,6 @@
 -- What each function of the parser does to a run over its tokens: a function that reads something takes every run that
 -- waits for it from the tokens before to the tokens after, and where it stops, every such run does.
-use Rattle.std.specs.Prelude.{◌≡◌, ◌≢◌, Bool, true, false, ℕ, ◌≤◌, ◌<◌, ℤ, pos, neg_ℤ, List, [], ◌∷◌, ◌++◌, length, map, Option, Some, None, Result, Ok, Err, Vec}
+use Rattle.std.specs.Prelude.{◌≡◌, ◌≢◌, Bool, true, false, ℕ, ◌+◌, ◌≤◌, ℤ, pos, neg_ℤ, List, [], ◌∷◌, ◌++◌, length, map, Option, Some, None, Result, Ok, Err, IfOk, Vec}
 use Rattle.std.specs.Borrow.{Bor}
 use Rattle.std.specs.Global.{Global}
 use Rattle.array_tokens.specs.Lexemes.{Lexeme, name, number, word, sign, Spot, spots}
@@ -17,7 +17,7 @@ use Rattle.array_tree.specs.declared.tree.Block.{Block}
 use Rattle.array_tree.specs.declared.tree.ArrayDecl.{ArrayDecl}
 use Rattle.array_tree.specs.declared.tree.Program.{Program}
 use Rattle.array_lang.specs.Grammar.{spot, operator_of, SpellsProgram, Begins}
-use Rattle.array_lang.specs.Machine.{Side, Level, fresh, Outer, Top, condition, value, bare, called, Ranged, looping, teaming, Slot, bounded, Crew, team_of, array_name, array_open, range_name, range_over, bound, declaring, header, operand, after, statement, array, closed, par_begun, par_side, phase_open, phase_closed, Nest, nest, with_array, with_done, opened, Branch, close_into, run, parse_of}
+use Rattle.array_lang.specs.Machine.{Side, Level, fresh, Outer, Top, condition, value, bare, called, Ranged, looping, teaming, Slot, bounded, Crew, team_of, array_name, array_open, range_name, range_over, bound, declaring, header, operand, after, statement, array, closed, par_begun, par_side, phase_open, phase_closed, Mode, Nest, nest, State, state, with_array, with_done, opened, Branch, close_into, run, parse_of}
 use Rattle.array_lang.specs.declared.operator.Strength.{Strength}
 use Rattle.array_lang.specs.declared.operator.Strength.TheVariants.{Comparison, Addition, Product}
 use Rattle.array_lang.specs.Spelled.{HasTokenFault}
@@ -59,334 +59,268 @@ head_of (t ∷ ts) = Some t.lexeme
 abbrev pub Tokens : Type 0
 Tokens = Bor (List Token)
 
-pub record IsOperatorThen (s : List Spot) (strength : Strength) (op : Op) (t : List Spot) : Type 0 where
-  pub lexeme : Lexeme
+-- what a reader gives: a value and the tokens after it
+abbrev pub Parsed : Type 0 → Type 0
+Parsed X = Result (X × Tokens) Stop
+
+-- The tokens s begin with this token, and t follows it.
+pub record StartsWith (l : Lexeme) (s t : List Spot) : Type 0 where
   pub at : ℕ
   pub line : ℕ
-  pub is : operator_of lexeme ≡ Some (strength, op)
-  pub all : s ≡ spot lexeme at line ∷ t
+  pub all : s ≡ spot l at line ∷ t
 
--- the operator of this strength at the front, and the tokens after it
-abbrev pub IsOperator : List Spot → Strength → Option (Op × Tokens) → Type 0
-IsOperator s strength (Some r) = IsOperatorThen s strength r.0 (spots r.1.now)
-IsOperator s strength None = pull s ≢ pull_at strength
+-- Nothing is read, for this reason.
+abbrev pub IsRefused : Type 0 → List Spot → Stop → Type 0
+IsRefused reason s Memory = ⊥
+IsRefused reason s (Unexpected t) = (spots t.now ≡ s) × reason
 
-pub record IsSignThen (s : List Spot) (g : Sign) (t : List Spot) : Type 0 where
-  pub at : ℕ
-  pub line : ℕ
-  pub all : s ≡ spot (sign g) at line ∷ t
-
+-- the tokens after this sign
 abbrev pub IsRestAfter : List Spot → Sign → Result Tokens Stop → Type 0
-IsRestAfter s g (Ok t) = IsSignThen s g (spots t.now)
-IsRestAfter s g (Err Memory) = ⊥
-IsRestAfter s g (Err (Unexpected t)) = (spots t.now ≡ s) × (head_of s ≢ Some (sign g))
+IsRestAfter s g (Ok t) = StartsWith (sign g) s (spots t.now)
+IsRestAfter s g (Err e) = IsRefused (head_of s ≢ Some (sign g)) s e
 
-pub record IsWordThen (s : List Spot) (w : Word) (t : List Spot) : Type 0 where
-  pub at : ℕ
-  pub line : ℕ
-  pub all : s ≡ spot (word w) at line ∷ t
-
+-- the tokens after this word
 abbrev pub IsRestAfterWord : List Spot → Word → Result Tokens Stop → Type 0
-IsRestAfterWord s w (Ok t) = IsWordThen s w (spots t.now)
-IsRestAfterWord s w (Err Memory) = ⊥
-IsRestAfterWord s w (Err (Unexpected t)) = (spots t.now ≡ s) × (head_of s ≢ Some (word w))
+IsRestAfterWord s w (Ok t) = StartsWith (word w) s (spots t.now)
+IsRestAfterWord s w (Err e) = IsRefused (head_of s ≢ Some (word w)) s e
 
 abbrev pub is_name : Option Lexeme → Bool
 is_name (Some (name b)) = true
 is_name l = false
 
-pub record IsNameThen (s : List Spot) (b : List ℕ) (t : List Spot) : Type 0 where
-  pub at : ℕ
-  pub line : ℕ
-  pub all : s ≡ spot (name b) at line ∷ t
-
 -- the name at the front, and the tokens after it
-abbrev pub IsName : List Spot → Result (Bor (List ℕ) × Tokens) Stop → Type 0
-IsName s (Ok r) = IsNameThen s r.0.now (spots r.1.now)
-IsName s (Err Memory) = ⊥
-IsName s (Err (Unexpected t)) = (spots t.now ≡ s) × (is_name (head_of s) ≡ false)
+abbrev pub IsName : List Spot → Parsed (Bor (List ℕ)) → Type 0
+IsName s (Ok r) = StartsWith (name r.0.now) s (spots r.1.now)
+IsName s (Err e) = IsRefused (is_name (head_of s) ≡ false) s e
 
 abbrev pub is_number : Option Lexeme → Bool
 is_number (Some (number v)) = true
 is_number l = false
 
-pub record IsNumberThen (s : List Spot) (v : ℤ) (t : List Spot) : Type 0 where
-  pub at : ℕ
-  pub line : ℕ
-  pub all : s ≡ spot (number v) at line ∷ t
-
 -- the number at the front, and the tokens after it
-abbrev pub IsNumber : List Spot → Result (ℤ × Tokens) Stop → Type 0
-IsNumber s (Ok r) = IsNumberThen s r.0 (spots r.1.now)
-IsNumber s (Err Memory) = ⊥
-IsNumber s (Err (Unexpected t)) = (spots t.now ≡ s) × (is_number (head_of s) ≡ false)
+abbrev pub IsNumber : List Spot → Parsed ℤ → Type 0
+IsNumber s (Ok r) = StartsWith (number r.0) s (spots r.1.now)
+IsNumber s (Err e) = IsRefused (is_number (head_of s) ≡ false) s e
 
 abbrev pub is_natural : Option Lexeme → Bool
 is_natural (Some (number (pos k))) = true
 is_natural l = false
 
-pub record IsNegatedThen (s : List Spot) (v : ℤ) (t : List Spot) : Type 0 where
-  pub at : ℕ
-  pub line : ℕ
+pub record StartsWithNatural (s : List Spot) (v : ℤ) (t : List Spot) : Type 0 where
   pub size : ℕ
-  pub all : s ≡ spot (number (pos size)) at line ∷ t
+  pub starts : StartsWith (number (pos size)) s t
   pub negated : v ≡ neg_ℤ (pos size)
 
 -- the number at the front, negated
-abbrev pub IsNegated : List Spot → Result (ℤ × Tokens) Stop → Type 0
-IsNegated s (Ok r) = IsNegatedThen s r.0 (spots r.1.now)
-IsNegated s (Err Memory) = ⊥
-IsNegated s (Err (Unexpected t)) = (spots t.now ≡ s) × (is_natural (head_of s) ≡ false)
+abbrev pub IsNegated : List Spot → Parsed ℤ → Type 0
+IsNegated s (Ok r) = StartsWithNatural s r.0 (spots r.1.now)
+IsNegated s (Err e) = IsRefused (is_natural (head_of s) ≡ false) s e
+
+pub record StartsWithOperator (s : List Spot) (strength : Strength) (op : Op) (t : List Spot) : Type 0 where
+  pub lexeme : Lexeme
+  pub is : operator_of lexeme ≡ Some (strength, op)
+  pub starts : StartsWith lexeme s t
+
+-- the operator of this strength at the front, and the tokens after it
+abbrev pub IsOperator : List Spot → Strength → Option (Op × Tokens) → Type 0
+IsOperator s strength (Some r) = StartsWithOperator s strength r.0 (spots r.1.now)
+IsOperator s strength None = pull s ≢ pull_at strength
+
+-- the line of the word `array` at the front, and the tokens after it
+pub record StartsWithArray (s : List Spot) (line : ℕ) (t : List Spot) : Type 0 where
+  pub at : ℕ
+  pub all : s ≡ spot (word words.Array) at line ∷ t
+
+abbrev pub IsArray : List Spot → Option (ℕ × Tokens) → Type 0
+IsArray s (Some r) = StartsWithArray s r.0 (spots r.1.now)
+IsArray s None = head_of s ≢ Some (word words.Array)
+
+-- what the run gives from a state on
+abbrev pub run_from : State → List Spot → Result ProgramTree (List Spot)
+run_from st s = run st.mode st.nest s
 
 -- A function stops at a rest where the run does.
 abbrev pub Stops : Stop → (List Spot → Type 0) → Type 0
 Stops Memory at = Unit {0}
 Stops (Unexpected rest) at = at (spots rest.now)
 
-pub record FactorRun (s t : List Spot) (x : Expression) : Type 0 where
-  pub shorter : length t < length s
-  pub pull : pull t ≤ 3
-  pub runs : (n : Nest) (l : Level) (outers : List Outer) (top : Top) → run (operand l outers top) n s ≡ run (after (bare x) l outers top) n t
+-- A reader takes each run that waits for a part at s to where it goes on behind the part, at t, which is shorter by as
+-- many tokens as the part has at least. Where the reader stops, each such run does. One of these for each number of
+-- arguments that say which run it is.
 
-abbrev pub FactorStops : List Spot → List Spot → Type 0
-FactorStops s rest = (n : Nest) (l : Level) (outers : List Outer) (top : Top) → run (operand l outers top) n s ≡ Err rest
+pub record Takes1 {A : Type 0} (least : ℕ) (waits goes_on : A → State) (s t : List Spot) : Type 0 where
+  pub shorter : length t + least ≤ length s
+  pub runs : (a : A) → run_from (waits a) s ≡ run_from (goes_on a) t
 
-abbrev pub IsFactor : List Spot → Result (Expr × Tokens) Stop → Type 0
-IsFactor s (Ok r) = FactorRun s (spots r.1.now) (expression_of r.0)
-IsFactor s (Err e) = Stops e (FactorStops s)
+abbrev pub Reads1 : {A X : Type 0} → ℕ → (A → State) → (X → A → State) → List Spot → Parsed X → Type 0
+Reads1 least waits goes_on s (Ok r) = Takes1 least waits (goes_on r.0) s (spots r.1.now)
+Reads1 {A} least waits goes_on s (Err e) = Stops e (λ rest. (a : A) → run_from (waits a) s ≡ Err rest)
+
+pub record Takes2 {A B : Type 0} (least : ℕ) (waits goes_on : A → B → State) (s t : List Spot) : Type 0 where
+  pub shorter : length t + least ≤ length s
+  pub runs : (a : A) (b : B) → run_from (waits a b) s ≡ run_from (goes_on a b) t
+
+abbrev pub Reads2 : {A B X : Type 0} → ℕ → (A → B → State) → (X → A → B → State) → List Spot → Parsed X → Type 0
+Reads2 least waits goes_on s (Ok r) = Takes2 least waits (goes_on r.0) s (spots r.1.now)
+Reads2 {A} {B} least waits goes_on s (Err e) = Stops e (λ rest. (a : A) (b : B) → run_from (waits a b) s ≡ Err rest)
+
+pub record Takes3 {A B C : Type 0} (least : ℕ) (waits goes_on : A → B → C → State) (s t : List Spot) : Type 0 where
+  pub shorter : length t + least ≤ length s
+  pub runs : (a : A) (b : B) (c : C) → run_from (waits a b c) s ≡ run_from (goes_on a b c) t
+
+abbrev pub Reads3 : {A B C X : Type 0} → ℕ → (A → B → C → State) → (X → A → B → C → State) → List Spot → Parsed X → Type 0
+Reads3 least waits goes_on s (Ok r) = Takes3 least waits (goes_on r.0) s (spots r.1.now)
+Reads3 {A} {B} {C} least waits goes_on s (Err e) = Stops e (λ rest. (a : A) (b : B) (c : C) → run_from (waits a b c) s ≡ Err rest)
+
+pub record Takes4 {A B C D : Type 0} (least : ℕ) (waits goes_on : A → B → C → D → State) (s t : List Spot) : Type 0 where
+  pub shorter : length t + least ≤ length s
+  pub runs : (a : A) (b : B) (c : C) (d : D) → run_from (waits a b c d) s ≡ run_from (goes_on a b c d) t
+
+abbrev pub Reads4 : {A B C D X : Type 0} → ℕ → (A → B → C → D → State) → (X → A → B → C → D → State) → List Spot → Parsed X → Type 0
+Reads4 least waits goes_on s (Ok r) = Takes4 least waits (goes_on r.0) s (spots r.1.now)
+Reads4 {A} {B} {C} {D} least waits goes_on s (Err e) = Stops e (λ rest. (a : A) (b : B) (c : C) (d : D) → run_from (waits a b c d) s ≡ Err rest)
+
+pub record Takes5 {A B C D E : Type 0} (least : ℕ) (waits goes_on : A → B → C → D → E → State) (s t : List Spot) : Type 0 where
+  pub shorter : length t + least ≤ length s
+  pub runs : (a : A) (b : B) (c : C) (d : D) (e : E) → run_from (waits a b c d e) s ≡ run_from (goes_on a b c d e) t
+
+abbrev pub Reads5 : {A B C D E X : Type 0} → ℕ → (A → B → C → D → E → State) → (X → A → B → C → D → E → State) → List Spot → Parsed X → Type 0
+Reads5 least waits goes_on s (Ok r) = Takes5 least waits (goes_on r.0) s (spots r.1.now)
+Reads5 {A} {B} {C} {D} {E} least waits goes_on s (Err e) = Stops e (λ rest. (a : A) (b : B) (c : C) (d : D) (e : E) → run_from (waits a b c d e) s ≡ Err rest)
+
+-- What follows binds at most so strongly to what is read.
+abbrev pub IsFollowed : {X : Type 0} → ℕ → Parsed X → Type 0
+IsFollowed k (Ok r) = pull (spots r.1.now) ≤ k
+IsFollowed k (Err e) = Unit {0}
+
+abbrev pub before_operand : Nest → Level → List Outer → Top → State
+before_operand n l outers top = state (operand l outers top) n
+
+abbrev pub behind_operand : Expression → Nest → Level → List Outer → Top → State
+behind_operand x n l outers top = state (after (bare x) l outers top) n
+
+-- a factor
+abbrev pub IsFactor : List Spot → Parsed Expr → Type 0
+IsFactor s r = Reads4 1 before_operand (λ (x : Expr). behind_operand (expression_of x)) s r × IsFollowed 3 r
 
 -- a factor that begins with this name, which stands before the tokens
-pub record NamedRun (b : List ℕ) (s t : List Spot) (x : Expression) : Type 0 where
-  pub shorter : length t ≤ length s
-  pub pull : pull t ≤ 3
-  pub runs : (n : Nest) (l : Level) (outers : List Outer) (top : Top) → run (after (called b) l outers top) n s ≡ run (after (bare x) l outers top) n t
+abbrev pub IsNamed : List ℕ → List Spot → Parsed Expr → Type 0
+IsNamed b s r = Reads4 0 (λ n l outers top. state (after (called b) l outers top) n) (λ (x : Expr). behind_operand (expression_of x)) s r × IsFollowed 3 r
 
-abbrev pub NamedStops : List ℕ → List Spot → List Spot → Type 0
-NamedStops b s rest = (n : Nest) (l : Level) (outers : List Outer) (top : Top) → run (after (called b) l outers top) n s ≡ Err rest
+-- what waits for a term, and for a sum
+abbrev pub waiting : Side → Side → Level
+waiting c z = record { compare = c; sum = z; term = None; minus = 0 }
 
-abbrev pub IsNamed : List ℕ → List Spot → Result (Expr × Tokens) Stop → Type 0
-IsNamed b s (Ok r) = NamedRun b s (spots r.1.now) (expression_of r.0)
-IsNamed b s (Err e) = Stops e (NamedStops b s)
+abbrev pub before_term : Nest → Side → Side → List Outer → Top → State
+before_term n c z outers top = before_operand n (waiting c z) outers top
 
--- The bound k on the pull of what follows is 3 while factors may follow.
-pub record TermRun (k : ℕ) (s t : List Spot) (x : Expression) : Type 0 where
-  pub shorter : length t < length s
-  pub pull : pull t ≤ k
-  pub runs : (n : Nest) (c z : Side) (outers : List Outer) (top : Top) → run (operand (record { compare = c; sum = z; term = None; minus = 0 }) outers top) n s ≡ run (after (bare x) (record { compare = c; sum = z; term = None; minus = 0 }) outers top) n t
+abbrev pub behind_term : Expression → Nest → Side → Side → List Outer → Top → State
+behind_term x n c z outers top = behind_operand x n (waiting c z) outers top
 
-abbrev pub TermStops : List Spot → List Spot → Type 0
-TermStops s rest = (n : Nest) (c z : Side) (outers : List Outer) (top : Top) → run (operand (record { compare = c; sum = z; term = None; minus = 0 }) outers top) n s ≡ Err rest
+-- the factors of a term so far, or all
+abbrev pub TakesTerm : ℕ → List Spot → List Spot → Expression → Type 0
+TakesTerm k s t x = Takes5 1 before_term (behind_term x) s t × (pull t ≤ k)
 
-abbrev pub IsTerm : List Spot → Result (Expr × Tokens) Stop → Type 0
-IsTerm s (Ok r) = TermRun 2 s (spots r.1.now) (expression_of r.0)
-IsTerm s (Err e) = Stops e (TermStops s)
+abbrev pub IsTerm : List Spot → Parsed Expr → Type 0
+IsTerm s r = Reads5 1 before_term (λ (x : Expr). behind_term (expression_of x)) s r × IsFollowed 2 r
 
-pub record SumRun (k : ℕ) (s t : List Spot) (x : Expression) : Type 0 where
-  pub shorter : length t < length s
-  pub pull : pull t ≤ k
-  pub runs : (n : Nest) (c : Side) (outers : List Outer) (top : Top) → run (operand (record { compare = c; sum = None; term = None; minus = 0 }) outers top) n s ≡ run (after (bare x) (record { compare = c; sum = None; term = None; minus = 0 }) outers top) n t
+abbrev pub before_sum : Nest → Side → List Outer → Top → State
+before_sum n c outers top = before_operand n (waiting c None) outers top
 
-abbrev pub SumStops : List Spot → List Spot → Type 0
-SumStops s rest = (n : Nest) (c : Side) (outers : List Outer) (top : Top) → run (operand (record { compare = c; sum = None; term = None; minus = 0 }) outers top) n s ≡ Err rest
+abbrev pub behind_sum : Expression → Nest → Side → List Outer → Top → State
+behind_sum x n c outers top = behind_operand x n (waiting c None) outers top
 
-abbrev pub IsSum : List Spot → Result (Expr × Tokens) Stop → Type 0
-IsSum s (Ok r) = SumRun 1 s (spots r.1.now) (expression_of r.0)
-IsSum s (Err e) = Stops e (SumStops s)
+-- the terms of a sum so far, or all
+abbrev pub TakesSum : ℕ → List Spot → List Spot → Expression → Type 0
+TakesSum k s t x = Takes4 1 before_sum (behind_sum x) s t × (pull t ≤ k)
 
-pub record ExprRun (s t : List Spot) (x : Expression) : Type 0 where
-  pub shorter : length t < length s
-  pub pull : pull t ≤ 0
-  pub runs : (n : Nest) (outers : List Outer) (top : Top) → run (operand fresh outers top) n s ≡ run (after (bare x) fresh outers top) n t
+abbrev pub IsSum : List Spot → Parsed Expr → Type 0
+IsSum s r = Reads4 1 before_sum (λ (x : Expr). behind_sum (expression_of x)) s r × IsFollowed 1 r
 
-abbrev pub ExprStops : List Spot → List Spot → Type 0
-ExprStops s rest = (n : Nest) (outers : List Outer) (top : Top) → run (operand fresh outers top) n s ≡ Err rest
+-- an expression
+abbrev pub IsExpr : List Spot → Parsed Expr → Type 0
+IsExpr s r = Reads3 1 (λ n outers top. before_operand n fresh outers top) (λ (x : Expr) n outers top. behind_operand (expression_of x) n fresh outers top) s r × IsFollowed 0 r
 
-abbrev pub IsExpr : List Spot → Result (Expr × Tokens) Stop → Type 0
-IsExpr s (Ok r) = ExprRun s (spots r.1.now) (expression_of r.0)
-IsExpr s (Err e) = Stops e (ExprStops s)
+-- the index of an assignment's target, up to the value
+abbrev pub IsTarget : List Spot → Parsed Expr → Type 0
+IsTarget s r = Reads3 1 (λ n line b. state (array line b) n) (λ (x : Expr) n line b. state (operand fresh [] (value line b (expression_of x))) n) s r
 
--- the index of an assignment's target, and the value assigned
-pub record TargetRun (s t : List Spot) (x : Expression) : Type 0 where
-  pub shorter : length t < length s
-  pub runs : (n : Nest) (line : ℕ) (b : List ℕ) → run (array line b) n s ≡ run (operand fresh [] (value line b x)) n t
+-- the value of an assignment, up to its end
+abbrev pub IsValue : List Spot → Parsed Expr → Type 0
+IsValue s r = Reads4 1 (λ n line b i. state (operand fresh [] (value line b i)) n) (λ (x : Expr) n line b i. state statement (with_done n (Assign line b i (expression_of x)))) s r
 
-abbrev pub TargetStops : List Spot → List Spot → Type 0
-TargetStops s rest = (n : Nest) (line : ℕ) (b : List ℕ) → run (array line b) n s ≡ Err rest
+-- a bound
+abbrev pub IsBound : List Spot → Parsed ℤ → Type 0
+IsBound s r = Reads2 1 (λ n slot. state (header (bound slot)) n) (λ v n slot. state (header (bounded slot v)) n) s r
 
-abbrev pub IsTarget : List Spot → Result (Expr × Tokens) Stop → Type 0
-IsTarget s (Ok r) = TargetRun s (spots r.1.now) (expression_of r.0)
-IsTarget s (Err e) = Stops e (TargetStops s)
-
-pub record ValueRun (s t : List Spot) (x : Expression) : Type 0 where
-  pub shorter : length t < length s
-  pub runs : (n : Nest) (line : ℕ) (b : List ℕ) (i : Expression) → run (operand fresh [] (value line b i)) n s ≡ run statement (with_done n (Assign line b i x)) t
-
-abbrev pub ValueStops : List Spot → List Spot → Type 0
-ValueStops s rest = (n : Nest) (line : ℕ) (b : List ℕ) (i : Expression) → run (operand fresh [] (value line b i)) n s ≡ Err rest
-
-abbrev pub IsValue : List Spot → Result (Expr × Tokens) Stop → Type 0
-IsValue s (Ok r) = ValueRun s (spots r.1.now) (expression_of r.0)
-IsValue s (Err e) = Stops e (ValueStops s)
-
-pub record AssignRun (line : ℕ) (b : List ℕ) (s t : List Spot) (c : Statement) : Type 0 where
-  pub shorter : length t < length s
-  pub runs : (n : Nest) → run (array line b) n s ≡ run statement (with_done n c) t
-
-abbrev pub AssignStops : ℕ → List ℕ → List Spot → List Spot → Type 0
-AssignStops line b s rest = (n : Nest) → run (array line b) n s ≡ Err rest
-
-abbrev pub IsAssign : ℕ → List ℕ → List Spot → Result (Stmt × Tokens) Stop → Type 0
-IsAssign line b s (Ok r) = AssignRun line b s (spots r.1.now) (statement_of r.0)
-IsAssign line b s (Err e) = Stops e (AssignStops line b s)
-
--- a bound, and the range of a loop
-pub record BoundRun (s t : List Spot) (v : ℤ) : Type 0 where
-  pub shorter : length t < length s
-  pub runs : (n : Nest) (slot : Slot) → run (header (bound slot)) n s ≡ run (header (bounded slot v)) n t
-
-abbrev pub BoundStops : List Spot → List Spot → Type 0
-BoundStops s rest = (n : Nest) (slot : Slot) → run (header (bound slot)) n s ≡ Err rest
-
-abbrev pub IsBound : List Spot → Result (ℤ × Tokens) Stop → Type 0
-IsBound s (Ok r) = BoundRun s (spots r.1.now) r.0
-IsBound s (Err e) = Stops e (BoundStops s)
-
-pub record RangeRun (s t : List Spot) (b : List ℕ) (low high : ℤ) : Type 0 where
-  pub shorter : length t < length s
-  pub runs : (n : Nest) (r : Ranged) (line : ℕ) → run (header (range_name r line)) n s ≡ run (header (range_over r line b low high)) n t
-
-abbrev pub RangeStops : List Spot → List Spot → Type 0
-RangeStops s rest = (n : Nest) (r : Ranged) (line : ℕ) → run (header (range_name r line)) n s ≡ Err rest
-
-abbrev pub IsRange : List Spot → Result (LoopRange × Tokens) Stop → Type 0
-IsRange s (Ok r) = RangeRun s (spots r.1.now) r.0.var.now r.0.low r.0.high
-IsRange s (Err e) = Stops e (RangeStops s)
+-- a range
+abbrev pub IsRange : List Spot → Parsed LoopRange → Type 0
+IsRange s r = Reads3 1 (λ n of line. state (header (range_name of line)) n) (λ (x : LoopRange) n of line. state (header (range_over of line x.var.now x.low x.high)) n) s r
 
 abbrev pub crew_of : ℕ → TeamHead → Crew
 crew_of line h = record { line = line; var = h.range.var.now; low = h.range.low; high = h.range.high; members = h.members }
 
-pub record HeadRun (s t : List Spot) (h : TeamHead) : Type 0 where
-  pub shorter : length t < length s
-  pub runs : (n : Nest) (line : ℕ) → run (header (range_name teaming line)) n s ≡ run (phase_open (crew_of line h) []) n t
+-- the head of a team
+abbrev pub IsHead : List Spot → Parsed TeamHead → Type 0
+IsHead s r = Reads2 1 (λ n line. state (header (range_name teaming line)) n) (λ h n line. state (phase_open (crew_of line h) []) n) s r
 
-abbrev pub HeadStops : List Spot → List Spot → Type 0
-HeadStops s rest = (n : Nest) (line : ℕ) → run (header (range_name teaming line)) n s ≡ Err rest
+-- behind a statement
+abbrev pub behind : Statement → Nest → State
+behind c n = state statement (with_done n c)
 
-abbrev pub IsHead : List Spot → Result (TeamHead × Tokens) Stop → Type 0
-IsHead s (Ok r) = HeadRun s (spots r.1.now) r.0
-IsHead s (Err e) = Stops e (HeadStops s)
+-- A statement, whose first tokens lead to this mode.
+abbrev pub IsRestOf : Mode → List Spot → Parsed Stmt → Type 0
+IsRestOf m s r = Reads1 1 (state m) (λ (c : Stmt). behind (statement_of c)) s r
 
 -- a block whose `{` is read
-pub record SideRun (s t : List Spot) (p : Sequence) : Type 0 where
-  pub shorter : length t < length s
-  pub runs : (n : Nest) (b : Branch) → run statement (opened n b).nest s ≡ run (close_into n b p).mode (close_into n b p).nest t
-
-abbrev pub SideStops : List Spot → List Spot → Type 0
-SideStops s rest = (n : Nest) (b : Branch) → run statement (opened n b).nest s ≡ Err rest
-
-abbrev pub IsSide : List Spot → Result (Block × Tokens) Stop → Type 0
-IsSide s (Ok r) = SideRun s (spots r.1.now) (sequence_of r.0)
-IsSide s (Err e) = Stops e (SideStops s)
+abbrev pub IsBlock : List Spot → Parsed Block → Type 0
+IsBlock s r = Reads2 1 opened (λ (p : Block) n b. close_into n b (sequence_of p)) s r
 
 -- what follows the first side of a choice
-pub record ElseRun (s t : List Spot) (q : Sequence) : Type 0 where
-  pub shorter : length t ≤ length s
-  pub runs : (n : Nest) (line : ℕ) (x : Expression) (p : Sequence) → run (closed line x p) n s ≡ run statement (with_done n (If line x p q)) t
+abbrev pub IsElseSide : List Spot → Parsed Block → Type 0
+IsElseSide s r = Reads4 0 (λ n line x p. state (closed line x p) n) (λ (q : Block) n line x p. behind (If line x p (sequence_of q)) n) s r
 
-abbrev pub ElseStops : List Spot → List Spot → Type 0
-ElseStops s rest = (n : Nest) (line : ℕ) (x : Expression) (p : Sequence) → run (closed line x p) n s ≡ Err rest
+abbrev pub IsAssign : ℕ → List ℕ → List Spot → Parsed Stmt → Type 0
+IsAssign line b s r = IsRestOf (array line b) s r
 
-abbrev pub IsElseSide : List Spot → Result (Block × Tokens) Stop → Type 0
-IsElseSide s (Ok r) = ElseRun s (spots r.1.now) (sequence_of r.0)
-IsElseSide s (Err e) = Stops e (ElseStops s)
+abbrev pub IsChoice : ℕ → List Spot → Parsed Stmt → Type 0
+IsChoice line s r = IsRestOf (operand fresh [] (condition line)) s r
 
-pub record ChoiceRun (line : ℕ) (s t : List Spot) (c : Statement) : Type 0 where
-  pub shorter : length t < length s
-  pub runs : (n : Nest) → run (operand fresh [] (condition line)) n s ≡ run statement (with_done n c) t
+abbrev pub IsLoop : ℕ → List Spot → Parsed Stmt → Type 0
+IsLoop line s r = IsRestOf (header (range_name looping line)) s r
 
-abbrev pub ChoiceStops : ℕ → List Spot → List Spot → Type 0
-ChoiceStops line s rest = (n : Nest) → run (operand fresh [] (condition line)) n s ≡ Err rest
+abbrev pub IsPar : ℕ → List Spot → Parsed Stmt → Type 0
+IsPar line s r = IsRestOf (par_begun line) s r
 
-abbrev pub IsChoice : ℕ → List Spot → Result (Stmt × Tokens) Stop → Type 0
-IsChoice line s (Ok r) = ChoiceRun line s (spots r.1.now) (statement_of r.0)
-IsChoice line s (Err e) = Stops e (ChoiceStops line s)
-
--- the rest of a `for`
-pub record LoopRun (line : ℕ) (s t : List Spot) (c : Statement) : Type 0 where
-  pub shorter : length t < length s
-  pub runs : (n : Nest) → run (header (range_name looping line)) n s ≡ run statement (with_done n c) t
-
-abbrev pub LoopStops : ℕ → List Spot → List Spot → Type 0
-LoopStops line s rest = (n : Nest) → run (header (range_name looping line)) n s ≡ Err rest
-
-abbrev pub IsLoop : ℕ → List Spot → Result (Stmt × Tokens) Stop → Type 0
-IsLoop line s (Ok r) = LoopRun line s (spots r.1.now) (statement_of r.0)
-IsLoop line s (Err e) = Stops e (LoopStops line s)
-
--- the rest of a `par`
-pub record ParRun (line : ℕ) (s t : List Spot) (c : Statement) : Type 0 where
-  pub shorter : length t < length s
-  pub runs : (n : Nest) → run (par_begun line) n s ≡ run statement (with_done n c) t
-
-abbrev pub ParStops : ℕ → List Spot → List Spot → Type 0
-ParStops line s rest = (n : Nest) → run (par_begun line) n s ≡ Err rest
-
-abbrev pub IsPar : ℕ → List Spot → Result (Stmt × Tokens) Stop → Type 0
-IsPar line s (Ok r) = ParRun line s (spots r.1.now) (statement_of r.0)
-IsPar line s (Err e) = Stops e (ParStops line s)
-
--- the branches so far, of which the last is q
-pub record BranchesRun (line : ℕ) (s t : List Spot) (all : List Sequence) : Type 0 where
-  pub shorter : length t < length s
-  pub ps : List Sequence
-  pub q : Sequence
-  pub whole : all ≡ ps ++ q ∷ []
-  pub runs : (n : Nest) → run (par_begun line) n s ≡ run (par_side line ps q) n t
-
--- the phases of a team, and those so far, of which the last is q
-pub record PhasesRun (s t : List Spot) (all : List Sequence) : Type 0 where
-  pub shorter : length t < length s
-  pub runs : (n : Nest) (c : Crew) → run (phase_open c []) n s ≡ run statement (with_done n (team_of c all)) t
-
-pub record SomePhasesRun (s t : List Spot) (all : List Sequence) : Type 0 where
-  pub shorter : length t < length s
-  pub ps : List Sequence
-  pub q : Sequence
-  pub whole : all ≡ ps ++ q ∷ []
-  pub runs : (n : Nest) (c : Crew) → run (phase_open c []) n s ≡ run (phase_closed c ps q) n t
-
-abbrev pub PhasesStop : List Spot → List Spot → Type 0
-PhasesStop s rest = (n : Nest) (c : Crew) → run (phase_open c []) n s ≡ Err rest
+abbrev pub IsTeam : ℕ → List Spot → Parsed Stmt → Type 0
+IsTeam line s r = IsRestOf (header (range_name teaming line)) s r
 
 abbrev pub sequence_list : List Block → List Sequence
 sequence_list blocks = map sequence_of blocks
 
-abbrev pub IsPhases : List Spot → Result (Vec Block Global × Tokens) Stop → Type 0
-IsPhases s (Ok r) = PhasesRun s (spots r.1.now) (sequence_list r.0.items)
-IsPhases s (Err e) = Stops e (PhasesStop s)
+-- the branches so far, of which the last is q
+pub record TakesBranches (line : ℕ) (s t : List Spot) (all : List Sequence) : Type 0 where
+  pub ps : List Sequence
+  pub q : Sequence
+  pub whole : all ≡ ps ++ q ∷ []
+  pub takes : Takes1 1 (state (par_begun line)) (state (par_side line ps q)) s t
 
--- the rest of a `team`
-pub record TeamRun (line : ℕ) (s t : List Spot) (c : Statement) : Type 0 where
-  pub shorter : length t < length s
-  pub runs : (n : Nest) → run (header (range_name teaming line)) n s ≡ run statement (with_done n c) t
+abbrev pub before_phases : Nest → Crew → State
+before_phases n c = state (phase_open c []) n
 
-abbrev pub TeamStops : ℕ → List Spot → List Spot → Type 0
-TeamStops line s rest = (n : Nest) → run (header (range_name teaming line)) n s ≡ Err rest
+-- the phases so far, of which the last is q
+pub record TakesPhases (s t : List Spot) (all : List Sequence) : Type 0 where
+  pub ps : List Sequence
+  pub q : Sequence
+  pub whole : all ≡ ps ++ q ∷ []
+  pub takes : Takes2 1 before_phases (λ n c. state (phase_closed c ps q) n) s t
 
-abbrev pub IsTeam : ℕ → List Spot → Result (Stmt × Tokens) Stop → Type 0
-IsTeam line s (Ok r) = TeamRun line s (spots r.1.now) (statement_of r.0)
-IsTeam line s (Err e) = Stops e (TeamStops line s)
+-- the phases of a team
+abbrev pub IsPhases : List Spot → Parsed (Vec Block Global) → Type 0
+IsPhases s r = Reads2 1 before_phases (λ (blocks : Vec Block Global) n c. behind (team_of c (sequence_list blocks.items)) n) s r
 
-pub record StatementRun (s t : List Spot) (c : Statement) : Type 0 where
-  pub shorter : length t < length s
-  pub runs : (n : Nest) → run statement n s ≡ run statement (with_done n c) t
-
-abbrev pub StatementStops : List Spot → List Spot → Type 0
-StatementStops s rest = (n : Nest) → run statement n s ≡ Err rest
-
-abbrev pub IsStatement : List Spot → Result (Stmt × Tokens) Stop → Type 0
-IsStatement s (Ok r) = StatementRun s (spots r.1.now) (statement_of r.0)
-IsStatement s (Err e) = Stops e (StatementStops s)
+abbrev pub IsStatement : List Spot → Parsed Stmt → Type 0
+IsStatement s r = IsRestOf statement s r
 
 abbrev pub starts : Lexeme → Bool
 starts (name b) = true
@@ -404,60 +338,32 @@ statement_follows (t ∷ ts) = starts t.lexeme
 abbrev pub statements_of : List Stmt → List Statement
 statements_of statements = map statement_of statements
 
-pub record StatementsRun (s t : List Spot) (cs : List Statement) : Type 0 where
-  pub shorter : length t ≤ length s
-  pub runs : (n : Nest) → run statement n s ≡ run statement (nest n.arrays (n.done ++ cs) n.frames) t
+-- behind statements
+abbrev pub behind_all : List Statement → Nest → State
+behind_all cs n = state statement (nest n.arrays (n.done ++ cs) n.frames)
 
-abbrev pub IsStatements : List Spot → Result (Vec Stmt Global × Tokens) Stop → Type 0
-IsStatements s (Ok r) = StatementsRun s (spots r.1.now) (statements_of r.0.items) × (statement_follows (spots r.1.now) ≡ false)
-IsStatements s (Err e) = Stops e (StatementStops s)
+-- the statements one after another
+abbrev pub IsStatements : List Spot → Parsed (Vec Stmt Global) → Type 0
+IsStatements s r = Reads1 0 (state statement) (λ (cs : Vec Stmt Global). behind_all (statements_of cs.items)) s r × IfOk r (λ r. statement_follows (spots r.1.now) ≡ false)
 
 -- the length of an array, and the rest of its declaration
-pub record LengthRun (s t : List Spot) (v : ℤ) : Type 0 where
-  pub shorter : length t < length s
-  pub runs : (n : Nest) (line : ℕ) (b : List ℕ) → run (header (array_open line b)) n s ≡ run declaring (with_array n (record { line = line; name = b; length = v })) t
-
-abbrev pub LengthStops : List Spot → List Spot → Type 0
-LengthStops s rest = (n : Nest) (line : ℕ) (b : List ℕ) → run (header (array_open line b)) n s ≡ Err rest
-
-abbrev pub IsLength : List Spot → Result (ℤ × Tokens) Stop → Type 0
-IsLength s (Ok r) = LengthRun s (spots r.1.now) r.0
-IsLength s (Err e) = Stops e (LengthStops s)
+abbrev pub IsLength : List Spot → Parsed ℤ → Type 0
+IsLength s r = Reads3 1 (λ n line b. state (header (array_open line b)) n) (λ v n line b. state declaring (with_array n (record { line = line; name = b; length = v }))) s r
 
 -- the rest of a declaration
-pub record DeclarationRun (line : ℕ) (s t : List Spot) (d : Declaration) : Type 0 where
-  pub shorter : length t < length s
-  pub runs : (n : Nest) → run (header (array_name line)) n s ≡ run declaring (with_array n d) t
-
-abbrev pub DeclarationStops : ℕ → List Spot → List Spot → Type 0
-DeclarationStops line s rest = (n : Nest) → run (header (array_name line)) n s ≡ Err rest
-
-abbrev pub IsDeclaration : ℕ → List Spot → Result (ArrayDecl × Tokens) Stop → Type 0
-IsDeclaration line s (Ok r) = DeclarationRun line s (spots r.1.now) (declaration_of r.0)
-IsDeclaration line s (Err e) = Stops e (DeclarationStops line s)
-
--- the line of the word `array` at the front, and the tokens after it
-pub record IsArrayThen (s : List Spot) (line : ℕ) (t : List Spot) : Type 0 where
-  pub at : ℕ
-  pub all : s ≡ spot (word words.Array) at line ∷ t
-
-abbrev pub IsArray : List Spot → Option (ℕ × Tokens) → Type 0
-IsArray s (Some r) = IsArrayThen s r.0 (spots r.1.now)
-IsArray s None = head_of s ≢ Some (word words.Array)
+abbrev pub IsDeclaration : ℕ → List Spot → Parsed ArrayDecl → Type 0
+IsDeclaration line s r = Reads1 1 (state (header (array_name line))) (λ (d : ArrayDecl) n. state declaring (with_array n (declaration_of d))) s r
 
 abbrev pub declaration_list : List ArrayDecl → List Declaration
 declaration_list declarations = map declaration_of declarations
 
-pub record DeclarationsRun (s t : List Spot) (ds : List Declaration) : Type 0 where
-  pub shorter : length t ≤ length s
-  pub runs : (n : Nest) → run declaring n s ≡ run declaring (nest (n.arrays ++ ds) n.done n.frames) t
+-- behind declarations
+abbrev pub declared_all : List Declaration → Nest → State
+declared_all ds n = state declaring (nest (n.arrays ++ ds) n.done n.frames)
 
-abbrev pub DeclarationsStop : List Spot → List Spot → Type 0
-DeclarationsStop s rest = (n : Nest) → run declaring n s ≡ Err rest
-
-abbrev pub IsDeclarations : List Spot → Result (Vec ArrayDecl Global × Tokens) Stop → Type 0
-IsDeclarations s (Ok r) = DeclarationsRun s (spots r.1.now) (declaration_list r.0.items) × (head_of (spots r.1.now) ≢ Some (word words.Array))
-IsDeclarations s (Err e) = Stops e (DeclarationsStop s)
+-- the declarations one after another
+abbrev pub IsDeclarations : List Spot → Parsed (Vec ArrayDecl Global) → Type 0
+IsDeclarations s r = Reads1 0 (state declaring) (λ (ds : Vec ArrayDecl Global). declared_all (declaration_list ds.items)) s r × IfOk r (λ r. head_of (spots r.1.now) ≢ Some (word words.Array))
 
 -- the statements to the end of the tokens
 abbrev pub IsBody : List Spot → Result Block Stop → Type 0

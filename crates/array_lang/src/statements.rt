@@ -2,7 +2,7 @@
 
 ghost use Rattle.std.specs.Prelude.{◌≡◌, [], true};
 ghost use Rattle.array_tokens.specs.Lexemes.{spots};
-ghost use Rattle.array_lang.specs.Reading.{IsTarget, IsValue, IsAssign, IsSide, IsElseSide, IsChoice, IsLoop, IsPar, IsPhases, IsTeam, IsStatement, IsStatements, statement_follows};
+ghost use Rattle.array_lang.specs.Reading.{IsTarget, IsValue, IsAssign, IsBlock, IsElseSide, IsChoice, IsLoop, IsPar, IsPhases, IsTeam, IsStatement, IsStatements, statement_follows};
 
 use crate::expressions::expr;
 use crate::ranges::{range, team_head};
@@ -190,7 +190,7 @@ fn phases<'t>(alloc: Global, tokens: &'t [Token<'t>]) -> Parsed<'t, Vec<Block>>
 // A block whose `{` is read.
 #[cycle(statements)]
 fn side<'t>(alloc: Global, tokens: &'t [Token<'t>]) -> Parsed<'t, Block>
-    ensures { IsSide (spots tokens.now) result }
+    ensures { IsBlock (spots tokens.now) result }
 {
     let (statements, rest) = statements(alloc, tokens)?;
     let rest = expect(rest, Sign::CloseBlock)?;
