@@ -1,10 +1,15 @@
 //! The bounds on open braces and on the marks of one outermost expression.
 
-ghost use Rattle.std.specs.Prelude.{◌≡◌, ◌<◌, ◌^◌, length, IfSome};
+ghost use Rattle.std.specs.Prelude.{◌≡◌, ◌<◌, ◌≤◌, length, IfSome};
 ghost use Rattle.array_tokens.specs.Lexemes.{spots, lexeme_of};
-ghost use Rattle.array_lang.specs.Bounds.{reach_after, depth_after, is_over, first_nested, marked, kept, marks_of};
+ghost use Rattle.array_lang.specs.Nesting.{most_marks, most_open};
+ghost use Rattle.array_lang.specs.Scan.{reach_after, depth_after, is_over, first_nested, marked, kept, marks_of};
 
 use array_tokens::{Kind, Sign, Token, Word};
+
+// How many braces are open at once at most, and how many marks an outermost expression has.
+const MOST_OPEN: u32 = 32;
+const MOST_MARKS: u32 = 64;
 
 /// Where a token stands: outside of expressions, after the name that begins a statement, or inside an
 /// outermost expression with this many marks so far.
@@ -17,7 +22,7 @@ pub enum Reach {
 
 impl Reach {
     fn marked(self) -> Reach
-        requires { marks_of self < 2 ^ 31 }
+        requires { marks_of self ≤ most_marks }
         ensures { result ≡ marked self }
     {
         match self {
@@ -46,7 +51,7 @@ impl Reach {
 
     // Where the token after this one stands.
     fn after(self, kind: Kind<'_>) -> Reach
-        requires { marks_of self < 2 ^ 31 }
+        requires { marks_of self ≤ most_marks }
         ensures { result ≡ reach_after self (lexeme_of kind.entry) }
     {
         match kind {
@@ -70,7 +75,7 @@ impl Reach {
 }
 
 fn depth_after(depth: u32, kind: Kind<'_>) -> u32
-    requires { depth < 100 }
+    requires { depth ≤ most_open }
     ensures { result ≡ depth_after depth (lexeme_of kind.entry) }
 {
     match kind {
@@ -83,7 +88,7 @@ fn depth_after(depth: u32, kind: Kind<'_>) -> u32
 fn is_over(depth: u32, reach: Reach) -> bool
     ensures { result ≡ is_over depth reach }
 {
-    depth > 32 || reach.marks() > 64
+    depth > MOST_OPEN || reach.marks() > MOST_MARKS
 }
 
 /// The place in the list of the first token that passes a bound.

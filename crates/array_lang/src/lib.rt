@@ -19,5 +19,5 @@ mod stop;
 
 pub use array_tree::{ArrayDecl, Arrays, Block, Blocks, Expr, Name, Op, Program, Stmt};
 pub use fault::SyntaxFault;
-pub use laws::{bounds_are_kept, one_fault, one_program};
+pub use laws::{one_fault, one_program};
 pub use spelling::parse;

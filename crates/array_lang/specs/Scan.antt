@@ -4,6 +4,7 @@ use Rattle.std.specs.Prelude.{ℕ, ◌+◌, ◌-◌, ◌||◌, nat_lt, List, [],
 use Rattle.array_tokens.specs.Lexemes.{Lexeme, name, number, word, sign, Spot}
 use Rattle.array_tokens.specs.declared.token.Word.TheVariants as words
 use Rattle.array_tokens.specs.declared.token.Sign.TheVariants as signs
+use Rattle.array_lang.specs.Nesting.{most_marks, most_open, first_over}
 use Rattle.array_lang.specs.declared.bounds.Reach.{Reach}
 use Rattle.array_lang.specs.declared.bounds.Reach.TheVariants.{Outside, Named, Inside}
 
@@ -50,15 +51,7 @@ depth_after depth (sign signs.CloseBlock) = depth - 1
 depth_after depth l = depth
 
 abbrev pub is_over : ℕ → Reach → Bool
-is_over depth r = nat_lt 32 depth || nat_lt 64 (marks_of r)
-
-abbrev pub later : Option ℕ → Option ℕ
-later None = None
-later (Some k) = Some (k + 1)
-
-abbrev pub first_over : Bool → Option ℕ → Option ℕ
-first_over true rest = Some 0
-first_over false rest = later rest
+is_over depth r = nat_lt most_open depth || nat_lt most_marks (marks_of r)
 
 -- the place in the list of the first token that passes a bound
 abbrev pub nested_at : Reach → ℕ → List Spot → Option ℕ
