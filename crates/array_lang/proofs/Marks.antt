@@ -1,15 +1,16 @@
 -- Which tokens of an expression pass the bound on marks.
-use Rattle.std.proofs.Common.{◌≡◌, ℕ, ℤ, ◌+◌, ◌≤◌, Bool, true, false, not, ◌&&◌, nat_le, List, [], ◌∷◌, ◌++◌, take, length-append, Option, Some, None, refl, sym, ap, ◌∙◌, subst, arith}
-use Rattle.std.specs.Prelude.{if◌then◌else◌}
+use Rattle.std.proofs.Common.{◌≡◌, ℕ, ℤ, ◌+◌, ◌≤◌, Bool, true, false, not, ◌&&◌, nat_le, List, [], ◌∷◌, ◌++◌, take, length-append, Option, Some, None, refl, sym, ap, ◌∙◌, arith}
+use Rattle.std.specs.Prelude.{if◌then◌else◌, is_some}
 use Rattle.std.proofs.lemmas.Bool.Decides.{nat_tests}
 use Rattle.std.proofs.Math.Seq.{take-append_seam}
-use Rattle.array_tokens.specs.Lexemes.{Lexeme, sign, Spot}
+use Rattle.array_tokens.specs.Lexemes.{Lexeme, word, sign, Spot}
+use Rattle.array_tokens.specs.declared.token.Word.TheVariants as words
 use Rattle.array_tokens.specs.declared.token.Sign.TheVariants as signs
 use Rattle.array_tree.specs.Trees.{Expression, Declaration}
 use Rattle.array_tree.specs.declared.tree.Op.{Op}
-use Rattle.array_lang.specs.Grammar.{operator_of, spot, ExpressionOf, lone_sum, compared, SumOf, lone_term, added, TermOf, lone_factor, multiplied, FactorOf, negated, numbered, named, indexed, grouped, BoundOf, plain_bound, negative_bound, RangeOf, range, DeclarationsOf, no_declaration, next_declaration}
+use Rattle.array_lang.specs.Grammar.{operator_of, spot, SpellsExpression, lone_sum, compared, SpellsSum, lone_term, added, SpellsTerm, lone_factor, multiplied, SpellsFactor, negated, numbered, named, indexed, grouped, SpellsBound, plain_bound, negative_bound, SpellsRange, range, SpellsDeclarations, no_declaration, next_declaration}
 use Rattle.array_lang.specs.Nesting.{is_mark, marks_after, marks_beyond, between, expression_beyond, bound_beyond, range_beyond, declarations_beyond, later, first_true}
-use Rattle.array_lang.specs.Scan.{reach_after, depth_after}
+use Rattle.array_lang.specs.Parsing.Scan.{reach_after, depth_after}
 use Rattle.array_lang.specs.declared.operator.Strength.{Strength}
 use Rattle.array_lang.specs.declared.bounds.Reach.TheVariants.{Inside}
 
@@ -47,18 +48,18 @@ clear_first false c h = (refl, h)
 clear_first true c h = cc
 
 -- ranges and declarations have no mark and no brace
-bound_clear : {s t : List Spot} {v : ℤ} (d : BoundOf s t v) (rest : List Bool) → no_true rest ≡ true → no_true (bound_beyond d ++ rest) ≡ true
+bound_clear : {s t : List Spot} {v : ℤ} (d : SpellsBound s t v) (rest : List Bool) → no_true rest ≡ true → no_true (bound_beyond d ++ rest) ≡ true
 bound_clear plain_bound rest h = h
 bound_clear negative_bound rest h = h
 
-pub range_clear : {s t : List Spot} {b : List ℕ} {low high : ℤ} (d : RangeOf s t b low high) → no_true (range_beyond d) ≡ true
+pub range_clear : {s t : List Spot} {b : List ℕ} {low high : ℤ} (d : SpellsRange s t b low high) → no_true (range_beyond d) ≡ true
 range_clear (range d e) = bound_clear d (false ∷ bound_beyond e) (last_clear e)
   where
-    last_clear : {s t : List Spot} {v : ℤ} (d : BoundOf s t v) → no_true (bound_beyond d) ≡ true
+    last_clear : {s t : List Spot} {v : ℤ} (d : SpellsBound s t v) → no_true (bound_beyond d) ≡ true
     last_clear plain_bound = refl
     last_clear negative_bound = refl
 
-pub declarations_clear : {s t : List Spot} {ds : List Declaration} (d : DeclarationsOf s t ds) → no_true (declarations_beyond d) ≡ true
+pub declarations_clear : {s t : List Spot} {ds : List Declaration} (d : SpellsDeclarations s t ds) → no_true (declarations_beyond d) ≡ true
 declarations_clear no_declaration = refl
 declarations_clear (next_declaration d e) = declarations_clear e
 
@@ -67,49 +68,36 @@ abbrev pub IsInner : Lexeme → Type 0
 IsInner l = (m depth : ℕ) → (reach_after (Inside m) l ≡ Inside (marks_after m l)) × (depth_after depth l ≡ depth)
 
 -- from s up to t stand such tokens
-pub data Inner : List Spot → List Spot → Type 0 where
-  no_token : {s : List Spot} → Inner s s
-  one_token : {s t : List Spot} {l : Lexeme} {a n : ℕ} → IsInner l → Inner s t → Inner (spot l a n ∷ s) t
+pub data AreInner : List Spot → List Spot → Type 0 where
+  no_token : {s : List Spot} → AreInner s s
+  one_token : {s t : List Spot} {l : Lexeme} {a n : ℕ} → IsInner l → AreInner s t → AreInner (spot l a n ∷ s) t
 
-pub both_inner : {s t u : List Spot} → Inner s t → Inner t u → Inner s u
+pub both_inner : {s t u : List Spot} → AreInner s t → AreInner t u → AreInner s u
 both_inner no_token e = e
 both_inner (one_token i d) e = one_token i (both_inner d e)
 
-abbrev OperatorInner : Lexeme → Option (Strength × Op) → Type 0
-OperatorInner l None = Unit {0}
-OperatorInner l (Some o) = IsInner l
-
-operators_inner : (l : Lexeme) → OperatorInner l (operator_of l)
-operators_inner (sign signs.Star) = λ m depth. (refl, refl)
-operators_inner (sign signs.Slash) = λ m depth. (refl, refl)
-operators_inner (sign signs.Percent) = λ m depth. (refl, refl)
-operators_inner (sign signs.Less) = λ m depth. (refl, refl)
-operators_inner (sign signs.LessEq) = λ m depth. (refl, refl)
-operators_inner (sign signs.Greater) = λ m depth. (refl, refl)
-operators_inner (sign signs.GreaterEq) = λ m depth. (refl, refl)
-operators_inner (sign signs.Equal) = λ m depth. (refl, refl)
-operators_inner (sign signs.NotEqual) = λ m depth. (refl, refl)
-operators_inner (sign signs.Plus) = λ m depth. (refl, refl)
-operators_inner (sign signs.Minus) = λ m depth. (refl, refl)
-operators_inner l = tt
-
 operator_inner : (l : Lexeme) (o : Strength × Op) → operator_of l ≡ Some o → IsInner l
-operator_inner l o e = subst (OperatorInner l) e (operators_inner l)
+operator_inner (word words.If) o e = absurd (cc)
+operator_inner (sign signs.Assign) o e = absurd (cc)
+operator_inner (sign signs.Semicolon) o e = absurd (cc)
+operator_inner (sign signs.OpenBlock) o e = absurd (cc)
+operator_inner (sign signs.CloseBlock) o e = absurd (cc)
+operator_inner l o e = λ m depth. (refl, refl)
 
 mutual
-  pub expression_inner : {s t : List Spot} {x : Expression} → ExpressionOf s t x → Inner s t
+  pub expression_inner : {s t : List Spot} {x : Expression} → SpellsExpression s t x → AreInner s t
   expression_inner (lone_sum d) = sum_inner d
   expression_inner (compared {l} d e f) = both_inner (sum_inner d) (one_token (operator_inner l _ e) (sum_inner f))
 
-  sum_inner : {s t : List Spot} {x : Expression} → SumOf s t x → Inner s t
+  sum_inner : {s t : List Spot} {x : Expression} → SpellsSum s t x → AreInner s t
   sum_inner (lone_term d) = term_inner d
   sum_inner (added {l} d e f) = both_inner (sum_inner d) (one_token (operator_inner l _ e) (term_inner f))
 
-  term_inner : {s t : List Spot} {x : Expression} → TermOf s t x → Inner s t
+  term_inner : {s t : List Spot} {x : Expression} → SpellsTerm s t x → AreInner s t
   term_inner (lone_factor d) = factor_inner d
   term_inner (multiplied {l} d e f) = both_inner (term_inner d) (one_token (operator_inner l _ e) (factor_inner f))
 
-  factor_inner : {s t : List Spot} {x : Expression} → FactorOf s t x → Inner s t
+  factor_inner : {s t : List Spot} {x : Expression} → SpellsFactor s t x → AreInner s t
   factor_inner (negated d) = one_token (λ m depth. (refl, refl)) (factor_inner d)
   factor_inner numbered = one_token (λ m depth. (refl, refl)) no_token
   factor_inner named = one_token (λ m depth. (refl, refl)) no_token
@@ -118,11 +106,11 @@ mutual
   factor_inner (grouped d) =
       one_token (λ m depth. (refl, refl)) (both_inner (expression_inner d) (one_token (λ m depth. (refl, refl)) no_token))
 
-abbrev pub inner_tokens : {s t : List Spot} → Inner s t → List Spot
+abbrev pub inner_tokens : {s t : List Spot} → AreInner s t → List Spot
 inner_tokens no_token = []
 inner_tokens (one_token {l} {a} {n} i d) = spot l a n ∷ inner_tokens d
 
-pub inner_all : {s t : List Spot} (d : Inner s t) → s ≡ inner_tokens d ++ t
+pub inner_all : {s t : List Spot} (d : AreInner s t) → s ≡ inner_tokens d ++ t
 inner_all no_token = refl
 inner_all (one_token {l} {a} {n} i d) = ap (λ r. spot l a n ∷ r) (inner_all d)
 
@@ -130,7 +118,7 @@ pub between-append : (front t : List Spot) → between (front ++ t) t ≡ front
 between-append front t =
     ap (λ n. take n (front ++ t)) (omega (arith, length-append front t)) ∙ take-append_seam front t
 
-pub inner_between : {s t : List Spot} (d : Inner s t) → inner_tokens d ≡ between s t
+pub inner_between : {s t : List Spot} (d : AreInner s t) → inner_tokens d ≡ between s t
 inner_between {t} d = sym (between-append (inner_tokens d) t) ∙ ap (λ r. between r t) (sym (inner_all d))
 
 -- the marks after these tokens, where m stand before
@@ -150,10 +138,10 @@ few_behind m (t ∷ ts) k h =
     few_behind (marks_after m t.lexeme) ts (few_after (is_mark t.lexeme) m k q.0) q.1
 
 -- an outermost expression
-abbrev pub whole_marks : {s t : List Spot} {x : Expression} → ExpressionOf s t x → ℕ
+abbrev pub whole_marks : {s t : List Spot} {x : Expression} → SpellsExpression s t x → ℕ
 whole_marks {s} {t} d = marks_behind 0 (between s t)
 
-pub whole_few : {s t : List Spot} {x : Expression} (d : ExpressionOf s t x) → no_true (expression_beyond d) ≡ true → whole_marks d ≤ 64
+pub whole_few : {s t : List Spot} {x : Expression} (d : SpellsExpression s t x) → no_true (expression_beyond d) ≡ true → whole_marks d ≤ 64
 whole_few {s} {t} d h = few_behind 0 (between s t) (omega arith) h
 
 -- the marks among these tokens
@@ -186,37 +174,24 @@ clear_behind m [] h = refl
 clear_behind m (t ∷ ts) h =
     clear_more (is_mark t.lexeme) m (marks_behind (marks_after m t.lexeme) ts) _ (behind_least (marks_after m t.lexeme) ts) h (clear_behind (marks_after m t.lexeme) ts h)
 
-between_all : {s t : List Spot} {x : Expression} → ExpressionOf s t x → s ≡ between s t ++ t
+between_all : {s t : List Spot} {x : Expression} → SpellsExpression s t x → s ≡ between s t ++ t
 between_all {t} d = inner_all (expression_inner d) ∙ ap (λ r. r ++ t) (inner_between (expression_inner d))
 
-whole_counted : {s t : List Spot} {x : Expression} (d : ExpressionOf s t x) → whole_marks d + mark_count t ≡ mark_count s
+whole_counted : {s t : List Spot} {x : Expression} (d : SpellsExpression s t x) → whole_marks d + mark_count t ≡ mark_count s
 whole_counted {s} {t} d = marks_counted 0 (between s t) t ∙ omega (arith, ap mark_count (between_all d))
 
 -- an outermost expression has a mark too many exactly where it has more than 64
-pub few_clear : {s t : List Spot} {x : Expression} (d : ExpressionOf s t x) → mark_count s ≤ mark_count t + 64 → no_true (expression_beyond d) ≡ true
+pub few_clear : {s t : List Spot} {x : Expression} (d : SpellsExpression s t x) → mark_count s ≤ mark_count t + 64 → no_true (expression_beyond d) ≡ true
 few_clear {s} {t} d h = clear_behind 0 (between s t) (omega (arith, whole_counted d))
 
-pub clear_few : {s t : List Spot} {x : Expression} (d : ExpressionOf s t x) → no_true (expression_beyond d) ≡ true → mark_count s ≤ mark_count t + 64
+pub clear_few : {s t : List Spot} {x : Expression} (d : SpellsExpression s t x) → no_true (expression_beyond d) ≡ true → mark_count s ≤ mark_count t + 64
 clear_few d h = omega (arith, whole_counted d, whole_few d h)
 
 -- a binary operator is a mark
-abbrev OperatorMarks : Lexeme → Option (Strength × Op) → Type 0
-OperatorMarks l None = Unit {0}
-OperatorMarks l (Some o) = (m : ℕ) → marks_after m l ≡ m + 1
-
-operators_mark : (l : Lexeme) → OperatorMarks l (operator_of l)
-operators_mark (sign signs.Star) = λ m. refl
-operators_mark (sign signs.Slash) = λ m. refl
-operators_mark (sign signs.Percent) = λ m. refl
-operators_mark (sign signs.Less) = λ m. refl
-operators_mark (sign signs.LessEq) = λ m. refl
-operators_mark (sign signs.Greater) = λ m. refl
-operators_mark (sign signs.GreaterEq) = λ m. refl
-operators_mark (sign signs.Equal) = λ m. refl
-operators_mark (sign signs.NotEqual) = λ m. refl
-operators_mark (sign signs.Plus) = λ m. refl
-operators_mark (sign signs.Minus) = λ m. refl
-operators_mark l = tt
+operator_marks : (l : Lexeme) (o : Strength × Op) → operator_of l ≡ Some o → is_mark l ≡ true
+operator_marks (sign signs.OpenGroup) o e = cc
+operator_marks (sign signs.OpenIndex) o e = cc
+operator_marks l o e = ap is_some e
 
 pub operator_counts : (l : Lexeme) (o : Strength × Op) (m : ℕ) → operator_of l ≡ Some o → marks_after m l ≡ m + 1
-operator_counts l o m e = subst (OperatorMarks l) e (operators_mark l) m
+operator_counts l o m e = ap (λ b. if b then m + 1 else m) (operator_marks l o e)

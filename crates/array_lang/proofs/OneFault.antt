@@ -3,7 +3,7 @@ use Rattle.std.proofs.Common.{◌≡◌, ℕ, suc, ◌+◌, ◌≤◌, ◌<◌, 
 use Rattle.std.specs.Prelude.{◌≢◌}
 use Rattle.array_tokens.specs.Lexemes.{Spot}
 use Rattle.array_tree.specs.Trees.{ProgramTree}
-use Rattle.array_lang.specs.Scan.{first_nested}
+use Rattle.array_lang.specs.Parsing.Scan.{first_nested}
 use Rattle.array_lang.specs.Grammar.{SpellsProgram, Begins, StopsAt}
 use Rattle.array_lang.specs.Spelled.{Spells, HasFault, in_cutting, in_tokens, no_memory, HasTokenFault, IsUnexpected, IsTooNested, IsAfter, place_of, cutting_fault}
 use Rattle.array_lang.specs.declared.fault.SyntaxFault.{SyntaxFault}

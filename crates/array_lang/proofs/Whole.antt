@@ -7,11 +7,11 @@ use Rattle.array_tokens.specs.declared.fault.TokenFault.{TokenFault}
 use Rattle.array_tokens.specs.declared.fault.TokenFault.TheVariants as cutting
 use Rattle.array_tree.specs.Trees.{ProgramTree, program_of}
 use Rattle.array_tree.specs.declared.tree.Program.{Program}
-use Rattle.array_lang.specs.Scan.{reach_after, depth_after, is_over, nested_at, first_nested}
+use Rattle.array_lang.specs.Parsing.Scan.{reach_after, depth_after, is_over, nested_at, first_nested}
 use Rattle.array_lang.specs.Grammar.{SpellsProgram, Begins, StopsAt}
-use Rattle.array_lang.specs.Machine.{parse_of}
+use Rattle.array_lang.specs.Parsing.Machine.{parse_of}
 use Rattle.array_lang.specs.Nesting.{later, first_over, first_beyond}
-use Rattle.array_lang.specs.Reading.{IsWhole}
+use Rattle.array_lang.specs.Parsing.Reading.{IsWhole}
 use Rattle.array_lang.specs.Spelled.{IsRead, Spells, IsUnexpected, IsTooNested, HasFault, HasTokenFault, in_cutting, in_tokens, no_memory, cutting_fault, place_of, IsAfter}
 use Rattle.array_lang.specs.declared.bounds.Reach.{Reach}
 use Rattle.array_lang.specs.declared.bounds.Reach.TheVariants.{Outside}
@@ -182,9 +182,9 @@ length-spots [] = refl
 length-spots (t ∷ ts) = ap suc (length-spots ts)
 
 pub short_over : (tokens read over rest : List Token) (index end at : ℕ) → index < length tokens → read ≡ take (index + 1) tokens → over ≡ drop index tokens → first_nested (spots tokens) ≡ Some index → parse_of (spots read) ≡ Err (spots rest) → length rest ≡ 0 → at ≡ place_of 0 (spots over) → IsTooNested (spots tokens) end at
-short_over tokens read over rest index end at within r o n h ended p =
+short_over tokens read over rest index end at within r o n h none p =
     nested_short (spots tokens) rest index end at (omega (arith, length-spots tokens)) n
-    (ap parse_of (sym (spots-take (index + 1) tokens) ∙ ap spots (sym r)) ∙ h) ended
+    (ap parse_of (sym (spots-take (index + 1) tokens) ∙ ap spots (sym r)) ∙ h) none
     (p ∙ ap (λ l. place_of 0 (spots l)) o ∙ ap (place_of 0) (spots-drop index tokens))
 
 pub short_unexpected : (tokens read rest : List Token) (index end at : ℕ) → index < length tokens → read ≡ take (index + 1) tokens → first_nested (spots tokens) ≡ Some index → parse_of (spots read) ≡ Err (spots rest) → 0 < length rest → at ≡ place_of 0 (spots rest) → IsUnexpected (spots tokens) end at

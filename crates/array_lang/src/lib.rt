@@ -2,8 +2,8 @@
 //!
 //! What a text spells is said in `specs/Spelled.antt`: its tokens by `array_tokens`, the tree by the rules of
 //! `specs/Grammar.antt`, and the bounds on nesting by `specs/Nesting.antt`. The parser descends through the tokens
-//! once. `specs/Machine.antt` and `specs/Reading.antt` are how it is proved: each of its functions says which way it
-//! takes a machine that reads token after token, and so finds the first one that can't come.
+//! once. `specs/Parsing` is how it is proved: each of its functions says which way it takes a machine that reads token
+//! after token, and so finds the first one that can't come.
 #![tactic(auto)]
 
 mod bounds;

@@ -5,7 +5,7 @@ use Rattle.array_tokens.specs.Lexemes.{name, number, word, sign, Spot}
 use Rattle.array_tokens.specs.declared.token.Word.TheVariants as words
 use Rattle.array_tokens.specs.declared.token.Sign.TheVariants as signs
 use Rattle.array_tree.specs.Trees.{Sequence, Declaration, ProgramTree}
-use Rattle.array_lang.specs.Grammar.{DeclarationOf, declaration, DeclarationsOf, no_declaration, next_declaration, SpellsProgram}
+use Rattle.array_lang.specs.Grammar.{SpellsDeclaration, declaration, SpellsDeclarations, no_declaration, next_declaration, SpellsProgram}
 use Rattle.array_lang.specs.Nesting.{declarations_beyond, sequence_beyond, first_beyond}
 use Rattle.array_lang.proofs.Marks.{no_true-append, no_true-both, none_true, true_none, declarations_clear}
 use Rattle.array_lang.specs.Spelled.{Spells}
@@ -20,12 +20,12 @@ use Rattle.array_print.proofs.SpelledTrees.{sequence_stands}
 
 record IsDeclaration (array : Declaration) (s t : List Spot) : Type 0 where
   tree : Declaration
-  d : DeclarationOf s t tree
+  d : SpellsDeclaration s t tree
   same : lineless_declaration tree ≡ lineless_declaration array
 
 record AreDeclarations (arrays : List Declaration) (s t : List Spot) : Type 0 where
   trees : List Declaration
-  d : DeclarationsOf s t trees
+  d : SpellsDeclarations s t trees
   same : map lineless_declaration trees ≡ map lineless_declaration arrays
 
 cuts_array : CutsInto (codes "array ") (One (word words.Array)) Anything
@@ -61,7 +61,7 @@ declarations_cut : (arrays : List Declaration) → AreDeclarable arrays → Cuts
 declarations_cut [] h = cuts_as cuts_none (λ s t d. no_declarations d)
 declarations_cut (d ∷ ds) h = cuts_as (cuts_both (declaration_cuts d h.0 h.1) (declarations_cut ds h.2) (λ rest s. tt)) (λ s t e. more_declarations e)
 
-declarations_good : {s t : List Spot} {ds : List Declaration} → DeclarationsOf s t ds → AreGood s → AreDeclarable ds × AreGood t
+declarations_good : {s t : List Spot} {ds : List Declaration} → SpellsDeclarations s t ds → AreGood s → AreDeclarable ds × AreGood t
 declarations_good no_declaration h = (tt, h)
 declarations_good (next_declaration declaration e) h =
     let p = declarations_good e h.1.1.1.1.1.1 in ((h.1.0, h.1.1.1.0, p.0), p.1)

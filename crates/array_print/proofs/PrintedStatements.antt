@@ -1,5 +1,5 @@
 -- What is printed of statements spells them up to line numbers, within the bounds on nesting.
-use Rattle.std.proofs.Common.{◌≡◌, ℕ, ℤ, pos, ◌+◌, ◌<◌, ◌≤◌, List, [], ◌∷◌, ◌++◌, Bool, true, false, not, ◌&&◌, nat_le, refl, ap, ◌∙◌, arith}
+use Rattle.std.proofs.Common.{◌≡◌, ℕ, ℤ, pos, ◌+◌, ◌<◌, List, [], ◌∷◌, ◌++◌, Bool, true, false, not, ◌&&◌, nat_le, refl, ap, ◌∙◌, arith}
 use Rattle.std.specs.Prelude.{codes, negsuc}
 use Rattle.std.specs.Fmt.{signed_decimal}
 use Rattle.std.proofs.lemmas.Bool.Decides.{nat_tests}
@@ -7,9 +7,9 @@ use Rattle.array_tokens.specs.Lexemes.{name, number, word, sign, Spot}
 use Rattle.array_tokens.specs.declared.token.Word.TheVariants as words
 use Rattle.array_tokens.specs.declared.token.Sign.TheVariants as signs
 use Rattle.array_tree.specs.Trees.{Expression, Statement, Assign, For, If, Par, Team, Sequence, ended, followed, Sequences, no_more, beside}
-use Rattle.array_lang.specs.Grammar.{spot, BoundOf, RangeOf, range, StatementOf, assigned, looped, chosen, chosen_else, parallel, teamed, BranchesOf, last_branch, next_branch, PhasesOf, last_phase, next_phase, BlockOf, block, SequenceOf, no_statement, next_statement}
+use Rattle.array_lang.specs.Grammar.{spot, SpellsBound, SpellsRange, range, SpellsStatement, assigned, looped, chosen, chosen_else, parallel, teamed, SpellsBranches, last_branch, next_branch, SpellsPhases, last_phase, next_phase, SpellsBlock, block, SpellsSequence, no_statement, next_statement}
 use Rattle.array_lang.specs.Nesting.{expression_beyond, range_beyond, statement_beyond, branches_beyond, phases_beyond, block_beyond, sequence_beyond}
-use Rattle.array_lang.proofs.Marks.{no_true, no_true-both, range_clear, mark_count, few_clear}
+use Rattle.array_lang.proofs.Marks.{no_true, no_true-both, range_clear, few_clear}
 use Rattle.array_print.specs.Texts.{target_text, range_text, dealt_text, wider, block_text, else_text, branch_text, statement_text, sequence_text, branches_text, phases_text}
 use Rattle.array_print.specs.Spellings.{lineless_statement, lineless_sequence, lineless_sequences}
 use Rattle.array_print.proofs.Cuts.{One, one, Nothing, nothing, Then, joined, NoName, Anything, CutsInto, cuts_both, cuts_as, cuts_none, cuts_space, cuts_newline}
@@ -20,31 +20,31 @@ use Rattle.array_print.proofs.PrintedExpressions.{IsExpression, expression_cuts}
 -- The tokens spell the statement up to line numbers, within the bounds, inside this many open braces.
 pub record IsStatement (depth : ℕ) (c : Statement) (s t : List Spot) : Type 0 where
   pub tree : Statement
-  pub d : StatementOf s t tree
+  pub d : SpellsStatement s t tree
   pub same : lineless_statement tree ≡ lineless_statement c
   pub fits : no_true (statement_beyond depth d) ≡ true
 
 pub record IsSequence (depth : ℕ) (p : Sequence) (s t : List Spot) : Type 0 where
   pub tree : Sequence
-  pub d : SequenceOf s t tree
+  pub d : SpellsSequence s t tree
   pub same : lineless_sequence tree ≡ lineless_sequence p
   pub fits : no_true (sequence_beyond depth d) ≡ true
 
 record IsBlock (depth : ℕ) (p : Sequence) (s t : List Spot) : Type 0 where
   tree : Sequence
-  d : BlockOf s t tree
+  d : SpellsBlock s t tree
   same : lineless_sequence tree ≡ lineless_sequence p
   fits : no_true (block_beyond depth d) ≡ true
 
 record IsPhases (depth : ℕ) (ps : Sequences) (s t : List Spot) : Type 0 where
   trees : Sequences
-  d : PhasesOf s t trees
+  d : SpellsPhases s t trees
   same : lineless_sequences trees ≡ lineless_sequences ps
   fits : no_true (phases_beyond depth d) ≡ true
 
 record IsBranches (depth : ℕ) (ps : Sequences) (s t : List Spot) : Type 0 where
   trees : Sequences
-  d : BranchesOf s t trees
+  d : SpellsBranches s t trees
   same : lineless_sequences trees ≡ lineless_sequences ps
   fits : no_true (branches_beyond depth d) ≡ true
 
@@ -128,10 +128,10 @@ cuts_target_end : CutsInto (codes "] = ") (Then (One (sign signs.CloseIndex)) (O
 cuts_target_end = cuts_both cuts_close_index (cuts_spaced 61 [] signs.Assign (refl, tt) (λ rest. refl)) (λ rest h. tt)
 
 -- a loop variable with its bounds
-range_is : {b : List ℕ} {low high : ℤ} {s t : List Spot} → Then (Then (Then (Then (One (name b)) (One (word words.In))) (λ s t. BoundOf s t low)) (One (sign signs.Range))) (λ s t. BoundOf s t high) s t → RangeOf s t b low high
+range_is : {b : List ℕ} {low high : ℤ} {s t : List Spot} → Then (Then (Then (Then (One (name b)) (One (word words.In))) (λ s t. SpellsBound s t low)) (One (sign signs.Range))) (λ s t. SpellsBound s t high) s t → SpellsRange s t b low high
 range_is (joined (joined (joined (joined one one) low) one) high) = range low high
 
-range_cuts : (b : List ℕ) (low high : ℤ) → IsName b → IsBound low → IsBound high → CutsInto (range_text b low high) (λ s t. RangeOf s t b low high) NoName
+range_cuts : (b : List ℕ) (low high : ℤ) → IsName b → IsBound low → IsBound high → CutsInto (range_text b low high) (λ s t. SpellsRange s t b low high) NoName
 range_cuts b low high n l h =
     cuts_as
     (cuts_both (cuts_both (cuts_both (cuts_both (cuts_name b n) cuts_in (λ rest s. refl)) (cuts_bound low l) (λ rest s. tt)) cuts_range (λ rest s. refl)) (cuts_bound high h) (λ rest s. tt))
@@ -196,7 +196,7 @@ assigned_is {b} {x} {y} h k (joined (joined (joined nothing (joined (joined (joi
     record { tree = Assign n b x y; d = assigned e.d f.d; same = refl; fits = no_true-both (expression_beyond e.d) (false ∷ false ∷ (expression_beyond f.d ++ false ∷ [])) (whole_fits e h) (no_true-both (expression_beyond f.d) (false ∷ []) (whole_fits f k) refl) }
 
 looped_is : {depth line : ℕ} {b : List ℕ} {low high : ℤ} {p : Sequence} {s t : List Spot} →
-    Then (Then (Then (Then Nothing (One (word words.For))) (λ s t. RangeOf s t b low high)) (IsBlock depth p)) Nothing s t →
+    Then (Then (Then (Then Nothing (One (word words.For))) (λ s t. SpellsRange s t b low high)) (IsBlock depth p)) Nothing s t →
     IsStatement depth (For line b low high p) s t
 looped_is {depth} {b} {low} {high} (joined (joined (joined (joined nothing (one {n = n})) r) q) nothing) =
     record { tree = For n b low high q.tree; d = looped r q.d; same = ap (For 0 b low high) q.same; fits = no_true-both (range_beyond r) (block_beyond depth q.d) (range_clear r) q.fits }
@@ -223,7 +223,7 @@ parallel_is {depth} (beside p ps) some h (joined (joined (joined (joined nothing
     record { tree = Par n r.trees; d = parallel r.d; same = ap (Par 0) r.same; fits = and_true (below depth h) r.fits }
 
 teamed_is : {depth line : ℕ} {b : List ℕ} {low high members : ℤ} {ps : Sequences} {s t : List Spot} →
-    Then (Then (Then (Then Nothing (One (word words.Team))) (Then (Then (λ s t. RangeOf s t b low high) (One (word words.By))) (One (number members)))) (IsPhases depth ps)) Nothing s t →
+    Then (Then (Then (Then Nothing (One (word words.Team))) (Then (Then (λ s t. SpellsRange s t b low high) (One (word words.By))) (One (number members)))) (IsPhases depth ps)) Nothing s t →
     IsStatement depth (Team line b low high members ps) s t
 teamed_is {depth} {b} {low} {high} {members} (joined (joined (joined (joined nothing (one {n = n})) (joined (joined r one) one)) q) nothing) =
     record { tree = Team n b low high members q.trees; d = teamed r q.d; same = ap (Team 0 b low high members) q.same; fits = no_true-both (range_beyond r) (false ∷ false ∷ phases_beyond depth q.d) (range_clear r) q.fits }
@@ -232,7 +232,7 @@ pub member_cuts : (v : ℤ) → IsNumber v → CutsInto (signed_decimal v) (One 
 member_cuts (pos n) h = cuts_number n h
 member_cuts (negsuc n) h = absurd h
 
-dealt_cuts : (b : List ℕ) (low high members : ℤ) → IsName b → IsBound low → IsBound high → IsNumber members → CutsInto (dealt_text b low high members) (Then (Then (λ s t. RangeOf s t b low high) (One (word words.By))) (One (number members))) NoName
+dealt_cuts : (b : List ℕ) (low high members : ℤ) → IsName b → IsBound low → IsBound high → IsNumber members → CutsInto (dealt_text b low high members) (Then (Then (λ s t. SpellsRange s t b low high) (One (word words.By))) (One (number members))) NoName
 dealt_cuts b low high members n l h k = cuts_both (cuts_both (range_cuts b low high n l h) cuts_by (λ rest s. refl)) (member_cuts members k) (λ rest s. tt)
 
 phases_no_name : (ps : Sequences) (margin rest : List ℕ) → IsSome ps → NoName (phases_text false margin ps ++ rest)

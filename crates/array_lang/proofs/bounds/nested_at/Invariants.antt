@@ -1,6 +1,7 @@
 use Rattle.std.proofs.Common.{◌≡◌, ◌≤◌, drop}
 use Rattle.array_tokens.specs.Lexemes.{spots}
-use Rattle.array_lang.specs.Scan.{nested_at, further, marks_of}
+use Rattle.array_lang.specs.Parsing.Scan.{nested_at, marks_of}
+use Rattle.array_lang.proofs.Bounded.{further}
 use Rattle.array_lang.specs.Nesting.{most_marks, most_open}
 use Rattle.array_lang.specs.declared.bounds.Reach.TheVariants.{Outside}
 use Rattle.array_lang.proofs.bounds.nested_at.Given as goal

@@ -1,7 +1,7 @@
 use Rattle.std.proofs.Common.{◌+◌, ◌*◌, length}
 use Rattle.array_tokens.specs.Lexemes.{spots}
 use Rattle.array_tree.specs.Trees.{expression_of}
-use Rattle.array_lang.specs.Reading.{TakesTerm, TakesSum}
+use Rattle.array_lang.specs.Parsing.Reading.{TakesTerm, TakesSum}
 use Rattle.array_lang.proofs.expressions.+expr.Given as goal
 
 abbrev pub decreases-expr : goal.decreases-expr
@@ -16,8 +16,8 @@ decreases-term l = 4 * length (spots l.tokens.now) + 1
 abbrev pub decreases-factor : goal.decreases-factor
 decreases-factor l = 4 * length (spots l.tokens.now)
 
-abbrev pub decreases-named : goal.decreases-named
-decreases-named l = 4 * length (spots l.tokens.now)
+abbrev pub decreases-after_name : goal.decreases-after_name
+decreases-after_name l = 4 * length (spots l.tokens.now)
 
 -- the terms so far
 abbrev pub invariant-sum-loop-op : goal.invariant-sum-loop-op

@@ -1,7 +1,7 @@
 use Rattle.std.proofs.Common.{length}
 use Rattle.array_tokens.specs.Lexemes.{spots}
-use Rattle.array_lang.specs.Machine.{declaring, state}
-use Rattle.array_lang.specs.Reading.{Takes1, declared_all, declaration_list}
+use Rattle.array_lang.specs.Parsing.Machine.{declaring, state}
+use Rattle.array_lang.specs.Parsing.Reading.{Takes1, declared_all, declaration_list}
 use Rattle.array_lang.proofs.program.declarations.Given as goal
 
 -- the declarations so far

@@ -1,7 +1,7 @@
 use Rattle.std.proofs.Common.{◌+◌, ◌*◌, length}
 use Rattle.array_tokens.specs.Lexemes.{spots}
-use Rattle.array_lang.specs.Machine.{statement, state}
-use Rattle.array_lang.specs.Reading.{Takes1, behind_all, TakesBranches, TakesPhases, statements_of, sequence_list}
+use Rattle.array_lang.specs.Parsing.Machine.{statement, state}
+use Rattle.array_lang.specs.Parsing.Reading.{Takes1, behind_all, TakesBranches, TakesPhases, statements_of, sequence_list}
 use Rattle.array_lang.proofs.statements.+statements.Given as goal
 
 abbrev pub decreases-for_loop : goal.decreases-for_loop
@@ -10,8 +10,8 @@ decreases-for_loop l = 4 * length (spots l.tokens.now) + 2
 abbrev pub decreases-choice : goal.decreases-choice
 decreases-choice l = 4 * length (spots l.tokens.now) + 2
 
-abbrev pub decreases-else_side : goal.decreases-else_side
-decreases-else_side l = 4 * length (spots l.tokens.now) + 2
+abbrev pub decreases-else_block : goal.decreases-else_block
+decreases-else_block l = 4 * length (spots l.tokens.now) + 2
 
 abbrev pub decreases-par : goal.decreases-par
 decreases-par l = 4 * length (spots l.tokens.now) + 2
@@ -22,8 +22,8 @@ decreases-team l = 4 * length (spots l.tokens.now) + 3
 abbrev pub decreases-phases : goal.decreases-phases
 decreases-phases l = 4 * length (spots l.tokens.now) + 2
 
-abbrev pub decreases-side : goal.decreases-side
-decreases-side l = 4 * length (spots l.tokens.now) + 2
+abbrev pub decreases-block : goal.decreases-block
+decreases-block l = 4 * length (spots l.tokens.now) + 2
 
 abbrev pub decreases-statements : goal.decreases-statements
 decreases-statements l = 4 * length (spots l.tokens.now) + 1

@@ -1,25 +1,18 @@
 -- What each function of the parser does to a run over its tokens: a function that reads something takes every run that
 -- waits for it from the tokens before to the tokens after, and where it stops, every such run does.
-use Rattle.std.specs.Prelude.{◌≡◌, ◌≢◌, Bool, true, false, ℕ, ◌+◌, ◌≤◌, ℤ, pos, neg_ℤ, List, [], ◌∷◌, ◌++◌, length, map, Option, Some, None, Result, Ok, Err, IfOk, Vec}
-use Rattle.std.specs.Borrow.{Bor}
+use Rattle.std.specs.Prelude.{◌≡◌, ◌≢◌, Bool, true, false, ℕ, ◌+◌, ◌≤◌, ℤ, List, [], ◌∷◌, ◌++◌, length, map, Option, Some, None, Result, Ok, Err, IfOk, Vec}
 use Rattle.std.specs.Global.{Global}
-use Rattle.array_tokens.specs.Lexemes.{Lexeme, name, number, word, sign, Spot, spots}
-use Rattle.array_tokens.specs.declared.token.Sign.{Sign}
-use Rattle.array_tokens.specs.declared.token.Sign.TheVariants as signs
-use Rattle.array_tokens.specs.declared.token.Word.{Word}
+use Rattle.array_tokens.specs.Lexemes.{Lexeme, name, word, Spot, spots}
 use Rattle.array_tokens.specs.declared.token.Word.TheVariants as words
-use Rattle.array_tokens.specs.declared.token.Token.{Token}
 use Rattle.array_tree.specs.Trees.{Expression, expression_of, Statement, Assign, If, Sequence, Declaration, declaration_of, statement_of, sequence_of, ProgramTree, program_of}
-use Rattle.array_tree.specs.declared.tree.Op.{Op}
 use Rattle.array_tree.specs.declared.tree.Expr.{Expr}
 use Rattle.array_tree.specs.declared.tree.Stmt.{Stmt}
 use Rattle.array_tree.specs.declared.tree.Block.{Block}
 use Rattle.array_tree.specs.declared.tree.ArrayDecl.{ArrayDecl}
 use Rattle.array_tree.specs.declared.tree.Program.{Program}
-use Rattle.array_lang.specs.Grammar.{spot, operator_of, SpellsProgram, Begins}
-use Rattle.array_lang.specs.Machine.{Side, Level, fresh, Outer, Top, condition, value, bare, called, Ranged, looping, teaming, Slot, bounded, Crew, team_of, array_name, array_open, range_name, range_over, bound, declaring, header, operand, after, statement, array, closed, par_begun, par_side, phase_open, phase_closed, Mode, Nest, nest, State, state, with_array, with_done, opened, Branch, close_into, run, parse_of}
-use Rattle.array_lang.specs.declared.operator.Strength.{Strength}
-use Rattle.array_lang.specs.declared.operator.Strength.TheVariants.{Comparison, Addition, Product}
+use Rattle.array_lang.specs.Grammar.{SpellsProgram, Begins}
+use Rattle.array_lang.specs.Parsing.FirstToken.{pull, head_of, Parsed}
+use Rattle.array_lang.specs.Parsing.Machine.{Left, Level, fresh, Outer, Top, condition, value, bare, called, looping, teaming, bounded, Crew, team_of, array_name, array_open, range_name, range_over, bound, declaring, header, operand, after, statement, array, closed, par_begun, par_side, phase_open, phase_closed, Mode, Nest, nest, State, state, with_array, with_done, opened, close_into, run, parse_of}
 use Rattle.array_lang.specs.Spelled.{HasTokenFault}
 use Rattle.array_lang.specs.declared.fault.SyntaxFault.{SyntaxFault}
 use Rattle.array_lang.specs.declared.fault.SyntaxFault.TheVariants as faults
@@ -27,113 +20,6 @@ use Rattle.array_lang.specs.declared.stop.Stop.{Stop}
 use Rattle.array_lang.specs.declared.stop.Stop.TheVariants.{Memory, Unexpected}
 use Rattle.array_lang.specs.declared.ranges.LoopRange.{LoopRange}
 use Rattle.array_lang.specs.declared.ranges.TeamHead.{TeamHead}
-
--- how strongly an operator binds to the operand before it
-abbrev pub pull_of : Lexeme → ℕ
-pull_of (sign signs.Star) = 3
-pull_of (sign signs.Slash) = 3
-pull_of (sign signs.Percent) = 3
-pull_of (sign signs.Greater) = 1
-pull_of (sign signs.GreaterEq) = 1
-pull_of (sign signs.NotEqual) = 1
-pull_of (sign signs.Plus) = 2
-pull_of (sign signs.Minus) = 2
-pull_of (sign signs.Less) = 1
-pull_of (sign signs.LessEq) = 1
-pull_of (sign signs.Equal) = 1
-pull_of t = 0
-
-abbrev pub pull : List Spot → ℕ
-pull [] = 0
-pull (t ∷ ts) = pull_of t.lexeme
-
-abbrev pub pull_at : Strength → ℕ
-pull_at Comparison = 1
-pull_at Addition = 2
-pull_at Product = 3
-
-abbrev pub head_of : List Spot → Option Lexeme
-head_of [] = None
-head_of (t ∷ ts) = Some t.lexeme
-
-abbrev pub Tokens : Type 0
-Tokens = Bor (List Token)
-
--- what a reader gives: a value and the tokens after it
-abbrev pub Parsed : Type 0 → Type 0
-Parsed X = Result (X × Tokens) Stop
-
--- The tokens s begin with this token, and t follows it.
-pub record StartsWith (l : Lexeme) (s t : List Spot) : Type 0 where
-  pub at : ℕ
-  pub line : ℕ
-  pub all : s ≡ spot l at line ∷ t
-
--- Nothing is read, for this reason.
-abbrev pub IsRefused : Type 0 → List Spot → Stop → Type 0
-IsRefused reason s Memory = ⊥
-IsRefused reason s (Unexpected t) = (spots t.now ≡ s) × reason
-
--- the tokens after this sign
-abbrev pub IsRestAfter : List Spot → Sign → Result Tokens Stop → Type 0
-IsRestAfter s g (Ok t) = StartsWith (sign g) s (spots t.now)
-IsRestAfter s g (Err e) = IsRefused (head_of s ≢ Some (sign g)) s e
-
--- the tokens after this word
-abbrev pub IsRestAfterWord : List Spot → Word → Result Tokens Stop → Type 0
-IsRestAfterWord s w (Ok t) = StartsWith (word w) s (spots t.now)
-IsRestAfterWord s w (Err e) = IsRefused (head_of s ≢ Some (word w)) s e
-
-abbrev pub is_name : Option Lexeme → Bool
-is_name (Some (name b)) = true
-is_name l = false
-
--- the name at the front, and the tokens after it
-abbrev pub IsName : List Spot → Parsed (Bor (List ℕ)) → Type 0
-IsName s (Ok r) = StartsWith (name r.0.now) s (spots r.1.now)
-IsName s (Err e) = IsRefused (is_name (head_of s) ≡ false) s e
-
-abbrev pub is_number : Option Lexeme → Bool
-is_number (Some (number v)) = true
-is_number l = false
-
--- the number at the front, and the tokens after it
-abbrev pub IsNumber : List Spot → Parsed ℤ → Type 0
-IsNumber s (Ok r) = StartsWith (number r.0) s (spots r.1.now)
-IsNumber s (Err e) = IsRefused (is_number (head_of s) ≡ false) s e
-
-abbrev pub is_natural : Option Lexeme → Bool
-is_natural (Some (number (pos k))) = true
-is_natural l = false
-
-pub record StartsWithNatural (s : List Spot) (v : ℤ) (t : List Spot) : Type 0 where
-  pub size : ℕ
-  pub starts : StartsWith (number (pos size)) s t
-  pub negated : v ≡ neg_ℤ (pos size)
-
--- the number at the front, negated
-abbrev pub IsNegated : List Spot → Parsed ℤ → Type 0
-IsNegated s (Ok r) = StartsWithNatural s r.0 (spots r.1.now)
-IsNegated s (Err e) = IsRefused (is_natural (head_of s) ≡ false) s e
-
-pub record StartsWithOperator (s : List Spot) (strength : Strength) (op : Op) (t : List Spot) : Type 0 where
-  pub lexeme : Lexeme
-  pub is : operator_of lexeme ≡ Some (strength, op)
-  pub starts : StartsWith lexeme s t
-
--- the operator of this strength at the front, and the tokens after it
-abbrev pub IsOperator : List Spot → Strength → Option (Op × Tokens) → Type 0
-IsOperator s strength (Some r) = StartsWithOperator s strength r.0 (spots r.1.now)
-IsOperator s strength None = pull s ≢ pull_at strength
-
--- the line of the word `array` at the front, and the tokens after it
-pub record StartsWithArray (s : List Spot) (line : ℕ) (t : List Spot) : Type 0 where
-  pub at : ℕ
-  pub all : s ≡ spot (word words.Array) at line ∷ t
-
-abbrev pub IsArray : List Spot → Option (ℕ × Tokens) → Type 0
-IsArray s (Some r) = StartsWithArray s r.0 (spots r.1.now)
-IsArray s None = head_of s ≢ Some (word words.Array)
 
 -- what the run gives from a state on
 abbrev pub run_from : State → List Spot → Result ProgramTree (List Spot)
@@ -204,17 +90,17 @@ abbrev pub IsFactor : List Spot → Parsed Expr → Type 0
 IsFactor s r = Reads4 1 before_operand (λ (x : Expr). behind_operand (expression_of x)) s r × IsFollowed 3 r
 
 -- a factor that begins with this name, which stands before the tokens
-abbrev pub IsNamed : List ℕ → List Spot → Parsed Expr → Type 0
-IsNamed b s r = Reads4 0 (λ n l outers top. state (after (called b) l outers top) n) (λ (x : Expr). behind_operand (expression_of x)) s r × IsFollowed 3 r
+abbrev pub IsAfterName : List ℕ → List Spot → Parsed Expr → Type 0
+IsAfterName b s r = Reads4 0 (λ n l outers top. state (after (called b) l outers top) n) (λ (x : Expr). behind_operand (expression_of x)) s r × IsFollowed 3 r
 
 -- what waits for a term, and for a sum
-abbrev pub waiting : Side → Side → Level
+abbrev pub waiting : Left → Left → Level
 waiting c z = record { compare = c; sum = z; term = None; minus = 0 }
 
-abbrev pub before_term : Nest → Side → Side → List Outer → Top → State
+abbrev pub before_term : Nest → Left → Left → List Outer → Top → State
 before_term n c z outers top = before_operand n (waiting c z) outers top
 
-abbrev pub behind_term : Expression → Nest → Side → Side → List Outer → Top → State
+abbrev pub behind_term : Expression → Nest → Left → Left → List Outer → Top → State
 behind_term x n c z outers top = behind_operand x n (waiting c z) outers top
 
 -- the factors of a term so far, or all
@@ -224,10 +110,10 @@ TakesTerm k s t x = Takes5 1 before_term (behind_term x) s t × (pull t ≤ k)
 abbrev pub IsTerm : List Spot → Parsed Expr → Type 0
 IsTerm s r = Reads5 1 before_term (λ (x : Expr). behind_term (expression_of x)) s r × IsFollowed 2 r
 
-abbrev pub before_sum : Nest → Side → List Outer → Top → State
+abbrev pub before_sum : Nest → Left → List Outer → Top → State
 before_sum n c outers top = before_operand n (waiting c None) outers top
 
-abbrev pub behind_sum : Expression → Nest → Side → List Outer → Top → State
+abbrev pub behind_sum : Expression → Nest → Left → List Outer → Top → State
 behind_sum x n c outers top = behind_operand x n (waiting c None) outers top
 
 -- the terms of a sum so far, or all
@@ -276,9 +162,9 @@ IsRestOf m s r = Reads1 1 (state m) (λ (c : Stmt). behind (statement_of c)) s r
 abbrev pub IsBlock : List Spot → Parsed Block → Type 0
 IsBlock s r = Reads2 1 opened (λ (p : Block) n b. close_into n b (sequence_of p)) s r
 
--- what follows the first side of a choice
-abbrev pub IsElseSide : List Spot → Parsed Block → Type 0
-IsElseSide s r = Reads4 0 (λ n line x p. state (closed line x p) n) (λ (q : Block) n line x p. behind (If line x p (sequence_of q)) n) s r
+-- what follows the first block of a choice
+abbrev pub IsElseBlock : List Spot → Parsed Block → Type 0
+IsElseBlock s r = Reads4 0 (λ n line x p. state (closed line x p) n) (λ (q : Block) n line x p. behind (If line x p (sequence_of q)) n) s r
 
 abbrev pub IsAssign : ℕ → List ℕ → List Spot → Parsed Stmt → Type 0
 IsAssign line b s r = IsRestOf (array line b) s r
@@ -319,9 +205,6 @@ pub record TakesPhases (s t : List Spot) (all : List Sequence) : Type 0 where
 abbrev pub IsPhases : List Spot → Parsed (Vec Block Global) → Type 0
 IsPhases s r = Reads2 1 before_phases (λ (blocks : Vec Block Global) n c. behind (team_of c (sequence_list blocks.items)) n) s r
 
-abbrev pub IsStatement : List Spot → Parsed Stmt → Type 0
-IsStatement s r = IsRestOf statement s r
-
 abbrev pub starts : Lexeme → Bool
 starts (name b) = true
 starts (word words.For) = true
@@ -334,6 +217,11 @@ starts t = false
 abbrev pub statement_follows : List Spot → Bool
 statement_follows [] = false
 statement_follows (t ∷ ts) = starts t.lexeme
+
+-- the statement that begins here, if one does
+abbrev pub IsStatement : List Spot → Option (Parsed Stmt) → Type 0
+IsStatement s (Some r) = IsRestOf statement s r
+IsStatement s None = statement_follows s ≡ false
 
 abbrev pub statements_of : List Stmt → List Statement
 statements_of statements = map statement_of statements
