@@ -3,8 +3,14 @@ use Rattle.std.proofs.Common.{◌≡◌, ℕ, ◌+◌, ◌<◌, List, Option, So
 use Rattle.std.proofs.Math.Seq.{drop-cons}
 use Rattle.array_tokens.specs.Lexemes.{spots, lexeme_of}
 use Rattle.array_tokens.specs.declared.token.Token.{Token}
-use Rattle.array_lang.specs.Bounds.{reach_after, depth_after, is_over, later, first_over, nested_at, further}
+use Rattle.array_lang.specs.Parsing.Scan.{reach_after, depth_after, is_over, nested_at}
+use Rattle.array_lang.specs.Nesting.{later, first_over}
 use Rattle.array_lang.specs.declared.bounds.Reach.{Reach}
+
+-- the place in a longer list, which has n tokens before
+abbrev pub further : ℕ → Option ℕ → Option ℕ
+further n None = None
+further n (Some k) = Some (n + k)
 
 further_later : (i : ℕ) (o : Option ℕ) → further (i + 1) o ≡ further i (later o)
 further_later i None = refl

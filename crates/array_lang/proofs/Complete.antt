@@ -6,9 +6,9 @@ use Rattle.array_tokens.specs.declared.token.Word.TheVariants as words
 use Rattle.array_tokens.specs.declared.token.Sign.TheVariants as signs
 use Rattle.array_tree.specs.Trees.{Expression, Var, Neg, Statement, If, Par, Team, Sequence, ended, followed, sequence, Sequences, no_more, beside, sequences, Declaration, ProgramTree}
 use Rattle.array_tree.specs.declared.tree.Op.{Op}
-use Rattle.array_lang.specs.Grammar.{operator_of, spot, ExpressionOf, lone_sum, compared, SumOf, lone_term, added, TermOf, lone_factor, multiplied, FactorOf, negated, numbered, named, indexed, grouped, BoundOf, plain_bound, negative_bound, RangeOf, range, StatementOf, assigned, looped, chosen, chosen_else, parallel, teamed, BranchesOf, last_branch, next_branch, PhasesOf, last_phase, next_phase, block, SequenceOf, no_statement, next_statement, DeclarationOf, declaration, DeclarationsOf, no_declaration, next_declaration, SpellsProgram}
-use Rattle.array_lang.specs.Reading.{pull_of, pull, head_of}
-use Rattle.array_lang.specs.Machine.{Side, Level, fresh, joined, term_value, Outer, group, index, Top, target, value, condition, bare, called, Ranged, looping, teaming, Slot, low_of, high_of, Crew, team_of, bound, range_name, range_over, bounded, declaring, statement, header, operand, after, closed, par_open, par_side, phase_open, phase_closed, Branch, then_side, else_side, in_for, in_par, in_team, Frame, Nest, nest, with_array, with_done, opened, close_into, goes_on, step_after, step, at_end, continued, run, top_nest, parse_of}
+use Rattle.array_lang.specs.Grammar.{operator_of, spot, SpellsExpression, lone_sum, compared, SpellsSum, lone_term, added, SpellsTerm, lone_factor, multiplied, SpellsFactor, negated, numbered, named, indexed, grouped, SpellsBound, plain_bound, negative_bound, SpellsRange, range, SpellsStatement, assigned, looped, chosen, chosen_else, parallel, teamed, SpellsBranches, last_branch, next_branch, SpellsPhases, last_phase, next_phase, block, SpellsSequence, no_statement, next_statement, SpellsDeclaration, declaration, SpellsDeclarations, no_declaration, next_declaration, SpellsProgram}
+use Rattle.array_lang.specs.Parsing.FirstToken.{pull_at, operator_pull, pull_of, pull, head_of}
+use Rattle.array_lang.specs.Parsing.Machine.{Left, Level, fresh, joined, term_value, Outer, group, index, Top, target, value, condition, bare, called, Ranged, looping, teaming, Slot, low_of, high_of, Crew, team_of, bound, range_name, range_over, bounded, declaring, statement, header, operand, after, closed, par_open, par_side, phase_open, phase_closed, Branch, then_side, else_side, in_for, in_par, in_team, Frame, Nest, nest, with_array, with_done, opened, close_into, goes_on, step_after, step, at_end, continued, run, top_nest, parse_of}
 use Rattle.array_lang.specs.declared.operator.Strength.{Strength}
 use Rattle.array_lang.specs.declared.operator.Strength.TheVariants.{Comparison as comparison, Addition as addition, Product as product}
 
@@ -29,31 +29,9 @@ pub pull_le : (ts : List Spot) → pull ts ≤ hold ts
 pull_le [] = omega arith
 pull_le (t ∷ ts) = pull_below t.lexeme
 
-abbrev pub is_strong : Strength → ℕ
-is_strong comparison = 1
-is_strong addition = 2
-is_strong product = 3
-
-abbrev pull_of_some : Lexeme → Option (Strength × Op) → Type 0
-pull_of_some l None = Unit {0}
-pull_of_some l (Some o) = (hold_of l ≡ is_strong o.0) × (pull_of l ≡ is_strong o.0)
-
-pull_here : (l : Lexeme) → pull_of_some l (operator_of l)
-pull_here (sign signs.Star) = (refl, refl)
-pull_here (sign signs.Slash) = (refl, refl)
-pull_here (sign signs.Percent) = (refl, refl)
-pull_here (sign signs.Greater) = (refl, refl)
-pull_here (sign signs.GreaterEq) = (refl, refl)
-pull_here (sign signs.NotEqual) = (refl, refl)
-pull_here (sign signs.Plus) = (refl, refl)
-pull_here (sign signs.Minus) = (refl, refl)
-pull_here (sign signs.Less) = (refl, refl)
-pull_here (sign signs.LessEq) = (refl, refl)
-pull_here (sign signs.Equal) = (refl, refl)
-pull_here t = tt
-
-pub pull_operator : (l : Lexeme) (s : Strength) (op : Op) → operator_of l ≡ Some (s, op) → (hold_of l ≡ is_strong s) × (pull_of l ≡ is_strong s)
-pull_operator l s op e = subst (pull_of_some l) e (pull_here l)
+pub pull_operator : (l : Lexeme) (s : Strength) (op : Op) → operator_of l ≡ Some (s, op) → (hold_of l ≡ pull_at s) × (pull_of l ≡ pull_at s)
+pull_operator (sign signs.OpenIndex) s op e = absurd (cc)
+pull_operator l s op e = (ap operator_pull e, ap operator_pull e)
 
 -- a name that no index follows is a variable
 step_called : (n : Nest) (b : List ℕ) (l : Level) (outers : List Outer) (top : Top) (t : Lexeme) → hold_of t ≤ 3 → step_after n (called b) l outers top t ≡ step_after n (bare (Var b)) l outers top t
@@ -69,49 +47,39 @@ pub settle_term : (n : Nest) (x : Expression) (l : Level) (outers : List Outer) 
 settle_term n x l outers top [] = refl
 settle_term n x l outers top (t ∷ ts) = refl
 
-step_sum : (n : Nest) (c s : Side) (x : Expression) (outers : List Outer) (top : Top) (t : Lexeme) → pull_of t ≤ 2 → goes_on n c s x outers top t (operator_of t) ≡ goes_on n c None (joined s x) outers top t (operator_of t)
-step_sum n c s x outers top (sign signs.Star) h = absurd (omega arith)
-step_sum n c s x outers top (sign signs.Slash) h = absurd (omega arith)
-step_sum n c s x outers top (sign signs.Percent) h = absurd (omega arith)
-step_sum n None s x outers top t h = refl
-step_sum n (Some c) s x outers top t h = refl
+step_sum : (n : Nest) (c s : Left) (x : Expression) (outers : List Outer) (top : Top) (t : Lexeme) (o : Option (Strength × Op)) → operator_pull o ≤ 2 → goes_on n c s x outers top t o ≡ goes_on n c None (joined s x) outers top t o
+step_sum n c s x outers top t (Some (product, op)) h = absurd (omega arith)
+step_sum n None s x outers top t o h = refl
+step_sum n (Some c) s x outers top t o h = refl
 
 -- the terms so far are one, where no factor follows
-pub settle_sum : (n : Nest) (c s : Side) (x : Expression) (outers : List Outer) (top : Top) (ts : List Spot) → pull ts ≤ 2 → run (after (bare x) (record { compare = c; sum = s; term = None; minus = 0 }) outers top) n ts ≡ run (after (bare (joined s x)) (record { compare = c; sum = None; term = None; minus = 0 }) outers top) n ts
+pub settle_sum : (n : Nest) (c s : Left) (x : Expression) (outers : List Outer) (top : Top) (ts : List Spot) → pull ts ≤ 2 → run (after (bare x) (record { compare = c; sum = s; term = None; minus = 0 }) outers top) n ts ≡ run (after (bare (joined s x)) (record { compare = c; sum = None; term = None; minus = 0 }) outers top) n ts
 settle_sum n c s x outers top [] h = refl
-settle_sum n c s x outers top (t ∷ ts) h = ap (λ o. continued o (λ s. run s.mode s.nest ts) (t ∷ ts)) (step_sum n c s x outers top t.lexeme h)
+settle_sum n c s x outers top (t ∷ ts) h = ap (λ o. continued o (λ s. run s.mode s.nest ts) (t ∷ ts)) (step_sum n c s x outers top t.lexeme (operator_of t.lexeme) h)
 
-step_compare : (n : Nest) (c : Side) (x : Expression) (outers : List Outer) (top : Top) (t : Lexeme) → pull_of t ≤ 0 → goes_on n c None x outers top t (operator_of t) ≡ goes_on n None None (joined c x) outers top t (operator_of t)
-step_compare n c x outers top (sign signs.Star) h = absurd (omega arith)
-step_compare n c x outers top (sign signs.Slash) h = absurd (omega arith)
-step_compare n c x outers top (sign signs.Percent) h = absurd (omega arith)
-step_compare n c x outers top (sign signs.Greater) h = absurd (omega arith)
-step_compare n c x outers top (sign signs.GreaterEq) h = absurd (omega arith)
-step_compare n c x outers top (sign signs.NotEqual) h = absurd (omega arith)
-step_compare n c x outers top (sign signs.Plus) h = absurd (omega arith)
-step_compare n c x outers top (sign signs.Minus) h = absurd (omega arith)
-step_compare n c x outers top (sign signs.Less) h = absurd (omega arith)
-step_compare n c x outers top (sign signs.LessEq) h = absurd (omega arith)
-step_compare n c x outers top (sign signs.Equal) h = absurd (omega arith)
-step_compare n c x outers top t h = refl
+step_compare : (n : Nest) (c : Left) (x : Expression) (outers : List Outer) (top : Top) (t : Lexeme) (o : Option (Strength × Op)) → operator_pull o ≤ 0 → goes_on n c None x outers top t o ≡ goes_on n None None (joined c x) outers top t o
+step_compare n c x outers top t None h = refl
+step_compare n c x outers top t (Some (product, op)) h = absurd (omega arith)
+step_compare n c x outers top t (Some (addition, op)) h = absurd (omega arith)
+step_compare n c x outers top t (Some (comparison, op)) h = absurd (omega arith)
 
 -- both sides of a comparison are one, where no operator follows
-pub settle_compare : (n : Nest) (c : Side) (x : Expression) (outers : List Outer) (top : Top) (ts : List Spot) → pull ts ≤ 0 → run (after (bare x) (record { compare = c; sum = None; term = None; minus = 0 }) outers top) n ts ≡ run (after (bare (joined c x)) fresh outers top) n ts
+pub settle_compare : (n : Nest) (c : Left) (x : Expression) (outers : List Outer) (top : Top) (ts : List Spot) → pull ts ≤ 0 → run (after (bare x) (record { compare = c; sum = None; term = None; minus = 0 }) outers top) n ts ≡ run (after (bare (joined c x)) fresh outers top) n ts
 settle_compare n c x outers top [] h = refl
-settle_compare n c x outers top (t ∷ ts) h = ap (λ o. continued o (λ s. run s.mode s.nest ts) (t ∷ ts)) (step_compare n c x outers top t.lexeme h)
+settle_compare n c x outers top (t ∷ ts) h = ap (λ o. continued o (λ s. run s.mode s.nest ts) (t ∷ ts)) (step_compare n c x outers top t.lexeme (operator_of t.lexeme) h)
 
--- an operator after a whole left side
-pub take_product : (n : Nest) (c s : Side) (x : Expression) (outers : List Outer) (top : Top) (l : Lexeme) (a k : ℕ) (ts : List Spot) (op : Op) → operator_of l ≡ Some (product, op) → run (after (bare x) (record { compare = c; sum = s; term = None; minus = 0 }) outers top) n (spot l a k ∷ ts) ≡ run (operand (record { compare = c; sum = s; term = Some (x, op); minus = 0 }) outers top) n ts
+-- an operator after a whole left operand
+pub take_product : (n : Nest) (c s : Left) (x : Expression) (outers : List Outer) (top : Top) (l : Lexeme) (a k : ℕ) (ts : List Spot) (op : Op) → operator_of l ≡ Some (product, op) → run (after (bare x) (record { compare = c; sum = s; term = None; minus = 0 }) outers top) n (spot l a k ∷ ts) ≡ run (operand (record { compare = c; sum = s; term = Some (x, op); minus = 0 }) outers top) n ts
 take_product n c s x outers top l a k ts op e = ap (λ o. continued (goes_on n c s x outers top l o) (λ s. run s.mode s.nest ts) (spot l a k ∷ ts)) e
 
-pub take_addition : (n : Nest) (c : Side) (x : Expression) (outers : List Outer) (top : Top) (l : Lexeme) (a k : ℕ) (ts : List Spot) (op : Op) → operator_of l ≡ Some (addition, op) → run (after (bare x) (record { compare = c; sum = None; term = None; minus = 0 }) outers top) n (spot l a k ∷ ts) ≡ run (operand (record { compare = c; sum = Some (x, op); term = None; minus = 0 }) outers top) n ts
+pub take_addition : (n : Nest) (c : Left) (x : Expression) (outers : List Outer) (top : Top) (l : Lexeme) (a k : ℕ) (ts : List Spot) (op : Op) → operator_of l ≡ Some (addition, op) → run (after (bare x) (record { compare = c; sum = None; term = None; minus = 0 }) outers top) n (spot l a k ∷ ts) ≡ run (operand (record { compare = c; sum = Some (x, op); term = None; minus = 0 }) outers top) n ts
 take_addition n c x outers top l a k ts op e = ap (λ o. continued (goes_on n c None x outers top l o) (λ s. run s.mode s.nest ts) (spot l a k ∷ ts)) e
 
 pub take_comparison : (n : Nest) (x : Expression) (outers : List Outer) (top : Top) (l : Lexeme) (a k : ℕ) (ts : List Spot) (op : Op) → operator_of l ≡ Some (comparison, op) → run (after (bare x) fresh outers top) n (spot l a k ∷ ts) ≡ run (operand (record { compare = Some (x, op); sum = None; term = None; minus = 0 }) outers top) n ts
 take_comparison n x outers top l a k ts op e = ap (λ o. continued (goes_on n None None x outers top l o) (λ s. run s.mode s.nest ts) (spot l a k ∷ ts)) e
 
 mutual
-  pub expr_runs : {s t : List Spot} {x : Expression} → ExpressionOf s t x → hold t ≤ 0 → (n : Nest) (outers : List Outer) (top : Top) → run (operand fresh outers top) n s ≡ run (after (bare x) fresh outers top) n t
+  pub expr_runs : {s t : List Spot} {x : Expression} → SpellsExpression s t x → hold t ≤ 0 → (n : Nest) (outers : List Outer) (top : Top) → run (operand fresh outers top) n s ≡ run (after (bare x) fresh outers top) n t
   expr_runs (lone_sum d) h n outers top = sum_runs d (omega (arith, h)) n None outers top
   expr_runs (compared {s} {t} {u} {x} {y} {l} {a} {n = k} {op} d e f) h n outers top =
       let p = pull_operator l comparison op e in
@@ -120,7 +88,7 @@ mutual
       ∙ sum_runs f (omega (arith, h)) n (Some (x, op)) outers top
       ∙ settle_compare n (Some (x, op)) y outers top u (omega (arith, pull_le u))
 
-  pub sum_runs : {s t : List Spot} {x : Expression} → SumOf s t x → hold t ≤ 2 → (n : Nest) (c : Side) (outers : List Outer) (top : Top) → run (operand (record { compare = c; sum = None; term = None; minus = 0 }) outers top) n s ≡ run (after (bare x) (record { compare = c; sum = None; term = None; minus = 0 }) outers top) n t
+  pub sum_runs : {s t : List Spot} {x : Expression} → SpellsSum s t x → hold t ≤ 2 → (n : Nest) (c : Left) (outers : List Outer) (top : Top) → run (operand (record { compare = c; sum = None; term = None; minus = 0 }) outers top) n s ≡ run (after (bare x) (record { compare = c; sum = None; term = None; minus = 0 }) outers top) n t
   sum_runs (lone_term d) h n c outers top = term_runs d (omega (arith, h)) n c None outers top
   sum_runs (added {s} {t} {u} {x} {y} {l} {a} {n = k} {op} d e f) h n c outers top =
       let p = pull_operator l addition op e in
@@ -129,7 +97,7 @@ mutual
       ∙ term_runs f (omega (arith, h)) n c (Some (x, op)) outers top
       ∙ settle_sum n c (Some (x, op)) y outers top u (omega (arith, pull_le u))
 
-  pub term_runs : {s t : List Spot} {x : Expression} → TermOf s t x → hold t ≤ 3 → (n : Nest) (c z : Side) (outers : List Outer) (top : Top) → run (operand (record { compare = c; sum = z; term = None; minus = 0 }) outers top) n s ≡ run (after (bare x) (record { compare = c; sum = z; term = None; minus = 0 }) outers top) n t
+  pub term_runs : {s t : List Spot} {x : Expression} → SpellsTerm s t x → hold t ≤ 3 → (n : Nest) (c z : Left) (outers : List Outer) (top : Top) → run (operand (record { compare = c; sum = z; term = None; minus = 0 }) outers top) n s ≡ run (after (bare x) (record { compare = c; sum = z; term = None; minus = 0 }) outers top) n t
   term_runs (lone_factor d) h n c z outers top = factor_runs d h n _ outers top
   term_runs (multiplied {s} {t} {u} {x} {y} {l} {a} {n = k} {op} d e f) h n c z outers top =
       let p = pull_operator l product op e in
@@ -138,7 +106,7 @@ mutual
       ∙ factor_runs f h n (record { compare = c; sum = z; term = Some (x, op); minus = 0 }) outers top
       ∙ settle_term n y (record { compare = c; sum = z; term = Some (x, op); minus = 0 }) outers top u
 
-  pub factor_runs : {s t : List Spot} {x : Expression} → FactorOf s t x → hold t ≤ 3 → (n : Nest) (l : Level) (outers : List Outer) (top : Top) → run (operand l outers top) n s ≡ run (after (bare x) l outers top) n t
+  pub factor_runs : {s t : List Spot} {x : Expression} → SpellsFactor s t x → hold t ≤ 3 → (n : Nest) (l : Level) (outers : List Outer) (top : Top) → run (operand l outers top) n s ≡ run (after (bare x) l outers top) n t
   factor_runs (negated {s} {t} {x} {a} {n = k} d) h n l outers top =
       let m : Level = record { compare = l.compare; sum = l.sum; term = l.term; minus = suc l.minus } in
       factor_runs d h n m outers top ∙ settle_term n x m outers top t ∙ sym (settle_term n (Neg x) l outers top t)
@@ -149,11 +117,11 @@ mutual
   factor_runs (grouped d) h n l outers top = expr_runs d (omega (arith, h)) n (group l ∷ outers) top
 
 -- bounds and ranges
-bound_runs : {s t : List Spot} {v : ℤ} → BoundOf s t v → (n : Nest) (slot : Slot) → run (header (bound slot)) n s ≡ run (header (bounded slot v)) n t
+bound_runs : {s t : List Spot} {v : ℤ} → SpellsBound s t v → (n : Nest) (slot : Slot) → run (header (bound slot)) n s ≡ run (header (bounded slot v)) n t
 bound_runs plain_bound n slot = refl
 bound_runs negative_bound n slot = refl
 
-range_runs : {s t : List Spot} {b : List ℕ} {low high : ℤ} → RangeOf s t b low high → (n : Nest) (r : Ranged) (k : ℕ) → run (header (range_name r k)) n s ≡ run (header (range_over r k b low high)) n t
+range_runs : {s t : List Spot} {b : List ℕ} {low high : ℤ} → SpellsRange s t b low high → (n : Nest) (r : Ranged) (k : ℕ) → run (header (range_name r k)) n s ≡ run (header (range_over r k b low high)) n t
 range_runs (range {b} {low} d e) n r k = bound_runs d n (low_of r k b) ∙ bound_runs e n (high_of r k b low)
 
 -- the blocks as a list
@@ -220,7 +188,7 @@ is_joint (Some (word words.Barrier)) = true
 is_joint (Some (word words.Array)) = true
 is_joint l = false
 
-statement_settles : {s t : List Spot} {c : Statement} → StatementOf s t c → is_joint (head_of s) ≡ false
+statement_settles : {s t : List Spot} {c : Statement} → SpellsStatement s t c → is_joint (head_of s) ≡ false
 statement_settles (assigned d e) = refl
 statement_settles (looped d e) = refl
 statement_settles (chosen d e) = refl
@@ -228,7 +196,7 @@ statement_settles (chosen_else d e f) = refl
 statement_settles (parallel d) = refl
 statement_settles (teamed d e) = refl
 
-sequence_settles : {s t : List Spot} {p : Sequence} → SequenceOf s t p → is_joint (head_of t) ≡ false → is_joint (head_of s) ≡ false
+sequence_settles : {s t : List Spot} {p : Sequence} → SpellsSequence s t p → is_joint (head_of t) ≡ false → is_joint (head_of s) ≡ false
 sequence_settles no_statement h = h
 sequence_settles (next_statement d e) h = statement_settles d
 
@@ -240,7 +208,7 @@ side_closes : (p : Sequence) (n : Nest) (b : Branch) (t : List Spot) → run (cl
 side_closes p n b t = ap (λ q. run (close_into n b q).mode (close_into n b q).nest t) (sequence-listed p)
 
 mutual
-  pub statement_runs : {s t : List Spot} {c : Statement} → StatementOf s t c → is_joint (head_of t) ≡ false → (n : Nest) → run statement n s ≡ run statement (with_done n c) t
+  pub statement_runs : {s t : List Spot} {c : Statement} → SpellsStatement s t c → is_joint (head_of t) ≡ false → (n : Nest) → run statement n s ≡ run statement (with_done n c) t
   statement_runs (assigned {b} {x} {n = k} d e) h n =
       expr_runs d (omega arith) n [] (target k b) ∙ expr_runs e (omega arith) n [] (value k b x)
   statement_runs (looped {u} {b} {low} {high} {p} {n = k} d (block e)) h n =
@@ -270,7 +238,7 @@ mutual
       ∙ phases_run e h n c []
       ∙ ap (λ q. run statement (with_done n (Team k b low high members q)) u) (sequences-sides ps)
 
-  first_branch_runs : {s t : List Spot} {ps : Sequences} → BranchesOf s t ps → (n : Nest) (k : ℕ) → run (par_open k) n s ≡ run statement (with_done n (Par k (sequences (sides ps)))) t
+  first_branch_runs : {s t : List Spot} {ps : Sequences} → SpellsBranches s t ps → (n : Nest) (k : ℕ) → run (par_open k) n s ≡ run statement (with_done n (Par k (sequences (sides ps)))) t
   first_branch_runs (last_branch {t} {p} {a = a0} {n = k0} (block e)) n k =
       let side : Branch = in_par k [] in
       sequence_runs e refl (opened n side).nest
@@ -281,7 +249,7 @@ mutual
       ∙ side_closes p n side t
       ∙ branches_run d n k [] p
 
-  branches_run : {s t : List Spot} {ps : Sequences} → BranchesOf s t ps → (n : Nest) (k : ℕ) (qs : List Sequence) (q : Sequence) → run (par_side k qs q) n s ≡ run statement (with_done n (Par k (sequences ((qs ++ q ∷ []) ++ sides ps)))) t
+  branches_run : {s t : List Spot} {ps : Sequences} → SpellsBranches s t ps → (n : Nest) (k : ℕ) (qs : List Sequence) (q : Sequence) → run (par_side k qs q) n s ≡ run statement (with_done n (Par k (sequences ((qs ++ q ∷ []) ++ sides ps)))) t
   branches_run (last_branch {t} {p} {a = a0} {n = k0} (block e)) n k qs q =
       let side : Branch = in_par k (qs ++ q ∷ []) in
       sequence_runs e refl (opened n side).nest
@@ -293,7 +261,7 @@ mutual
       ∙ branches_run d n k (qs ++ q ∷ []) p
       ∙ ap (λ l. run statement (with_done n (Par k (sequences l))) u) (append_assoc (qs ++ q ∷ []) (p ∷ []) (sides ps))
 
-  phases_run : {s t : List Spot} {ps : Sequences} → PhasesOf s t ps → is_joint (head_of t) ≡ false → (n : Nest) (c : Crew) (qs : List Sequence) → run (phase_open c qs) n s ≡ run statement (with_done n (team_of c (qs ++ sides ps))) t
+  phases_run : {s t : List Spot} {ps : Sequences} → SpellsPhases s t ps → is_joint (head_of t) ≡ false → (n : Nest) (c : Crew) (qs : List Sequence) → run (phase_open c qs) n s ≡ run statement (with_done n (team_of c (qs ++ sides ps))) t
   phases_run (last_phase {t} {p} (block e)) h n c qs =
       let side : Branch = in_team c qs in
       sequence_runs e refl (opened n side).nest
@@ -306,17 +274,17 @@ mutual
       ∙ phases_run d h n c (qs ++ p ∷ [])
       ∙ ap (λ l. run statement (with_done n (team_of c l)) u) (append_assoc qs (p ∷ []) (sides ps))
 
-  pub sequence_runs : {s t : List Spot} {p : Sequence} → SequenceOf s t p → is_joint (head_of t) ≡ false → (n : Nest) → run statement n s ≡ run statement (nest n.arrays (n.done ++ listed p) n.frames) t
+  pub sequence_runs : {s t : List Spot} {p : Sequence} → SpellsSequence s t p → is_joint (head_of t) ≡ false → (n : Nest) → run statement n s ≡ run statement (nest n.arrays (n.done ++ listed p) n.frames) t
   sequence_runs (no_statement {s}) h n = ap (λ d. run statement (nest n.arrays d n.frames) s) (sym (append-nil n.done))
   sequence_runs (next_statement {u} {c} {p} d e) h n =
       statement_runs d (sequence_settles e h) n
       ∙ sequence_runs e h (with_done n c)
       ∙ ap (λ d. run statement (nest n.arrays d n.frames) u) (append_assoc n.done (c ∷ []) (listed p))
 
-declaration_runs : {s t : List Spot} {d : Declaration} → DeclarationOf s t d → (n : Nest) → run declaring n s ≡ run declaring (with_array n d) t
+declaration_runs : {s t : List Spot} {d : Declaration} → SpellsDeclaration s t d → (n : Nest) → run declaring n s ≡ run declaring (with_array n d) t
 declaration_runs declaration n = refl
 
-declarations_run : {s t : List Spot} {ds : List Declaration} → DeclarationsOf s t ds → (n : Nest) → run declaring n s ≡ run declaring (nest (n.arrays ++ ds) n.done n.frames) t
+declarations_run : {s t : List Spot} {ds : List Declaration} → SpellsDeclarations s t ds → (n : Nest) → run declaring n s ≡ run declaring (nest (n.arrays ++ ds) n.done n.frames) t
 declarations_run (no_declaration {s}) n = ap (λ ds. run declaring (nest ds n.done n.frames) s) (sym (append-nil n.arrays))
 declarations_run (next_declaration {u} {d} {ds} e f) n =
     declaration_runs e n

@@ -3,7 +3,7 @@ pub mod Complete
 pub mod Sound
 pub mod Stops
 pub mod Whole
-pub mod Nested
+pub mod Marks
 pub mod Places
 pub mod OneProgram
 pub mod OneFault

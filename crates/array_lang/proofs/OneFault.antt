@@ -3,14 +3,13 @@ use Rattle.std.proofs.Common.{◌≡◌, ℕ, suc, ◌+◌, ◌≤◌, ◌<◌, 
 use Rattle.std.specs.Prelude.{◌≢◌}
 use Rattle.array_tokens.specs.Lexemes.{Spot}
 use Rattle.array_tree.specs.Trees.{ProgramTree}
-use Rattle.array_lang.specs.Bounds.{first_nested}
+use Rattle.array_lang.specs.Parsing.Scan.{first_nested}
 use Rattle.array_lang.specs.Grammar.{SpellsProgram, Begins, StopsAt}
 use Rattle.array_lang.specs.Spelled.{Spells, HasFault, in_cutting, in_tokens, no_memory, HasTokenFault, IsUnexpected, IsTooNested, IsAfter, place_of, cutting_fault}
 use Rattle.array_lang.specs.declared.fault.SyntaxFault.{SyntaxFault}
 use Rattle.array_lang.specs.declared.fault.SyntaxFault.TheVariants.{Unexpected, Memory, TooNested}
 use Rattle.array_lang.specs.declared.bounds.Reach.TheVariants.{Outside}
 use Rattle.std.proofs.Math.Seq.{take-append_seam}
-use Rattle.array_lang.proofs.Nested.{shallow_fits}
 use Rattle.array_lang.proofs.Places.{scan_places}
 use Rattle.array_lang.proofs.Whole.{scan_prefix, none_cut}
 
@@ -143,4 +142,4 @@ none_where_spelled text p f s (in_cutting c e h nm) = absurd (none_cut text c p 
 none_where_spelled text p f s (in_tokens ts e h nm) =
     let same : s.tokens ≡ ts = let k = sym s.cut ∙ e in cc in
     none_in_tokens ts (length text) p f (subst (λ l. SpellsProgram l p) same s.tree)
-    (subst (λ l. first_nested l ≡ None) same ((shallow_fits s.tokens p s.tree).1 s.fits)) h
+    (subst (λ l. first_nested l ≡ None) same (scan_places s.tokens p s.tree ∙ s.fits)) h

@@ -7,8 +7,8 @@ use Rattle.array_tokens.specs.declared.token.Sign.{Sign}
 use Rattle.array_tokens.specs.declared.token.Sign.TheVariants as signs
 use Rattle.array_tree.specs.Trees.{Expression, Var, Statement, If, Sequence, ended, sequence, Declaration, ProgramTree}
 use Rattle.array_lang.specs.Grammar.{spot, EndsAt, StopsAt}
-use Rattle.array_lang.specs.Machine.{Level, Outer, group, index, Top, target, value, condition, bare, called, Ranged, looping, teaming, Slot, low_of, high_of, Crew, team_of, Position, array_name, array_open, array_length, array_close, array_end, range_name, range_in, bound, bound_number, range_dots, range_over, team_members, Mode, declaring, header, operand, after, statement, array, equals, closed, otherwise, par_begun, par_open, par_side, phase_open, phase_closed, Branch, then_side, else_side, in_for, in_par, in_team, Frame, Nest, nest, State, close_into, program, continued, at_end, run, top_nest, parse_of, step}
-use Rattle.array_lang.specs.Reading.{head_of}
+use Rattle.array_lang.specs.Parsing.Machine.{Level, Outer, group, index, Top, target, value, condition, bare, called, Ranged, looping, teaming, Slot, low_of, high_of, Crew, team_of, Position, array_name, array_open, array_length, array_close, array_end, range_name, range_in, bound, bound_number, range_dots, range_over, team_members, Mode, declaring, header, operand, after, statement, array, equals, closed, otherwise, par_begun, par_open, par_side, phase_open, phase_closed, Branch, then_side, else_side, in_for, in_par, in_team, Frame, Nest, nest, State, close_into, program, continued, at_end, run, top_nest, parse_of, step}
+use Rattle.array_lang.specs.Parsing.FirstToken.{head_of}
 use Rattle.array_lang.proofs.Complete.{hold, settle_called, settle_closed, settle_phase, settle_declaring, complete}
 use Rattle.array_lang.proofs.Sound.{sound}
 

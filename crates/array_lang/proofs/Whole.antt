@@ -7,18 +7,17 @@ use Rattle.array_tokens.specs.declared.fault.TokenFault.{TokenFault}
 use Rattle.array_tokens.specs.declared.fault.TokenFault.TheVariants as cutting
 use Rattle.array_tree.specs.Trees.{ProgramTree, program_of}
 use Rattle.array_tree.specs.declared.tree.Program.{Program}
-use Rattle.array_lang.specs.Bounds.{reach_after, depth_after, is_over, later, first_over, nested_at, first_nested}
+use Rattle.array_lang.specs.Parsing.Scan.{reach_after, depth_after, is_over, nested_at, first_nested}
 use Rattle.array_lang.specs.Grammar.{SpellsProgram, Begins, StopsAt}
-use Rattle.array_lang.specs.Machine.{parse_of}
-use Rattle.array_lang.specs.Nesting.{first_beyond}
-use Rattle.array_lang.specs.Reading.{IsWhole}
+use Rattle.array_lang.specs.Parsing.Machine.{parse_of}
+use Rattle.array_lang.specs.Nesting.{later, first_over, first_beyond}
+use Rattle.array_lang.specs.Parsing.Reading.{IsWhole}
 use Rattle.array_lang.specs.Spelled.{IsRead, Spells, IsUnexpected, IsTooNested, HasFault, HasTokenFault, in_cutting, in_tokens, no_memory, cutting_fault, place_of, IsAfter}
 use Rattle.array_lang.specs.declared.bounds.Reach.{Reach}
 use Rattle.array_lang.specs.declared.bounds.Reach.TheVariants.{Outside}
 use Rattle.array_lang.specs.declared.fault.SyntaxFault.{SyntaxFault}
 use Rattle.array_lang.specs.declared.fault.SyntaxFault.TheVariants.{Memory, Unexpected, TooNested}
 use Rattle.array_lang.proofs.Complete.{complete}
-use Rattle.array_lang.proofs.Nested.{shallow_fits}
 use Rattle.array_lang.proofs.Places.{scan_places}
 use Rattle.array_lang.proofs.Sound.{sound}
 use Rattle.array_lang.proofs.Stops.{stops}
@@ -33,12 +32,12 @@ begins_read front p h = ([], p, rw append-nil (sound front p h))
 pub found : (text : List ℕ) (tokens : List Spot) (p : ProgramTree) → tokens_of text ≡ Ok tokens → first_nested tokens ≡ None → parse_of tokens ≡ Ok p → Spells text p
 found text tokens p e n h =
     let d : SpellsProgram tokens p = sound tokens p h in
-    record { tokens = tokens; cut = e; tree = d; fits = (shallow_fits tokens p d).0 n }
+    record { tokens = tokens; cut = e; tree = d; fits = sym (scan_places tokens p d) ∙ n }
 
 same_tokens : (text : List ℕ) (tokens : List Spot) (q : ProgramTree) → tokens_of text ≡ Ok tokens → Spells text q → SpellsProgram tokens q × (first_nested tokens ≡ None)
 same_tokens text tokens q e s =
     let same : s.tokens ≡ tokens = let h = sym s.cut ∙ e in cc in
-    (subst (λ ts. SpellsProgram ts q) same s.tree, subst (λ ts. first_nested ts ≡ None) same ((shallow_fits s.tokens q s.tree).1 s.fits))
+    (subst (λ ts. SpellsProgram ts q) same s.tree, subst (λ ts. first_nested ts ≡ None) same (scan_places s.tokens q s.tree ∙ s.fits))
 
 pub only_found : (text : List ℕ) (tokens : List Spot) (p q : ProgramTree) → tokens_of text ≡ Ok tokens → parse_of tokens ≡ Ok p → Spells text q → p ≡ q
 only_found text tokens p q e h s = let k = sym h ∙ complete (same_tokens text tokens q e s).0 in cc
@@ -183,9 +182,9 @@ length-spots [] = refl
 length-spots (t ∷ ts) = ap suc (length-spots ts)
 
 pub short_over : (tokens read over rest : List Token) (index end at : ℕ) → index < length tokens → read ≡ take (index + 1) tokens → over ≡ drop index tokens → first_nested (spots tokens) ≡ Some index → parse_of (spots read) ≡ Err (spots rest) → length rest ≡ 0 → at ≡ place_of 0 (spots over) → IsTooNested (spots tokens) end at
-short_over tokens read over rest index end at within r o n h ended p =
+short_over tokens read over rest index end at within r o n h none p =
     nested_short (spots tokens) rest index end at (omega (arith, length-spots tokens)) n
-    (ap parse_of (sym (spots-take (index + 1) tokens) ∙ ap spots (sym r)) ∙ h) ended
+    (ap parse_of (sym (spots-take (index + 1) tokens) ∙ ap spots (sym r)) ∙ h) none
     (p ∙ ap (λ l. place_of 0 (spots l)) o ∙ ap (place_of 0) (spots-drop index tokens))
 
 pub short_unexpected : (tokens read rest : List Token) (index end at : ℕ) → index < length tokens → read ≡ take (index + 1) tokens → first_nested (spots tokens) ≡ Some index → parse_of (spots read) ≡ Err (spots rest) → 0 < length rest → at ≡ place_of 0 (spots rest) → IsUnexpected (spots tokens) end at

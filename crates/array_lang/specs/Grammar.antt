@@ -1,4 +1,4 @@
--- The grammar, one case per rule: tokens to trees. `SumOf s t x` says that the tokens from s up to t spell the sum x;
+-- The grammar, one case per rule: tokens to trees. `SpellsSum s t x` says that the tokens from s up to t spell the sum x;
 -- s is the list from the sum's first token on, and t is what follows its last.
 use Rattle.std.specs.Prelude.{◌≡◌, ℕ, ℤ, pos, neg_ℤ, List, [], ◌∷◌, ◌++◌, Option, Some, None}
 use Rattle.array_tokens.specs.Lexemes.{Lexeme, name, number, word, sign, Spot}
@@ -31,108 +31,127 @@ operator_of _ = None
 
 mutual
   -- expr = sum [ comparison sum ]
-  pub data ExpressionOf : List Spot → List Spot → Expression → Type 0 where
-    lone_sum : {s t : List Spot} {x : Expression} → SumOf s t x → ExpressionOf s t x
+  pub data SpellsExpression : List Spot → List Spot → Expression → Type 0 where
+    -- sum
+    lone_sum : {s t : List Spot} {x : Expression} → SpellsSum s t x → SpellsExpression s t x
+    -- sum comparison sum
     compared : {s t u : List Spot} {x y : Expression} {l : Lexeme} {a n : ℕ} {op : Op} →
-        SumOf s (spot l a n ∷ t) x → operator_of l ≡ Some (comparison, op) → SumOf t u y → ExpressionOf s u (Binary op x y)
+        SpellsSum s (spot l a n ∷ t) x → operator_of l ≡ Some (comparison, op) → SpellsSum t u y → SpellsExpression s u (Binary op x y)
 
   -- sum = term { addition term }
-  pub data SumOf : List Spot → List Spot → Expression → Type 0 where
-    lone_term : {s t : List Spot} {x : Expression} → TermOf s t x → SumOf s t x
+  pub data SpellsSum : List Spot → List Spot → Expression → Type 0 where
+    -- term
+    lone_term : {s t : List Spot} {x : Expression} → SpellsTerm s t x → SpellsSum s t x
+    -- sum addition term
     added : {s t u : List Spot} {x y : Expression} {l : Lexeme} {a n : ℕ} {op : Op} →
-        SumOf s (spot l a n ∷ t) x → operator_of l ≡ Some (addition, op) → TermOf t u y → SumOf s u (Binary op x y)
+        SpellsSum s (spot l a n ∷ t) x → operator_of l ≡ Some (addition, op) → SpellsTerm t u y → SpellsSum s u (Binary op x y)
 
   -- term = factor { product factor }
-  pub data TermOf : List Spot → List Spot → Expression → Type 0 where
-    lone_factor : {s t : List Spot} {x : Expression} → FactorOf s t x → TermOf s t x
+  pub data SpellsTerm : List Spot → List Spot → Expression → Type 0 where
+    -- factor
+    lone_factor : {s t : List Spot} {x : Expression} → SpellsFactor s t x → SpellsTerm s t x
+    -- term product factor
     multiplied : {s t u : List Spot} {x y : Expression} {l : Lexeme} {a n : ℕ} {op : Op} →
-        TermOf s (spot l a n ∷ t) x → operator_of l ≡ Some (product, op) → FactorOf t u y → TermOf s u (Binary op x y)
+        SpellsTerm s (spot l a n ∷ t) x → operator_of l ≡ Some (product, op) → SpellsFactor t u y → SpellsTerm s u (Binary op x y)
 
   -- factor = "-" factor | atom
   -- atom = NUMBER | NAME | NAME "[" expr "]" | "(" expr ")"
-  pub data FactorOf : List Spot → List Spot → Expression → Type 0 where
-    negated : {s t : List Spot} {x : Expression} {a n : ℕ} → FactorOf s t x → FactorOf (spot (sign signs.Minus) a n ∷ s) t (Neg x)
-    numbered : {t : List Spot} {v : ℤ} {a n : ℕ} → FactorOf (spot (number v) a n ∷ t) t (Number v)
-    named : {t : List Spot} {b : List ℕ} {a n : ℕ} → FactorOf (spot (name b) a n ∷ t) t (Var b)
+  pub data SpellsFactor : List Spot → List Spot → Expression → Type 0 where
+    -- "-" factor
+    negated : {s t : List Spot} {x : Expression} {a n : ℕ} → SpellsFactor s t x → SpellsFactor (spot (sign signs.Minus) a n ∷ s) t (Neg x)
+    -- NUMBER
+    numbered : {t : List Spot} {v : ℤ} {a n : ℕ} → SpellsFactor (spot (number v) a n ∷ t) t (Number v)
+    -- NAME
+    named : {t : List Spot} {b : List ℕ} {a n : ℕ} → SpellsFactor (spot (name b) a n ∷ t) t (Var b)
+    -- NAME "[" expr "]"
     indexed : {s t : List Spot} {b : List ℕ} {x : Expression} {a n a1 n1 a2 n2 : ℕ} →
-        ExpressionOf s (spot (sign signs.CloseIndex) a2 n2 ∷ t) x →
-        FactorOf (spot (name b) a n ∷ spot (sign signs.OpenIndex) a1 n1 ∷ s) t (Read b x)
+        SpellsExpression s (spot (sign signs.CloseIndex) a2 n2 ∷ t) x →
+        SpellsFactor (spot (name b) a n ∷ spot (sign signs.OpenIndex) a1 n1 ∷ s) t (Read b x)
+    -- "(" expr ")"
     grouped : {s t : List Spot} {x : Expression} {a n a1 n1 : ℕ} →
-        ExpressionOf s (spot (sign signs.CloseGroup) a1 n1 ∷ t) x → FactorOf (spot (sign signs.OpenGroup) a n ∷ s) t x
+        SpellsExpression s (spot (sign signs.CloseGroup) a1 n1 ∷ t) x → SpellsFactor (spot (sign signs.OpenGroup) a n ∷ s) t x
 
 -- bound = [ "-" ] NUMBER
-pub data BoundOf : List Spot → List Spot → ℤ → Type 0 where
-  plain_bound : {t : List Spot} {v : ℤ} {a n : ℕ} → BoundOf (spot (number v) a n ∷ t) t v
-  negative_bound : {t : List Spot} {k a n a1 n1 : ℕ} → BoundOf (spot (sign signs.Minus) a n ∷ spot (number (pos k)) a1 n1 ∷ t) t (neg_ℤ (pos k))
+pub data SpellsBound : List Spot → List Spot → ℤ → Type 0 where
+  -- NUMBER
+  plain_bound : {t : List Spot} {v : ℤ} {a n : ℕ} → SpellsBound (spot (number v) a n ∷ t) t v
+  -- "-" NUMBER
+  negative_bound : {t : List Spot} {k a n a1 n1 : ℕ} → SpellsBound (spot (sign signs.Minus) a n ∷ spot (number (pos k)) a1 n1 ∷ t) t (neg_ℤ (pos k))
 
 -- range = NAME "in" bound ".." bound
-pub data RangeOf : List Spot → List Spot → List ℕ → ℤ → ℤ → Type 0 where
+pub data SpellsRange : List Spot → List Spot → List ℕ → ℤ → ℤ → Type 0 where
   range : {s t u : List Spot} {b : List ℕ} {low high : ℤ} {a n a1 n1 a2 n2 : ℕ} →
-      BoundOf s (spot (sign signs.Range) a2 n2 ∷ t) low → BoundOf t u high →
-      RangeOf (spot (name b) a n ∷ spot (word words.In) a1 n1 ∷ s) u b low high
+      SpellsBound s (spot (sign signs.Range) a2 n2 ∷ t) low → SpellsBound t u high →
+      SpellsRange (spot (name b) a n ∷ spot (word words.In) a1 n1 ∷ s) u b low high
 
 mutual
-  pub data StatementOf : List Spot → List Spot → Statement → Type 0 where
+  pub data SpellsStatement : List Spot → List Spot → Statement → Type 0 where
     -- assign = NAME "[" expr "]" "=" expr ";"
     assigned : {s t u : List Spot} {b : List ℕ} {x y : Expression} {a n a1 n1 a2 n2 a3 n3 a4 n4 : ℕ} →
-        ExpressionOf s (spot (sign signs.CloseIndex) a2 n2 ∷ spot (sign signs.Assign) a3 n3 ∷ t) x →
-        ExpressionOf t (spot (sign signs.Semicolon) a4 n4 ∷ u) y →
-        StatementOf (spot (name b) a n ∷ spot (sign signs.OpenIndex) a1 n1 ∷ s) u (Assign n b x y)
+        SpellsExpression s (spot (sign signs.CloseIndex) a2 n2 ∷ spot (sign signs.Assign) a3 n3 ∷ t) x →
+        SpellsExpression t (spot (sign signs.Semicolon) a4 n4 ∷ u) y →
+        SpellsStatement (spot (name b) a n ∷ spot (sign signs.OpenIndex) a1 n1 ∷ s) u (Assign n b x y)
     -- for = "for" range block
     looped : {s t u : List Spot} {b : List ℕ} {low high : ℤ} {p : Sequence} {a n : ℕ} →
-        RangeOf s t b low high → BlockOf t u p → StatementOf (spot (word words.For) a n ∷ s) u (For n b low high p)
+        SpellsRange s t b low high → SpellsBlock t u p → SpellsStatement (spot (word words.For) a n ∷ s) u (For n b low high p)
     -- if = "if" expr block [ "else" block ]
     chosen : {s t u : List Spot} {x : Expression} {p : Sequence} {a n : ℕ} →
-        ExpressionOf s t x → BlockOf t u p → StatementOf (spot (word words.If) a n ∷ s) u (If n x p ended)
+        SpellsExpression s t x → SpellsBlock t u p → SpellsStatement (spot (word words.If) a n ∷ s) u (If n x p ended)
     chosen_else : {s t u v : List Spot} {x : Expression} {p q : Sequence} {a n a1 n1 : ℕ} →
-        ExpressionOf s t x → BlockOf t (spot (word words.Else) a1 n1 ∷ u) p → BlockOf u v q →
-        StatementOf (spot (word words.If) a n ∷ s) v (If n x p q)
+        SpellsExpression s t x → SpellsBlock t (spot (word words.Else) a1 n1 ∷ u) p → SpellsBlock u v q →
+        SpellsStatement (spot (word words.If) a n ∷ s) v (If n x p q)
     -- par = "par" "{" block { block } "}"
     parallel : {s t : List Spot} {ps : Sequences} {a n a1 n1 : ℕ} →
-        BranchesOf s t ps → StatementOf (spot (word words.Par) a n ∷ spot (sign signs.OpenBlock) a1 n1 ∷ s) t (Par n ps)
+        SpellsBranches s t ps → SpellsStatement (spot (word words.Par) a n ∷ spot (sign signs.OpenBlock) a1 n1 ∷ s) t (Par n ps)
     -- team = "team" range "by" NUMBER block { "barrier" block }
     teamed : {s t u : List Spot} {b : List ℕ} {low high members : ℤ} {ps : Sequences} {a n a1 n1 a2 n2 : ℕ} →
-        RangeOf s (spot (word words.By) a1 n1 ∷ spot (number members) a2 n2 ∷ t) b low high → PhasesOf t u ps →
-        StatementOf (spot (word words.Team) a n ∷ s) u (Team n b low high members ps)
+        SpellsRange s (spot (word words.By) a1 n1 ∷ spot (number members) a2 n2 ∷ t) b low high → SpellsPhases t u ps →
+        SpellsStatement (spot (word words.Team) a n ∷ s) u (Team n b low high members ps)
 
   -- block { block } "}"
-  pub data BranchesOf : List Spot → List Spot → Sequences → Type 0 where
-    last_branch : {s t : List Spot} {p : Sequence} {a n : ℕ} → BlockOf s (spot (sign signs.CloseBlock) a n ∷ t) p → BranchesOf s t (beside p no_more)
-    next_branch : {s t u : List Spot} {p : Sequence} {ps : Sequences} → BlockOf s t p → BranchesOf t u ps → BranchesOf s u (beside p ps)
+  pub data SpellsBranches : List Spot → List Spot → Sequences → Type 0 where
+    -- block "}"
+    last_branch : {s t : List Spot} {p : Sequence} {a n : ℕ} → SpellsBlock s (spot (sign signs.CloseBlock) a n ∷ t) p → SpellsBranches s t (beside p no_more)
+    -- block and further branches
+    next_branch : {s t u : List Spot} {p : Sequence} {ps : Sequences} → SpellsBlock s t p → SpellsBranches t u ps → SpellsBranches s u (beside p ps)
 
   -- block { "barrier" block }
-  pub data PhasesOf : List Spot → List Spot → Sequences → Type 0 where
-    last_phase : {s t : List Spot} {p : Sequence} → BlockOf s t p → PhasesOf s t (beside p no_more)
+  pub data SpellsPhases : List Spot → List Spot → Sequences → Type 0 where
+    -- block
+    last_phase : {s t : List Spot} {p : Sequence} → SpellsBlock s t p → SpellsPhases s t (beside p no_more)
+    -- block "barrier" and further phases
     next_phase : {s t u : List Spot} {p : Sequence} {ps : Sequences} {a n : ℕ} →
-        BlockOf s (spot (word words.Barrier) a n ∷ t) p → PhasesOf t u ps → PhasesOf s u (beside p ps)
+        SpellsBlock s (spot (word words.Barrier) a n ∷ t) p → SpellsPhases t u ps → SpellsPhases s u (beside p ps)
 
   -- block = "{" { stmt } "}"
-  pub data BlockOf : List Spot → List Spot → Sequence → Type 0 where
+  pub data SpellsBlock : List Spot → List Spot → Sequence → Type 0 where
     block : {s t : List Spot} {p : Sequence} {a n a1 n1 : ℕ} →
-        SequenceOf s (spot (sign signs.CloseBlock) a1 n1 ∷ t) p → BlockOf (spot (sign signs.OpenBlock) a n ∷ s) t p
+        SpellsSequence s (spot (sign signs.CloseBlock) a1 n1 ∷ t) p → SpellsBlock (spot (sign signs.OpenBlock) a n ∷ s) t p
 
   -- { stmt }
-  pub data SequenceOf : List Spot → List Spot → Sequence → Type 0 where
-    no_statement : {s : List Spot} → SequenceOf s s ended
-    next_statement : {s t u : List Spot} {c : Statement} {p : Sequence} → StatementOf s t c → SequenceOf t u p → SequenceOf s u (followed c p)
+  pub data SpellsSequence : List Spot → List Spot → Sequence → Type 0 where
+    no_statement : {s : List Spot} → SpellsSequence s s ended
+    -- stmt and further statements
+    next_statement : {s t u : List Spot} {c : Statement} {p : Sequence} → SpellsStatement s t c → SpellsSequence t u p → SpellsSequence s u (followed c p)
 
 -- decl = "array" NAME "[" NUMBER "]" ";"
-pub data DeclarationOf : List Spot → List Spot → Declaration → Type 0 where
+pub data SpellsDeclaration : List Spot → List Spot → Declaration → Type 0 where
   declaration : {t : List Spot} {b : List ℕ} {v : ℤ} {a n a1 n1 a2 n2 a3 n3 a4 n4 a5 n5 : ℕ} →
-      DeclarationOf (spot (word words.Array) a n ∷ spot (name b) a1 n1 ∷ spot (sign signs.OpenIndex) a2 n2 ∷ spot (number v) a3 n3 ∷ spot (sign signs.CloseIndex) a4 n4 ∷ spot (sign signs.Semicolon) a5 n5 ∷ t)
+      SpellsDeclaration (spot (word words.Array) a n ∷ spot (name b) a1 n1 ∷ spot (sign signs.OpenIndex) a2 n2 ∷ spot (number v) a3 n3 ∷ spot (sign signs.CloseIndex) a4 n4 ∷ spot (sign signs.Semicolon) a5 n5 ∷ t)
       t (record { line = n; name = b; length = v })
 
 -- { decl }
-pub data DeclarationsOf : List Spot → List Spot → List Declaration → Type 0 where
-  no_declaration : {s : List Spot} → DeclarationsOf s s []
-  next_declaration : {s t u : List Spot} {d : Declaration} {ds : List Declaration} → DeclarationOf s t d → DeclarationsOf t u ds → DeclarationsOf s u (d ∷ ds)
+pub data SpellsDeclarations : List Spot → List Spot → List Declaration → Type 0 where
+  no_declaration : {s : List Spot} → SpellsDeclarations s s []
+  -- decl and further declarations
+  next_declaration : {s t u : List Spot} {d : Declaration} {ds : List Declaration} → SpellsDeclaration s t d → SpellsDeclarations t u ds → SpellsDeclarations s u (d ∷ ds)
 
 -- The tokens spell the program, but for the bounds on nesting.
 -- program = { decl } { stmt }
 pub record SpellsProgram (tokens : List Spot) (p : ProgramTree) : Type 0 where
   pub body : List Spot
-  pub declares : DeclarationsOf tokens body p.arrays
-  pub does : SequenceOf body [] p.body
+  pub declares : SpellsDeclarations tokens body p.arrays
+  pub does : SpellsSequence body [] p.body
 
 -- Some program begins with these tokens.
 abbrev pub Begins : List Spot → Type 0

@@ -1,6 +1,4 @@
-pub mod Bounds
 pub mod Grammar
-pub mod Machine
-pub mod Reading
-pub mod Spelled
 pub mod Nesting
+pub mod Spelled
+pub mod Parsing

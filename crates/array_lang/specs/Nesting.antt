@@ -1,129 +1,89 @@
--- The bounds on nesting, counted along the grammar: the marks of each outermost expression, and the braces around each
--- block.
-use Rattle.std.specs.Prelude.{ℕ, ℤ, ◌+◌, Bool, true, false, ◌&&◌, nat_lt, nat_le, List, [], ◌∷◌, ◌++◌, Option, None}
-use Rattle.array_tokens.specs.Lexemes.{Spot}
+-- The bounds on nesting, by the tokens that pass one: an outermost expression has at most 64 marks, and at most 32 braces
+-- are open at once.
+use Rattle.std.specs.Prelude.{ℕ, ℤ, ◌+◌, ◌-◌, Bool, true, false, ◌&&◌, nat_le, if◌then◌else◌, List, [], ◌∷◌, ◌++◌, length, take, Option, None, Some, is_some}
+use Rattle.array_tokens.specs.Lexemes.{Lexeme, sign, Spot}
+use Rattle.array_tokens.specs.declared.token.Sign.TheVariants as signs
 use Rattle.array_tree.specs.Trees.{Expression, Statement, Sequence, Sequences, Declaration, ProgramTree}
-use Rattle.array_lang.specs.Bounds.{first_over}
-use Rattle.array_lang.specs.Grammar.{ExpressionOf, lone_sum, compared, SumOf, lone_term, added, TermOf, lone_factor, multiplied, FactorOf, negated, numbered, named, indexed, grouped, BoundOf, plain_bound, negative_bound, RangeOf, range, StatementOf, assigned, looped, chosen, chosen_else, parallel, teamed, BranchesOf, last_branch, next_branch, PhasesOf, last_phase, next_phase, BlockOf, block, SequenceOf, no_statement, next_statement, DeclarationsOf, no_declaration, next_declaration, SpellsProgram}
+use Rattle.array_lang.specs.Grammar.{operator_of, SpellsExpression, SpellsBound, plain_bound, negative_bound, SpellsRange, range, SpellsStatement, assigned, looped, chosen, chosen_else, parallel, teamed, SpellsBranches, last_branch, next_branch, SpellsPhases, last_phase, next_phase, SpellsBlock, block, SpellsSequence, no_statement, next_statement, SpellsDeclarations, no_declaration, next_declaration, SpellsProgram}
 
--- the marks of an expression: its binary operators, minus signs, `(` and `[`
+-- how many marks an outermost expression has at most
+abbrev pub most_marks : ℕ
+most_marks = 64
+
+-- how many braces are open at once at most
+abbrev pub most_open : ℕ
+most_open = 32
+
+-- a token of an expression that is `(`, `[`, a minus sign or a binary operator
+abbrev pub is_mark : Lexeme → Bool
+is_mark (sign signs.OpenGroup) = true
+is_mark (sign signs.OpenIndex) = true
+is_mark l = is_some (operator_of l)
+
+abbrev pub marks_after : ℕ → Lexeme → ℕ
+marks_after m l = if is_mark l then m + 1 else m
+
+-- For each of these tokens of an outermost expression: whether it is a mark too many, where m marks stand before.
+abbrev pub marks_beyond : ℕ → List Spot → List Bool
+marks_beyond m [] = []
+marks_beyond m (t ∷ ts) = (is_mark t.lexeme && nat_le most_marks m) ∷ marks_beyond (marks_after m t.lexeme) ts
+
+-- the tokens from s up to t
+abbrev pub between : List Spot → List Spot → List Spot
+between s t = take (length s - length t) s
+
+abbrev pub expression_beyond : {s t : List Spot} {x : Expression} → SpellsExpression s t x → List Bool
+expression_beyond {s} {t} d = marks_beyond 0 (between s t)
+
+abbrev pub bound_beyond : {s t : List Spot} {v : ℤ} → SpellsBound s t v → List Bool
+bound_beyond plain_bound = false ∷ []
+bound_beyond negative_bound = false ∷ false ∷ []
+
+abbrev pub range_beyond : {s t : List Spot} {b : List ℕ} {low high : ℤ} → SpellsRange s t b low high → List Bool
+range_beyond (range d e) = false ∷ false ∷ (bound_beyond d ++ false ∷ bound_beyond e)
+
+-- For each token of a statement: whether it is a mark too many of its outermost expression, or opens a brace too many,
+-- where `depth` braces are open around.
 abbrev mutual
-  pub expression_marks : {s t : List Spot} {x : Expression} → ExpressionOf s t x → ℕ
-  expression_marks (lone_sum d) = sum_marks d
-  expression_marks (compared d e f) = sum_marks d + 1 + sum_marks f
+  pub statement_beyond : {s t : List Spot} {c : Statement} → (depth : ℕ) → SpellsStatement s t c → List Bool
+  statement_beyond depth (assigned d e) = false ∷ false ∷ (expression_beyond d ++ false ∷ false ∷ (expression_beyond e ++ false ∷ []))
+  statement_beyond depth (looped d e) = false ∷ (range_beyond d ++ block_beyond depth e)
+  statement_beyond depth (chosen d e) = false ∷ (expression_beyond d ++ block_beyond depth e)
+  statement_beyond depth (chosen_else d e f) = false ∷ (expression_beyond d ++ (block_beyond depth e ++ false ∷ block_beyond depth f))
+  statement_beyond depth (parallel d) = false ∷ nat_le most_open depth ∷ branches_beyond (depth + 1) d
+  statement_beyond depth (teamed d e) = false ∷ (range_beyond d ++ false ∷ false ∷ phases_beyond depth e)
 
-  pub sum_marks : {s t : List Spot} {x : Expression} → SumOf s t x → ℕ
-  sum_marks (lone_term d) = term_marks d
-  sum_marks (added d e f) = sum_marks d + 1 + term_marks f
+  pub branches_beyond : {s t : List Spot} {ps : Sequences} → (depth : ℕ) → SpellsBranches s t ps → List Bool
+  branches_beyond depth (last_branch d) = block_beyond depth d ++ false ∷ []
+  branches_beyond depth (next_branch d e) = block_beyond depth d ++ branches_beyond depth e
 
-  pub term_marks : {s t : List Spot} {x : Expression} → TermOf s t x → ℕ
-  term_marks (lone_factor d) = factor_marks d
-  term_marks (multiplied d e f) = term_marks d + 1 + factor_marks f
+  pub phases_beyond : {s t : List Spot} {ps : Sequences} → (depth : ℕ) → SpellsPhases s t ps → List Bool
+  phases_beyond depth (last_phase d) = block_beyond depth d
+  phases_beyond depth (next_phase d e) = block_beyond depth d ++ false ∷ phases_beyond depth e
 
-  pub factor_marks : {s t : List Spot} {x : Expression} → FactorOf s t x → ℕ
-  factor_marks (negated d) = 1 + factor_marks d
-  factor_marks numbered = 0
-  factor_marks named = 0
-  factor_marks (indexed d) = 1 + expression_marks d
-  factor_marks (grouped d) = 1 + expression_marks d
+  pub block_beyond : {s t : List Spot} {p : Sequence} → (depth : ℕ) → SpellsBlock s t p → List Bool
+  block_beyond depth (block d) = nat_le most_open depth ∷ (sequence_beyond (depth + 1) d ++ false ∷ [])
 
--- an outermost expression has at most 64 marks
-abbrev pub expression_fits : {s t : List Spot} {x : Expression} → ExpressionOf s t x → Bool
-expression_fits d = nat_le (expression_marks d) 64
-
--- Every outermost expression has at most 64 marks and at most 32 braces are open at once, where `depth` of them are open
--- around.
-abbrev mutual
-  pub statement_fits : {s t : List Spot} {c : Statement} → (depth : ℕ) → StatementOf s t c → Bool
-  statement_fits depth (assigned d e) = expression_fits d && expression_fits e
-  statement_fits depth (looped d e) = block_fits depth e
-  statement_fits depth (chosen d e) = expression_fits d && block_fits depth e
-  statement_fits depth (chosen_else d e f) = expression_fits d && (block_fits depth e && block_fits depth f)
-  statement_fits depth (parallel d) = nat_lt depth 32 && branches_fit (depth + 1) d
-  statement_fits depth (teamed d e) = phases_fit depth e
-
-  pub branches_fit : {s t : List Spot} {ps : Sequences} → (depth : ℕ) → BranchesOf s t ps → Bool
-  branches_fit depth (last_branch d) = block_fits depth d
-  branches_fit depth (next_branch d e) = block_fits depth d && branches_fit depth e
-
-  pub phases_fit : {s t : List Spot} {ps : Sequences} → (depth : ℕ) → PhasesOf s t ps → Bool
-  phases_fit depth (last_phase d) = block_fits depth d
-  phases_fit depth (next_phase d e) = block_fits depth d && phases_fit depth e
-
-  pub block_fits : {s t : List Spot} {p : Sequence} → (depth : ℕ) → BlockOf s t p → Bool
-  block_fits depth (block d) = nat_lt depth 32 && sequence_fits (depth + 1) d
-
-  pub sequence_fits : {s t : List Spot} {p : Sequence} → (depth : ℕ) → SequenceOf s t p → Bool
-  sequence_fits depth no_statement = true
-  sequence_fits depth (next_statement d e) = statement_fits depth d && sequence_fits depth e
-
--- the program keeps both bounds
-abbrev pub program_fits : {tokens : List Spot} {p : ProgramTree} → SpellsProgram tokens p → Bool
-program_fits d = sequence_fits 0 d.does
-
--- For each token of an expression: whether it is a mark beyond the 64th of its outermost expression, m of whose marks
--- stand before.
-abbrev mutual
-  pub expression_passes : {s t : List Spot} {x : Expression} → (m : ℕ) → ExpressionOf s t x → List Bool
-  expression_passes m (lone_sum d) = sum_passes m d
-  expression_passes m (compared d e f) = sum_passes m d ++ nat_le 64 (m + sum_marks d) ∷ sum_passes (m + sum_marks d + 1) f
-
-  pub sum_passes : {s t : List Spot} {x : Expression} → (m : ℕ) → SumOf s t x → List Bool
-  sum_passes m (lone_term d) = term_passes m d
-  sum_passes m (added d e f) = sum_passes m d ++ nat_le 64 (m + sum_marks d) ∷ term_passes (m + sum_marks d + 1) f
-
-  pub term_passes : {s t : List Spot} {x : Expression} → (m : ℕ) → TermOf s t x → List Bool
-  term_passes m (lone_factor d) = factor_passes m d
-  term_passes m (multiplied d e f) = term_passes m d ++ nat_le 64 (m + term_marks d) ∷ factor_passes (m + term_marks d + 1) f
-
-  pub factor_passes : {s t : List Spot} {x : Expression} → (m : ℕ) → FactorOf s t x → List Bool
-  factor_passes m (negated d) = nat_le 64 m ∷ factor_passes (m + 1) d
-  factor_passes m numbered = false ∷ []
-  factor_passes m named = false ∷ []
-  factor_passes m (indexed d) = false ∷ nat_le 64 m ∷ (expression_passes (m + 1) d ++ false ∷ [])
-  factor_passes m (grouped d) = nat_le 64 m ∷ (expression_passes (m + 1) d ++ false ∷ [])
-
-abbrev pub bound_passes : {s t : List Spot} {v : ℤ} → BoundOf s t v → List Bool
-bound_passes plain_bound = false ∷ []
-bound_passes negative_bound = false ∷ false ∷ []
-
-abbrev pub range_passes : {s t : List Spot} {b : List ℕ} {low high : ℤ} → RangeOf s t b low high → List Bool
-range_passes (range d e) = false ∷ false ∷ (bound_passes d ++ false ∷ bound_passes e)
-
--- For each token of a statement: whether it is a 65th or later mark of its outermost expression, or opens a brace beyond
--- the 32nd, where `depth` braces are open around.
-abbrev mutual
-  pub statement_passes : {s t : List Spot} {c : Statement} → (depth : ℕ) → StatementOf s t c → List Bool
-  statement_passes depth (assigned d e) = false ∷ false ∷ (expression_passes 0 d ++ false ∷ false ∷ (expression_passes 0 e ++ false ∷ []))
-  statement_passes depth (looped d e) = false ∷ (range_passes d ++ block_passes depth e)
-  statement_passes depth (chosen d e) = false ∷ (expression_passes 0 d ++ block_passes depth e)
-  statement_passes depth (chosen_else d e f) = false ∷ (expression_passes 0 d ++ (block_passes depth e ++ false ∷ block_passes depth f))
-  statement_passes depth (parallel d) = false ∷ nat_le 32 depth ∷ branches_passes (depth + 1) d
-  statement_passes depth (teamed d e) = false ∷ (range_passes d ++ false ∷ false ∷ phases_passes depth e)
-
-  pub branches_passes : {s t : List Spot} {ps : Sequences} → (depth : ℕ) → BranchesOf s t ps → List Bool
-  branches_passes depth (last_branch d) = block_passes depth d ++ false ∷ []
-  branches_passes depth (next_branch d e) = block_passes depth d ++ branches_passes depth e
-
-  pub phases_passes : {s t : List Spot} {ps : Sequences} → (depth : ℕ) → PhasesOf s t ps → List Bool
-  phases_passes depth (last_phase d) = block_passes depth d
-  phases_passes depth (next_phase d e) = block_passes depth d ++ false ∷ phases_passes depth e
-
-  pub block_passes : {s t : List Spot} {p : Sequence} → (depth : ℕ) → BlockOf s t p → List Bool
-  block_passes depth (block d) = nat_le 32 depth ∷ (sequence_passes (depth + 1) d ++ false ∷ [])
-
-  pub sequence_passes : {s t : List Spot} {p : Sequence} → (depth : ℕ) → SequenceOf s t p → List Bool
-  sequence_passes depth no_statement = []
-  sequence_passes depth (next_statement d e) = statement_passes depth d ++ sequence_passes depth e
+  pub sequence_beyond : {s t : List Spot} {p : Sequence} → (depth : ℕ) → SpellsSequence s t p → List Bool
+  sequence_beyond depth no_statement = []
+  sequence_beyond depth (next_statement d e) = statement_beyond depth d ++ sequence_beyond depth e
 
 -- a declaration has six tokens, none of them a mark or a brace
-abbrev pub declarations_passes : {s t : List Spot} {ds : List Declaration} → DeclarationsOf s t ds → List Bool
-declarations_passes no_declaration = []
-declarations_passes (next_declaration d e) = false ∷ false ∷ false ∷ false ∷ false ∷ false ∷ declarations_passes e
+abbrev pub declarations_beyond : {s t : List Spot} {ds : List Declaration} → SpellsDeclarations s t ds → List Bool
+declarations_beyond no_declaration = []
+declarations_beyond (next_declaration d e) = false ∷ false ∷ false ∷ false ∷ false ∷ false ∷ declarations_beyond e
 
 -- for each token of a program, whether it passes a bound
-abbrev pub program_passes : {tokens : List Spot} {p : ProgramTree} → SpellsProgram tokens p → List Bool
-program_passes d = declarations_passes d.declares ++ sequence_passes 0 d.does
+abbrev pub program_beyond : {tokens : List Spot} {p : ProgramTree} → SpellsProgram tokens p → List Bool
+program_beyond d = declarations_beyond d.declares ++ sequence_beyond 0 d.does
+
+abbrev pub later : Option ℕ → Option ℕ
+later None = None
+later (Some k) = Some (k + 1)
+
+abbrev pub first_over : Bool → Option ℕ → Option ℕ
+first_over true rest = Some 0
+first_over false rest = later rest
 
 -- the place of the first `true`
 abbrev pub first_true : List Bool → Option ℕ
@@ -132,4 +92,4 @@ first_true (b ∷ bs) = first_over b (first_true bs)
 
 -- the place in the list of the first token of a program that passes a bound
 abbrev pub first_beyond : {tokens : List Spot} {p : ProgramTree} → SpellsProgram tokens p → Option ℕ
-first_beyond d = first_true (program_passes d)
+first_beyond d = first_true (program_beyond d)

@@ -1,22 +1,21 @@
 -- The texts that spell a program, and the faults of the others.
-use Rattle.std.specs.Prelude.{◌≡◌, ◌≢◌, ℕ, ◌+◌, ◌≤◌, ◌<◌, List, [], ◌∷◌, length, take, drop, Option, Some, None, Result, Ok, Err, IsTrue}
+use Rattle.std.specs.Prelude.{◌≡◌, ◌≢◌, ℕ, ◌+◌, ◌≤◌, ◌<◌, List, [], ◌∷◌, length, take, drop, Option, Some, None, Result, Ok, Err}
 use Rattle.array_tokens.specs.Lexemes.{Spot, tokens_of}
 use Rattle.array_tokens.specs.declared.fault.TokenFault.{TokenFault}
 use Rattle.array_tokens.specs.declared.fault.TokenFault.TheVariants as cutting
 use Rattle.array_tree.specs.Trees.{ProgramTree, program_of}
 use Rattle.array_tree.specs.declared.tree.Program.{Program}
 use Rattle.array_lang.specs.Grammar.{SpellsProgram, Begins, StopsAt}
-use Rattle.array_lang.specs.Nesting.{program_fits, first_beyond}
+use Rattle.array_lang.specs.Nesting.{first_beyond}
 use Rattle.array_lang.specs.declared.fault.SyntaxFault.{SyntaxFault}
 use Rattle.array_lang.specs.declared.fault.SyntaxFault.TheVariants.{NotAscii, BadToken, Unexpected, NumberTooLarge, Memory, TooNested}
 
--- The text spells the program: it is cut into tokens that spell it, every outermost expression has at most 64 marks, and
--- at most 32 braces are open at once.
+-- The text spells the program: it is cut into tokens that spell it, none of which passes a bound on nesting.
 pub record Spells (text : List ℕ) (p : ProgramTree) : Type 0 where
   pub tokens : List Spot
   pub cut : tokens_of text ≡ Ok tokens
   pub tree : SpellsProgram tokens p
-  pub fits : IsTrue (program_fits tree)
+  pub fits : first_beyond tree ≡ None
 
 -- the place of the first token, or where the text ends
 abbrev pub place_of : ℕ → List Spot → ℕ

@@ -1,31 +1,38 @@
 //! The bounds on open braces and on the marks of one outermost expression.
 
-ghost use Rattle.std.specs.Prelude.{◌≡◌, ◌<◌, ◌^◌, length, IfSome};
+ghost use Rattle.std.specs.Prelude.{◌≡◌, ◌<◌, ◌≤◌, length, IfSome};
 ghost use Rattle.array_tokens.specs.Lexemes.{spots, lexeme_of};
-ghost use Rattle.array_lang.specs.Bounds.{reach_after, depth_after, is_over, first_nested, marked, kept, marks_of};
+ghost use Rattle.array_lang.specs.Nesting.{most_marks, most_open, is_mark};
+ghost use Rattle.array_lang.specs.Parsing.Scan.{reach_after, depth_after, is_over, first_nested, marks_of};
 
+use crate::operator::operator_of;
 use array_tokens::{Kind, Sign, Token, Word};
+
+// How many braces are open at once at most.
+const MOST_OPEN: u32 = 32;
+
+// How many marks an outermost expression has at most.
+const MOST_MARKS: u32 = 64;
 
 /// Where a token stands: outside of expressions, after the name that begins a statement, or inside an
 /// outermost expression with this many marks so far.
 #[derive(Clone, Copy, PartialEq, Eq, Debug, Drop)]
 pub enum Reach {
     Outside,
-    Named,
+    Target,
     Inside(u32),
 }
 
-impl Reach {
-    fn marked(self) -> Reach
-        requires { marks_of self < 2 ^ 31 }
-        ensures { result ≡ marked self }
-    {
-        match self {
-            Reach::Inside(marks) => Reach::Inside(marks + 1),
-            _ => Reach::Outside,
-        }
+fn is_mark(kind: Kind<'_>) -> bool
+    ensures { result ≡ is_mark (lexeme_of kind.entry) }
+{
+    match kind {
+        Kind::Sign(Sign::OpenGroup | Sign::OpenIndex) => true,
+        _ => operator_of(kind).is_some(),
     }
+}
 
+impl Reach {
     fn marks(self) -> u32
         ensures { result ≡ marks_of self }
     {
@@ -35,42 +42,26 @@ impl Reach {
         }
     }
 
-    fn kept(self) -> Reach
-        ensures { result ≡ kept self }
-    {
-        match self {
-            Reach::Inside(marks) => Reach::Inside(marks),
-            _ => Reach::Outside,
-        }
-    }
-
     // Where the token after this one stands.
     fn after(self, kind: Kind<'_>) -> Reach
-        requires { marks_of self < 2 ^ 31 }
+        requires { marks_of self ≤ most_marks }
         ensures { result ≡ reach_after self (lexeme_of kind.entry) }
     {
         match kind {
-            Kind::Name(_) => match self {
-                Reach::Outside => Reach::Named,
-                _ => self.kept(),
-            },
-            Kind::Number(_) => self.kept(),
-            Kind::Word(Word::If) => Reach::Inside(0),
-            Kind::Word(_) => self.kept(),
-            Kind::Sign(Sign::OpenIndex) => match self {
-                Reach::Named => Reach::Inside(0),
-                _ => self.marked(),
-            },
-            Kind::Sign(Sign::CloseIndex | Sign::CloseGroup | Sign::Range) => self.kept(),
-            Kind::Sign(Sign::Assign) => Reach::Inside(0),
+            Kind::Word(Word::If) | Kind::Sign(Sign::Assign) => Reach::Inside(0),
             Kind::Sign(Sign::Semicolon | Sign::OpenBlock | Sign::CloseBlock) => Reach::Outside,
-            Kind::Sign(_) => self.marked(),
+            _ => match self {
+                Reach::Inside(marks) => Reach::Inside(marks + u32::from(is_mark(kind))),
+                Reach::Target if matches!(kind, Kind::Sign(Sign::OpenIndex)) => Reach::Inside(0),
+                Reach::Outside if matches!(kind, Kind::Name(_)) => Reach::Target,
+                _ => Reach::Outside,
+            },
         }
     }
 }
 
 fn depth_after(depth: u32, kind: Kind<'_>) -> u32
-    requires { depth < 100 }
+    requires { depth ≤ most_open }
     ensures { result ≡ depth_after depth (lexeme_of kind.entry) }
 {
     match kind {
@@ -83,7 +74,7 @@ fn depth_after(depth: u32, kind: Kind<'_>) -> u32
 fn is_over(depth: u32, reach: Reach) -> bool
     ensures { result ≡ is_over depth reach }
 {
-    depth > 32 || reach.marks() > 64
+    depth > MOST_OPEN || reach.marks() > MOST_MARKS
 }
 
 /// The place in the list of the first token that passes a bound.

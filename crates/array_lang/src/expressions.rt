@@ -2,7 +2,8 @@
 
 ghost use Rattle.std.specs.Prelude.{◌≡◌};
 ghost use Rattle.array_tokens.specs.Lexemes.{spots};
-ghost use Rattle.array_lang.specs.Reading.{IsFactor, IsNamed, IsTerm, IsSum, IsExpr, IsOperator};
+ghost use Rattle.array_lang.specs.Parsing.FirstToken.{IsOperator};
+ghost use Rattle.array_lang.specs.Parsing.Reading.{IsFactor, IsAfterName, IsTerm, IsSum, IsExpr};
 
 use crate::operator::{Strength, operator_of};
 use crate::stop::{Parsed, Stop, expect};
@@ -32,7 +33,7 @@ fn factor<'t>(alloc: Global, tokens: &'t [Token<'t>]) -> Parsed<'t, Expr>
     };
     match first.kind {
         Kind::Number(value) => Ok((Expr::Number(value), rest)),
-        Kind::Name(name) => named(alloc, name, rest),
+        Kind::Name(name) => after_name(alloc, name, rest),
         Kind::Sign(Sign::Minus) => {
             let (operand, rest) = factor(alloc, rest)?;
             Ok((Expr::Neg(Box::new(alloc, operand)?), rest))
@@ -46,10 +47,10 @@ fn factor<'t>(alloc: Global, tokens: &'t [Token<'t>]) -> Parsed<'t, Expr>
     }
 }
 
-// A name, with an index where one follows.
+// The rest of a factor that begins with this name: its index, where one follows.
 #[cycle(expr)]
-fn named<'t>(alloc: Global, name: &'t [u8], tokens: &'t [Token<'t>]) -> Parsed<'t, Expr>
-    ensures { IsNamed name.now (spots tokens.now) result }
+fn after_name<'t>(alloc: Global, name: &'t [u8], tokens: &'t [Token<'t>]) -> Parsed<'t, Expr>
+    ensures { IsAfterName name.now (spots tokens.now) result }
 {
     match expect(tokens, Sign::OpenIndex) {
         Err(_) => Ok((Expr::Var(Name::new(alloc, name)?), tokens)),

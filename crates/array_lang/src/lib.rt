@@ -2,8 +2,8 @@
 //!
 //! What a text spells is said in `specs/Spelled.antt`: its tokens by `array_tokens`, the tree by the rules of
 //! `specs/Grammar.antt`, and the bounds on nesting by `specs/Nesting.antt`. The parser descends through the tokens
-//! once. `specs/Machine.antt` and `specs/Reading.antt` are how it is proved: each of its functions says which way it
-//! takes a machine that reads token after token, and so finds the first one that can't come.
+//! once. `specs/Parsing` is how it is proved: each of its functions says which way it takes a machine that reads token
+//! after token, and so finds the first one that can't come.
 #![tactic(auto)]
 
 mod bounds;
@@ -19,5 +19,5 @@ mod stop;
 
 pub use array_tree::{ArrayDecl, Arrays, Block, Blocks, Expr, Name, Op, Program, Stmt};
 pub use fault::SyntaxFault;
-pub use laws::{bounds_are_kept, one_fault, one_program};
+pub use laws::{one_fault, one_program};
 pub use spelling::parse;

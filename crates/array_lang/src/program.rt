@@ -2,7 +2,8 @@
 
 ghost use Rattle.std.specs.Prelude.{◌≡◌, []};
 ghost use Rattle.array_tokens.specs.Lexemes.{spots};
-ghost use Rattle.array_lang.specs.Reading.{IsArray, IsLength, IsDeclaration, IsDeclarations, IsBody, IsProgram};
+ghost use Rattle.array_lang.specs.Parsing.FirstToken.{IsArray};
+ghost use Rattle.array_lang.specs.Parsing.Reading.{IsLength, IsDeclaration, IsDeclarations, IsBody, IsProgram};
 
 use crate::statements::statements;
 use crate::stop::{Parsed, Stop, expect, expect_name, expect_number};

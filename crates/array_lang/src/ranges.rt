@@ -2,7 +2,8 @@
 
 ghost use Rattle.std.specs.Prelude.{◌≡◌};
 ghost use Rattle.array_tokens.specs.Lexemes.{spots};
-ghost use Rattle.array_lang.specs.Reading.{IsNegated, IsBound, IsRange, IsHead};
+ghost use Rattle.array_lang.specs.Parsing.FirstToken.{IsNegated};
+ghost use Rattle.array_lang.specs.Parsing.Reading.{IsBound, IsRange, IsHead};
 
 use crate::stop::{Parsed, Stop, expect, expect_name, expect_number, expect_word};
 use array_tokens::{Sign, Token, Word};

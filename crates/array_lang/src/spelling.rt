@@ -3,9 +3,9 @@
 ghost use Rattle.std.specs.Prelude.{◌≡◌, ◌<◌, ◌^◌, length, IfOk, IfErr, ℕ, Some, None};
 ghost use Rattle.array_tokens.specs.Lexemes.{spots};
 ghost use Rattle.array_tree.specs.Trees.{program_of, ProgramTree};
-ghost use Rattle.array_lang.specs.Bounds.{first_nested};
+ghost use Rattle.array_lang.specs.Parsing.Scan.{first_nested};
 ghost use Rattle.array_lang.specs.Spelled.{Spells, HasFault, HasTokenFault, IsRead, place_of};
-ghost use Rattle.array_lang.specs.Reading.{IsWhole, IsReading};
+ghost use Rattle.array_lang.specs.Parsing.Reading.{IsWhole, IsReading};
 
 use crate::bounds::nested_at;
 use crate::fault::SyntaxFault;

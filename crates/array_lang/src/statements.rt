@@ -1,8 +1,8 @@
 //! Tokens to statements.
 
-ghost use Rattle.std.specs.Prelude.{◌≡◌, [], true};
+ghost use Rattle.std.specs.Prelude.{◌≡◌, []};
 ghost use Rattle.array_tokens.specs.Lexemes.{spots};
-ghost use Rattle.array_lang.specs.Reading.{IsTarget, IsValue, IsAssign, IsSide, IsElseSide, IsChoice, IsLoop, IsPar, IsPhases, IsTeam, IsStatement, IsStatements, statement_follows};
+ghost use Rattle.array_lang.specs.Parsing.Reading.{IsTarget, IsValue, IsAssign, IsBlock, IsElseBlock, IsChoice, IsLoop, IsPar, IsPhases, IsTeam, IsStatement, IsStatements};
 
 use crate::expressions::expr;
 use crate::ranges::{range, team_head};
@@ -54,18 +54,6 @@ fn assignment<'t>(
     ))
 }
 
-fn begins_statement<'t>(tokens: &'t [Token<'t>]) -> bool
-    ensures { result ≡ statement_follows (spots tokens.now) }
-{
-    match tokens.first() {
-        None => false,
-        Some(first) => matches!(
-            first.kind,
-            Kind::Name(_) | Kind::Word(Word::For | Word::If | Word::Par | Word::Team)
-        ),
-    }
-}
-
 // The rest of a `for`.
 #[cycle(statements)]
 fn for_loop<'t>(alloc: Global, line: u32, tokens: &'t [Token<'t>]) -> Parsed<'t, Stmt>
@@ -73,7 +61,7 @@ fn for_loop<'t>(alloc: Global, line: u32, tokens: &'t [Token<'t>]) -> Parsed<'t,
 {
     let (range, rest) = range(tokens)?;
     let rest = expect(rest, Sign::OpenBlock)?;
-    let (body, rest) = side(alloc, rest)?;
+    let (body, rest) = block(alloc, rest)?;
     let var = Name::new(alloc, range.var)?;
     Ok((
         Stmt::For {
@@ -94,8 +82,8 @@ fn choice<'t>(alloc: Global, line: u32, tokens: &'t [Token<'t>]) -> Parsed<'t, S
 {
     let (cond, rest) = expr(alloc, tokens)?;
     let rest = expect(rest, Sign::OpenBlock)?;
-    let (then_block, rest) = side(alloc, rest)?;
-    let (else_block, rest) = else_side(alloc, rest)?;
+    let (then_block, rest) = block(alloc, rest)?;
+    let (else_block, rest) = else_block(alloc, rest)?;
     Ok((
         Stmt::If {
             line,
@@ -107,11 +95,11 @@ fn choice<'t>(alloc: Global, line: u32, tokens: &'t [Token<'t>]) -> Parsed<'t, S
     ))
 }
 
-// The second side of an `if`, empty where there is none.
+// The second block of an `if`, empty where there is none.
 #[tactic(auto, using(crate::proofs::Complete::settle_closed))]
 #[cycle(statements)]
-fn else_side<'t>(alloc: Global, tokens: &'t [Token<'t>]) -> Parsed<'t, Block>
-    ensures { IsElseSide (spots tokens.now) result }
+fn else_block<'t>(alloc: Global, tokens: &'t [Token<'t>]) -> Parsed<'t, Block>
+    ensures { IsElseBlock (spots tokens.now) result }
 {
     match expect_word(tokens, Word::Else) {
         Err(_) => Ok((
@@ -122,7 +110,7 @@ fn else_side<'t>(alloc: Global, tokens: &'t [Token<'t>]) -> Parsed<'t, Block>
         )),
         Ok(rest) => {
             let rest = expect(rest, Sign::OpenBlock)?;
-            side(alloc, rest)
+            block(alloc, rest)
         }
     }
 }
@@ -134,11 +122,11 @@ fn par<'t>(alloc: Global, line: u32, tokens: &'t [Token<'t>]) -> Parsed<'t, Stmt
 {
     let rest = expect(tokens, Sign::OpenBlock)?;
     let rest = expect(rest, Sign::OpenBlock)?;
-    let (first, mut rest) = side(alloc, rest)?;
+    let (first, mut rest) = block(alloc, rest)?;
     let mut blocks = Vec::new(alloc);
     blocks.push(first)?;
     'each: while let Ok(after) = expect(rest, Sign::OpenBlock) {
-        let (next, end) = side(alloc, after)?;
+        let (next, end) = block(alloc, after)?;
         blocks.push(next)?;
         rest = end;
     }
@@ -175,12 +163,12 @@ fn phases<'t>(alloc: Global, tokens: &'t [Token<'t>]) -> Parsed<'t, Vec<Block>>
     ensures { IsPhases (spots tokens.now) result }
 {
     let rest = expect(tokens, Sign::OpenBlock)?;
-    let (first, mut rest) = side(alloc, rest)?;
+    let (first, mut rest) = block(alloc, rest)?;
     let mut phases = Vec::new(alloc);
     phases.push(first)?;
     'each: while let Ok(after) = expect_word(rest, Word::Barrier) {
         let after = expect(after, Sign::OpenBlock)?;
-        let (next, end) = side(alloc, after)?;
+        let (next, end) = block(alloc, after)?;
         phases.push(next)?;
         rest = end;
     }
@@ -189,30 +177,27 @@ fn phases<'t>(alloc: Global, tokens: &'t [Token<'t>]) -> Parsed<'t, Vec<Block>>
 
 // A block whose `{` is read.
 #[cycle(statements)]
-fn side<'t>(alloc: Global, tokens: &'t [Token<'t>]) -> Parsed<'t, Block>
-    ensures { IsSide (spots tokens.now) result }
+fn block<'t>(alloc: Global, tokens: &'t [Token<'t>]) -> Parsed<'t, Block>
+    ensures { IsBlock (spots tokens.now) result }
 {
     let (statements, rest) = statements(alloc, tokens)?;
     let rest = expect(rest, Sign::CloseBlock)?;
     Ok((Block { statements }, rest))
 }
 
-// The statement that begins here.
+// The statement that begins here, if one does.
 #[cycle(statements)]
-fn statement<'t>(alloc: Global, tokens: &'t [Token<'t>]) -> Parsed<'t, Stmt>
-    requires { statement_follows (spots tokens.now) ≡ true }
+fn statement<'t>(alloc: Global, tokens: &'t [Token<'t>]) -> Option<Parsed<'t, Stmt>>
     ensures { IsStatement (spots tokens.now) result }
 {
-    match tokens.split_first() {
-        None => unreachable!(),
-        Some((first, rest)) => match first.kind {
-            Kind::Name(name) => assignment(alloc, first.line, name, rest),
-            Kind::Word(Word::For) => for_loop(alloc, first.line, rest),
-            Kind::Word(Word::If) => choice(alloc, first.line, rest),
-            Kind::Word(Word::Par) => par(alloc, first.line, rest),
-            Kind::Word(Word::Team) => team(alloc, first.line, rest),
-            _ => unreachable!(),
-        },
+    let (first, rest) = tokens.split_first()?;
+    match first.kind {
+        Kind::Name(name) => Some(assignment(alloc, first.line, name, rest)),
+        Kind::Word(Word::For) => Some(for_loop(alloc, first.line, rest)),
+        Kind::Word(Word::If) => Some(choice(alloc, first.line, rest)),
+        Kind::Word(Word::Par) => Some(par(alloc, first.line, rest)),
+        Kind::Word(Word::Team) => Some(team(alloc, first.line, rest)),
+        _ => None,
     }
 }
 
@@ -222,8 +207,8 @@ pub fn statements<'t>(alloc: Global, tokens: &'t [Token<'t>]) -> Parsed<'t, Vec<
     ensures { IsStatements (spots tokens.now) result }
 {
     let (mut found, mut rest) = no_statements(alloc, tokens);
-    'each: while begins_statement(rest) {
-        let (next, after) = statement(alloc, rest)?;
+    'each: while let Some(read) = statement(alloc, rest) {
+        let (next, after) = read?;
         found.push(next)?;
         rest = after;
     }

@@ -2,7 +2,7 @@
 
 ghost use Rattle.std.specs.Prelude.{◌≡◌};
 ghost use Rattle.array_tokens.specs.Lexemes.{spots};
-ghost use Rattle.array_lang.specs.Reading.{IsRestAfter, IsRestAfterWord, IsName, IsNumber};
+ghost use Rattle.array_lang.specs.Parsing.FirstToken.{IsRestAfter, IsRestAfterWord, IsName, IsNumber};
 
 use array_tokens::{Kind, Sign, Token, Word};
 use std::alloc::{AllocError, AllocFailed};

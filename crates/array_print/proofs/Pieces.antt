@@ -11,7 +11,7 @@ use Rattle.array_tokens.specs.declared.token.Word.{Word}
 use Rattle.array_tokens.specs.declared.token.Sign.{Sign}
 use Rattle.array_tokens.specs.declared.token.Sign.TheVariants as signs
 use Rattle.array_tokens.proofs.Cutting.{digit_step}
-use Rattle.array_lang.specs.Grammar.{BoundOf, plain_bound, negative_bound}
+use Rattle.array_lang.specs.Grammar.{SpellsBound, plain_bound, negative_bound}
 use Rattle.array_print.specs.Writable.{AreNameBytes, IsName, IsBound}
 use Rattle.array_print.proofs.Cuts.{One, one, Nothing, nothing, Then, joined, AreAscii, NoName, Anything, CutsInto, cuts_both, cuts_as, cuts_one, cuts_space}
 
@@ -167,7 +167,7 @@ cuts_number n small =
 
 -- the bound of a loop
 abbrev Bound : ℤ → List Spot → List Spot → Type 0
-Bound v s t = BoundOf s t v
+Bound v s t = SpellsBound s t v
 
 bound_plain : (n : ℕ) (s t : List Spot) → One (number (pos n)) s t → Bound (pos n) s t
 bound_plain n s t one = plain_bound
@@ -175,6 +175,6 @@ bound_plain n s t one = plain_bound
 bound_negative : (n : ℕ) (s t : List Spot) → Then (One (sign signs.Minus)) (One (number (pos (suc n)))) s t → Bound (negsuc n) s t
 bound_negative n s t (joined one one) = negative_bound {k = suc n}
 
-pub cuts_bound : (v : ℤ) → IsBound v → CutsInto (signed_decimal v) (λ s t. BoundOf s t v) NoName
+pub cuts_bound : (v : ℤ) → IsBound v → CutsInto (signed_decimal v) (λ s t. SpellsBound s t v) NoName
 cuts_bound (pos n) h = cuts_as (cuts_number n h) (bound_plain n)
 cuts_bound (negsuc n) h = cuts_as (cuts_both cuts_minus (cuts_number (suc n) h) (λ rest s. tt)) (bound_negative n)

@@ -6,8 +6,8 @@ use Rattle.array_tokens.specs.declared.token.Sign.TheVariants as signs
 use Rattle.array_tree.specs.Trees.{Expression, Number, Var, Read, Neg, Binary}
 use Rattle.array_tree.specs.declared.tree.Op.{Op}
 use Rattle.array_tree.specs.declared.tree.Op.TheVariants as ops
-use Rattle.array_lang.specs.Grammar.{spot, operator_of, ExpressionOf, lone_sum, compared, SumOf, lone_term, added, TermOf, lone_factor, multiplied, FactorOf, negated, numbered, named, indexed, grouped}
-use Rattle.array_lang.specs.Nesting.{expression_marks, sum_marks, term_marks, factor_marks}
+use Rattle.array_lang.specs.Grammar.{spot, operator_of, SpellsExpression, lone_sum, compared, SpellsSum, lone_term, added, SpellsTerm, lone_factor, multiplied, SpellsFactor, negated, numbered, named, indexed, grouped}
+use Rattle.array_lang.proofs.Marks.{mark_count, operator_counts}
 use Rattle.array_lang.specs.declared.operator.Strength.TheVariants.{Comparison as comparison, Addition as addition, Product as product}
 use Rattle.array_print.specs.Texts.{op_strength, strength_of, groups_left, groups_right, groups_negated, grouped_text, op_text, expression_text}
 use Rattle.array_print.proofs.Cuts.{One, one, Then, joined, NoName, Anything, CutsInto, cuts_both, cuts_as, weaker}
@@ -16,35 +16,35 @@ use Rattle.array_print.proofs.Pieces.{cuts_name, cuts_number, cuts_open_index, c
 
 -- The tokens spell the expression with at most m marks.
 pub record IsExpression (x : Expression) (m : ℕ) (s t : List Spot) : Type 0 where
-  pub d : ExpressionOf s t x
-  pub few : expression_marks d ≤ m
+  pub d : SpellsExpression s t x
+  pub few : mark_count s ≤ mark_count t + m
 
 -- The same at the strength k: what an operand of that strength may be.
 data Level (x : Expression) (m k : ℕ) : List Spot → List Spot → Type 0 where
-  as_factor : {s t : List Spot} → (d : FactorOf s t x) → factor_marks d ≤ m → Level x m k s t
-  as_term : {s t : List Spot} → k ≤ 3 → (d : TermOf s t x) → term_marks d ≤ m → Level x m k s t
-  as_sum : {s t : List Spot} → k ≤ 2 → (d : SumOf s t x) → sum_marks d ≤ m → Level x m k s t
-  as_expr : {s t : List Spot} → k ≤ 1 → (d : ExpressionOf s t x) → expression_marks d ≤ m → Level x m k s t
+  as_factor : {s t : List Spot} → (d : SpellsFactor s t x) → mark_count s ≤ mark_count t + m → Level x m k s t
+  as_term : {s t : List Spot} → k ≤ 3 → (d : SpellsTerm s t x) → mark_count s ≤ mark_count t + m → Level x m k s t
+  as_sum : {s t : List Spot} → k ≤ 2 → (d : SpellsSum s t x) → mark_count s ≤ mark_count t + m → Level x m k s t
+  as_expr : {s t : List Spot} → k ≤ 1 → (d : SpellsExpression s t x) → mark_count s ≤ mark_count t + m → Level x m k s t
 
-to_expr : {x : Expression} {m k : ℕ} {s t : List Spot} → Level x m k s t → (d : ExpressionOf s t x) × (expression_marks d ≤ m)
+to_expr : {x : Expression} {m k : ℕ} {s t : List Spot} → Level x m k s t → (d : SpellsExpression s t x) × (mark_count s ≤ mark_count t + m)
 to_expr (as_factor d f) = (lone_sum (lone_term (lone_factor d)), f)
 to_expr (as_term h d f) = (lone_sum (lone_term d), f)
 to_expr (as_sum h d f) = (lone_sum d, f)
 to_expr (as_expr h d f) = (d, f)
 
-to_sum : {x : Expression} {m k : ℕ} {s t : List Spot} → 2 ≤ k → Level x m k s t → (d : SumOf s t x) × (sum_marks d ≤ m)
+to_sum : {x : Expression} {m k : ℕ} {s t : List Spot} → 2 ≤ k → Level x m k s t → (d : SpellsSum s t x) × (mark_count s ≤ mark_count t + m)
 to_sum b (as_factor d f) = (lone_term (lone_factor d), f)
 to_sum b (as_term h d f) = (lone_term d, f)
 to_sum b (as_sum h d f) = (d, f)
 to_sum b (as_expr h d f) = absurd (omega arith)
 
-to_term : {x : Expression} {m k : ℕ} {s t : List Spot} → 3 ≤ k → Level x m k s t → (d : TermOf s t x) × (term_marks d ≤ m)
+to_term : {x : Expression} {m k : ℕ} {s t : List Spot} → 3 ≤ k → Level x m k s t → (d : SpellsTerm s t x) × (mark_count s ≤ mark_count t + m)
 to_term b (as_factor d f) = (lone_factor d, f)
 to_term b (as_term h d f) = (d, f)
 to_term b (as_sum h d f) = absurd (omega arith)
 to_term b (as_expr h d f) = absurd (omega arith)
 
-to_factor : {x : Expression} {m k : ℕ} {s t : List Spot} → 4 ≤ k → Level x m k s t → (d : FactorOf s t x) × (factor_marks d ≤ m)
+to_factor : {x : Expression} {m k : ℕ} {s t : List Spot} → 4 ≤ k → Level x m k s t → (d : SpellsFactor s t x) × (mark_count s ≤ mark_count t + m)
 to_factor b (as_factor d f) = (d, f)
 to_factor b (as_term h d f) = absurd (omega arith)
 to_factor b (as_sum h d f) = absurd (omega arith)
@@ -164,16 +164,16 @@ op_no_name ops.GreaterEq rest = refl
 op_no_name ops.NotEqual rest = refl
 
 compared_level : {s u t : List Spot} {op : Op} {x y : Expression} {l : Lexeme} {a n : ℕ} (i j : ℕ) → operator_of l ≡ Some (comparison, op) → AtLeast x i 2 s (spot l a n ∷ u) → AtLeast y j 2 u t → Level (Binary op x y) (i + 1 + j) 1 s t
-compared_level i j e p q =
-    let d = to_sum p.bound p.level in let f = to_sum q.bound q.level in as_expr (omega arith) (compared d.0 e f.0) (omega (arith, d.1, f.1))
+compared_level {u} {op} {l} i j e p q =
+    let d = to_sum p.bound p.level in let f = to_sum q.bound q.level in as_expr (omega arith) (compared d.0 e f.0) (omega (arith, d.1, f.1, operator_counts l (comparison, op) (mark_count u) e))
 
 added_level : {s u t : List Spot} {op : Op} {x y : Expression} {l : Lexeme} {a n : ℕ} (i j : ℕ) → operator_of l ≡ Some (addition, op) → AtLeast x i 2 s (spot l a n ∷ u) → AtLeast y j 3 u t → Level (Binary op x y) (i + 1 + j) 2 s t
-added_level i j e p q =
-    let d = to_sum p.bound p.level in let f = to_term q.bound q.level in as_sum (omega arith) (added d.0 e f.0) (omega (arith, d.1, f.1))
+added_level {u} {op} {l} i j e p q =
+    let d = to_sum p.bound p.level in let f = to_term q.bound q.level in as_sum (omega arith) (added d.0 e f.0) (omega (arith, d.1, f.1, operator_counts l (addition, op) (mark_count u) e))
 
 multiplied_level : {s u t : List Spot} {op : Op} {x y : Expression} {l : Lexeme} {a n : ℕ} (i j : ℕ) → operator_of l ≡ Some (product, op) → AtLeast x i 3 s (spot l a n ∷ u) → AtLeast y j 4 u t → Level (Binary op x y) (i + 1 + j) 3 s t
-multiplied_level i j e p q =
-    let d = to_term p.bound p.level in let f = to_factor q.bound q.level in as_term (omega arith) (multiplied d.0 e f.0) (omega (arith, d.1, f.1))
+multiplied_level {u} {op} {l} i j e p q =
+    let d = to_term p.bound p.level in let f = to_factor q.bound q.level in as_term (omega arith) (multiplied d.0 e f.0) (omega (arith, d.1, f.1, operator_counts l (product, op) (mark_count u) e))
 
 binary_level : {s t : List Spot} (op : Op) (x y : Expression) (i j : ℕ) → Then (Then (AtLeast x i (left_bound op)) (One (op_lexeme op))) (AtLeast y j (op_strength op + 1)) s t → Level (Binary op x y) (i + 1 + j) (op_strength op) s t
 binary_level ops.Less x y i j (joined (joined p one) q) = compared_level i j refl p q

@@ -1,12 +1,13 @@
 -- The printed text of a program that some text spells spells it up to line numbers.
-use Rattle.std.proofs.Common.{◌≡◌, ℕ, List, [], ◌∷◌, map, true, refl, ap, ◌∙◌}
+use Rattle.std.proofs.Common.{◌≡◌, ℕ, List, [], ◌∷◌, ◌++◌, None, map, refl, ap, ◌∙◌}
 use Rattle.std.specs.Prelude.{codes, flat_map}
 use Rattle.array_tokens.specs.Lexemes.{name, number, word, sign, Spot}
 use Rattle.array_tokens.specs.declared.token.Word.TheVariants as words
 use Rattle.array_tokens.specs.declared.token.Sign.TheVariants as signs
 use Rattle.array_tree.specs.Trees.{Sequence, Declaration, ProgramTree}
-use Rattle.array_lang.specs.Grammar.{DeclarationOf, declaration, DeclarationsOf, no_declaration, next_declaration, SpellsProgram}
-use Rattle.array_lang.specs.Nesting.{program_fits}
+use Rattle.array_lang.specs.Grammar.{SpellsDeclaration, declaration, SpellsDeclarations, no_declaration, next_declaration, SpellsProgram}
+use Rattle.array_lang.specs.Nesting.{declarations_beyond, sequence_beyond, first_beyond}
+use Rattle.array_lang.proofs.Marks.{no_true-append, no_true-both, none_true, true_none, declarations_clear}
 use Rattle.array_lang.specs.Spelled.{Spells}
 use Rattle.array_print.specs.Texts.{declaration_text, printed}
 use Rattle.array_print.specs.Spellings.{lineless_sequence, lineless_declaration, lineless, SpellsButLines}
@@ -19,12 +20,12 @@ use Rattle.array_print.proofs.SpelledTrees.{sequence_stands}
 
 record IsDeclaration (array : Declaration) (s t : List Spot) : Type 0 where
   tree : Declaration
-  d : DeclarationOf s t tree
+  d : SpellsDeclaration s t tree
   same : lineless_declaration tree ≡ lineless_declaration array
 
 record AreDeclarations (arrays : List Declaration) (s t : List Spot) : Type 0 where
   trees : List Declaration
-  d : DeclarationsOf s t trees
+  d : SpellsDeclarations s t trees
   same : map lineless_declaration trees ≡ map lineless_declaration arrays
 
 cuts_array : CutsInto (codes "array ") (One (word words.Array)) Anything
@@ -60,7 +61,7 @@ declarations_cut : (arrays : List Declaration) → AreDeclarable arrays → Cuts
 declarations_cut [] h = cuts_as cuts_none (λ s t d. no_declarations d)
 declarations_cut (d ∷ ds) h = cuts_as (cuts_both (declaration_cuts d h.0 h.1) (declarations_cut ds h.2) (λ rest s. tt)) (λ s t e. more_declarations e)
 
-declarations_good : {s t : List Spot} {ds : List Declaration} → DeclarationsOf s t ds → AreGood s → AreDeclarable ds × AreGood t
+declarations_good : {s t : List Spot} {ds : List Declaration} → SpellsDeclarations s t ds → AreGood s → AreDeclarable ds × AreGood t
 declarations_good no_declaration h = (tt, h)
 declarations_good (next_declaration declaration e) h =
     let p = declarations_good e h.1.1.1.1.1.1 in ((h.1.0, h.1.1.1.0, p.0), p.1)
@@ -70,7 +71,7 @@ record IsProgram (p : ProgramTree) (tokens : List Spot) : Type 0 where
   tree : ProgramTree
   d : SpellsProgram tokens tree
   same : lineless tree ≡ lineless p
-  fits : program_fits d ≡ true
+  fits : first_beyond d ≡ None
 
 abbrev program : List Declaration → Sequence → ProgramTree
 program arrays body = record { arrays = arrays; body = body }
@@ -81,7 +82,7 @@ program_is p (joined {t = body} ds q) =
       tree = program ds.trees q.tree;
       d = record { body = body; declares = ds.d; does = q.d };
       same = ap (λ l. program l (lineless_sequence q.tree)) ds.same ∙ ap (program (map lineless_declaration p.arrays)) q.same;
-      fits = q.fits;
+      fits = true_none (declarations_beyond ds.d ++ sequence_beyond 0 q.d) (no_true-both (declarations_beyond ds.d) (sequence_beyond 0 q.d) (declarations_clear ds.d) q.fits);
     }
 
 program_cuts : (p : ProgramTree) → AreDeclarable p.arrays → CanFollow 0 p.body → CutsInto (printed p) (Then (AreDeclarations p.arrays) (IsSequence 0 p.body)) Anything
@@ -100,7 +101,8 @@ writable_spells p h = whole_spells (printed p) p (cuts_whole (program_cuts p h.d
 pub spelled_writable : (text : List ℕ) (p : ProgramTree) → Spells text p → IsWritable p
 spelled_writable text p h =
     let declares = declarations_good h.tree.declares (tokens_good text h.tokens h.cut) in
-    let does = sequence_stands h.tree.does 0 declares.1 h.fits in
+    let clear = no_true-append (declarations_beyond h.tree.declares) (sequence_beyond 0 h.tree.does) (none_true (declarations_beyond h.tree.declares ++ sequence_beyond 0 h.tree.does) h.fits) in
+    let does = sequence_stands h.tree.does 0 declares.1 clear.1 in
     record { declares = declares.0; does = does.0 }
 
 -- where some text spells the program, the printed text does too, up to line numbers

@@ -1,5 +1,5 @@
 -- What is printed of statements spells them up to line numbers, within the bounds on nesting.
-use Rattle.std.proofs.Common.{◌≡◌, ℕ, ℤ, pos, ◌+◌, ◌<◌, ◌≤◌, List, [], ◌∷◌, ◌++◌, Bool, true, false, ◌&&◌, nat_lt, nat_le, refl, ap, ◌∙◌, arith}
+use Rattle.std.proofs.Common.{◌≡◌, ℕ, ℤ, pos, ◌+◌, ◌<◌, List, [], ◌∷◌, ◌++◌, Bool, true, false, not, ◌&&◌, nat_le, refl, ap, ◌∙◌, arith}
 use Rattle.std.specs.Prelude.{codes, negsuc}
 use Rattle.std.specs.Fmt.{signed_decimal}
 use Rattle.std.proofs.lemmas.Bool.Decides.{nat_tests}
@@ -7,8 +7,9 @@ use Rattle.array_tokens.specs.Lexemes.{name, number, word, sign, Spot}
 use Rattle.array_tokens.specs.declared.token.Word.TheVariants as words
 use Rattle.array_tokens.specs.declared.token.Sign.TheVariants as signs
 use Rattle.array_tree.specs.Trees.{Expression, Statement, Assign, For, If, Par, Team, Sequence, ended, followed, Sequences, no_more, beside}
-use Rattle.array_lang.specs.Grammar.{spot, BoundOf, RangeOf, range, StatementOf, assigned, looped, chosen, chosen_else, parallel, teamed, BranchesOf, last_branch, next_branch, PhasesOf, last_phase, next_phase, BlockOf, block, SequenceOf, no_statement, next_statement}
-use Rattle.array_lang.specs.Nesting.{expression_marks, expression_fits, statement_fits, branches_fit, phases_fit, block_fits, sequence_fits}
+use Rattle.array_lang.specs.Grammar.{spot, SpellsBound, SpellsRange, range, SpellsStatement, assigned, looped, chosen, chosen_else, parallel, teamed, SpellsBranches, last_branch, next_branch, SpellsPhases, last_phase, next_phase, SpellsBlock, block, SpellsSequence, no_statement, next_statement}
+use Rattle.array_lang.specs.Nesting.{expression_beyond, range_beyond, statement_beyond, branches_beyond, phases_beyond, block_beyond, sequence_beyond}
+use Rattle.array_lang.proofs.Marks.{no_true, no_true-both, range_clear, few_clear}
 use Rattle.array_print.specs.Texts.{target_text, range_text, dealt_text, wider, block_text, else_text, branch_text, statement_text, sequence_text, branches_text, phases_text}
 use Rattle.array_print.specs.Spellings.{lineless_statement, lineless_sequence, lineless_sequences}
 use Rattle.array_print.proofs.Cuts.{One, one, Nothing, nothing, Then, joined, NoName, Anything, CutsInto, cuts_both, cuts_as, cuts_none, cuts_space, cuts_newline}
@@ -19,33 +20,33 @@ use Rattle.array_print.proofs.PrintedExpressions.{IsExpression, expression_cuts}
 -- The tokens spell the statement up to line numbers, within the bounds, inside this many open braces.
 pub record IsStatement (depth : ℕ) (c : Statement) (s t : List Spot) : Type 0 where
   pub tree : Statement
-  pub d : StatementOf s t tree
+  pub d : SpellsStatement s t tree
   pub same : lineless_statement tree ≡ lineless_statement c
-  pub fits : statement_fits depth d ≡ true
+  pub fits : no_true (statement_beyond depth d) ≡ true
 
 pub record IsSequence (depth : ℕ) (p : Sequence) (s t : List Spot) : Type 0 where
   pub tree : Sequence
-  pub d : SequenceOf s t tree
+  pub d : SpellsSequence s t tree
   pub same : lineless_sequence tree ≡ lineless_sequence p
-  pub fits : sequence_fits depth d ≡ true
+  pub fits : no_true (sequence_beyond depth d) ≡ true
 
 record IsBlock (depth : ℕ) (p : Sequence) (s t : List Spot) : Type 0 where
   tree : Sequence
-  d : BlockOf s t tree
+  d : SpellsBlock s t tree
   same : lineless_sequence tree ≡ lineless_sequence p
-  fits : block_fits depth d ≡ true
+  fits : no_true (block_beyond depth d) ≡ true
 
 record IsPhases (depth : ℕ) (ps : Sequences) (s t : List Spot) : Type 0 where
   trees : Sequences
-  d : PhasesOf s t trees
+  d : SpellsPhases s t trees
   same : lineless_sequences trees ≡ lineless_sequences ps
-  fits : phases_fit depth d ≡ true
+  fits : no_true (phases_beyond depth d) ≡ true
 
 record IsBranches (depth : ℕ) (ps : Sequences) (s t : List Spot) : Type 0 where
   trees : Sequences
-  d : BranchesOf s t trees
+  d : SpellsBranches s t trees
   same : lineless_sequences trees ≡ lineless_sequences ps
-  fits : branches_fit depth d ≡ true
+  fits : no_true (branches_beyond depth d) ≡ true
 
 -- blocks beside one another, and blocks behind barriers
 data Beside (depth : ℕ) : Sequences → List Spot → List Spot → Type 0 where
@@ -59,33 +60,30 @@ data Later (depth : ℕ) : Sequences → List Spot → List Spot → Type 0 wher
 and_true : {a b : Bool} → a ≡ true → b ≡ true → (a && b) ≡ true
 and_true p q = rw p q
 
-fits_by : (m n : ℕ) → m ≤ n → n ≤ 64 → nat_le m 64 ≡ true
-fits_by m n h k = grind (arith, nat_tests)
-
-below : (depth : ℕ) → depth < 32 → nat_lt depth 32 ≡ true
+below : (depth : ℕ) → depth < 32 → not (nat_le 32 depth) ≡ true
 below depth h = grind (arith, nat_tests)
 
 -- branches up to the brace behind them
 branches_of : {depth : ℕ} {s t : List Spot} {a n : ℕ} (p : Sequence) (ps : Sequences) {u : List Spot} → IsBlock depth p s u → Beside depth ps u (spot (sign signs.CloseBlock) a n ∷ t) → IsBranches depth (beside p ps) s t
-branches_of p no_more b none_beside = record { trees = beside b.tree no_more; d = last_branch b.d; same = ap (λ q. beside q no_more) b.same; fits = b.fits }
-branches_of p (beside q qs) b (one_beside c rest) =
+branches_of {depth} p no_more b none_beside = record { trees = beside b.tree no_more; d = last_branch b.d; same = ap (λ q. beside q no_more) b.same; fits = no_true-both (block_beyond depth b.d) (false ∷ []) b.fits refl }
+branches_of {depth} p (beside q qs) b (one_beside c rest) =
     let r = branches_of q qs c rest in
     record {
       trees = beside b.tree r.trees;
       d = next_branch b.d r.d;
       same = ap (λ x. beside x (lineless_sequences r.trees)) b.same ∙ ap (beside (lineless_sequence p)) r.same;
-      fits = and_true b.fits r.fits;
+      fits = no_true-both (block_beyond depth b.d) (branches_beyond depth r.d) b.fits r.fits;
     }
 
 phases_of : {depth : ℕ} {s u t : List Spot} (p : Sequence) (ps : Sequences) → IsBlock depth p s u → Later depth ps u t → IsPhases depth (beside p ps) s t
 phases_of p no_more b none_later = record { trees = beside b.tree no_more; d = last_phase b.d; same = ap (λ q. beside q no_more) b.same; fits = b.fits }
-phases_of p (beside q qs) b (one_later c rest) =
+phases_of {depth} p (beside q qs) b (one_later c rest) =
     let r = phases_of q qs c rest in
     record {
       trees = beside b.tree r.trees;
       d = next_phase b.d r.d;
       same = ap (λ x. beside x (lineless_sequences r.trees)) b.same ∙ ap (beside (lineless_sequence p)) r.same;
-      fits = and_true b.fits r.fits;
+      fits = no_true-both (block_beyond depth b.d) (false ∷ phases_beyond depth r.d) b.fits r.fits;
     }
 
 -- the words, each with the space behind it
@@ -130,10 +128,10 @@ cuts_target_end : CutsInto (codes "] = ") (Then (One (sign signs.CloseIndex)) (O
 cuts_target_end = cuts_both cuts_close_index (cuts_spaced 61 [] signs.Assign (refl, tt) (λ rest. refl)) (λ rest h. tt)
 
 -- a loop variable with its bounds
-range_is : {b : List ℕ} {low high : ℤ} {s t : List Spot} → Then (Then (Then (Then (One (name b)) (One (word words.In))) (λ s t. BoundOf s t low)) (One (sign signs.Range))) (λ s t. BoundOf s t high) s t → RangeOf s t b low high
+range_is : {b : List ℕ} {low high : ℤ} {s t : List Spot} → Then (Then (Then (Then (One (name b)) (One (word words.In))) (λ s t. SpellsBound s t low)) (One (sign signs.Range))) (λ s t. SpellsBound s t high) s t → SpellsRange s t b low high
 range_is (joined (joined (joined (joined one one) low) one) high) = range low high
 
-range_cuts : (b : List ℕ) (low high : ℤ) → IsName b → IsBound low → IsBound high → CutsInto (range_text b low high) (λ s t. RangeOf s t b low high) NoName
+range_cuts : (b : List ℕ) (low high : ℤ) → IsName b → IsBound low → IsBound high → CutsInto (range_text b low high) (λ s t. SpellsRange s t b low high) NoName
 range_cuts b low high n l h =
     cuts_as
     (cuts_both (cuts_both (cuts_both (cuts_both (cuts_name b n) cuts_in (λ rest s. refl)) (cuts_bound low l) (λ rest s. tt)) cuts_range (λ rest s. refl)) (cuts_bound high h) (λ rest s. tt))
@@ -147,7 +145,7 @@ wider_margin m =
     cuts_as (cuts_both m (cuts_as (cuts_both cuts_space cuts_space (λ rest h. tt)) (λ s t d. drop_nothing d)) (λ rest h. tt)) (λ s t d. drop_nothing d)
 
 block_is : {depth : ℕ} {p : Sequence} {s t : List Spot} → depth < 32 → Then (Then (Then (One (sign signs.OpenBlock)) (IsSequence (depth + 1) p)) Nothing) (One (sign signs.CloseBlock)) s t → IsBlock depth p s t
-block_is {depth} h (joined (joined (joined one q) nothing) one) = record { tree = q.tree; d = block q.d; same = q.same; fits = and_true (below depth h) q.fits }
+block_is {depth} h (joined (joined (joined one q) nothing) one) = record { tree = q.tree; d = block q.d; same = q.same; fits = and_true (below depth h) (no_true-both (sequence_beyond (depth + 1) q.d) (false ∷ []) q.fits refl) }
 
 block_cuts : (depth : ℕ) (margin : List ℕ) (p : Sequence) → IsMargin margin → depth < 32 → CutsInto (sequence_text (wider margin) p) (IsSequence (depth + 1) p) Anything → CutsInto (block_text margin (sequence_text (wider margin) p)) (IsBlock depth p) Anything
 block_cuts depth margin p m h f =
@@ -155,7 +153,7 @@ block_cuts depth margin p m h f =
 
 -- a branch, whose brace stands in the margin
 branch_is : {depth : ℕ} {p : Sequence} {s t : List Spot} → depth < 32 → Then (Then (Then (Then Nothing (One (sign signs.OpenBlock))) (IsSequence (depth + 1) p)) Nothing) (One (sign signs.CloseBlock)) s t → IsBlock depth p s t
-branch_is {depth} h (joined (joined (joined (joined nothing one) q) nothing) one) = record { tree = q.tree; d = block q.d; same = q.same; fits = and_true (below depth h) q.fits }
+branch_is {depth} h (joined (joined (joined (joined nothing one) q) nothing) one) = record { tree = q.tree; d = block q.d; same = q.same; fits = and_true (below depth h) (no_true-both (sequence_beyond (depth + 1) q.d) (false ∷ []) q.fits refl) }
 
 branch_line : CutsInto (codes "{\n") (One (sign signs.OpenBlock)) Anything
 branch_line = cuts_before cuts_newline (λ rest. tt) cuts_open_block
@@ -182,8 +180,8 @@ else_cuts depth margin inside ended f = cuts_as cuts_none (λ s t d. no_else_is 
 else_cuts depth margin inside (followed c p) f = cuts_as (cuts_both cuts_else f (λ rest h. refl)) (λ s t d. some_else_is d)
 
 -- the marks of an outermost expression are few
-whole_fits : {x : Expression} {s t : List Spot} (e : IsExpression x (marks_of x) s t) → IsWhole x → expression_fits e.d ≡ true
-whole_fits {x} e w = fits_by (expression_marks e.d) (marks_of x) e.few w.1
+whole_fits : {x : Expression} {s t : List Spot} (e : IsExpression x (marks_of x) s t) → IsWhole x → no_true (expression_beyond e.d) ≡ true
+whole_fits e w = few_clear e.d (omega (arith, e.few, w.1))
 
 -- the target of an assignment, up to its sign
 abbrev Target : List ℕ → Expression → List Spot → List Spot → Type 0
@@ -195,25 +193,25 @@ target_cuts b x n h = cuts_both (cuts_both (cuts_both (cuts_name b n) cuts_open_
 assigned_is : {depth line : ℕ} {b : List ℕ} {x y : Expression} {s t : List Spot} → IsWhole x → IsWhole y →
     Then (Then (Then Nothing (Target b x)) (IsExpression y (marks_of y))) (One (sign signs.Semicolon)) s t → IsStatement depth (Assign line b x y) s t
 assigned_is {b} {x} {y} h k (joined (joined (joined nothing (joined (joined (joined (one {n = n}) one) e) (joined one one))) f) one) =
-    record { tree = Assign n b x y; d = assigned e.d f.d; same = refl; fits = and_true (whole_fits e h) (whole_fits f k) }
+    record { tree = Assign n b x y; d = assigned e.d f.d; same = refl; fits = no_true-both (expression_beyond e.d) (false ∷ false ∷ (expression_beyond f.d ++ false ∷ [])) (whole_fits e h) (no_true-both (expression_beyond f.d) (false ∷ []) (whole_fits f k) refl) }
 
 looped_is : {depth line : ℕ} {b : List ℕ} {low high : ℤ} {p : Sequence} {s t : List Spot} →
-    Then (Then (Then (Then Nothing (One (word words.For))) (λ s t. RangeOf s t b low high)) (IsBlock depth p)) Nothing s t →
+    Then (Then (Then (Then Nothing (One (word words.For))) (λ s t. SpellsRange s t b low high)) (IsBlock depth p)) Nothing s t →
     IsStatement depth (For line b low high p) s t
-looped_is {b} {low} {high} (joined (joined (joined (joined nothing (one {n = n})) r) q) nothing) =
-    record { tree = For n b low high q.tree; d = looped r q.d; same = ap (For 0 b low high) q.same; fits = q.fits }
+looped_is {depth} {b} {low} {high} (joined (joined (joined (joined nothing (one {n = n})) r) q) nothing) =
+    record { tree = For n b low high q.tree; d = looped r q.d; same = ap (For 0 b low high) q.same; fits = no_true-both (range_beyond r) (block_beyond depth q.d) (range_clear r) q.fits }
 
 chosen_is : {depth line : ℕ} {x : Expression} {p q : Sequence} {s t : List Spot} → IsWhole x →
     Then (Then (Then (Then (Then Nothing (One (word words.If))) (IsExpression x (marks_of x))) (IsBlock depth p)) (IsElse depth q)) Nothing s t →
     IsStatement depth (If line x p q) s t
-chosen_is {x} h (joined (joined (joined (joined (joined nothing (one {n = n})) e) b) no_else) nothing) =
-    record { tree = If n x b.tree ended; d = chosen e.d b.d; same = ap (λ z. If 0 x z ended) b.same; fits = and_true (whole_fits e h) b.fits }
-chosen_is {x} {p} h (joined (joined (joined (joined (joined nothing (one {n = n})) e) b) (some_else c)) nothing) =
+chosen_is {depth} {x} h (joined (joined (joined (joined (joined nothing (one {n = n})) e) b) no_else) nothing) =
+    record { tree = If n x b.tree ended; d = chosen e.d b.d; same = ap (λ z. If 0 x z ended) b.same; fits = no_true-both (expression_beyond e.d) (block_beyond depth b.d) (whole_fits e h) b.fits }
+chosen_is {depth} {x} {p} h (joined (joined (joined (joined (joined nothing (one {n = n})) e) b) (some_else c)) nothing) =
     record {
       tree = If n x b.tree c.tree;
       d = chosen_else e.d b.d c.d;
       same = ap (λ z. If 0 x z (lineless_sequence c.tree)) b.same ∙ ap (If 0 x (lineless_sequence p)) c.same;
-      fits = and_true (whole_fits e h) (and_true b.fits c.fits);
+      fits = no_true-both (expression_beyond e.d) (block_beyond depth b.d ++ false ∷ block_beyond depth c.d) (whole_fits e h) (no_true-both (block_beyond depth b.d) (false ∷ block_beyond depth c.d) b.fits c.fits);
     }
 
 parallel_is : {depth line : ℕ} {s t : List Spot} (ps : Sequences) → IsSome ps → depth < 32 →
@@ -225,16 +223,16 @@ parallel_is {depth} (beside p ps) some h (joined (joined (joined (joined nothing
     record { tree = Par n r.trees; d = parallel r.d; same = ap (Par 0) r.same; fits = and_true (below depth h) r.fits }
 
 teamed_is : {depth line : ℕ} {b : List ℕ} {low high members : ℤ} {ps : Sequences} {s t : List Spot} →
-    Then (Then (Then (Then Nothing (One (word words.Team))) (Then (Then (λ s t. RangeOf s t b low high) (One (word words.By))) (One (number members)))) (IsPhases depth ps)) Nothing s t →
+    Then (Then (Then (Then Nothing (One (word words.Team))) (Then (Then (λ s t. SpellsRange s t b low high) (One (word words.By))) (One (number members)))) (IsPhases depth ps)) Nothing s t →
     IsStatement depth (Team line b low high members ps) s t
-teamed_is {b} {low} {high} {members} (joined (joined (joined (joined nothing (one {n = n})) (joined (joined r one) one)) q) nothing) =
-    record { tree = Team n b low high members q.trees; d = teamed r q.d; same = ap (Team 0 b low high members) q.same; fits = q.fits }
+teamed_is {depth} {b} {low} {high} {members} (joined (joined (joined (joined nothing (one {n = n})) (joined (joined r one) one)) q) nothing) =
+    record { tree = Team n b low high members q.trees; d = teamed r q.d; same = ap (Team 0 b low high members) q.same; fits = no_true-both (range_beyond r) (false ∷ false ∷ phases_beyond depth q.d) (range_clear r) q.fits }
 
 pub member_cuts : (v : ℤ) → IsNumber v → CutsInto (signed_decimal v) (One (number v)) NoName
 member_cuts (pos n) h = cuts_number n h
 member_cuts (negsuc n) h = absurd h
 
-dealt_cuts : (b : List ℕ) (low high members : ℤ) → IsName b → IsBound low → IsBound high → IsNumber members → CutsInto (dealt_text b low high members) (Then (Then (λ s t. RangeOf s t b low high) (One (word words.By))) (One (number members))) NoName
+dealt_cuts : (b : List ℕ) (low high members : ℤ) → IsName b → IsBound low → IsBound high → IsNumber members → CutsInto (dealt_text b low high members) (Then (Then (λ s t. SpellsRange s t b low high) (One (word words.By))) (One (number members))) NoName
 dealt_cuts b low high members n l h k = cuts_both (cuts_both (range_cuts b low high n l h) cuts_by (λ rest s. refl)) (member_cuts members k) (λ rest s. tt)
 
 phases_no_name : (ps : Sequences) (margin rest : List ℕ) → IsSome ps → NoName (phases_text false margin ps ++ rest)
@@ -245,12 +243,12 @@ no_statements : {depth : ℕ} {s t : List Spot} → Nothing s t → IsSequence d
 no_statements nothing = record { tree = ended; d = no_statement; same = refl; fits = refl }
 
 more_statements : {depth : ℕ} {c : Statement} {p : Sequence} {s t : List Spot} → Then (IsStatement depth c) (IsSequence depth p) s t → IsSequence depth (followed c p) s t
-more_statements {c} (joined b q) =
+more_statements {depth} {c} (joined b q) =
     record {
       tree = followed b.tree q.tree;
       d = next_statement b.d q.d;
       same = ap (λ x. followed x (lineless_sequence q.tree)) b.same ∙ ap (followed (lineless_statement c)) q.same;
-      fits = and_true b.fits q.fits;
+      fits = no_true-both (statement_beyond depth b.d) (sequence_beyond depth q.d) b.fits q.fits;
     }
 
 no_branches : {depth : ℕ} {s t : List Spot} → Nothing s t → Beside depth no_more s t

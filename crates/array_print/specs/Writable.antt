@@ -2,6 +2,7 @@
 use Rattle.std.specs.Prelude.{◌≡◌, ◌≤◌, ◌<◌, ◌+◌, ℕ, suc, ℤ, pos, negsuc, Bool, true, false, None, List, [], ◌∷◌}
 use Rattle.array_tokens.specs.Lexemes.{is_letter, is_name_byte, word_of}
 use Rattle.array_tree.specs.Trees.{Expression, Number, Var, Read, Neg, Binary, Statement, Assign, For, If, Par, Team, Sequence, ended, followed, Sequences, no_more, beside, Declaration, ProgramTree}
+use Rattle.array_lang.specs.Nesting.{most_marks, most_open}
 use Rattle.array_print.specs.Texts.{groups_left, groups_right, groups_negated}
 
 abbrev pub AreNameBytes : List ℕ → Type 0
@@ -46,7 +47,7 @@ IsPrintable (Binary op x y) = IsPrintable x × IsPrintable y
 
 -- an outermost expression that texts spell within the bound on marks
 abbrev pub IsWhole : Expression → Type 0
-IsWhole x = IsPrintable x × (marks_of x ≤ 64)
+IsWhole x = IsPrintable x × (marks_of x ≤ most_marks)
 
 abbrev pub IsSome : Sequences → Type 0
 IsSome no_more = ⊥
@@ -56,9 +57,9 @@ IsSome (beside p rest) = Unit {0}
 abbrev mutual
   pub CanStand : ℕ → Statement → Type 0
   CanStand depth (Assign line array index value) = IsName array × IsWhole index × IsWhole value
-  CanStand depth (For line var low high body) = IsName var × IsBound low × IsBound high × (depth < 32) × CanFollow (depth + 1) body
-  CanStand depth (If line cond left right) = IsWhole cond × (depth < 32) × CanFollow (depth + 1) left × CanFollow (depth + 1) right
-  CanStand depth (Par line branches) = (depth < 32) × IsSome branches × CanBranch (depth + 1) branches
+  CanStand depth (For line var low high body) = IsName var × IsBound low × IsBound high × (depth < most_open) × CanFollow (depth + 1) body
+  CanStand depth (If line cond left right) = IsWhole cond × (depth < most_open) × CanFollow (depth + 1) left × CanFollow (depth + 1) right
+  CanStand depth (Par line branches) = (depth < most_open) × IsSome branches × CanBranch (depth + 1) branches
   CanStand depth (Team line var low high members phases) =
       IsName var × IsBound low × IsBound high × IsNumber members × IsSome phases × CanBranch depth phases
 
@@ -68,7 +69,7 @@ abbrev mutual
 
   pub CanBranch : ℕ → Sequences → Type 0
   CanBranch depth no_more = Unit {0}
-  CanBranch depth (beside first rest) = (depth < 32) × CanFollow (depth + 1) first × CanBranch depth rest
+  CanBranch depth (beside first rest) = (depth < most_open) × CanFollow (depth + 1) first × CanBranch depth rest
 
 -- declarations that texts spell
 abbrev pub AreDeclarable : List Declaration → Type 0

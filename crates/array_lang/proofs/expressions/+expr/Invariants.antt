@@ -1,7 +1,7 @@
 use Rattle.std.proofs.Common.{◌+◌, ◌*◌, length}
 use Rattle.array_tokens.specs.Lexemes.{spots}
 use Rattle.array_tree.specs.Trees.{expression_of}
-use Rattle.array_lang.specs.Reading.{TermRun, SumRun}
+use Rattle.array_lang.specs.Parsing.Reading.{TakesTerm, TakesSum}
 use Rattle.array_lang.proofs.expressions.+expr.Given as goal
 
 abbrev pub decreases-expr : goal.decreases-expr
@@ -16,19 +16,19 @@ decreases-term l = 4 * length (spots l.tokens.now) + 1
 abbrev pub decreases-factor : goal.decreases-factor
 decreases-factor l = 4 * length (spots l.tokens.now)
 
-abbrev pub decreases-named : goal.decreases-named
-decreases-named l = 4 * length (spots l.tokens.now)
+abbrev pub decreases-after_name : goal.decreases-after_name
+decreases-after_name l = 4 * length (spots l.tokens.now)
 
 -- the terms so far
 abbrev pub invariant-sum-loop-op : goal.invariant-sum-loop-op
-invariant-sum-loop-op l = SumRun 2 (spots l.tokens) (spots l.rest) (expression_of l.left)
+invariant-sum-loop-op l = TakesSum 2 (spots l.tokens) (spots l.rest) (expression_of l.left)
 
 abbrev pub decreases-sum-loop-op : goal.decreases-sum-loop-op
 decreases-sum-loop-op l = length (spots l.rest)
 
 -- the factors so far
 abbrev pub invariant-term-loop-op : goal.invariant-term-loop-op
-invariant-term-loop-op l = TermRun 3 (spots l.tokens) (spots l.rest) (expression_of l.left)
+invariant-term-loop-op l = TakesTerm 3 (spots l.tokens) (spots l.rest) (expression_of l.left)
 
 abbrev pub decreases-term-loop-op : goal.decreases-term-loop-op
 decreases-term-loop-op l = length (spots l.rest)

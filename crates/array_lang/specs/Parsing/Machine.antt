@@ -10,21 +10,21 @@ use Rattle.array_lang.specs.Grammar.{operator_of}
 use Rattle.array_lang.specs.declared.operator.Strength.{Strength}
 use Rattle.array_lang.specs.declared.operator.Strength.TheVariants.{Comparison as comparison, Addition as addition, Product as product}
 
--- a left side and its operator, which wait for a right side
-abbrev pub Side : Type 0
-Side = Option (Expression × Op)
+-- a left operand and its operator, which wait for a right operand
+abbrev pub Left : Type 0
+Left = Option (Expression × Op)
 
 -- the expression under way: what waits at each strength, and minus signs
 pub record Level : Type 0 where
-  pub compare : Side
-  pub sum : Side
-  pub term : Side
+  pub compare : Left
+  pub sum : Left
+  pub term : Left
   pub minus : ℕ
 
 abbrev pub fresh : Level
 fresh = record { compare = None; sum = None; term = None; minus = 0 }
 
-abbrev pub joined : Side → Expression → Expression
+abbrev pub joined : Left → Expression → Expression
 joined None x = x
 joined (Some w) x = Binary w.1 w.0 x
 
@@ -91,7 +91,8 @@ pub data Position : Type 0 where
   range_over : (r : Ranged) (line : ℕ) (b : List ℕ) (low high : ℤ) → Position
   team_members : (line : ℕ) (b : List ℕ) (low high : ℤ) → Position
 
--- what comes next; a closed side or phase may go on by `else` or `barrier`, or be followed by what follows its statement
+-- what comes next; a closed block of a choice or of a team may be followed by `else` or `barrier`, or by what follows its
+-- statement
 pub data Mode : Type 0 where
   declaring : Mode
   statement : Mode
@@ -159,7 +160,7 @@ closes n x (index b o ∷ outers) top (sign signs.CloseIndex) = Some (state (aft
 closes n x (o ∷ outers) top l = None
 
 -- what comes after the term x, which stands to the right of what waits
-abbrev pub goes_on : Nest → Side → Side → Expression → List Outer → Top → Lexeme → Option (Strength × Op) → Option State
+abbrev pub goes_on : Nest → Left → Left → Expression → List Outer → Top → Lexeme → Option (Strength × Op) → Option State
 goes_on n c s x outers top l (Some (product, op)) =
     Some (state (operand (record { compare = c; sum = s; term = Some (x, op); minus = 0 }) outers top) n)
 goes_on n c s x outers top l (Some (addition, op)) =

@@ -1,0 +1,43 @@
+-- The parser's own scan for tokens that pass a bound on nesting, over the tokens alone. It is proved to find what the
+-- grammar says (`Nesting`).
+use Rattle.std.specs.Prelude.{ℕ, ◌+◌, ◌-◌, ◌||◌, nat_lt, List, [], ◌∷◌, Bool, Option, None}
+use Rattle.array_tokens.specs.Lexemes.{Lexeme, name, word, sign, Spot}
+use Rattle.array_tokens.specs.declared.token.Word.TheVariants as words
+use Rattle.array_tokens.specs.declared.token.Sign.TheVariants as signs
+use Rattle.array_lang.specs.Nesting.{most_marks, most_open, marks_after, first_over}
+use Rattle.array_lang.specs.declared.bounds.Reach.{Reach}
+use Rattle.array_lang.specs.declared.bounds.Reach.TheVariants.{Outside, Target, Inside}
+
+abbrev pub marks_of : Reach → ℕ
+marks_of (Inside m) = m
+marks_of r = 0
+
+-- where the token after this one stands; `[` begins an outermost expression after the name that begins a statement
+abbrev pub reach_after : Reach → Lexeme → Reach
+reach_after r (word words.If) = Inside 0
+reach_after r (sign signs.Assign) = Inside 0
+reach_after r (sign signs.Semicolon) = Outside
+reach_after r (sign signs.OpenBlock) = Outside
+reach_after r (sign signs.CloseBlock) = Outside
+reach_after (Inside m) l = Inside (marks_after m l)
+reach_after Outside (name b) = Target
+reach_after Target (sign signs.OpenIndex) = Inside 0
+reach_after r l = Outside
+
+abbrev pub depth_after : ℕ → Lexeme → ℕ
+depth_after depth (sign signs.OpenBlock) = depth + 1
+depth_after depth (sign signs.CloseBlock) = depth - 1
+depth_after depth l = depth
+
+abbrev pub is_over : ℕ → Reach → Bool
+is_over depth r = nat_lt most_open depth || nat_lt most_marks (marks_of r)
+
+-- the place in the list of the first token that passes a bound
+abbrev pub nested_at : Reach → ℕ → List Spot → Option ℕ
+nested_at r depth [] = None
+nested_at r depth (t ∷ ts) =
+    first_over (is_over (depth_after depth t.lexeme) (reach_after r t.lexeme)) (nested_at (reach_after r t.lexeme) (depth_after depth t.lexeme) ts)
+
+-- of all tokens
+abbrev pub first_nested : List Spot → Option ℕ
+first_nested tokens = nested_at Outside 0 tokens
