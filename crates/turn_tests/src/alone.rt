@@ -1,5 +1,5 @@
 //! A single hart that runs contexts in turn.
-ghost use Rattle.std.specs.Prelude.{◌≡◌, [], ◌∷◌, OnOk, false};
+ghost use Rattle.std.specs.Prelude.{◌≡◌, [], ◌∷◌, true, false};
 ghost use Rattle.hart_port.specs.PortView.{registered};
 ghost use Rattle.hart_port.specs.Plain.{first_view};
 
@@ -11,7 +11,7 @@ use hart_port::{PlainPort, Port, Seen};
 use sched_api::{Next, Scheduler, sched_reenter, sched_register, sched_unregister};
 use std::alloc::Global;
 use std::test::Fail;
-use transfer_table::{Plan, first_fault};
+use transfer_table::{Entries, Entry, Plan, first_fault};
 use turn_sched::Turns;
 
 // Has so many steps to do.
@@ -57,71 +57,83 @@ fn three_contexts(alloc: Global) -> Result<Turns<Paused<Task>>, Fail> {
     Ok(turns)
 }
 
-// Runs a step of the context, and gives it back unless it is done. Whose step it was.
-fn run_step(turns: &mut Turns<Paused<Task>>, context: Paused<Task>) -> Result<char, Fail> {
+// Runs a step of the first context, and gives it back unless it is done. Whose step it was, if there was one.
+fn run_step(turns: &mut Turns<Paused<Task>>) -> Option<char> {
+    let Next::Run(context) = sched_reenter(turns, ()) else {
+        return None;
+    };
     let mut running = ctx_resume(context);
     let name = running.machine().name;
     match running.step() {
         Step::More => match turns.put_last(ctx_pause(running)) {
-            Ok(()) => Ok(name),
-            Err(_) => Err(Fail::new("no room")),
+            Ok(()) => Some(name),
+            Err(_) => None,
         },
         _ => {
             drop(ctx_fini(running).into_machine());
-            Ok(name)
+            Some(name)
         }
     }
 }
 
-// Runs all contexts, each for a step at a time. Whose steps they were.
-fn run_all(alloc: Global, turns: &mut Turns<Paused<Task>>) -> Result<Vec<char>, Fail> {
-    let mut names = Vec::new(alloc);
-    for _ in 0..10 {
-        match sched_reenter(turns, ()) {
-            Next::Run(context) => names.push(run_step(turns, context)?)?,
-            _ => return Ok(names),
+// Whether all contexts run a step at a time, and it is their turn in this order.
+fn are_run(turns: &mut Turns<Paused<Task>>, names: &[char]) -> bool {
+    for name in names {
+        if run_step(turns) != Some(*name) {
+            return false;
         }
     }
-    Err(Fail::new("it doesn't end"))
+    run_step(turns) == None
 }
 
-// The hart opens the site, as its home.
-fn open(port: &mut PlainPort, base: &mut Base) -> Result<(), Fail>
+// Whether the hart opens the site, as its home.
+fn is_opened(port: &mut PlainPort, base: &mut Base) -> bool
     requires plan { port.old.view.plan ≡ record { harts = 1; parents = 0 ∷ [] } }
     requires first { port.old.view ≡ first_view port.old.view.plan }
-    ensures { OnOk result (port.new.view ≡ registered port.old.view 1) }
+    ensures { result ≡ true → port.new.view ≡ registered port.old.view 1 }
 {
-    match sched_register(port, (), base, (), 1) {
-        Ok(_) => Ok(()),
-        Err(_) => Err(Fail::new("the site is taken")),
-    }
+    sched_register(port, (), base, (), 1).is_ok()
 }
 
-// The home of the site closes it, and goes back to the base.
-fn close(port: &mut PlainPort, base: &mut Base) -> Result<(), Fail>
+// Whether the home of the site closes it, and goes back to the base.
+fn is_left(port: &mut PlainPort, base: &mut Base) -> bool
     requires plan { port.old.view.plan ≡ record { harts = 1; parents = 0 ∷ [] } }
     requires home { port.old.view ≡ registered (first_view port.old.view.plan) 1 }
 {
     port.close_site(());
     if port.see_empty(()) != Seen::Empty {
-        return Err(Fail::new("somebody is inside"));
+        return false;
     }
     sched_unregister(port, (), base, ());
-    Ok(())
+    true
+}
+
+// The entries of a hart that runs all contexts in its site. It fails where the turns are others.
+fn entries_of(alloc: Global, plan: &Plan, turns: &mut Turns<Paused<Task>>) -> Result<Entries, Fail>
+    requires { plan.now ≡ record { harts = 1; parents = 0 ∷ [] } }
+{
+    let mut base = Base::new(alloc, 1)?;
+    let mut port = PlainPort::new(alloc, plan)?;
+    if is_opened(&mut port, &mut base)
+        && are_run(turns, ['a', 'b', 'c', 'a', 'b', 'a'].as_slice())
+        && is_left(&mut port, &mut base)
+    {
+        Ok(port.finish())
+    } else {
+        Err(Fail::new("other turns"))
+    }
+}
+
+// Whether these are two entries, and complete.
+fn are_two(alloc: Global, plan: &Plan, entries: &[Entry]) -> Result<bool, Fail> {
+    Ok(entries.len() == 2 && first_fault(alloc, plan, entries)? == None)
 }
 
 #[test]
 fn contexts_run_in_turn(rt: HostRuntime) -> Result<(), Fail> {
     let plan = Plan::new(rt.alloc(), 1, &[0])?;
-    let mut port = PlainPort::new(rt.alloc(), &plan)?;
-    let mut base = Base::new(rt.alloc(), 1)?;
     let mut turns = three_contexts(rt.alloc())?;
-    open(&mut port, &mut base)?;
-    let names = run_all(rt.alloc(), &mut turns)?;
-    assert!(rt; names.as_slice() == ['a', 'b', 'c', 'a', 'b', 'a'].as_slice());
-    close(&mut port, &mut base)?;
-    let entries = port.finish();
-    assert_eq!(rt; entries.as_slice().len(), 2);
-    assert_eq!(rt; first_fault(rt.alloc(), &plan, entries.as_slice())?, None);
+    let entries = entries_of(rt.alloc(), &plan, &mut turns)?;
+    assert!(rt; are_two(rt.alloc(), &plan, entries.as_slice())?);
     Ok(())
 }
