@@ -57,28 +57,8 @@ pub fn run_harts<R: Threads + Wait + Sync, G: Gate>(
     let plan = accepted.plan();
     let tree = SiteTree::new(alloc, plan)?;
     let (board, seats) = WordBoard::new(alloc, plan)?;
-    let base = Mutex::new(Base::new(alloc, plan.sites())?);
-    let cells = cells(alloc, plan.sites())?;
-    let (words, stock) = lend(alloc, accepted, seats)?;
-    let job = body_job(alloc, accepted.program())?;
-    let (piece, stock) = run_on(
-        rt,
-        alloc,
-        &|hart, site, phase, place| gate.passed(rt, hart, site, phase, place),
-        &tree,
-        &board,
-        &words,
-        stock,
-        &base,
-        &cells,
-        job,
-    )?;
-    let Stock {
-        seats,
-        rows,
-        claims,
-    } = stock;
-    settle_all(words, rows, claims);
+    let pass = |hart, site, phase, place| gate.passed(rt, hart, site, phase, place);
+    let (piece, seats) = run_on_board(rt, alloc, accepted, &pass, &tree, &board, seats)?;
     let store = store_after(piece)?;
     match board.close(alloc, seats) {
         Ok(closed) => Ok(Outcome {
@@ -87,6 +67,36 @@ pub fn run_harts<R: Threads + Wait + Sync, G: Gate>(
         }),
         Err(_) => Err(AllocError),
     }
+}
+
+// Runs all harts on a board that nobody has used, and settles the accounts of what they were lent. The piece of the body, and the
+// seats of the board.
+fn run_on_board<'x, 'p: 'x, R: Threads + Wait + Sync, F: Fn(u8, u16, u8, u8) + Sync>(
+    rt: &'x R,
+    alloc: Global,
+    accepted: &Accepted<'p>,
+    pass: &F,
+    tree: &SiteTree,
+    board: &'x WordBoard,
+    seats: Vec<HartSeat>,
+) -> Result<(Piece<'p>, Vec<HartSeat>), AllocError>
+    requires callable { F.IsAlwaysCallable pass.now }
+    requires harts { 2 ≤ accepted.now.plan.harts }
+    requires plan { (board.now.plan ≡ accepted.now.plan) × (tree.now ≡ accepted.now.plan) }
+    requires count { vec_len seats ≡ board.now.plan.harts }
+    requires seats { AreSeats board.now.table.shared.table_id board.now.plan seats.items }
+    ensures piece { IfOk result (λ back. job_of back.0.job ≡ body_of (program_of accepted.now.program)) }
+    ensures seats { IfOk result (λ back. AreBack (table_name board.now.table.shared.table_id) board.now.plan back.1.items) }
+{
+    let (words, stock) = lend(alloc, accepted, seats)?;
+    let (piece, stock) = run_lent(rt, alloc, accepted, pass, tree, board, &words, stock)?;
+    let Stock {
+        seats,
+        rows,
+        claims,
+    } = stock;
+    settle_all(words, rows, claims);
+    Ok((piece, seats))
 }
 
 /// What a run has for its harts, for each of them in their order.
@@ -130,7 +140,39 @@ fn settle_all(words: Claims, rows: Vec<HartRows>, claims: Vec<ClaimSeat>)
     claimed(words.into_table(), claims);
 }
 
-// Runs all harts on a board that nobody has used, the first of them with this job. Its piece, and what the harts gave back.
+// Runs all harts with what they are lent, the first of them with the program's body. Its piece, and what the harts gave back.
+fn run_lent<'x, 'p: 'x, R: Threads + Wait + Sync, F: Fn(u8, u16, u8, u8) + Sync>(
+    rt: &'x R,
+    alloc: Global,
+    accepted: &Accepted<'p>,
+    pass: &F,
+    tree: &SiteTree,
+    board: &'x WordBoard,
+    words: &'x Claims,
+    stock: Stock,
+) -> Result<(Piece<'p>, Stock), AllocError>
+    requires callable { F.IsAlwaysCallable pass.now }
+    requires plan { board.now.plan ≡ tree.now }
+    requires count { vec_len stock.seats ≡ board.now.plan.harts }
+    requires rows { vec_len stock.rows ≡ board.now.plan.harts }
+    requires claims { vec_len stock.claims ≡ board.now.plan.harts }
+    requires seats { AreSeats board.now.table.shared.table_id board.now.plan stock.seats.items }
+    requires tools { AreTools words.now.table stock.rows.items stock.claims.items }
+    ensures piece { IfOk result (λ back. job_of back.0.job ≡ body_of (program_of accepted.now.program)) }
+    ensures seats { IfOk result (λ back. AreBack (table_name board.now.table.shared.table_id) board.now.plan back.1.seats.items) }
+    ensures tools { IfOk result (λ back. AreTools words.now.table back.1.rows.items back.1.claims.items) }
+{
+    let sites = tree.plan().sites();
+    let base = Mutex::new(Base::new(alloc, sites)?);
+    let cells = cells(alloc, sites)?;
+    let job = body_job(alloc, accepted.program())?;
+    let back = run_on(
+        rt, alloc, pass, tree, board, words, stock, &base, &cells, job,
+    )?;
+    Ok(back)
+}
+
+// Runs all harts on these cells, the first of them with this job. Its piece, and what the harts gave back.
 fn run_on<'x, 'p: 'x, R: Threads + Wait + Sync, F: Fn(u8, u16, u8, u8) + Sync>(
     rt: &'x R,
     alloc: Global,

@@ -1,23 +1,19 @@
-use Rattle.std.proofs.Common.{◌≡◌, ◌∙◌, ap}
+use Rattle.std.proofs.Common.{◌≡◌, ◌∙◌}
 use Rattle.array_tree.specs.Trees.{program_of}
-use Rattle.array_jobs.specs.Jobs.{job_of}
-use Rattle.array_jobs.specs.Bodies.{body_of}
 use Rattle.hart_loop.proofs.Crews.{all_seats, complete_journal}
 use Rattle.hart_loop.proofs.Ends.{few_entries}
 use Rattle.hart_loop.proofs.several.run_harts.Goals as goal
 
 pub close-requires : goal.close-requires
-close-requires g c = all_seats c.in_ok-board.board.table.shared.table_id c.in_ok-board.board.plan c.in_ok-piece.stock.seats.items c.in_ok-piece.ensures.seats
+close-requires g c = all_seats c.in_ok-board.board.table.shared.table_id c.in_ok-board.board.plan c.in_ok-piece.seats.items c.in_ok-piece.ensures.seats
 
 pub returns-in-Ok-clause-store : goal.returns-in-Ok-clause-store
-returns-in-Ok-clause-store g c =
-    c.in_ok-store.ensures (program_of c.args.accepted.now.program)
-    (ap job_of c.in_ok-piece.ensures.piece ∙ c.in_ok-job.ensures ∙ ap (λ p. body_of (program_of p)) c.program.ensures.same)
+returns-in-Ok-clause-store g c = c.in_ok-store.ensures (program_of c.args.accepted.now.program) c.in_ok-piece.ensures.piece
 
 pub returns-in-Ok-clause-journal : goal.returns-in-Ok-clause-journal
 returns-in-Ok-clause-journal g c =
     let plan : c.in_ok-board.board.plan ≡ c.args.accepted.now.plan = c.in_ok-board.ensures.plan ∙ c.plan-plan.ensures.same in
-    complete_journal c.in_ok-board.board.table.shared.table_id c.in_ok-board.board.plan c.args.accepted.now.plan c.in_ok-piece.stock.seats.items c.in-Ok.closed plan
+    complete_journal c.in_ok-board.board.table.shared.table_id c.in_ok-board.board.plan c.args.accepted.now.plan c.in_ok-piece.seats.items c.in-Ok.closed plan
     c.in_ok-piece.ensures.seats c.in_ok-board.board.is_plan c.in-Ok.ensures.journal
 
 pub returns-in-Ok-clause-short : goal.returns-in-Ok-clause-short
