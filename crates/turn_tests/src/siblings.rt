@@ -29,11 +29,13 @@ fn is_lent<R: Threads + Wait + Sync, C: Child, D: Child>(
     turns: &mut Turns<char>,
     pool: &mut C,
     team: &mut D,
-) -> Result<bool, AllocError>
+) -> bool
     requires { plan.now ≡ family_plan }
 {
-    let mut port = LockedPort::<R>::new(alloc, lock, plan, 2)?;
-    Ok(helps(&mut port, rt, base, turns, pool, team, alloc))
+    let Ok(mut port) = LockedPort::<R>::new(alloc, lock, plan, 2) else {
+        return false;
+    };
+    helps(&mut port, rt, base, turns, pool, team, alloc)
 }
 
 // Whether hart 1 is the home of the team, which hart 2 helps.
@@ -46,16 +48,16 @@ fn has_team<R: Threads + Wait + Sync, C: Child, D: Child>(
     turns: &mut Turns<char>,
     pool: &mut C,
     team: &mut D,
-) -> Result<bool, AllocError>
+) -> bool
     requires { plan.now ≡ family_plan }
 {
-    let mut port = LockedPort::<R>::new(alloc, lock, plan, 1)?;
-    Ok(
-        opens_team(&mut port, rt, base, turns)
-            && is_lent(rt, alloc, lock, plan, base, turns, pool, team)?
-            && finishes(team, alloc, BY_MEMBERS[2].as_slice())
-            && leaves_team(&mut port, rt, base, turns),
-    )
+    let Ok(mut port) = LockedPort::<R>::new(alloc, lock, plan, 1) else {
+        return false;
+    };
+    opens_team(&mut port, rt, base, turns)
+        && is_lent(rt, alloc, lock, plan, base, turns, pool, team)
+        && finishes(team, alloc, BY_MEMBERS[2].as_slice())
+        && leaves_team(&mut port, rt, base, turns)
 }
 
 // Whether hart 0 is the home of the parent and of the pool, beside the others.
@@ -68,16 +70,16 @@ fn has_both<R: Threads + Wait + Sync, C: Child, D: Child>(
     turns: &mut Turns<char>,
     pool: &mut C,
     team: &mut D,
-) -> Result<bool, AllocError>
+) -> bool
     requires { plan.now ≡ family_plan }
 {
-    let mut port = LockedPort::<R>::new(alloc, lock, plan, 0)?;
-    Ok(
-        opens_both(&mut port, rt, base, turns)
-            && has_team(rt, alloc, lock, plan, base, turns, pool, team)?
-            && finishes(pool, alloc, BY_BRANCHES[2].as_slice())
-            && leaves_both(&mut port, rt, base, turns),
-    )
+    let Ok(mut port) = LockedPort::<R>::new(alloc, lock, plan, 0) else {
+        return false;
+    };
+    opens_both(&mut port, rt, base, turns)
+        && has_team(rt, alloc, lock, plan, base, turns, pool, team)
+        && finishes(pool, alloc, BY_BRANCHES[2].as_slice())
+        && leaves_both(&mut port, rt, base, turns)
 }
 
 // A parent with two contexts, and room for two children.
@@ -141,11 +143,15 @@ fn is_done<R: Threads + Wait + Sync, C: Child, D: Child>(
     plan: &Plan,
     pool: &mut C,
     team: &mut D,
-) -> Result<bool, AllocError>
+) -> bool
     requires { plan.now ≡ family_plan }
 {
-    let mut base = Base::new(alloc, 2)?;
-    let mut turns = parent_of_two(alloc)?;
+    let Ok(mut base) = Base::new(alloc, 2) else {
+        return false;
+    };
+    let Ok(mut turns) = parent_of_two(alloc) else {
+        return false;
+    };
     has_both(rt, alloc, lock, plan, &mut base, &mut turns, pool, team)
 }
 
@@ -156,13 +162,16 @@ fn is_shared<R: Threads + Wait + Sync, C: Child, D: Child>(
     plan: &Plan,
     pool: &mut C,
     team: &mut D,
-) -> Result<bool, AllocError>
+) -> bool
     requires { plan.now ≡ family_plan }
 {
-    let lock = Mutex::new(Ledger::new(alloc, plan)?);
-    let is_done = is_done(rt, alloc, &lock, plan, pool, team)?;
+    let Ok(ledger) = Ledger::new(alloc, plan) else {
+        return false;
+    };
+    let lock = Mutex::new(ledger);
+    let is_done = is_done(rt, alloc, &lock, plan, pool, team);
     let entries = lock.into_inner().into_entries();
-    Ok(is_done && is_journal(alloc, plan, entries.as_slice())?)
+    is_done && is_journal(alloc, plan, entries.as_slice()) == Ok(true)
 }
 
 // The same with the team of the program.
@@ -176,7 +185,7 @@ fn is_shared_with_team<R: Threads + Wait + Sync, C: Child>(
     requires { plan.now ≡ family_plan }
 {
     let mut team = team_in(alloc, program)?;
-    Ok(is_shared(rt, alloc, plan, pool, &mut team) == Ok(true))
+    Ok(is_shared(rt, alloc, plan, pool, &mut team))
 }
 
 // The same with its pool.
