@@ -1,20 +1,19 @@
 //! Pools that harts share.
 ghost use Rattle.std.specs.Prelude.{◌≡◌, ◌<◌, IfOk};
 
-use crate::pools::{answer_of, pool_of, taken};
+use crate::pools::{TWO_OF_THREE, finds, gives_both, gives_nothing, has_room, pool_of, unblocked};
+use crate::rows::{lets_go, takes_both_ways};
 use array_jobs::Piece;
 use array_tree::Program;
-use contexts::Paused;
 use deque_rows::{HartRows, rows};
-use forkjoin_sched::{PoolHand, PoolWork, SharedPool};
+use forkjoin_sched::{PoolHand, SharedPool};
 use sample_programs::{
-    Answer, BOTH_BRANCHES, Came, TOLD, TWO_BRANCHES, outcome_of, parsed, piece_at, tells, waiting,
+    Answer, Came, TOLD, TWO_BRANCHES, outcome_of, parsed, piece_at, tells, waiting,
 };
 use sched_api::{Scheduler, Told};
 use std::alloc::Global;
 use std::sync::Wait;
 use std::test::Fail;
-use step_eval::StepMachine;
 
 // A shared pool of the two branches.
 pub fn shared_pool<'p>(alloc: Global, program: &'p Program) -> Result<SharedPool<'p>, Fail> {
@@ -22,7 +21,7 @@ pub fn shared_pool<'p>(alloc: Global, program: &'p Program) -> Result<SharedPool
 }
 
 // The rows of a hart that is alone.
-pub fn own_rows(alloc: Global) -> Result<HartRows, Fail>
+fn own_rows(alloc: Global) -> Result<HartRows, Fail>
     ensures { IfOk result (λ rows. 0 < rows.harts) }
 {
     let mut all = rows(alloc, 1)?;
@@ -30,6 +29,45 @@ pub fn own_rows(alloc: Global) -> Result<HartRows, Fail>
         Some(rows) => Ok(rows),
         None => Err(Fail::new("there are no rows")),
     }
+}
+
+/// What a test looks at.
+#[derive(Clone, Copy)]
+pub enum Look {
+    Answers,
+    Contexts,
+    Once,
+    Nothing,
+    Tells,
+    Codes,
+    BothWays,
+}
+
+// Whether this holds of a hand.
+fn holds_of<'a, R: Wait + 'a>(
+    rt: &'a R,
+    hand: &mut PoolHand<'a, '_, '_, R>,
+    alloc: Global,
+    look: Look,
+) -> Result<bool, Fail> {
+    match look {
+        Look::Answers => Ok(answers_as_the_pool(rt, hand)),
+        Look::Contexts => contexts_go_first(rt, hand, alloc),
+        Look::Once => is_handed_out_once(rt, hand, alloc),
+        Look::Nothing => leaves_nothing(rt, hand, alloc),
+        Look::Tells => Ok(tells_all(rt, hand)),
+        Look::Codes => Ok(lets_go(rt, hand)),
+        Look::BothWays => Ok(takes_both_ways(rt, hand)),
+    }
+}
+
+/// Whether this holds of the home's hand, at level 1, on a shared pool of the two branches.
+pub fn holds<R: Wait>(rt: &R, alloc: Global, look: Look) -> Result<bool, Fail> {
+    let program = parsed(alloc, TWO_BRANCHES)?;
+    let shared = shared_pool(alloc, &program)?;
+    let mut rows = own_rows(alloc)?;
+    let mut hand = PoolHand::new(&shared, &mut rows, 0, 1);
+    holds_of(rt, &mut hand, alloc, look)
 }
 
 // Puts the jobs up for all harts; whether the hand was the home's, and its row had room.
@@ -42,37 +80,6 @@ pub fn is_offered<'a, R: Wait + 'a>(rt: &'a R, hand: &mut PoolHand<'a, '_, '_, R
     true
 }
 
-// What a hart finds by its hand.
-pub fn entered<'a, R: Wait + 'a>(rt: &'a R, hand: &mut PoolHand<'a, '_, '_, R>) -> Answer {
-    answer_of(hand.enter(rt))
-}
-
-// Whether it finds this again and again.
-pub fn finds<'a, R: Wait + 'a>(
-    rt: &'a R,
-    hand: &mut PoolHand<'a, '_, '_, R>,
-    answers: &[Answer],
-) -> bool {
-    for answer in answers {
-        if entered(rt, hand) != *answer {
-            return false;
-        }
-    }
-    true
-}
-
-// Puts a context back; whether there was room.
-fn unblocked<'a, 'p, R: Wait + 'a>(
-    rt: &'a R,
-    hand: &mut PoolHand<'a, '_, 'p, R>,
-    context: Paused<StepMachine<'p>>,
-) -> bool {
-    match hand.unblock(rt, PoolWork::Ready(context)) {
-        Ok(()) => true,
-        Err(_) => false,
-    }
-}
-
 // Deposits a piece.
 fn deposited<'a, 'p, R: Wait + 'a>(
     rt: &'a R,
@@ -82,115 +89,129 @@ fn deposited<'a, 'p, R: Wait + 'a>(
     outcome_of(hand.deposit(rt, piece))
 }
 
+// What a hart finds of both pieces, and nothing else.
+const PIECES: &[Answer] = &[Answer::Begins(0), Answer::Begins(1), Answer::Nothing];
+
+// What it finds of a wish for two harts.
+const WISHES: &[Answer] = &[Answer::Lends(2), Answer::Lends(2), Answer::Nothing];
+
+// What it finds where there is nothing.
+const NOTHING: &[Answer] = &[Answer::Nothing];
+
+// Child 2 asks for two harts, then for one more, and leaves. Whether its first wish alone is met, after the pieces.
+fn pieces_go_first<'a, R: Wait + 'a>(rt: &'a R, hand: &mut PoolHand<'a, '_, '_, R>) -> bool {
+    let offered = is_offered(rt, hand);
+    let whole = finds(hand, rt, PIECES);
+    hand.request(rt, 2, 2);
+    let lent = finds(hand, rt, WISHES);
+    hand.request(rt, 2, 1);
+    hand.unregister(rt, 2);
+    let none = finds(hand, rt, NOTHING);
+    offered && whole && lent && none
+}
+
+// The same of the hand of site 1.
+fn answers_as_the_pool<'a, R: Wait + 'a>(rt: &'a R, hand: &mut PoolHand<'a, '_, '_, R>) -> bool {
+    let site = hand.site();
+    pieces_go_first(rt, hand) && site == 1
+}
+
 #[test]
 fn a_hand_answers_as_the_pool_does(rt: HostRuntime) -> Result<(), Fail> {
-    let alloc = rt.alloc();
-    let program = parsed(alloc, TWO_BRANCHES)?;
-    let shared = shared_pool(alloc, &program)?;
-    let mut rows = own_rows(alloc)?;
-    let mut hand = PoolHand::new(&shared, &mut rows, 0, 1);
-    assert_eq!(rt; hand.site(), 1);
-    let whole = is_offered(&rt, &mut hand)
-        && finds(
-            &rt,
-            &mut hand,
-            &[Answer::Begins(0), Answer::Begins(1), Answer::Nothing],
-        );
-    hand.request(&rt, 2, 2);
-    let lent = finds(
-        &rt,
-        &mut hand,
-        &[Answer::Lends(2), Answer::Lends(2), Answer::Nothing],
-    );
-    hand.request(&rt, 2, 1);
-    hand.unregister(&rt, 2);
-    assert!(rt; whole && lent && entered(&rt, &mut hand) == Answer::Nothing);
+    assert!(rt; holds(&rt, rt.alloc(), Look::Answers)?);
     Ok(())
 }
 
-// Puts three contexts back; whether there was room for each.
-fn put_back<'a, R: Wait + 'a>(
+// What a hart finds of two contexts and both pieces.
+const CONTEXTS_THEN_PIECES: &[Answer] = &[
+    Answer::GoesOn,
+    Answer::GoesOn,
+    Answer::Begins(0),
+    Answer::Begins(1),
+];
+
+// Puts three contexts back. Whether there was room for two, and they go before the pieces.
+fn contexts_go_first<'a, R: Wait + 'a>(
     rt: &'a R,
     hand: &mut PoolHand<'a, '_, '_, R>,
     alloc: Global,
-) -> Result<[bool; 3], Fail> {
+) -> Result<bool, Fail> {
+    let offered = is_offered(rt, hand);
     let jobs = hand.shared.jobs();
-    let first = unblocked(rt, hand, waiting(alloc, jobs)?);
-    let second = unblocked(rt, hand, waiting(alloc, jobs)?);
-    let third = unblocked(rt, hand, waiting(alloc, jobs)?);
-    Ok([first, second, third])
+    let room = has_room(hand, rt, alloc, jobs, TWO_OF_THREE)?;
+    let found = finds(hand, rt, CONTEXTS_THEN_PIECES);
+    Ok(offered && room && found)
 }
 
 #[test]
 fn a_hand_puts_contexts_back(rt: HostRuntime) -> Result<(), Fail> {
-    let alloc = rt.alloc();
-    let program = parsed(alloc, TWO_BRANCHES)?;
-    let shared = shared_pool(alloc, &program)?;
-    let mut rows = own_rows(alloc)?;
-    let mut hand = PoolHand::new(&shared, &mut rows, 0, 1);
-    let offered = is_offered(&rt, &mut hand);
-    let put = put_back(&rt, &mut hand, alloc);
-    let found = finds(
-        &rt,
-        &mut hand,
-        &[
-            Answer::GoesOn,
-            Answer::GoesOn,
-            Answer::Begins(0),
-            Answer::Begins(1),
-        ],
-    );
-    drop(hand);
-    let rooms = put?;
-    assert!(rt; offered && found && rooms == [true, true, false]);
+    assert!(rt; holds(&rt, rt.alloc(), Look::Contexts)?);
     Ok(())
 }
 
-// Hands the pool out, if it can be; whether a place of it failed.
+// Hands the pool out, if it can be; whether it has failed and gives nothing.
 fn handed_out<'a, R: Wait + 'a>(rt: &'a R, hand: &PoolHand<'a, '_, '_, R>) -> Option<bool> {
     match hand.take_out(rt) {
-        Some(pool) => Some(pool.has_failed() && pool.take_all().is_err()),
+        Some(pool) => Some(gives_nothing(pool)),
         None => None,
     }
 }
 
-// Brings the pieces of places 1, 1 and 0, and looks before each whether the pool is handed out.
+// Hands the pool out; whether it gives the writes of both branches.
+fn hands_out_both<'a, R: Wait + 'a>(rt: &'a R, hand: &PoolHand<'a, '_, '_, R>) -> bool {
+    match hand.take_out(rt) {
+        Some(pool) => gives_both(pool),
+        None => false,
+    }
+}
+
+// Brings the piece of a place, of a pool that isn't handed out before. What comes of it.
 fn brought<'a, R: Wait + 'a>(
     rt: &'a R,
     hand: &PoolHand<'a, '_, '_, R>,
     alloc: Global,
-) -> Result<bool, Fail> {
-    let mut answers = [Came::Kept, Came::Double, Came::Kept].iter();
-    for place in [1, 1, 0] {
-        if handed_out(rt, hand).is_some() {
-            return Ok(false);
-        }
-        let piece = piece_at(alloc, hand.shared.jobs(), place)?;
-        if Some(&deposited(rt, hand, piece)) != answers.next() {
-            return Ok(false);
-        }
+    place: usize,
+) -> Result<Came, Fail> {
+    if handed_out(rt, hand).is_some() {
+        return Err(Fail::new("it is handed out"));
     }
-    Ok(true)
+    let piece = piece_at(alloc, hand.shared.jobs(), place)?;
+    Ok(deposited(rt, hand, piece))
+}
+
+// Brings the pieces of places 1, 1 and 0. Whether each of them is kept once.
+fn keeps_each_once<'a, R: Wait + 'a>(
+    rt: &'a R,
+    hand: &PoolHand<'a, '_, '_, R>,
+    alloc: Global,
+) -> Result<bool, Fail> {
+    let second = brought(rt, hand, alloc, 1)?;
+    let again = brought(rt, hand, alloc, 1)?;
+    let first = brought(rt, hand, alloc, 0)?;
+    Ok(second == Came::Kept && again == Came::Double && first == Came::Kept)
+}
+
+// Fills a pool and hands it out. Whether it gives the writes of both branches, and isn't handed out again.
+fn is_handed_out_once<'a, R: Wait + 'a>(
+    rt: &'a R,
+    hand: &PoolHand<'a, '_, '_, R>,
+    alloc: Global,
+) -> Result<bool, Fail> {
+    let kept = keeps_each_once(rt, hand, alloc)?;
+    let both = hands_out_both(rt, hand);
+    let again = handed_out(rt, hand).is_some();
+    Ok(kept && both && !again)
 }
 
 #[test]
 fn a_full_pool_is_handed_out_once(rt: HostRuntime) -> Result<(), Fail> {
-    let alloc = rt.alloc();
-    let program = parsed(alloc, TWO_BRANCHES)?;
-    let shared = shared_pool(alloc, &program)?;
-    let mut rows = own_rows(alloc)?;
-    let hand = PoolHand::new(&shared, &mut rows, 0, 1);
-    let brought = brought(&rt, &hand, alloc);
-    let first = hand.take_out(&rt);
-    let second = handed_out(&rt, &hand);
-    drop(hand);
-    let are_kept = brought?;
-    let Some(pool) = first else {
-        return Err(Fail::new("it isn't full"));
-    };
-    assert!(rt; are_kept && second == None);
-    assert_eq!(rt; taken(pool)?.pairs(), BOTH_BRANCHES.as_slice());
+    assert!(rt; holds(&rt, rt.alloc(), Look::Once)?);
     Ok(())
+}
+
+// Whether a place of the pool has failed, and whether it is full.
+fn state<'a, R: Wait + 'a>(rt: &'a R, hand: &PoolHand<'a, '_, '_, R>) -> (bool, bool) {
+    (hand.has_failed(rt), hand.is_full(rt))
 }
 
 // Tries to fail a place twice, and one that isn't there, then fails the other. Whether the pool was full at the end alone.
@@ -198,9 +219,30 @@ fn failed<'a, R: Wait + 'a>(rt: &'a R, hand: &PoolHand<'a, '_, '_, R>) -> bool {
     for place in [0, 0, 2] {
         hand.fail(rt, place);
     }
-    let waits = hand.has_failed(rt) && !hand.is_full(rt);
+    let waits = state(rt, hand) == (true, false);
     hand.fail(rt, 1);
-    waits && hand.is_full(rt)
+    let full = hand.is_full(rt);
+    waits && full
+}
+
+// Whether the piece of the first job is a stranger.
+fn is_stranger<'a, R: Wait + 'a>(
+    rt: &'a R,
+    hand: &PoolHand<'a, '_, '_, R>,
+    alloc: Global,
+) -> Result<bool, Fail> {
+    let piece = piece_at(alloc, hand.shared.jobs(), 0)?;
+    Ok(deposited(rt, hand, piece) == Came::Stranger)
+}
+
+// Whether a context is given back.
+fn is_given_back<'a, R: Wait + 'a>(
+    rt: &'a R,
+    hand: &mut PoolHand<'a, '_, '_, R>,
+    alloc: Global,
+) -> Result<bool, Fail> {
+    let context = waiting(alloc, hand.shared.jobs())?;
+    Ok(!unblocked(hand, rt, context))
 }
 
 // Whether a pool that was handed out takes nothing more.
@@ -209,39 +251,50 @@ fn takes_nothing<'a, R: Wait + 'a>(
     hand: &mut PoolHand<'a, '_, '_, R>,
     alloc: Global,
 ) -> Result<bool, Fail> {
-    let jobs = hand.shared.jobs();
-    let stranger = deposited(rt, hand, piece_at(alloc, jobs, 0)?) == Came::Stranger;
-    let back = !unblocked(rt, hand, waiting(alloc, jobs)?);
+    let stranger = is_stranger(rt, hand, alloc)?;
+    let back = is_given_back(rt, hand, alloc)?;
     hand.fail(rt, 0);
-    Ok(stranger && back && hand.is_full(rt) && !hand.has_failed(rt))
+    let over = state(rt, hand) == (false, true);
+    Ok(stranger && back && over)
+}
+
+// Offers, fails and hands out a pool. Whether it then has nothing and takes nothing.
+fn leaves_nothing<'a, R: Wait + 'a>(
+    rt: &'a R,
+    hand: &mut PoolHand<'a, '_, '_, R>,
+    alloc: Global,
+) -> Result<bool, Fail> {
+    let offered = is_offered(rt, hand);
+    let failed = failed(rt, hand);
+    let out = handed_out(rt, hand) == Some(true);
+    let none = finds(hand, rt, NOTHING);
+    let again = finds(hand, rt, NOTHING);
+    let over = takes_nothing(rt, hand, alloc)?;
+    Ok(offered && failed && out && none && again && over)
 }
 
 #[test]
 fn nothing_is_left_of_a_pool_that_is_handed_out(rt: HostRuntime) -> Result<(), Fail> {
-    let alloc = rt.alloc();
-    let program = parsed(alloc, TWO_BRANCHES)?;
-    let shared = shared_pool(alloc, &program)?;
-    let mut rows = own_rows(alloc)?;
-    let mut hand = PoolHand::new(&shared, &mut rows, 0, 1);
-    let offered = is_offered(&rt, &mut hand);
-    let failed = failed(&rt, &hand) && handed_out(&rt, &hand) == Some(true);
-    let found = finds(&rt, &mut hand, &[Answer::Nothing, Answer::Nothing]);
-    let none = takes_nothing(&rt, &mut hand, alloc);
-    drop(hand);
-    let is_over = none?;
-    assert!(rt; failed && offered && found && is_over);
+    assert!(rt; holds(&rt, rt.alloc(), Look::Nothing)?);
     Ok(())
+}
+
+// Whether a hand tells each call that a scheduler hears.
+fn tells_each<S: Scheduler>(scheduler: &mut S, hold: S::Hold) -> bool {
+    tells(scheduler, hold) == TOLD
+}
+
+// The same before and after its pool is handed out.
+fn tells_all<'a, R: Wait + 'a>(rt: &'a R, hand: &mut PoolHand<'a, '_, '_, R>) -> bool {
+    let before = tells_each(hand, rt);
+    let failed = failed(rt, hand);
+    let out = handed_out(rt, hand).is_some();
+    let after = tells_each(hand, rt);
+    before && failed && out && after
 }
 
 #[test]
 fn a_hand_tells_what_it_hears(rt: HostRuntime) -> Result<(), Fail> {
-    let alloc = rt.alloc();
-    let program = parsed(alloc, TWO_BRANCHES)?;
-    let shared = shared_pool(alloc, &program)?;
-    let mut rows = own_rows(alloc)?;
-    let mut hand = PoolHand::new(&shared, &mut rows, 0, 1);
-    assert!(rt; tells(&mut hand, &rt) == TOLD);
-    assert!(rt; failed(&rt, &hand) && handed_out(&rt, &hand).is_some());
-    assert!(rt; tells(&mut hand, &rt) == TOLD);
+    assert!(rt; holds(&rt, rt.alloc(), Look::Tells)?);
     Ok(())
 }

@@ -1,5 +1,4 @@
 //! Pools.
-
 use array_eval::Overlay;
 use array_jobs::{Job, copy_jobs};
 use array_tree::Program;
@@ -23,18 +22,69 @@ pub fn answer_of(next: Next<PoolWork>) -> Answer {
     }
 }
 
+/// What a hart finds.
+pub fn entered<'p, S: Scheduler<Ctx = PoolWork<'p>>>(scheduler: &mut S, hold: S::Hold) -> Answer {
+    answer_of(scheduler.enter(hold))
+}
+
+/// Whether a hart finds this again and again.
+pub fn finds<'p, S: Scheduler<Ctx = PoolWork<'p>>>(
+    scheduler: &mut S,
+    hold: S::Hold,
+    answers: &[Answer],
+) -> bool {
+    for answer in answers {
+        if entered(scheduler, hold) != *answer {
+            return false;
+        }
+    }
+    true
+}
+
+/// Puts a context back; whether there was room.
+pub fn unblocked<'p, S: Scheduler<Ctx = PoolWork<'p>>>(
+    scheduler: &mut S,
+    hold: S::Hold,
+    context: Paused<StepMachine<'p>>,
+) -> bool {
+    match scheduler.unblock(hold, PoolWork::Ready(context)) {
+        Ok(()) => true,
+        Err(_) => false,
+    }
+}
+
+// Puts three contexts back; whether there was room for each.
+fn put_back<'p, S: Scheduler<Ctx = PoolWork<'p>>>(
+    scheduler: &mut S,
+    hold: S::Hold,
+    alloc: Global,
+    jobs: &[Job<'p>],
+) -> Result<[bool; 3], Fail> {
+    let first = unblocked(scheduler, hold, waiting(alloc, jobs)?);
+    let second = unblocked(scheduler, hold, waiting(alloc, jobs)?);
+    let third = unblocked(scheduler, hold, waiting(alloc, jobs)?);
+    Ok([first, second, third])
+}
+
+/// Room for two contexts of three.
+pub const TWO_OF_THREE: &[bool] = &[true, true, false];
+
+/// Puts three contexts back. Whether there was room for these of them.
+pub fn has_room<'p, S: Scheduler<Ctx = PoolWork<'p>>>(
+    scheduler: &mut S,
+    hold: S::Hold,
+    alloc: Global,
+    jobs: &[Job<'p>],
+    expected: &[bool],
+) -> Result<bool, Fail> {
+    let rooms = put_back(scheduler, hold, alloc, jobs)?;
+    Ok(rooms.as_slice() == expected)
+}
+
 /// A pool of the two branches.
 pub fn pool_of<'p>(alloc: Global, program: &'p Program) -> Result<Pool<'p>, Fail> {
     let jobs = first_jobs(alloc, program)?;
     Ok(Pool::new(alloc, jobs)?)
-}
-
-// Puts a context back; whether there was room.
-fn unblocked<'p>(pool: &mut Pool<'p>, context: Paused<StepMachine<'p>>) -> bool {
-    match pool.unblock((), PoolWork::Ready(context)) {
-        Ok(()) => true,
-        Err(_) => false,
-    }
 }
 
 // Deposits the piece of one of the jobs.
@@ -48,44 +98,127 @@ fn bring<'p>(
     Ok(outcome_of(pool.deposit(piece)))
 }
 
-/// What a full pool gives.
-pub fn taken(pool: Pool) -> Result<Overlay, Fail> {
-    if !pool.is_full() || pool.has_failed() {
-        return Err(Fail::new("it isn't full"));
+// What a full pool gives. A failed one, and one that isn't full, give nothing.
+fn taken(pool: Pool) -> Option<Overlay> {
+    if !pool.is_full() {
+        return None;
     }
-    Ok(pool.take_all()?)
+    pool.take_all().ok()
+}
+
+// Whether there is an overlay of the writes of both branches.
+fn is_of_both(overlay: Option<Overlay>) -> bool {
+    match overlay {
+        Some(written) => written.pairs() == BOTH_BRANCHES.as_slice(),
+        None => false,
+    }
+}
+
+/// Whether a pool is full, hasn't failed, and gives the writes of both branches.
+pub fn gives_both(pool: Pool) -> bool {
+    let failed = pool.has_failed();
+    let both = is_of_both(taken(pool));
+    both && !failed
+}
+
+/// Whether a pool has failed and gives nothing.
+pub fn gives_nothing(pool: Pool) -> bool {
+    let failed = pool.has_failed();
+    let nothing = taken(pool).is_none();
+    failed && nothing
+}
+
+// What a test looks at.
+#[derive(Clone, Copy)]
+enum Look {
+    PiecesFirst,
+    ContextsFirst,
+    Last,
+}
+
+// Whether this holds of a pool, beside copies of its jobs.
+fn holds_of<'p>(
+    pool: &mut Pool<'p>,
+    alloc: Global,
+    jobs: &[Job<'p>],
+    look: Look,
+) -> Result<bool, Fail> {
+    match look {
+        Look::PiecesFirst => Ok(pieces_go_first(pool)),
+        Look::ContextsFirst => contexts_go_first(pool, alloc, jobs),
+        Look::Last => leaves_nothing(pool, alloc, jobs),
+    }
+}
+
+// Whether it holds of a pool of the two branches.
+fn holds(alloc: Global, look: Look) -> Result<bool, Fail> {
+    let program = parsed(alloc, TWO_BRANCHES)?;
+    let mut pool = pool_of(alloc, &program)?;
+    let copies = copy_jobs(alloc, pool.jobs())?;
+    holds_of(&mut pool, alloc, &copies, look)
+}
+
+// What a hart finds of two pieces and a wish for two harts.
+const PIECES_THEN_WISHES: &[Answer] = &[
+    Answer::Begins(0),
+    Answer::Begins(1),
+    Answer::Lends(2),
+    Answer::Lends(2),
+    Answer::Nothing,
+];
+
+// Child 2 asks for two harts. Whether the pool tells so, and its pieces go before that wish.
+fn pieces_go_first(pool: &mut Pool) -> bool {
+    let told = pool.request((), 2, 2).told();
+    let tells = told.call == Call::Requested && told.child == 2 && told.count == 2;
+    let found = finds(pool, (), PIECES_THEN_WISHES);
+    tells && found
 }
 
 #[test]
 fn pieces_go_before_wishes(rt: HostRuntime) -> Result<(), Fail> {
-    let alloc = rt.alloc();
-    let program = parsed(alloc, TWO_BRANCHES)?;
-    let mut pool = pool_of(alloc, &program)?;
-    let told = pool.request((), 2, 2).told();
-    assert!(rt; told.call == Call::Requested && told.child == 2 && told.count == 2);
-    assert_eq!(rt; answer_of(pool.enter(())), Answer::Begins(0));
-    assert_eq!(rt; answer_of(pool.enter(())), Answer::Begins(1));
-    assert_eq!(rt; answer_of(pool.enter(())), Answer::Lends(2));
-    assert_eq!(rt; answer_of(pool.enter(())), Answer::Lends(2));
-    assert_eq!(rt; answer_of(pool.enter(())), Answer::Nothing);
+    assert!(rt; holds(rt.alloc(), Look::PiecesFirst)?);
     Ok(())
+}
+
+// What a hart finds of two contexts and two pieces, as far as the first piece.
+const CONTEXTS_THEN_PIECE: &[Answer] = &[Answer::GoesOn, Answer::GoesOn, Answer::Begins(0)];
+
+// Whether a pool tells that a context waits at a mutex.
+fn tells_of_block(pool: &mut Pool) -> bool {
+    let told = pool.block(()).told();
+    told.call == Call::Blocked && told.child == 0 && told.count == 0
+}
+
+// Puts three contexts back. Whether there was room for two, and they go before the pieces.
+fn contexts_go_first<'p>(
+    pool: &mut Pool<'p>,
+    alloc: Global,
+    jobs: &[Job<'p>],
+) -> Result<bool, Fail> {
+    let tells = tells_of_block(pool);
+    let room = has_room(pool, (), alloc, jobs, TWO_OF_THREE)?;
+    let found = finds(pool, (), CONTEXTS_THEN_PIECE);
+    Ok(tells && room && found)
 }
 
 #[test]
 fn ready_contexts_go_before_pieces(rt: HostRuntime) -> Result<(), Fail> {
-    let alloc = rt.alloc();
-    let program = parsed(alloc, TWO_BRANCHES)?;
-    let mut pool = pool_of(alloc, &program)?;
-    let copies = copy_jobs(alloc, pool.jobs())?;
-    let told = pool.block(()).told();
-    assert!(rt; told.call == Call::Blocked && told.child == 0 && told.count == 0);
-    assert!(rt; unblocked(&mut pool, waiting(alloc, &copies)?));
-    assert!(rt; unblocked(&mut pool, waiting(alloc, &copies)?));
-    assert!(rt; !unblocked(&mut pool, waiting(alloc, &copies)?));
-    assert_eq!(rt; answer_of(pool.enter(())), Answer::GoesOn);
-    assert_eq!(rt; answer_of(pool.enter(())), Answer::GoesOn);
-    assert_eq!(rt; answer_of(pool.enter(())), Answer::Begins(0));
+    assert!(rt; holds(rt.alloc(), Look::ContextsFirst)?);
     Ok(())
+}
+
+// Brings the pieces of both jobs to the pool of site 1. Whether both are kept.
+fn keeps_both<'p>(pool: &mut Pool<'p>, alloc: Global, jobs: &[Job<'p>]) -> Result<bool, Fail> {
+    let second = bring(pool, alloc, jobs, 1)?;
+    let first = bring(pool, alloc, jobs, 0)?;
+    Ok(pool.site() == 1 && second == Came::Kept && first == Came::Kept)
+}
+
+// Fills a pool with the pieces of its jobs. Whether both are kept.
+fn is_filled(pool: &mut Pool, alloc: Global) -> Result<bool, Fail> {
+    let copies = copy_jobs(alloc, pool.jobs())?;
+    keeps_both(pool, alloc, &copies)
 }
 
 #[test]
@@ -93,11 +226,8 @@ fn a_full_pool_gives_the_writes_of_all(rt: HostRuntime) -> Result<(), Fail> {
     let alloc = rt.alloc();
     let program = parsed(alloc, TWO_BRANCHES)?;
     let mut pool = pool_of(alloc, &program)?;
-    let copies = copy_jobs(alloc, pool.jobs())?;
-    assert_eq!(rt; pool.site(), 1);
-    assert_eq!(rt; bring(&mut pool, alloc, &copies, 1)?, Came::Kept);
-    assert_eq!(rt; bring(&mut pool, alloc, &copies, 0)?, Came::Kept);
-    assert_eq!(rt; taken(pool)?.pairs(), BOTH_BRANCHES.as_slice());
+    assert!(rt; is_filled(&mut pool, alloc)?);
+    assert!(rt; gives_both(pool));
     Ok(())
 }
 
@@ -109,18 +239,46 @@ fn last_taken(pool: &mut Pool, place: usize) -> Option<u8> {
     }
 }
 
+// Whether the last job alone is taken, and by its place.
+fn is_taken_by_place(pool: &mut Pool, other: usize, last: usize, place: u8) -> bool {
+    let none = last_taken(pool, other).is_none();
+    let taken = last_taken(pool, last) == Some(place);
+    none && taken
+}
+
+// Whether a context is taken as ready.
+fn is_ready(pool: &mut Pool) -> bool {
+    matches!(pool.take_ready(), Some(PoolWork::Ready(_)))
+}
+
+// Whether no context is taken as ready.
+fn is_none_ready(pool: &mut Pool) -> bool {
+    pool.take_ready().is_none()
+}
+
+// Puts a context back. Whether it is the one that is taken as ready.
+fn is_taken_when_ready<'p>(
+    pool: &mut Pool<'p>,
+    alloc: Global,
+    jobs: &[Job<'p>],
+) -> Result<bool, Fail> {
+    let put = unblocked(pool, (), waiting(alloc, jobs)?);
+    let one = pool.ready_count() == 1;
+    let ready = is_ready(pool);
+    let none = is_none_ready(pool);
+    Ok(put && one && ready && none)
+}
+
+// Takes both jobs, then a context. Whether that leaves nothing.
+fn leaves_nothing<'p>(pool: &mut Pool<'p>, alloc: Global, jobs: &[Job<'p>]) -> Result<bool, Fail> {
+    let second = is_taken_by_place(pool, 0, 1, 1);
+    let first = is_taken_by_place(pool, 1, 0, 0);
+    let ready = is_taken_when_ready(pool, alloc, jobs)?;
+    Ok(entered(pool, ()) == Answer::Nothing && first && second && ready)
+}
+
 #[test]
 fn the_last_job_is_taken_by_its_place(rt: HostRuntime) -> Result<(), Fail> {
-    let alloc = rt.alloc();
-    let program = parsed(alloc, TWO_BRANCHES)?;
-    let mut pool = pool_of(alloc, &program)?;
-    let copies = copy_jobs(alloc, pool.jobs())?;
-    assert!(rt; last_taken(&mut pool, 0) == None && last_taken(&mut pool, 1) == Some(1));
-    assert!(rt; last_taken(&mut pool, 1) == None && last_taken(&mut pool, 0) == Some(0));
-    assert!(rt; unblocked(&mut pool, waiting(alloc, &copies)?) && pool.ready_count() == 1);
-    assert!(rt;
-        matches!(pool.take_ready(), Some(PoolWork::Ready(_))) && pool.take_ready().is_none()
-    );
-    assert_eq!(rt; answer_of(pool.enter(())), Answer::Nothing);
+    assert!(rt; holds(rt.alloc(), Look::Last)?);
     Ok(())
 }

@@ -1,8 +1,8 @@
 //! Pools whose codes stand in rows.
 ghost use Rattle.std.specs.Prelude.{◌≡◌, ◌<◌, IfOk};
 
-use crate::hands::{entered, finds, is_offered, own_rows, shared_pool};
-use crate::pools::answer_of;
+use crate::hands::{Look, holds, is_offered, shared_pool};
+use crate::pools::{answer_of, entered, finds};
 use deque_rows::{HartRows, rows};
 use forkjoin_sched::{PoolHand, SharedPool};
 use sample_programs::{Answer, TWO_BRANCHES, parsed};
@@ -18,40 +18,46 @@ fn put<R>(hand: &mut PoolHand<'_, '_, '_, R>, code: u32) {
     }
 }
 
+// Puts two codes into the hart's own row, if it has room.
+fn put_both<R>(hand: &mut PoolHand<'_, '_, '_, R>, first: u32, second: u32) {
+    put(hand, first);
+    put(hand, second);
+}
+
+// What a hart finds of the second piece, and nothing else.
+const LAST_PIECE: &[Answer] = &[Answer::Begins(1), Answer::Nothing];
+
+/// Whether codes of other jobs are let go, and such of jobs that are begun.
+pub fn lets_go<'a, R: Wait + 'a>(rt: &'a R, hand: &mut PoolHand<'a, '_, '_, R>) -> bool {
+    let offered = is_offered(rt, hand);
+    // The one is of site 5, the other of a place that the pool doesn't have.
+    put_both(hand, 320, 66);
+    let first = entered(hand, rt) == Answer::Begins(0);
+    // Those of jobs that are begun.
+    put_both(hand, 64, 64);
+    let last = finds(hand, rt, LAST_PIECE);
+    offered && first && last
+}
+
 #[test]
 fn a_code_of_no_job_of_the_pool_is_let_go(rt: HostRuntime) -> Result<(), Fail> {
-    let alloc = rt.alloc();
-    let program = parsed(alloc, TWO_BRANCHES)?;
-    let shared = shared_pool(alloc, &program)?;
-    let mut rows = own_rows(alloc)?;
-    let mut hand = PoolHand::new(&shared, &mut rows, 0, 1);
-    assert!(rt; is_offered(&rt, &mut hand));
-    // The one is of site 5, the other of a place that the pool doesn't have.
-    put(&mut hand, 320);
-    put(&mut hand, 66);
-    assert_eq!(rt; entered(&rt, &mut hand), Answer::Begins(0));
-    // Those of jobs that are begun.
-    put(&mut hand, 64);
-    put(&mut hand, 64);
-    assert!(rt; finds(&rt, &mut hand, &[Answer::Begins(1), Answer::Nothing]));
+    assert!(rt; holds(&rt, rt.alloc(), Look::Codes)?);
     Ok(())
 }
 
-// Of a pool of two jobs that weren't offered: whether the first comes from under the lock, and the other by its code.
-fn takes_both_ways<'a, R: Wait + 'a>(rt: &'a R, hand: &mut PoolHand<'a, '_, '_, R>) -> bool {
-    let locked = entered(rt, hand) == Answer::Begins(0) && hand.rows.room(1) == 16_384;
-    let offered = is_offered(rt, hand) && hand.rows.room(1) == 16_383;
-    locked && offered && finds(rt, hand, &[Answer::Begins(1), Answer::Nothing])
+/// Of a pool of two jobs that weren't offered: whether the first comes from under the lock, and the other by its code.
+pub fn takes_both_ways<'a, R: Wait + 'a>(rt: &'a R, hand: &mut PoolHand<'a, '_, '_, R>) -> bool {
+    let locked = entered(hand, rt) == Answer::Begins(0);
+    let before = hand.rows.room(1) == 16_384;
+    let offered = is_offered(rt, hand);
+    let after = hand.rows.room(1) == 16_383;
+    let last = finds(hand, rt, LAST_PIECE);
+    locked && before && offered && after && last
 }
 
 #[test]
 fn jobs_that_are_not_offered_are_handed_out_under_the_lock(rt: HostRuntime) -> Result<(), Fail> {
-    let alloc = rt.alloc();
-    let program = parsed(alloc, TWO_BRANCHES)?;
-    let shared = shared_pool(alloc, &program)?;
-    let mut rows = own_rows(alloc)?;
-    let mut hand = PoolHand::new(&shared, &mut rows, 0, 1);
-    assert!(rt; takes_both_ways(&rt, &mut hand));
+    assert!(rt; holds(&rt, rt.alloc(), Look::BothWays)?);
     Ok(())
 }
 
@@ -89,9 +95,21 @@ fn is_shared_out<'a, R: Wait + 'a>(
 {
     let offered = is_offered(rt, home);
     let steals = found_once(rt, shared, guest) == Answer::Begins(1);
-    let pops = entered(rt, home) == Answer::Begins(0);
+    let pops = entered(home, rt) == Answer::Begins(0);
     let none = found_once(rt, shared, guest) == Answer::Nothing;
-    offered && steals && pops && none && entered(rt, home) == Answer::Nothing
+    let nothing = entered(home, rt) == Answer::Nothing;
+    offered && steals && pops && none && nothing
+}
+
+// The same by the rows of two harts.
+fn is_shared_by_two<'x, R: Wait>(
+    rt: &'x R,
+    alloc: Global,
+    shared: &'x SharedPool,
+) -> Result<bool, Fail> {
+    let (mut first, mut second) = rows_of_two(alloc)?;
+    let mut home = PoolHand::new(shared, &mut first, 0, 1);
+    Ok(is_shared_out(rt, shared, &mut home, &mut second))
 }
 
 #[test]
@@ -99,8 +117,6 @@ fn the_home_pops_and_a_guest_steals(rt: HostRuntime) -> Result<(), Fail> {
     let alloc = rt.alloc();
     let program = parsed(alloc, TWO_BRANCHES)?;
     let shared = shared_pool(alloc, &program)?;
-    let (mut first, mut second) = rows_of_two(alloc)?;
-    let mut home = PoolHand::new(&shared, &mut first, 0, 1);
-    assert!(rt; is_shared_out(&rt, &shared, &mut home, &mut second));
+    assert!(rt; is_shared_by_two(&rt, alloc, &shared)?);
     Ok(())
 }

@@ -1,18 +1,19 @@
 //! Teams that harts share, by one hand.
+ghost use Rattle.claim_words.specs.Seats.{IsOf, kin};
+ghost use Rattle.loop_team.specs.Rows.{RowsFit};
 
 use crate::samples::{
-    CONTEXTS_THEN_MEMBERS, MEMBERS_THEN_WISH, answers, begun, gives, gives_nothing,
-    one_of_two_leaves, opened_by, put_back, team_of,
+    CONTEXTS_THEN_MEMBERS, MEMBERS_THEN_WISH, NONE_OF_FOUR, NOTHING, THREE_OF_FOUR, begun, finds,
+    gives, gives_nothing, has_room, one_of_two_leaves, opened_by, team_of, tells_each,
 };
 use crate::tables::table_of;
 use array_eval::Overlay;
 use array_jobs::Job;
 use array_tree::Program;
 use lithe_barrier::Arrival;
-use loop_team::{SharedTeam, TeamHand, rows_fit};
+use loop_team::{ClaimSeat, ClaimTable, SharedTeam, TeamHand, rows_fit};
 use sample_programs::{
-    Answer, BOTH_PHASES, FIRST_PHASE, SECOND_PHASE, TOLD, TWO_PHASES, first_jobs, parsed, piece_at,
-    tells,
+    BOTH_PHASES, FIRST_PHASE, SECOND_PHASE, TWO_PHASES, first_jobs, parsed, piece_at,
 };
 use sched_api::Scheduler;
 use std::alloc::Global;
@@ -22,6 +23,79 @@ use std::test::Fail;
 /// A shared team of a program that begins with one.
 pub fn shared_team<'p>(alloc: Global, program: &'p Program) -> Result<SharedTeam<'p>, Fail> {
     Ok(SharedTeam::new(alloc, team_of(alloc, program)?)?)
+}
+
+// What a test looks at.
+#[derive(Clone, Copy)]
+enum Look {
+    Whole,
+    Order,
+    Contexts,
+    Once,
+    Nothing,
+    Tells,
+}
+
+// Whether this holds of a hand, beside the jobs of the first phase.
+fn holds_of<'a, 'r, 'p, R: Wait + 'a>(
+    rt: &'a R,
+    hand: &mut TeamHand<'a, 'r, 'p, R>,
+    alloc: Global,
+    jobs: &[Job<'p>],
+    look: Look,
+) -> Result<bool, Fail> {
+    match look {
+        Look::Whole => runs_whole(rt, hand, alloc),
+        Look::Order => Ok(members_go_first(rt, hand)),
+        Look::Contexts => contexts_go_first(rt, hand, alloc, jobs),
+        Look::Once => Ok(is_handed_out_once(rt, hand)),
+        Look::Nothing => leaves_nothing(rt, hand, alloc, jobs),
+        Look::Tells => Ok(tells_all(rt, hand)),
+    }
+}
+
+// The same of a hand on this team, at one lifetime with the runtime.
+fn holds_of_hand<'x, 'p: 'x, R: Wait>(
+    rt: &'x R,
+    shared: &'x SharedTeam<'p>,
+    table: &'x ClaimTable,
+    seat: &mut ClaimSeat,
+    alloc: Global,
+    jobs: &[Job<'p>],
+    look: Look,
+) -> Result<bool, Fail>
+    requires of { IsOf table.now (kin seat.old) }
+    requires rows { RowsFit table.now.counts.items 0 shared.now }
+{
+    let mut hand = TeamHand::new(shared, table, seat, 0);
+    holds_of(rt, &mut hand, alloc, jobs, look)
+}
+
+// The same of a hand on this team by a table of its own.
+fn holds_of_team<'p, R: Wait>(
+    rt: &R,
+    shared: &SharedTeam<'p>,
+    table: &ClaimTable,
+    seat: &mut ClaimSeat,
+    alloc: Global,
+    jobs: &[Job<'p>],
+    look: Look,
+) -> Result<bool, Fail>
+    requires { IsOf table.now (kin seat.old) }
+{
+    if !rows_fit(table, 0, shared.nested()) {
+        return Err(Fail::new("other rows"));
+    }
+    holds_of_hand(rt, shared, table, seat, alloc, jobs, look)
+}
+
+// Whether this holds of a hand on a shared team of three members with two phases.
+fn holds<R: Wait>(rt: &R, alloc: Global, look: Look) -> Result<bool, Fail> {
+    let program = parsed(alloc, TWO_PHASES)?;
+    let jobs = first_jobs(alloc, &program)?;
+    let shared = shared_team(alloc, &program)?;
+    let (table, mut seat) = table_of(alloc)?;
+    holds_of_team(rt, &shared, &table, &mut seat, alloc, &jobs, look)
 }
 
 // Runs the three members of a phase in their order. What the phase wrote.
@@ -47,20 +121,24 @@ fn runs_two<'a, 'r, 'p, R: Wait + 'a>(
     alloc: Global,
 ) -> Result<bool, Fail> {
     let first = run_phase(rt, hand, alloc, 0)?.pairs() == FIRST_PHASE.as_slice();
-    let goes_on = hand.take_out(rt).is_none();
+    let goes_on = stays(rt, hand);
     let second = run_phase(rt, hand, alloc, 1)?.pairs() == SECOND_PHASE.as_slice();
     Ok(first && goes_on && second)
 }
 
-// Whether a team is handed out that gives all that its phases wrote, and no second time.
-fn gives_all<'a, 'r, 'p, R: Wait + 'a>(
-    rt: &'a R,
-    hand: &TeamHand<'a, 'r, 'p, R>,
-) -> Result<bool, Fail> {
+// Hands a team out; whether it gives all that its phases wrote.
+fn gives_all<'a, 'r, 'p, R: Wait + 'a>(rt: &'a R, hand: &TeamHand<'a, 'r, 'p, R>) -> bool {
     match hand.take_out(rt) {
-        Some(team) => Ok(gives(team, BOTH_PHASES.as_slice())? && hand.take_out(rt).is_none()),
-        None => Ok(false),
+        Some(team) => gives(team, BOTH_PHASES.as_slice()),
+        None => false,
     }
+}
+
+// Whether a team is handed out that gives all, and no second time.
+fn gives_once<'a, 'r, 'p, R: Wait + 'a>(rt: &'a R, hand: &TeamHand<'a, 'r, 'p, R>) -> bool {
+    let all = gives_all(rt, hand);
+    let out = stays(rt, hand);
+    all && out
 }
 
 // Runs the whole team. Whether each phase and all together wrote what they should.
@@ -69,61 +147,62 @@ fn runs_whole<'a, 'r, 'p, R: Wait + 'a>(
     hand: &mut TeamHand<'a, 'r, 'p, R>,
     alloc: Global,
 ) -> Result<bool, Fail> {
-    Ok(runs_two(rt, hand, alloc)? && gives_all(rt, hand)?)
+    let two = runs_two(rt, hand, alloc)?;
+    let all = gives_once(rt, hand);
+    Ok(two && all)
 }
 
 #[test]
 fn phases_run_by_hands(rt: HostRuntime) -> Result<(), Fail> {
-    let alloc = rt.alloc();
-    let program = parsed(alloc, TWO_PHASES)?;
-    let shared = shared_team(alloc, &program)?;
-    let (table, mut seat) = table_of(alloc)?;
-    assert!(rt; rows_fit(&table, 0, shared.nested()));
-    let mut hand = TeamHand::new(&shared, &table, &mut seat, 0);
-    let ran = runs_whole(&rt, &mut hand, alloc);
-    drop(hand);
-    assert!(rt; ran?);
+    assert!(rt; holds(&rt, rt.alloc(), Look::Whole)?);
     Ok(())
+}
+
+// Whether members go before the wish of the child that is left.
+fn members_go_first<'a, 'r, 'p, R: Wait + 'a>(
+    rt: &'a R,
+    hand: &mut TeamHand<'a, 'r, 'p, R>,
+) -> bool {
+    one_of_two_leaves(hand, rt);
+    finds(hand, rt, MEMBERS_THEN_WISH)
 }
 
 #[test]
 fn a_hand_answers_as_the_team_does(rt: HostRuntime) -> Result<(), Fail> {
-    let alloc = rt.alloc();
-    let program = parsed(alloc, TWO_PHASES)?;
-    let shared = shared_team(alloc, &program)?;
-    let (table, mut seat) = table_of(alloc)?;
-    assert!(rt; rows_fit(&table, 0, shared.nested()));
-    let mut hand = TeamHand::new(&shared, &table, &mut seat, 0);
-    one_of_two_leaves(&mut hand, &rt);
-    let found = answers(&mut hand, &rt);
-    drop(hand);
-    assert!(rt; found == MEMBERS_THEN_WISH);
+    assert!(rt; holds(&rt, rt.alloc(), Look::Order)?);
     Ok(())
+}
+
+// Puts four contexts back. Whether there was room for three, and they go before the members.
+fn contexts_go_first<'a, 'r, 'p, R: Wait + 'a>(
+    rt: &'a R,
+    hand: &mut TeamHand<'a, 'r, 'p, R>,
+    alloc: Global,
+    jobs: &[Job<'p>],
+) -> Result<bool, Fail> {
+    let room = has_room(hand, rt, alloc, jobs, THREE_OF_FOUR)?;
+    let first = finds(hand, rt, CONTEXTS_THEN_MEMBERS);
+    Ok(room && first)
 }
 
 #[test]
 fn a_hand_puts_contexts_back(rt: HostRuntime) -> Result<(), Fail> {
-    let alloc = rt.alloc();
-    let program = parsed(alloc, TWO_PHASES)?;
-    let jobs = first_jobs(alloc, &program)?;
-    let shared = shared_team(alloc, &program)?;
-    let (table, mut seat) = table_of(alloc)?;
-    assert!(rt; rows_fit(&table, 0, shared.nested()));
-    let mut hand = TeamHand::new(&shared, &table, &mut seat, 0);
-    let taken = put_back(&mut hand, &rt, alloc, &jobs);
-    let found = answers(&mut hand, &rt);
-    drop(hand);
-    assert!(rt; taken? == [true, true, true, false]);
-    assert!(rt; found == CONTEXTS_THEN_MEMBERS);
+    assert!(rt; holds(&rt, rt.alloc(), Look::Contexts)?);
     Ok(())
+}
+
+// Whether a team has failed, and whether it is over.
+fn state<'a, 'r, 'p, R: Wait + 'a>(rt: &'a R, hand: &TeamHand<'a, 'r, 'p, R>) -> (bool, bool) {
+    (hand.has_failed(rt), hand.is_over(rt))
 }
 
 // Tries to fail a place that isn't there, then one that is. Whether the team was failed and over at the end alone.
 fn fails<'a, 'r, 'p, R: Wait + 'a>(rt: &'a R, hand: &TeamHand<'a, 'r, 'p, R>) -> bool {
     hand.fail(rt, 3);
-    let goes_on = !hand.has_failed(rt) && !hand.is_over(rt);
+    let goes_on = state(rt, hand) == (false, false);
     hand.fail(rt, 1);
-    goes_on && hand.has_failed(rt) && hand.is_over(rt)
+    let ends = state(rt, hand) == (true, true);
+    goes_on && ends
 }
 
 // Fails a team and hands it out. Whether it gives nothing.
@@ -137,25 +216,39 @@ fn hands_out_failed<'a, 'r, 'p, R: Wait + 'a>(rt: &'a R, hand: &TeamHand<'a, 'r,
     }
 }
 
+// Whether a team isn't handed out, since it was before or isn't over.
+fn stays<'a, 'r, 'p, R: Wait + 'a>(rt: &'a R, hand: &TeamHand<'a, 'r, 'p, R>) -> bool {
+    hand.take_out(rt).is_none()
+}
+
 // Of a team that was handed out, whether it isn't again, and is over and not failed also after a place failed.
 fn stays_over<'a, 'r, 'p, R: Wait + 'a>(rt: &'a R, hand: &TeamHand<'a, 'r, 'p, R>) -> bool {
     hand.fail(rt, 0);
-    hand.take_out(rt).is_none() && hand.is_over(rt) && !hand.has_failed(rt)
+    let out = stays(rt, hand);
+    let over = state(rt, hand) == (false, true);
+    out && over
+}
+
+// Fails a team, hands it out, and looks again. Whether it gives nothing and stays over.
+fn is_handed_out_once<'a, 'r, 'p, R: Wait + 'a>(rt: &'a R, hand: &TeamHand<'a, 'r, 'p, R>) -> bool {
+    hands_out_failed(rt, hand) && stays_over(rt, hand)
 }
 
 #[test]
 fn a_failed_team_is_handed_out_once(rt: HostRuntime) -> Result<(), Fail> {
-    let alloc = rt.alloc();
-    let program = parsed(alloc, TWO_PHASES)?;
-    let shared = shared_team(alloc, &program)?;
-    let (table, mut seat) = table_of(alloc)?;
-    assert!(rt; rows_fit(&table, 0, shared.nested()));
-    let hand = TeamHand::new(&shared, &table, &mut seat, 0);
-    let out = hands_out_failed(&rt, &hand);
-    let over = stays_over(&rt, &hand);
-    drop(hand);
-    assert!(rt; out && over);
+    assert!(rt; holds(&rt, rt.alloc(), Look::Once)?);
     Ok(())
+}
+
+// Whether the piece of the first job is a stranger.
+fn is_stranger<'a, 'r, 'p, R: Wait + 'a>(
+    rt: &'a R,
+    hand: &TeamHand<'a, 'r, 'p, R>,
+    alloc: Global,
+    jobs: &[Job<'p>],
+) -> Result<bool, Fail> {
+    let piece = piece_at(alloc, jobs, 0)?;
+    Ok(matches!(hand.arrive(rt, piece)?, Arrival::Stranger(_)))
 }
 
 // Of a team that was handed out: whether it has nothing for a hart, no room for a context, and no place for a piece.
@@ -165,48 +258,51 @@ fn has_nothing<'a, 'r, 'p, R: Wait + 'a>(
     alloc: Global,
     jobs: &[Job<'p>],
 ) -> Result<bool, Fail> {
-    let found = answers(hand, rt) == [Answer::Nothing; 5];
-    let full = put_back(hand, rt, alloc, jobs)? == [false; 4];
-    let piece = piece_at(alloc, jobs, 0)?;
-    Ok(found && full && matches!(hand.arrive(rt, piece)?, Arrival::Stranger(_)))
+    let found = finds(hand, rt, NOTHING);
+    let full = has_room(hand, rt, alloc, jobs, NONE_OF_FOUR)?;
+    let stranger = is_stranger(rt, hand, alloc, jobs)?;
+    Ok(found && full && stranger)
+}
+
+// Fails a team and hands it out. Whether it then has nothing.
+fn leaves_nothing<'a, 'r, 'p, R: Wait + 'a>(
+    rt: &'a R,
+    hand: &mut TeamHand<'a, 'r, 'p, R>,
+    alloc: Global,
+    jobs: &[Job<'p>],
+) -> Result<bool, Fail> {
+    if !hands_out_failed(rt, hand) {
+        return Ok(false);
+    }
+    has_nothing(rt, hand, alloc, jobs)
 }
 
 #[test]
 fn nothing_is_left_of_a_team_that_is_handed_out(rt: HostRuntime) -> Result<(), Fail> {
-    let alloc = rt.alloc();
-    let program = parsed(alloc, TWO_PHASES)?;
-    let jobs = first_jobs(alloc, &program)?;
-    let shared = shared_team(alloc, &program)?;
-    let (table, mut seat) = table_of(alloc)?;
-    assert!(rt; rows_fit(&table, 0, shared.nested()));
-    let mut hand = TeamHand::new(&shared, &table, &mut seat, 0);
-    let out = hands_out_failed(&rt, &hand);
-    let nothing = has_nothing(&rt, &mut hand, alloc, &jobs);
-    drop(hand);
-    let nothing = nothing?;
-    assert!(rt; out && nothing);
+    assert!(rt; holds(&rt, rt.alloc(), Look::Nothing)?);
     Ok(())
 }
 
-// Whether a hand tells each call that a scheduler hears, and its site, before and after its team is handed out.
+// Whether a hand on a team of three members tells its site, and each call that a scheduler hears, before and after its team
+// is handed out.
 fn tells_all<'a, 'r, 'p, R: Wait + 'a>(rt: &'a R, hand: &mut TeamHand<'a, 'r, 'p, R>) -> bool {
-    let before = hand.site() == 1 && tells(hand, rt) == TOLD;
-    before && hands_out_failed(rt, hand) && tells(hand, rt) == TOLD
+    let shape = (hand.site(), hand.shared.nested().members()) == (1, 3);
+    let before = tells_each(hand, rt);
+    let out = hands_out_failed(rt, hand);
+    let after = tells_each(hand, rt);
+    shape && before && out && after
 }
 
 #[test]
 fn a_hand_tells_what_it_hears(rt: HostRuntime) -> Result<(), Fail> {
-    let alloc = rt.alloc();
-    let program = parsed(alloc, TWO_PHASES)?;
-    let shared = shared_team(alloc, &program)?;
-    let (table, mut seat) = table_of(alloc)?;
-    assert!(rt; shared.nested().members() == 3);
-    assert!(rt; rows_fit(&table, 0, shared.nested()));
-    let mut hand = TeamHand::new(&shared, &table, &mut seat, 0);
-    let told = tells_all(&rt, &mut hand);
-    drop(hand);
-    assert!(rt; told);
+    assert!(rt; holds(&rt, rt.alloc(), Look::Tells)?);
     Ok(())
+}
+
+// Whether the rows of a table fit a team from this one on.
+fn fit(alloc: Global, shared: &SharedTeam, row: u16) -> Result<bool, Fail> {
+    let (table, _seat) = table_of(alloc)?;
+    Ok(rows_fit(&table, row, shared.nested()))
 }
 
 #[test]
@@ -214,7 +310,6 @@ fn rows_of_another_shape_don_t_fit(rt: HostRuntime) -> Result<(), Fail> {
     let alloc = rt.alloc();
     let program = parsed(alloc, TWO_PHASES)?;
     let shared = shared_team(alloc, &program)?;
-    let (table, _seat) = table_of(alloc)?;
-    assert!(rt; !rows_fit(&table, 1, shared.nested()));
+    assert!(rt; !fit(alloc, &shared, 1)?);
     Ok(())
 }

@@ -6,7 +6,7 @@ use array_tree::Program;
 use contexts::Paused;
 use lithe_barrier::Arrival;
 use loop_team::{Team, TeamWork};
-use sample_programs::{Answer, first_construct, waiting};
+use sample_programs::{Answer, TOLD, first_construct, tells, waiting};
 use sched_api::{Next, Scheduler};
 use std::alloc::Global;
 use std::test::Fail;
@@ -23,7 +23,7 @@ pub const THIRD_PHASE: [(u16, i64); 2] = [(4, 11), (5, 12)];
 pub const ALL_PHASES: [(u16, i64); 6] = [(0, 1), (1, 2), (2, 2), (3, 1), (4, 11), (5, 12)];
 
 /// What a hart finds of three members, and nothing else.
-pub const MEMBERS: [Answer; 5] = [
+pub const MEMBERS: &[Answer] = &[
     Answer::Begins(0),
     Answer::Begins(1),
     Answer::Begins(2),
@@ -32,7 +32,7 @@ pub const MEMBERS: [Answer; 5] = [
 ];
 
 /// The same where child 5 wishes for a hart.
-pub const MEMBERS_THEN_WISH: [Answer; 5] = [
+pub const MEMBERS_THEN_WISH: &[Answer] = &[
     Answer::Begins(0),
     Answer::Begins(1),
     Answer::Begins(2),
@@ -41,13 +41,28 @@ pub const MEMBERS_THEN_WISH: [Answer; 5] = [
 ];
 
 /// The same where three contexts are ready.
-pub const CONTEXTS_THEN_MEMBERS: [Answer; 5] = [
+pub const CONTEXTS_THEN_MEMBERS: &[Answer] = &[
     Answer::GoesOn,
     Answer::GoesOn,
     Answer::GoesOn,
     Answer::Begins(0),
     Answer::Begins(1),
 ];
+
+/// What a hart finds that finds nothing five times.
+pub const NOTHING: &[Answer] = &[
+    Answer::Nothing,
+    Answer::Nothing,
+    Answer::Nothing,
+    Answer::Nothing,
+    Answer::Nothing,
+];
+
+/// Room for three contexts of four.
+pub const THREE_OF_FOUR: &[bool] = &[true, true, true, false];
+
+/// Room for none of four.
+pub const NONE_OF_FOUR: &[bool] = &[false, false, false, false];
 
 /// The team of a program that begins with one.
 pub fn team_of<'p>(alloc: Global, program: &'p Program) -> Result<Team<'p>, Fail> {
@@ -73,18 +88,47 @@ pub fn entered<'p, S: Scheduler<Ctx = TeamWork<'p>>>(scheduler: &mut S, hold: S:
     answer_of(scheduler.enter(hold))
 }
 
-/// What a hart finds that enters five times.
-pub fn answers<'p, S: Scheduler<Ctx = TeamWork<'p>>>(
+/// Whether a hart finds this again and again.
+pub fn finds<'p, S: Scheduler<Ctx = TeamWork<'p>>>(
     scheduler: &mut S,
     hold: S::Hold,
-) -> [Answer; 5] {
-    [
-        entered(scheduler, hold),
-        entered(scheduler, hold),
-        entered(scheduler, hold),
-        entered(scheduler, hold),
-        entered(scheduler, hold),
-    ]
+    answers: &[Answer],
+) -> bool {
+    for answer in answers {
+        if entered(scheduler, hold) != *answer {
+            return false;
+        }
+    }
+    true
+}
+
+/// Whether a scheduler tells each call that it hears.
+pub fn tells_each<S: Scheduler>(scheduler: &mut S, hold: S::Hold) -> bool {
+    tells(scheduler, hold) == TOLD
+}
+
+// The job of a member that begins. It fails where anything else was found.
+fn member<'p>(next: Next<TeamWork<'p>>) -> Result<Job<'p>, Fail> {
+    match next {
+        Next::Run(TeamWork::Begin(job)) => Ok(job),
+        Next::Run(TeamWork::Ready(_)) | Next::Lend(_) | Next::Nothing => {
+            Err(Fail::new("no member begins"))
+        }
+    }
+}
+
+/// The piece of what a hart found, which must be this member of this phase.
+pub fn piece_of_found<'p>(
+    found: Next<TeamWork<'p>>,
+    alloc: Global,
+    phase: u8,
+    place: u8,
+) -> Result<Piece<'p>, Fail> {
+    let job = member(found)?;
+    if (job.phase, job.place) != (phase, place) {
+        return Err(Fail::new("another member"));
+    }
+    Ok(piece_of(alloc, job)?)
 }
 
 /// The piece of the member that begins next, which must be this one of this phase.
@@ -95,12 +139,7 @@ pub fn begun<'p, S: Scheduler<Ctx = TeamWork<'p>>>(
     phase: u8,
     place: u8,
 ) -> Result<Piece<'p>, Fail> {
-    match scheduler.enter(hold) {
-        Next::Run(TeamWork::Begin(job)) if job.phase == phase && job.place == place => {
-            Ok(piece_of(alloc, job)?)
-        }
-        _ => Err(Fail::new("another member")),
-    }
+    piece_of_found(scheduler.enter(hold), alloc, phase, place)
 }
 
 // Puts a context back; whether there was room.
@@ -115,8 +154,8 @@ fn unblocked<'p, S: Scheduler<Ctx = TeamWork<'p>>>(
     }
 }
 
-/// Puts four contexts back; whether there was room for each.
-pub fn put_back<'p, S: Scheduler<Ctx = TeamWork<'p>>>(
+// Puts four contexts back; whether there was room for each.
+fn put_back<'p, S: Scheduler<Ctx = TeamWork<'p>>>(
     scheduler: &mut S,
     hold: S::Hold,
     alloc: Global,
@@ -127,6 +166,18 @@ pub fn put_back<'p, S: Scheduler<Ctx = TeamWork<'p>>>(
     let third = unblocked(scheduler, hold, waiting(alloc, jobs)?);
     let fourth = unblocked(scheduler, hold, waiting(alloc, jobs)?);
     Ok([first, second, third, fourth])
+}
+
+/// Puts four contexts back. Whether there was room for these of them.
+pub fn has_room<'p, S: Scheduler<Ctx = TeamWork<'p>>>(
+    scheduler: &mut S,
+    hold: S::Hold,
+    alloc: Global,
+    jobs: &[Job<'p>],
+    expected: &[bool],
+) -> Result<bool, Fail> {
+    let rooms = put_back(scheduler, hold, alloc, jobs)?;
+    Ok(rooms.as_slice() == expected)
 }
 
 /// Children 2 and 5 ask for a hart each, and child 2 leaves.
@@ -145,15 +196,38 @@ pub fn opened_by(arrival: Arrival) -> Result<Option<Overlay>, Fail> {
     }
 }
 
-/// Whether a team is over, hasn't failed, and gives these writes.
-pub fn gives(team: Team, expected: &[(u16, i64)]) -> Result<bool, Fail> {
-    if !team.is_over() || team.has_failed() {
-        return Ok(false);
+// What a team gives that is over. A failed one, and one that isn't over, give nothing.
+fn taken(team: Team) -> Option<Overlay> {
+    if !team.is_over() {
+        return None;
     }
-    Ok(team.take_all()?.pairs() == expected)
+    team.take_all().ok()
+}
+
+// Whether a team is over, and has failed or not.
+fn is_over(team: &Team, failed: bool) -> bool {
+    let over = team.is_over();
+    over && team.has_failed() == failed
+}
+
+// Whether there is an overlay of these writes.
+fn is_written(overlay: Option<Overlay>, expected: &[(u16, i64)]) -> bool {
+    match overlay {
+        Some(written) => written.pairs() == expected,
+        None => false,
+    }
+}
+
+/// Whether a team is over, hasn't failed, and gives these writes.
+pub fn gives(team: Team, expected: &[(u16, i64)]) -> bool {
+    let whole = is_over(&team, false);
+    let written = is_written(taken(team), expected);
+    whole && written
 }
 
 /// Whether a team is over, has failed, and gives nothing.
 pub fn gives_nothing(team: Team) -> bool {
-    team.is_over() && team.has_failed() && team.take_all().is_err()
+    let failed = is_over(&team, true);
+    let nothing = taken(team).is_none();
+    failed && nothing
 }

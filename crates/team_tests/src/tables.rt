@@ -19,3 +19,17 @@ pub fn table_of(alloc: Global) -> Result<(ClaimTable, ClaimSeat), Fail>
     };
     Ok((table, seat))
 }
+
+/// A table of these rows, and its two seats.
+pub fn table_of_two(alloc: Global) -> Result<(ClaimTable, ClaimSeat, ClaimSeat), Fail>
+    ensures { IfOk result (λ t. IsOf t.0 (kin t.1) × IsOf t.0 (kin t.2)) }
+{
+    let (table, mut seats) = ClaimTable::new(alloc, &TWO_ROWS, 2)?;
+    let Some(other) = seats.pop() else {
+        unreachable!()
+    };
+    let Some(one) = seats.pop() else {
+        unreachable!()
+    };
+    Ok((table, one, other))
+}

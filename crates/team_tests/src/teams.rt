@@ -1,48 +1,117 @@
 //! Teams.
 
 use crate::samples::{
-    ALL_PHASES, CONTEXTS_THEN_MEMBERS, MEMBERS, MEMBERS_THEN_WISH, THIRD_PHASE, THREE_PHASES,
-    answers, begun, entered, gives, gives_nothing, one_of_two_leaves, opened_by, put_back, team_of,
+    ALL_PHASES, CONTEXTS_THEN_MEMBERS, MEMBERS, MEMBERS_THEN_WISH, THIRD_PHASE, THREE_OF_FOUR,
+    THREE_PHASES, begun, entered, finds, gives, gives_nothing, has_room, one_of_two_leaves,
+    opened_by, team_of, tells_each,
 };
 use array_eval::Overlay;
-use array_jobs::Job;
-use array_tree::Program;
+use array_jobs::{Job, Piece};
 use lithe_barrier::Arrival;
 use loop_team::Team;
 use sample_programs::{
-    Answer, BOTH_PHASES, FIRST_PHASE, SECOND_PHASE, TOLD, TWO_PHASES, first_jobs, parsed, piece_at,
-    tells,
+    Answer, BOTH_PHASES, FIRST_PHASE, SECOND_PHASE, TWO_PHASES, first_jobs, parsed, piece_at,
 };
 use sched_api::Scheduler;
 use std::alloc::Global;
 use std::test::Fail;
 
+// What a test looks at.
+#[derive(Clone, Copy)]
+enum Look {
+    Second,
+    Third,
+    Barrier,
+    Wishes,
+    Contexts,
+    Stranger,
+    Failed,
+    Tells,
+}
+
+// Whether this holds of a team, beside the jobs of its first phase.
+fn holds_of<'p>(team: Team<'p>, alloc: Global, jobs: &[Job<'p>], look: Look) -> Result<bool, Fail> {
+    match look {
+        Look::Second => second_follows(team, alloc),
+        Look::Third => third_follows(team, alloc),
+        Look::Barrier => waits_between(team, alloc, jobs),
+        Look::Wishes => Ok(members_go_first(team)),
+        Look::Contexts => contexts_go_first(team, alloc, jobs),
+        Look::Stranger => turns_away(team, alloc, jobs),
+        Look::Failed => Ok(fails(team)),
+        Look::Tells => Ok(tells_all(team)),
+    }
+}
+
+// Whether it holds of the team of a program that begins with one.
+fn holds(alloc: Global, text: &[u8], look: Look) -> Result<bool, Fail> {
+    let program = parsed(alloc, text)?;
+    let jobs = first_jobs(alloc, &program)?;
+    holds_of(team_of(alloc, &program)?, alloc, &jobs, look)
+}
+
+// Brings a piece. What its phase wrote, where it was the last one.
+fn opened<'p>(team: &mut Team<'p>, piece: Piece<'p>) -> Result<Option<Overlay>, Fail> {
+    opened_by(team.arrive(piece)?)
+}
+
+// Runs the member that begins next, which must be this one. What its phase wrote, where it was the last one.
+fn run_member(
+    team: &mut Team,
+    alloc: Global,
+    phase: u8,
+    place: u8,
+) -> Result<Option<Overlay>, Fail> {
+    let piece = begun(team, (), alloc, phase, place)?;
+    opened(team, piece)
+}
+
 // Runs the members of a phase in their order. What the phase wrote.
 fn run_phase(team: &mut Team, alloc: Global, phase: u8, members: u8) -> Result<Overlay, Fail> {
     for place in 0..members {
-        let piece = begun(team, (), alloc, phase, place)?;
-        if let Some(written) = opened_by(team.arrive(piece)?)? {
+        if let Some(written) = run_member(team, alloc, phase, place)? {
             return Ok(written);
         }
     }
     Err(Fail::new("it didn't open"))
 }
 
+// Runs the members of a phase in their order. Whether the phase wrote this.
+fn writes(
+    team: &mut Team,
+    alloc: Global,
+    phase: u8,
+    members: u8,
+    expected: &[(u16, i64)],
+) -> Result<bool, Fail> {
+    let written = run_phase(team, alloc, phase, members)?;
+    Ok(written.pairs() == expected)
+}
+
+// Whether nobody finds anything.
+fn is_idle(team: &mut Team) -> bool {
+    entered(team, ()) == Answer::Nothing
+}
+
 // Runs two phases of three members. Whether each wrote what it should, and the team was over after the second alone.
 fn runs_two(team: &mut Team, alloc: Global) -> Result<bool, Fail> {
-    let first = run_phase(team, alloc, 0, 3)?.pairs() == FIRST_PHASE.as_slice();
-    let goes_on = !team.is_over();
-    let second = run_phase(team, alloc, 1, 3)?.pairs() == SECOND_PHASE.as_slice();
-    Ok(first && goes_on && second && entered(team, ()) == Answer::Nothing)
+    let first = writes(team, alloc, 0, 3, FIRST_PHASE.as_slice())?;
+    let over = team.is_over();
+    let second = writes(team, alloc, 1, 3, SECOND_PHASE.as_slice())?;
+    Ok(first && !over && second)
+}
+
+// Runs two phases. Whether that leaves nothing to do, and the team gives what both wrote.
+fn second_follows(mut team: Team, alloc: Global) -> Result<bool, Fail> {
+    let ran = runs_two(&mut team, alloc)?;
+    let idle = is_idle(&mut team);
+    let all = gives(team, BOTH_PHASES.as_slice());
+    Ok(ran && idle && all)
 }
 
 #[test]
 fn a_second_phase_follows_the_first(rt: HostRuntime) -> Result<(), Fail> {
-    let alloc = rt.alloc();
-    let program = parsed(alloc, TWO_PHASES)?;
-    let mut team = team_of(alloc, &program)?;
-    assert!(rt; runs_two(&mut team, alloc)?);
-    assert!(rt; gives(team, BOTH_PHASES.as_slice())?);
+    assert!(rt; holds(rt.alloc(), TWO_PHASES, Look::Second)?);
     Ok(())
 }
 
@@ -50,18 +119,21 @@ fn a_second_phase_follows_the_first(rt: HostRuntime) -> Result<(), Fail> {
 fn runs_three(team: &mut Team, alloc: Global) -> Result<bool, Fail> {
     run_phase(team, alloc, 0, 2)?;
     run_phase(team, alloc, 1, 2)?;
-    let goes_on = !team.is_over();
-    let third = run_phase(team, alloc, 2, 2)?.pairs() == THIRD_PHASE.as_slice();
-    Ok(goes_on && third)
+    let over = team.is_over();
+    let third = writes(team, alloc, 2, 2, THIRD_PHASE.as_slice())?;
+    Ok(!over && third)
+}
+
+// Runs three phases. Whether the team gives what all wrote.
+fn third_follows(mut team: Team, alloc: Global) -> Result<bool, Fail> {
+    let ran = runs_three(&mut team, alloc)?;
+    let all = gives(team, ALL_PHASES.as_slice());
+    Ok(ran && all)
 }
 
 #[test]
 fn a_third_phase_follows_the_second(rt: HostRuntime) -> Result<(), Fail> {
-    let alloc = rt.alloc();
-    let program = parsed(alloc, THREE_PHASES)?;
-    let mut team = team_of(alloc, &program)?;
-    assert!(rt; runs_three(&mut team, alloc)?);
-    assert!(rt; gives(team, ALL_PHASES.as_slice())?);
+    assert!(rt; holds(rt.alloc(), THREE_PHASES, Look::Third)?);
     Ok(())
 }
 
@@ -73,67 +145,69 @@ fn opens<'p>(
     place: usize,
 ) -> Result<bool, Fail> {
     let piece = piece_at(alloc, jobs, place)?;
-    Ok(opened_by(team.arrive(piece)?)?.is_some())
+    Ok(opened(team, piece)?.is_some())
+}
+
+// Brings the piece of one of the jobs. Whether its phase doesn't open, and nobody begins.
+fn waits<'p>(
+    team: &mut Team<'p>,
+    alloc: Global,
+    jobs: &[Job<'p>],
+    place: usize,
+) -> Result<bool, Fail> {
+    let opens = opens(team, alloc, jobs, place)?;
+    let idle = is_idle(team);
+    Ok(!opens && idle)
 }
 
 // Brings the pieces of all three members. Whether nobody begins before the last of them.
 fn waits_for_all<'p>(team: &mut Team<'p>, alloc: Global, jobs: &[Job<'p>]) -> Result<bool, Fail> {
-    let third = opens(team, alloc, jobs, 2)?;
-    let waits = entered(team, ()) == Answer::Nothing;
-    let first = opens(team, alloc, jobs, 0)?;
-    let still_waits = entered(team, ()) == Answer::Nothing;
+    let third = waits(team, alloc, jobs, 2)?;
+    let first = waits(team, alloc, jobs, 0)?;
     let second = opens(team, alloc, jobs, 1)?;
-    Ok(!third && waits && !first && still_waits && second)
+    Ok(third && first && second)
 }
 
 // Runs the first phase. Whether its members and those of the second began, and nobody in between.
-fn waits_between<'p>(
-    team: &mut Team<'p>,
-    alloc: Global,
-    program: &'p Program,
-) -> Result<bool, Fail> {
-    let jobs = first_jobs(alloc, program)?;
-    let begins = answers(team, ()) == MEMBERS;
-    let waits = waits_for_all(team, alloc, &jobs)?;
-    Ok(begins && waits && answers(team, ()) == MEMBERS)
+fn waits_between<'p>(mut team: Team<'p>, alloc: Global, jobs: &[Job<'p>]) -> Result<bool, Fail> {
+    let begins = finds(&mut team, (), MEMBERS);
+    let waits = waits_for_all(&mut team, alloc, jobs)?;
+    let begins_next = finds(&mut team, (), MEMBERS);
+    Ok(begins && waits && begins_next)
 }
 
 #[test]
 fn the_next_phase_waits_for_the_barrier(rt: HostRuntime) -> Result<(), Fail> {
-    let alloc = rt.alloc();
-    let program = parsed(alloc, TWO_PHASES)?;
-    let mut team = team_of(alloc, &program)?;
-    assert!(rt; waits_between(&mut team, alloc, &program)?);
+    assert!(rt; holds(rt.alloc(), TWO_PHASES, Look::Barrier)?);
     Ok(())
+}
+
+// Whether members go before the wish of the child that is left.
+fn members_go_first(mut team: Team) -> bool {
+    one_of_two_leaves(&mut team, ());
+    finds(&mut team, (), MEMBERS_THEN_WISH)
 }
 
 #[test]
 fn members_go_before_wishes(rt: HostRuntime) -> Result<(), Fail> {
-    let alloc = rt.alloc();
-    let program = parsed(alloc, TWO_PHASES)?;
-    let mut team = team_of(alloc, &program)?;
-    one_of_two_leaves(&mut team, ());
-    assert!(rt; answers(&mut team, ()) == MEMBERS_THEN_WISH);
+    assert!(rt; holds(rt.alloc(), TWO_PHASES, Look::Wishes)?);
     Ok(())
 }
 
 // Puts four contexts back. Whether there was room for three, and they go before the members.
 fn contexts_go_first<'p>(
-    team: &mut Team<'p>,
+    mut team: Team<'p>,
     alloc: Global,
-    program: &'p Program,
+    jobs: &[Job<'p>],
 ) -> Result<bool, Fail> {
-    let jobs = first_jobs(alloc, program)?;
-    let taken = put_back(team, (), alloc, &jobs)?;
-    Ok(taken == [true, true, true, false] && answers(team, ()) == CONTEXTS_THEN_MEMBERS)
+    let room = has_room(&mut team, (), alloc, jobs, THREE_OF_FOUR)?;
+    let first = finds(&mut team, (), CONTEXTS_THEN_MEMBERS);
+    Ok(room && first)
 }
 
 #[test]
 fn ready_contexts_go_before_members(rt: HostRuntime) -> Result<(), Fail> {
-    let alloc = rt.alloc();
-    let program = parsed(alloc, TWO_PHASES)?;
-    let mut team = team_of(alloc, &program)?;
-    assert!(rt; contexts_go_first(&mut team, alloc, &program)?);
+    assert!(rt; holds(rt.alloc(), TWO_PHASES, Look::Contexts)?);
     Ok(())
 }
 
@@ -144,47 +218,50 @@ fn is_stranger<'p>(team: &mut Team<'p>, alloc: Global, jobs: &[Job<'p>]) -> Resu
 }
 
 // Runs the first phase, and brings a piece of it again. Whether that is a stranger, and the next phase can begin.
-fn turns_away<'p>(team: &mut Team<'p>, alloc: Global, program: &'p Program) -> Result<bool, Fail> {
-    let jobs = first_jobs(alloc, program)?;
-    run_phase(team, alloc, 0, 3)?;
-    let stranger = is_stranger(team, alloc, &jobs)?;
-    Ok(stranger && entered(team, ()) == Answer::Begins(0))
+fn turns_away<'p>(mut team: Team<'p>, alloc: Global, jobs: &[Job<'p>]) -> Result<bool, Fail> {
+    let first = writes(&mut team, alloc, 0, 3, FIRST_PHASE.as_slice())?;
+    let stranger = is_stranger(&mut team, alloc, jobs)?;
+    let begins = entered(&mut team, ()) == Answer::Begins(0);
+    Ok(first && stranger && begins)
 }
 
 #[test]
 fn a_piece_of_an_earlier_phase_is_a_stranger(rt: HostRuntime) -> Result<(), Fail> {
-    let alloc = rt.alloc();
-    let program = parsed(alloc, TWO_PHASES)?;
-    let mut team = team_of(alloc, &program)?;
-    assert!(rt; turns_away(&mut team, alloc, &program)?);
+    assert!(rt; holds(rt.alloc(), TWO_PHASES, Look::Stranger)?);
     Ok(())
 }
 
-// Tells that a member found no memory, where its piece is still to come. Whether it is.
-fn fails(team: &mut Team, place: u8) -> bool {
-    if team.has_failed() || !team.is_open(place) {
+// Tells that the member at place 1 found no memory, where its piece is still to come. Whether it is.
+fn fails_one(team: &mut Team) -> bool {
+    if team.has_failed() || !team.is_open(1) {
         return false;
     }
-    team.fail(place);
+    team.fail(1);
     true
+}
+
+// Whether a team one of whose members fails gives nothing.
+fn fails(mut team: Team) -> bool {
+    let failed = fails_one(&mut team);
+    let nothing = gives_nothing(team);
+    failed && nothing
 }
 
 #[test]
 fn a_failed_team_is_over(rt: HostRuntime) -> Result<(), Fail> {
-    let alloc = rt.alloc();
-    let program = parsed(alloc, TWO_PHASES)?;
-    let mut team = team_of(alloc, &program)?;
-    assert!(rt; fails(&mut team, 1));
-    assert!(rt; gives_nothing(team));
+    assert!(rt; holds(rt.alloc(), TWO_PHASES, Look::Failed)?);
     Ok(())
+}
+
+// Whether a team of three members tells its site, and each call that a scheduler hears.
+fn tells_all(mut team: Team) -> bool {
+    let shape = (team.site(), team.nested().members()) == (1, 3);
+    let told = tells_each(&mut team, ());
+    shape && told
 }
 
 #[test]
 fn a_team_tells_what_it_hears(rt: HostRuntime) -> Result<(), Fail> {
-    let alloc = rt.alloc();
-    let program = parsed(alloc, TWO_PHASES)?;
-    let mut team = team_of(alloc, &program)?;
-    assert!(rt; team.site() == 1 && team.nested().members() == 3);
-    assert!(rt; tells(&mut team, ()) == TOLD);
+    assert!(rt; holds(rt.alloc(), TWO_PHASES, Look::Tells)?);
     Ok(())
 }

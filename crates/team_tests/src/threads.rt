@@ -1,11 +1,11 @@
 //! Two harts on threads that run one team, each by a hand with a seat of its own.
-ghost use Rattle.std.specs.Prelude.{◌≡◌, map};
-ghost use Rattle.claim_words.specs.Seats.{AreAll, IsOf, kin};
+ghost use Rattle.std.specs.Prelude.{◌≡◌};
+ghost use Rattle.claim_words.specs.Seats.{IsOf, kin};
 ghost use Rattle.loop_team.specs.Hands.{IsSameHand};
 ghost use Rattle.loop_team.specs.Rows.{RowsFit};
 
 use crate::hands::shared_team;
-use crate::tables::TWO_ROWS;
+use crate::tables::table_of_two;
 use array_jobs::{Job, piece_of};
 use loop_team::{ClaimSeat, ClaimTable, SharedTeam, TeamHand, TeamWork, rows_fit};
 use sample_programs::{TWO_PHASES, parsed};
@@ -118,44 +118,50 @@ fn run_by_all<'x, 'p: 'x, R: Threads + Wait + Sync>(
     for_each_mut(rt, runners, 2, &|_, runner| run(rt, alloc, runner));
 }
 
-// A hart for each seat.
-fn runners<'x, 'p: 'x>(
+// Runs a team by two harts.
+fn run_by_two<'x, 'p: 'x, R: Threads + Wait + Sync>(
+    rt: &R,
     alloc: Global,
     shared: &'x SharedTeam<'p>,
     table: &'x ClaimTable,
     begun: &'x Begun,
-    seats: Vec<ClaimSeat>,
-) -> Result<Vec<Runner<'x, 'p>>, Fail>
-    requires all { AreAll table.now (map kin seats.items) }
+    one: ClaimSeat,
+    other: ClaimSeat,
+)
+    requires of { IsOf table.now (kin one) × IsOf table.now (kin other) }
     requires rows { RowsFit table.now.counts.items 0 shared.now }
 {
-    let mut runners = Vec::new(alloc);
-    for seat in seats {
-        runners.push(Runner {
+    let mut runners = [
+        Runner {
             shared,
             table,
             begun,
-            seat,
-        })?;
-    }
-    Ok(runners)
+            seat: one,
+        },
+        Runner {
+            shared,
+            table,
+            begun,
+            seat: other,
+        },
+    ];
+    run_by_all(rt, alloc, runners.as_mut_slice());
 }
 
-// Runs a team by two harts. Whether they begin each member of each phase once.
-fn begin_each_once<'p, R: Threads + Wait + Sync>(
+// Whether two harts that run a team begin each member of each phase once.
+fn begin_each_once<R: Threads + Wait + Sync>(
     rt: &R,
     alloc: Global,
-    shared: &SharedTeam<'p>,
+    shared: &SharedTeam,
 ) -> Result<bool, Fail> {
-    let (table, seats) = ClaimTable::new(alloc, &TWO_ROWS, 2)?;
+    let (table, one, other) = table_of_two(alloc)?;
     if !rows_fit(&table, 0, shared.nested()) {
         return Err(Fail::new("other rows"));
     }
     let begun = Begun {
         counts: AtomicU64::new(0),
     };
-    let mut runners = runners(alloc, shared, &table, &begun, seats)?;
-    run_by_all(rt, alloc, runners.as_mut_slice());
+    run_by_two(rt, alloc, shared, &table, &begun, one, other);
     Ok(begun.is_each_once())
 }
 
