@@ -1,7 +1,7 @@
 //! Audits of outputs.
-use crate::serving::{ROOM, RUN, serve, status_of};
+use crate::serving::{ROOM, RUN, serve, serve_within};
 use lithe_call::Status;
-use outside_io::{SureSink, SureSource};
+use outside_io::SureSource;
 use std::alloc::{AllocError, Global};
 use std::process::Abort;
 use std::sync::Wait;
@@ -73,7 +73,7 @@ fn transfers_that_are_no_run_are_illegal(rt: HostRuntime) -> Result<(), Fail> {
         b"illegal: entry 1, s1 is unfinished\n",
         b"",
     )?;
-    assert_eq!(rt; Status::Illegal.number(), 1);
+    assert!(rt; Status::Illegal.number() == 1);
     Ok(())
 }
 
@@ -118,26 +118,47 @@ fn the_program_part_is_read_first(rt: HostRuntime) -> Result<(), Fail> {
     serve(&rt, AUDIT, b"a[0] = 1;\n%%\n", Status::Refused, b"", told)
 }
 
+// A program part of spaces, as long as an audit's may be and one more, and an output of no arrays and no transfers.
+fn long_program(alloc: Global) -> Result<Vec<u8>, AllocError> {
+    let mut text = vec![in alloc; b' '; 65536]?;
+    text.extend_from_slice(b"\n%%\ntransfers 0\n")?;
+    Ok(text)
+}
+
+// Audits such an input, and without its first byte.
+fn program_has_limit<R: AllocGlobal + Abort + Threads + Wait + Sync>(
+    rt: &R,
+    long: &[u8],
+) -> Result<(), Fail> {
+    serve(rt, AUDIT, long, Status::TooLong, b"", b"too long\n")?;
+    let most = long.get(1..).ok_or("an empty input")?;
+    serve(rt, AUDIT, most, Status::Done, b"legal 0\n", b"")
+}
+
 #[test]
 fn both_parts_have_a_limit(rt: HostRuntime) -> Result<(), Fail> {
-    let mut long = vec![in rt.alloc(); b' '; 65536]?;
-    long.extend_from_slice(b"\n%%\ntransfers 0\n")?;
-    serve(&rt, AUDIT, &long, Status::TooLong, b"", b"too long\n")?;
-    let (_, most) = long.split_at(1);
-    serve(&rt, AUDIT, most, Status::Done, b"legal 0\n", b"")?;
+    let long = long_program(rt.alloc())?;
+    program_has_limit(&rt, &long)?;
     let past = vec![in rt.alloc(); b' '; 4194305]?;
     serve(&rt, AUDIT, &past, Status::TooLong, b"", b"too long\n")
 }
 
+// The input of an audit of what a run of the branches writes.
+fn input_of_run<R: AllocGlobal + Threads + Wait + Sync>(rt: &R) -> Result<Vec<u8>, Fail> {
+    let mut source = SureSource::new(rt.alloc(), BRANCHES)?;
+    let served = serve_within(rt, RUN, &mut source, ROOM)?;
+    if served.status != Status::Done {
+        return Err(Fail::new("it isn't done"));
+    }
+    match served.out.bytes() {
+        Some(output) => Ok(input(rt.alloc(), BRANCHES, output)?),
+        None => Err(Fail::new("too little room")),
+    }
+}
+
 #[test]
 fn what_a_run_writes_is_legal(rt: HostRuntime) -> Result<(), Fail> {
-    let mut source = SureSource::new(rt.alloc(), BRANCHES)?;
-    let mut out = SureSink::new(rt.alloc(), ROOM)?;
-    let mut err = SureSink::new(rt.alloc(), ROOM)?;
-    let status = status_of(&rt, RUN, &mut source, &mut out, &mut err)?;
-    assert_eq!(rt; status, Status::Done);
-    let output = out.bytes().ok_or("too little room")?;
-    let text = input(rt.alloc(), BRANCHES, output)?;
+    let text = input_of_run(&rt)?;
     let words = &["audit", "--harts=1"];
     serve(&rt, words, &text, Status::Done, b"legal 2\n", b"")
 }

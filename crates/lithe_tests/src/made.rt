@@ -1,7 +1,9 @@
 //! Made programs, through the top call.
-use crate::serving::{ROOM, serve, status_of};
+ghost use Rattle.std.specs.Prelude.{◌≤◌};
+
+use crate::serving::{serve, serve_no_input};
 use lithe_call::Status;
-use outside_io::{Fill, Source, SureSink, SureSource};
+use std::alloc::Global;
 use std::process::Abort;
 use std::sync::Wait;
 use std::test::Fail;
@@ -32,37 +34,54 @@ fn a_summary_is_the_same_on_one_hart_and_on_four(rt: HostRuntime) -> Result<(), 
     made(&rt, words, SMALL)
 }
 
+// The summary of the made program of a size.
+fn summary_of(alloc: Global, size: u64) -> Result<String, Fail>
+    requires some { 1 ≤ size }
+    requires most { size ≤ 40 }
+{
+    // Each of four sweeps multiplies the grid's sum by 5, and what is added up is the grid, its last sweep and its rows.
+    let cells = size * size;
+    let grid = cells * 14 + 22 * cells * (size - 1) / 2;
+    let (all, sum, sites) = (2 * cells + size, 1875 * grid, 4 * size + 18);
+    let mut summary = String::new(alloc);
+    writeln!(
+        summary,
+        "cells {all}\nsum {sum}\nsites {sites}\nregisters {sites}"
+    )?;
+    Ok(summary)
+}
+
+// The word that gives a size.
+fn size_word(alloc: Global, size: u64) -> Result<String, Fail> {
+    let mut word = String::new(alloc);
+    write!(word, "--size={size}")?;
+    Ok(word)
+}
+
+// Makes the program of a size on four harts, and tests the summary.
+fn made_of_size<R: AllocGlobal + Abort + Threads + Wait + Sync>(
+    rt: &R,
+    size: u64,
+) -> Result<(), Fail>
+    requires some { 1 ≤ size }
+    requires most { size ≤ 40 }
+{
+    let word = size_word(rt.alloc(), size)?;
+    let summary = summary_of(rt.alloc(), size)?;
+    let words = &["make", "--seed=7", word.as_str(), "--harts=4"];
+    made(rt, words, summary.as_bytes())
+}
+
 #[test]
 fn sizes_up_to_forty_run(rt: HostRuntime) -> Result<(), Fail> {
     for third in 0..14u64 {
-        let size = third * 3 + 1;
-        // Each of four sweeps multiplies the grid's sum by 5, and what is added up is the grid, its last sweep and its rows.
-        let cells = size * size;
-        let grid = cells * 14 + 22 * cells * (size - 1) / 2;
-        let (all, sum, sites) = (2 * cells + size, 1875 * grid, 4 * size + 18);
-        let mut word = String::new(rt.alloc());
-        write!(word, "--size={size}")?;
-        let mut summary = String::new(rt.alloc());
-        writeln!(
-            summary,
-            "cells {all}\nsum {sum}\nsites {sites}\nregisters {sites}"
-        )?;
-        let words = &["make", "--seed=7", word.as_str(), "--harts=4"];
-        made(&rt, words, summary.as_bytes())?;
+        made_of_size(&rt, third * 3 + 1)?;
     }
     Ok(())
 }
 
 #[test]
 fn making_leaves_the_source(rt: HostRuntime) -> Result<(), Fail> {
-    let mut source = SureSource::new(rt.alloc(), b"abc")?;
-    let mut out = SureSink::new(rt.alloc(), ROOM)?;
-    let mut err = SureSink::new(rt.alloc(), ROOM)?;
     let words = &["make", "--seed=7", "--size=1", "--harts=2"];
-    let status = status_of(&rt, words, &mut source, &mut out, &mut err)?;
-    assert_eq!(rt; status, Status::Done);
-    assert_eq!(rt; out.bytes(), Some(SMALL));
-    let mut buf = [0; 4];
-    assert_eq!(rt; source.read(&mut buf), Fill::Got(3));
-    Ok(())
+    serve_no_input(&rt, words, Status::Done, SMALL, b"")
 }

@@ -1,7 +1,7 @@
 //! Runs of programs, with source and sinks in memory.
-use crate::serving::{ROOM, RUN, SOLO, serve, status_of};
+use crate::serving::{RUN, SOLO, serve, serve_within};
 use lithe_call::Status;
-use outside_io::{SureSink, SureSource};
+use outside_io::SureSource;
 use std::process::Abort;
 use std::sync::Wait;
 use std::test::Fail;
@@ -159,15 +159,22 @@ fn an_input_has_a_limit(rt: HostRuntime) -> Result<(), Fail> {
     serve(&rt, RUN, &spaces, Status::TooLong, b"", b"too long\n")
 }
 
+// Whether a journal of so many sites is written whole.
+fn is_whole(journal: Option<&[u8]>) -> bool {
+    match journal {
+        Some(text) => {
+            let begins = text.starts_with(b"transfers 8190\n0 h0 register s1 under s0\n");
+            let ends = text.ends_with(b"\n8189 h0 unregister s4095\n");
+            begins && ends
+        }
+        None => false,
+    }
+}
+
 #[test]
 fn the_greatest_journal_is_written_whole(rt: HostRuntime) -> Result<(), Fail> {
     let mut source = SureSource::new(rt.alloc(), b"for k in 0..4095 { par { { } } }")?;
-    let mut out = SureSink::new(rt.alloc(), 1 << 20)?;
-    let mut err = SureSink::new(rt.alloc(), ROOM)?;
-    let status = status_of(&rt, RUN, &mut source, &mut out, &mut err)?;
-    assert_eq!(rt; status, Status::Done);
-    let text = out.bytes().ok_or("too little room")?;
-    assert!(rt; text.starts_with(b"transfers 8190\n0 h0 register s1 under s0\n"));
-    assert!(rt; text.ends_with(b"\n8189 h0 unregister s4095\n"));
+    let served = serve_within(&rt, RUN, &mut source, 1 << 20)?;
+    assert!(rt; served.status == Status::Done && is_whole(served.out.bytes()));
     Ok(())
 }

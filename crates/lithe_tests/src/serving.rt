@@ -1,6 +1,6 @@
 //! Calls of `lithe`, and what is wanted of them.
 use lithe_call::{Status, lithe};
-use outside_io::{OpenGate, Sink, Source, SureSink, SureSource};
+use outside_io::{Fill, OpenGate, Sink, Source, SureSink, SureSource};
 use std::process::Abort;
 use std::sync::Wait;
 use std::test::Fail;
@@ -55,11 +55,66 @@ pub fn serve_source<R: AllocGlobal + Abort + Threads + Wait + Sync, A: Source>(
     out: &[u8],
     err: &[u8],
 ) -> Result<(), Fail> {
-    let mut output = SureSink::new(rt.alloc(), ROOM)?;
-    let mut errors = SureSink::new(rt.alloc(), ROOM)?;
-    let ended = status_of(rt, words, source, &mut output, &mut errors)?;
-    assert_eq!(rt; ended, status);
-    assert_eq!(rt; output.bytes(), Some(out));
-    assert_eq!(rt; errors.bytes(), Some(err));
+    let served = serve_within(rt, words, source, ROOM)?;
+    assert!(rt; served.is(status, out, err));
+    Ok(())
+}
+
+/// What a call came to.
+#[derive(Drop)]
+pub struct Served {
+    pub status: Status,
+    pub out: SureSink,
+    pub err: SureSink,
+}
+
+impl Served {
+    /// Whether it is this status, and the sinks took this.
+    pub fn is(&self, status: Status, out: &[u8], err: &[u8]) -> bool {
+        let output = took(&self.out, out);
+        let errors = took(&self.err, err);
+        self.status == status && output && errors
+    }
+}
+
+/// Whether a sink took just this, all within its room.
+pub fn took(sink: &SureSink, bytes: &[u8]) -> bool {
+    match sink.bytes() {
+        Some(taken) => taken == bytes,
+        None => false,
+    }
+}
+
+/// Serves the words on what the source gives, with so much room for the output.
+pub fn serve_within<R: AllocGlobal + Threads + Wait + Sync, A: Source>(
+    rt: &R,
+    words: &[&str],
+    source: &mut A,
+    room: usize,
+) -> Result<Served, Fail> {
+    let mut out = SureSink::new(rt.alloc(), room)?;
+    let mut err = SureSink::new(rt.alloc(), ROOM)?;
+    let status = status_of(rt, words, source, &mut out, &mut err)?;
+    Ok(Served { status, out, err })
+}
+
+// Whether a source of three bytes still gives them.
+fn gives_three(source: &mut SureSource) -> bool {
+    let mut buf = [0; 4];
+    let got = source.read(&mut buf);
+    got == Fill::Got(3) && buf.as_slice() == b"abc\0".as_slice()
+}
+
+/// Serves words that read no input, and tests the same, and that the source is left.
+pub fn serve_no_input<R: AllocGlobal + Abort + Threads + Wait + Sync>(
+    rt: &R,
+    words: &[&str],
+    status: Status,
+    out: &[u8],
+    err: &[u8],
+) -> Result<(), Fail> {
+    let mut source = SureSource::new(rt.alloc(), b"abc")?;
+    serve_source(rt, words, &mut source, status, out, err)?;
+    assert!(rt; gives_three(&mut source));
     Ok(())
 }

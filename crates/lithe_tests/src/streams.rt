@@ -1,9 +1,13 @@
 //! Streams that fail, by themselves and under the top call.
-use crate::serving::{ROOM, RUN, SOLO, USAGE, serve_source, status_of};
+use crate::serving::{ROOM, RUN, SOLO, USAGE, serve_source, status_of, took};
 use lithe_call::{Status, no_form_for_words, no_memory_for_words, told_bytes_are_served};
 use outside_io::{Fill, Put, Sink, Source, StdSink, StdSource, SureSink, SureSource};
+use std::alloc::Global;
 use std::io::{self, Error, ErrorKind, Read, Write};
+use std::process::Abort;
+use std::sync::Wait;
 use std::test::Fail;
+use std::thread::Threads;
 
 const PROGRAM: &[u8] = b"array a[2]; a[1] = 7;";
 
@@ -46,44 +50,57 @@ impl Write for Narrow {
     }
 }
 
+// Whether a torn stream of three bytes gives two, then one, and fails twice.
+fn is_read_until_it_fails(source: &mut StdSource<Torn>) -> bool {
+    let mut buf = [0; 2];
+    let two = source.read(&mut buf) == Fill::Got(2);
+    let same = buf.as_slice() == b"xy".as_slice();
+    let one = source.read(&mut buf) == Fill::Got(1);
+    let fails = source.read(&mut buf) == Fill::Failed;
+    let again = source.read(&mut buf) == Fill::Failed;
+    two && same && one && fails && again
+}
+
 #[test]
 fn a_stream_is_read_until_it_fails_and_may_fail_again(rt: HostRuntime) -> Result<(), Fail> {
     let mut source = StdSource::new(Torn {
         bytes: b"xyz",
         kind: ErrorKind::Other,
     });
-    let mut buf = [0; 2];
-    assert_eq!(rt; source.read(&mut buf), Fill::Got(2));
-    assert_eq!(rt; buf.as_slice(), b"xy".as_slice());
-    assert_eq!(rt; source.read(&mut buf), Fill::Got(1));
-    assert_eq!(rt; source.read(&mut buf), Fill::Failed);
-    assert_eq!(rt; source.read(&mut buf), Fill::Failed);
+    assert!(rt; is_read_until_it_fails(&mut source));
     Ok(())
+}
+
+// A stream with so much room.
+fn stream_of(alloc: Global, room: usize, fails: bool) -> Narrow {
+    Narrow {
+        taken: Vec::new(alloc),
+        room,
+        fails,
+    }
+}
+
+// Whether a stream with room for three bytes takes two, then one, and fails.
+fn is_written_until_it_fails(stream: &mut Narrow) -> bool {
+    let mut sink = StdSink::new(stream);
+    let two = sink.write(b"ab") == Put::Took(2);
+    let one = sink.write(b"cd") == Put::Took(1);
+    let fails = sink.write(b"d") == Put::Failed;
+    two && one && fails
 }
 
 #[test]
 fn a_stream_is_written_until_it_fails(rt: HostRuntime) -> Result<(), Fail> {
-    let mut stream = Narrow {
-        taken: Vec::new(rt.alloc()),
-        room: 3,
-        fails: true,
-    };
-    let mut sink = StdSink::new(&mut stream);
-    assert_eq!(rt; sink.write(b"ab"), Put::Took(2));
-    assert_eq!(rt; sink.write(b"cd"), Put::Took(1));
-    assert_eq!(rt; sink.write(b"d"), Put::Failed);
-    assert_eq!(rt; stream.taken.as_slice(), b"abc".as_slice());
+    let mut stream = stream_of(rt.alloc(), 3, true);
+    let written = is_written_until_it_fails(&mut stream);
+    assert!(rt; written && stream.taken.as_slice() == b"abc".as_slice());
     Ok(())
 }
 
 #[test]
 fn a_stream_that_takes_nothing_has_failed(rt: HostRuntime) -> Result<(), Fail> {
-    let mut sink = StdSink::new(Narrow {
-        taken: Vec::new(rt.alloc()),
-        room: 0,
-        fails: false,
-    });
-    assert_eq!(rt; sink.write(b"a"), Put::Failed);
+    let mut sink = StdSink::new(stream_of(rt.alloc(), 0, false));
+    assert!(rt; sink.write(b"a") == Put::Failed);
     Ok(())
 }
 
@@ -95,70 +112,111 @@ fn broken_off(kind: ErrorKind) -> StdSource<Torn> {
     })
 }
 
+// Serves such a source, and tests that it is a read fault.
+fn read_fault<R: AllocGlobal + Abort + Threads + Wait + Sync>(
+    rt: &R,
+    kind: ErrorKind,
+) -> Result<(), Fail> {
+    let mut source = broken_off(kind);
+    serve_source(
+        rt,
+        RUN,
+        &mut source,
+        Status::ReadFault,
+        b"",
+        b"read fault\n",
+    )
+}
+
 #[test]
 fn an_input_that_breaks_off_is_a_read_fault(rt: HostRuntime) -> Result<(), Fail> {
-    let told = b"read fault\n";
-    let mut source = broken_off(ErrorKind::Other);
-    serve_source(&rt, RUN, &mut source, Status::ReadFault, b"", told)?;
-    let mut source = broken_off(ErrorKind::Interrupted);
-    serve_source(&rt, RUN, &mut source, Status::ReadFault, b"", told)?;
-    assert_eq!(rt; Status::ReadFault.number(), 6);
+    read_fault(&rt, ErrorKind::Other)?;
+    read_fault(&rt, ErrorKind::Interrupted)?;
+    assert!(rt; Status::ReadFault.number() == 6);
     Ok(())
+}
+
+// Serves the program alone to a stream.
+fn solo_into<R: AllocGlobal + Threads + Wait + Sync>(
+    rt: &R,
+    stream: &mut Narrow,
+    err: &mut SureSink,
+) -> Result<Status, Fail> {
+    let mut source = StdSource::new(PROGRAM);
+    let mut out = StdSink::new(stream);
+    status_of(rt, SOLO, &mut source, &mut out, err)
+}
+
+// Whether a stream that takes five bytes of the output makes a write fault, which is told.
+fn is_write_fault<R: AllocGlobal + Threads + Wait + Sync>(
+    rt: &R,
+    stream: &mut Narrow,
+) -> Result<bool, Fail> {
+    let mut err = SureSink::new(rt.alloc(), ROOM)?;
+    let status = solo_into(rt, stream, &mut err)?;
+    let told = took(&err, b"write fault\n");
+    let same = stream.taken.as_slice() == b"a = 0".as_slice();
+    Ok(status == Status::WriteFault && status.number() == 7 && told && same)
+}
+
+// The same of a stream that fails, or takes nothing more, once its room is full.
+fn breaks_off<R: AllocGlobal + Threads + Wait + Sync>(rt: &R, fails: bool) -> Result<bool, Fail> {
+    let mut stream = stream_of(rt.alloc(), 5, fails);
+    is_write_fault(rt, &mut stream)
 }
 
 #[test]
 fn an_output_that_breaks_off_is_a_write_fault(rt: HostRuntime) -> Result<(), Fail> {
     for fails in [true, false] {
-        let mut stream = Narrow {
-            taken: Vec::new(rt.alloc()),
-            room: 5,
-            fails,
-        };
-        let mut source = StdSource::new(PROGRAM);
-        let mut out = StdSink::new(&mut stream);
-        let mut err = SureSink::new(rt.alloc(), ROOM)?;
-        let status = status_of(&rt, SOLO, &mut source, &mut out, &mut err)?;
-        assert_eq!(rt; status, Status::WriteFault);
-        assert_eq!(rt; status.number(), 7);
-        assert_eq!(rt; err.bytes(), Some(b"write fault\n".as_slice()));
-        assert_eq!(rt; stream.taken.as_slice(), b"a = 0".as_slice());
+        assert!(rt; breaks_off(&rt, fails)?);
     }
     Ok(())
 }
 
-#[test]
-fn an_error_stream_that_breaks_off_changes_no_status(rt: HostRuntime) -> Result<(), Fail> {
-    let mut stream = Narrow {
-        taken: Vec::new(rt.alloc()),
-        room: 6,
-        fails: true,
-    };
+// Serves a text that spells no program, and tells so to a stream.
+fn tell_fault<R: AllocGlobal + Threads + Wait + Sync>(
+    rt: &R,
+    stream: &mut Narrow,
+) -> Result<Status, Fail> {
     let mut source = SureSource::new(rt.alloc(), b"array 4;")?;
     let mut out = SureSink::new(rt.alloc(), ROOM)?;
-    let mut err = StdSink::new(&mut stream);
-    let status = status_of(&rt, RUN, &mut source, &mut out, &mut err)?;
-    assert_eq!(rt; status, Status::Syntax);
-    assert_eq!(rt; stream.taken.as_slice(), b"syntax".as_slice());
+    let mut err = StdSink::new(stream);
+    status_of(rt, RUN, &mut source, &mut out, &mut err)
+}
+
+#[test]
+fn an_error_stream_that_breaks_off_changes_no_status(rt: HostRuntime) -> Result<(), Fail> {
+    let mut stream = stream_of(rt.alloc(), 6, true);
+    let status = tell_fault(&rt, &mut stream)?;
+    assert!(rt; status == Status::Syntax && stream.taken.as_slice() == b"syntax".as_slice());
     Ok(())
+}
+
+// Whether want of memory for the words is told.
+fn tells_no_memory(err: &mut SureSink) -> bool {
+    let status = no_memory_for_words(err);
+    let told = took(err, b"no memory\n");
+    status == Status::NoMemory && status.number() == 8 && told
 }
 
 #[test]
 fn words_without_memory_are_told(rt: HostRuntime) -> Result<(), Fail> {
     told_bytes_are_served();
     let mut err = SureSink::new(rt.alloc(), ROOM)?;
-    let status = no_memory_for_words(&mut err);
-    assert_eq!(rt; status, Status::NoMemory);
-    assert_eq!(rt; status.number(), 8);
-    assert_eq!(rt; err.bytes(), Some(b"no memory\n".as_slice()));
+    assert!(rt; tells_no_memory(&mut err));
     Ok(())
+}
+
+// Whether the usage is told of words that are no text.
+fn tells_no_form(err: &mut SureSink) -> bool {
+    let status = no_form_for_words(err);
+    let told = took(err, USAGE);
+    status == Status::Usage && status.number() == 2 && told
 }
 
 #[test]
 fn words_that_are_no_text_are_told(rt: HostRuntime) -> Result<(), Fail> {
     let mut err = SureSink::new(rt.alloc(), ROOM)?;
-    let status = no_form_for_words(&mut err);
-    assert_eq!(rt; status, Status::Usage);
-    assert_eq!(rt; status.number(), 2);
-    assert_eq!(rt; err.bytes(), Some(USAGE));
+    assert!(rt; tells_no_form(&mut err));
     Ok(())
 }

@@ -1,7 +1,7 @@
 //! What the examples' runs write is legal.
-use crate::serving::status_of;
+use crate::serving::serve_by;
 use lithe_call::Status;
-use outside_io::{MemSink, MemSource};
+use std::alloc::{AllocError, Global};
 use std::process::Abort;
 use std::sync::Wait;
 use std::test::Fail;
@@ -76,28 +76,42 @@ fn runs_are_legal<R: AllocGlobal + Abort + Threads + Wait + Sync>(
     program: &[u8],
 ) -> Result<(), Fail> {
     for harts in ["--harts=1", "--harts=2", "--harts=3", "--harts=4"] {
-        let output = done(rt, &["run", harts], program)?;
-        let mut input = program.to_vec(rt.alloc())?;
-        input.extend_from_slice(b"%%\n")?;
-        input.extend_from_slice(&output)?;
-        let verdict = done(rt, &["audit", harts], &input)?;
-        assert!(rt; verdict.starts_with(b"legal "));
+        let input = input_of_run(rt, harts, program)?;
+        assert!(rt; is_legal(rt, harts, &input)?);
     }
     Ok(())
 }
 
-// What the words write for the input.
-fn done<R: AllocGlobal + Abort + Threads + Wait + Sync>(
+// Whether an audit on so many harts finds its input legal.
+fn is_legal<R: AllocGlobal + Threads + Wait + Sync>(
     rt: &R,
-    words: &[&str],
+    harts: &str,
     input: &[u8],
+) -> Result<bool, Fail> {
+    let served = serve_by(rt, &["audit", harts], input, 512, 512)?;
+    let legal = served.out.bytes().starts_with(b"legal ");
+    Ok(served.status == Status::Done && legal)
+}
+
+// The input of an audit of what a run on so many harts writes.
+fn input_of_run<R: AllocGlobal + Threads + Wait + Sync>(
+    rt: &R,
+    harts: &str,
+    program: &[u8],
 ) -> Result<Vec<u8>, Fail> {
-    let mut source = MemSource::new(rt.alloc(), input, 512, &[])?;
-    let mut out = MemSink::new(rt.alloc(), 4096, 512, &[])?;
-    let mut err = MemSink::new(rt.alloc(), 4096, 512, &[])?;
-    let status = status_of(rt, words, &mut source, &mut out, &mut err)?;
-    assert_eq!(rt; status, Status::Done);
-    Ok(out.bytes().to_vec(rt.alloc())?)
+    let served = serve_by(rt, &["run", harts], program, 512, 512)?;
+    if served.status != Status::Done {
+        return Err(Fail::new("it isn't done"));
+    }
+    Ok(input(rt.alloc(), program, served.out.bytes())?)
+}
+
+// The input of an audit.
+fn input(alloc: Global, program: &[u8], output: &[u8]) -> Result<Vec<u8>, AllocError> {
+    let mut input = program.to_vec(alloc)?;
+    input.extend_from_slice(b"%%\n")?;
+    input.extend_from_slice(output)?;
+    Ok(input)
 }
 
 #[test]

@@ -1,7 +1,6 @@
 //! Every prefix of a program of two phases.
-use crate::serving::{RUN, status_of};
+use crate::serving::{RUN, Served, serve_by};
 use lithe_call::Status;
-use outside_io::{MemSink, MemSource};
 use std::test::Fail;
 
 const TWO_PHASES: &[u8] =
@@ -20,26 +19,26 @@ fn output_of(length: usize) -> Option<&'static [u8]> {
     }
 }
 
+// Whether a prefix that writes this is served so, and another is told as a syntax fault.
+fn is_served(served: &Served, output: Option<&[u8]>) -> bool {
+    match output {
+        Some(output) => served.is(Status::Done, output, b""),
+        None => is_syntax_fault(served),
+    }
+}
+
+// Whether a syntax fault is told, and nothing is written.
+fn is_syntax_fault(served: &Served) -> bool {
+    let told = served.err.bytes().starts_with(b"syntax: ");
+    served.status == Status::Syntax && told && served.out.bytes().is_empty()
+}
+
 #[test]
 fn three_prefixes_are_programs(rt: HostRuntime) -> Result<(), Fail> {
     for length in 1..TWO_PHASES.len() {
         let (prefix, _) = TWO_PHASES.split_at(length);
-        let mut source = MemSource::new(rt.alloc(), prefix, 8, &[])?;
-        let mut out = MemSink::new(rt.alloc(), 4096, 4096, &[])?;
-        let mut err = MemSink::new(rt.alloc(), 4096, 4096, &[])?;
-        let status = status_of(&rt, RUN, &mut source, &mut out, &mut err)?;
-        match output_of(length) {
-            Some(output) => {
-                assert_eq!(rt; status, Status::Done);
-                assert!(rt; out.bytes() == output);
-                assert!(rt; err.bytes().is_empty());
-            }
-            None => {
-                assert_eq!(rt; status, Status::Syntax);
-                assert!(rt; out.bytes().is_empty());
-                assert!(rt; err.bytes().starts_with(b"syntax: "));
-            }
-        }
+        let served = serve_by(&rt, RUN, prefix, 8, 4096)?;
+        assert!(rt; is_served(&served, output_of(length)));
     }
     Ok(())
 }

@@ -1,6 +1,9 @@
 //! Calls of `lithe` over ends in memory.
+ghost use Rattle.std.specs.Prelude.{◌≤◌};
+
 use lithe_call::{Status, lithe};
 use outside_io::{MemSink, MemSource, OpenGate};
+use std::alloc::{AllocError, Global};
 use std::process::Abort;
 use std::sync::Wait;
 use std::test::Fail;
@@ -19,8 +22,8 @@ pub const BRANCHES: &[u8] = b"array a[4]; par { { a[0] = 1; } { a[1] = 2; } }";
 pub const BRANCHES_RUN: &[u8] =
     b"a = 1 2 0 0\ntransfers 2\n0 h0 register s1 under s0\n1 h0 unregister s1\n";
 
-/// Serves the words, and answers the status.
-pub fn status_of<R: AllocGlobal + Threads + Wait + Sync>(
+// Serves the words, and answers the status.
+fn status_of<R: AllocGlobal + Threads + Wait + Sync>(
     rt: &R,
     words: &[&str],
     source: &mut MemSource,
@@ -35,6 +38,68 @@ pub fn status_of<R: AllocGlobal + Threads + Wait + Sync>(
     Ok(lithe(rt, alloc, &own, source, out, err, &OpenGate))
 }
 
+/// What a call came to.
+#[derive(Drop)]
+pub struct Served {
+    pub status: Status,
+    pub out: MemSink,
+    pub err: MemSink,
+}
+
+impl Served {
+    /// Whether it is this status, and the sinks took this.
+    pub fn is(&self, status: Status, out: &[u8], err: &[u8]) -> bool {
+        self.status == status && self.out.bytes() == out && self.err.bytes() == err
+    }
+
+    /// Whether the output took this, and the call is Done.
+    pub fn is_done(&self, out: &[u8]) -> bool {
+        self.status == Status::Done && self.out.bytes() == out
+    }
+
+    /// Whether it is a write fault, which is told, and so many bytes of this were written.
+    pub fn is_cut_off(&self, whole: &[u8], count: usize) -> bool {
+        let out = self.out.bytes();
+        let cut = out.len() == count && whole.starts_with(out);
+        self.status == Status::WriteFault && cut && self.err.bytes() == b"write fault\n".as_slice()
+    }
+}
+
+/// A sink that takes all, so many bytes a call.
+pub fn open(alloc: Global, most: usize) -> Result<MemSink, AllocError>
+    requires { 1 ≤ most }
+{
+    MemSink::new(alloc, 4096, most, &[])
+}
+
+/// Serves the words on what the source gives.
+pub fn serve_into<R: AllocGlobal + Threads + Wait + Sync>(
+    rt: &R,
+    words: &[&str],
+    mut source: MemSource,
+    mut out: MemSink,
+    mut err: MemSink,
+) -> Result<Served, Fail> {
+    let status = status_of(rt, words, &mut source, &mut out, &mut err)?;
+    Ok(Served { status, out, err })
+}
+
+/// Serves the words on the input, of which each call reads and writes so many bytes at most.
+pub fn serve_by<R: AllocGlobal + Threads + Wait + Sync>(
+    rt: &R,
+    words: &[&str],
+    input: &[u8],
+    reads: usize,
+    writes: usize,
+) -> Result<Served, Fail>
+    requires reads { 1 ≤ reads }
+    requires writes { 1 ≤ writes }
+{
+    let source = MemSource::new(rt.alloc(), input, reads, &[])?;
+    let out = open(rt.alloc(), writes)?;
+    serve_into(rt, words, source, out, open(rt.alloc(), writes)?)
+}
+
 /// Serves the words on the input, and tests the status and what the sinks took.
 pub fn serve<R: AllocGlobal + Abort + Threads + Wait + Sync>(
     rt: &R,
@@ -44,12 +109,7 @@ pub fn serve<R: AllocGlobal + Abort + Threads + Wait + Sync>(
     out: &[u8],
     err: &[u8],
 ) -> Result<(), Fail> {
-    let mut source = MemSource::new(rt.alloc(), input, 4096, &[])?;
-    let mut output = MemSink::new(rt.alloc(), 4096, 16, &[])?;
-    let mut errors = MemSink::new(rt.alloc(), 4096, 16, &[])?;
-    let ended = status_of(rt, words, &mut source, &mut output, &mut errors)?;
-    assert_eq!(rt; ended, status);
-    assert!(rt; output.bytes() == out);
-    assert!(rt; errors.bytes() == err);
+    let served = serve_by(rt, words, input, 4096, 16)?;
+    assert!(rt; served.is(status, out, err));
     Ok(())
 }

@@ -1,8 +1,7 @@
 //! Each status, with its number.
-use crate::serving::{AUDIT, BRANCHES, RUN, status_of};
+use crate::serving::{AUDIT, BRANCHES, RUN, open, serve_by, serve_into};
 use lithe_call::{Status, no_memory_for_words};
 use outside_io::{MemSink, MemSource};
-use std::alloc::Global;
 use std::process::Abort;
 use std::sync::Wait;
 use std::test::Fail;
@@ -20,17 +19,20 @@ struct Call {
 
 // Makes the call, and tests how it ended.
 fn ends<R: AllocGlobal + Abort + Threads + Wait + Sync>(rt: &R, call: &Call) -> Result<(), Fail> {
-    let mut source = MemSource::new(rt.alloc(), call.input, 8, call.reads)?;
-    let mut out = MemSink::new(rt.alloc(), 4096, 8, call.writes)?;
-    let mut err = sink(rt.alloc())?;
-    let status = status_of(rt, call.words, &mut source, &mut out, &mut err)?;
-    assert_eq!(rt; status, call.status);
-    assert_eq!(rt; status.number(), call.number);
+    let status = status_after(rt, call)?;
+    assert!(rt; status == call.status && status.number() == call.number);
     Ok(())
 }
 
-fn sink(alloc: Global) -> Result<MemSink, Fail> {
-    Ok(MemSink::new(alloc, 4096, 8, &[])?)
+// How the call ends.
+fn status_after<R: AllocGlobal + Threads + Wait + Sync>(
+    rt: &R,
+    call: &Call,
+) -> Result<Status, Fail> {
+    let source = MemSource::new(rt.alloc(), call.input, 8, call.reads)?;
+    let out = MemSink::new(rt.alloc(), 4096, 8, call.writes)?;
+    let served = serve_into(rt, call.words, source, out, open(rt.alloc(), 8)?)?;
+    Ok(served.status)
 }
 
 const CALLS: [Call; 7] = [
@@ -100,17 +102,27 @@ fn calls_end_with_each_status(rt: HostRuntime) -> Result<(), Fail> {
     Ok(())
 }
 
+// How a run of this input ends.
+fn status_of_run<R: AllocGlobal + Threads + Wait + Sync>(
+    rt: &R,
+    input: &[u8],
+) -> Result<Status, Fail> {
+    let served = serve_by(rt, RUN, input, 4096, 8)?;
+    Ok(served.status)
+}
+
+// Whether want of memory for the words is told, and its number is 8.
+fn tells_no_memory(err: &mut MemSink) -> bool {
+    let status = no_memory_for_words(err);
+    status.number() == 8 && err.bytes() == b"no memory\n".as_slice()
+}
+
 #[test]
 fn too_long_and_no_memory_are_5_and_8(rt: HostRuntime) -> Result<(), Fail> {
     let past = vec![in rt.alloc(); b' '; 65537]?;
-    let mut source = MemSource::new(rt.alloc(), &past, 4096, &[])?;
-    let (mut out, mut err) = (sink(rt.alloc())?, sink(rt.alloc())?);
-    let status = status_of(&rt, RUN, &mut source, &mut out, &mut err)?;
-    assert_eq!(rt; status, Status::TooLong);
-    assert_eq!(rt; status.number(), 5);
-    let mut err = sink(rt.alloc())?;
-    let status = no_memory_for_words(&mut err);
-    assert_eq!(rt; status.number(), 8);
-    assert!(rt; err.bytes() == b"no memory\n".as_slice());
+    let status = status_of_run(&rt, &past)?;
+    assert!(rt; status == Status::TooLong && status.number() == 5);
+    let mut err = open(rt.alloc(), 8)?;
+    assert!(rt; tells_no_memory(&mut err));
     Ok(())
 }
