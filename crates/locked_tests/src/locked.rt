@@ -18,7 +18,7 @@ use once_cell::race::OnceBox;
 use sample_programs::{
     BOTH_BRANCHES, BOTH_PHASES, TWO_BRANCHES, TWO_PHASES, first_construct, parsed,
 };
-use site_directory::{SharedSite, cells, lines};
+use site_directory::{SharedSite, SiteLine, cells, lines};
 use site_steps::SiteTree;
 use std::alloc::Global;
 use std::sync::{Mutex, Wait};
@@ -101,6 +101,13 @@ fn run_each<'x, 'p: 'x, R: Threads + Wait + Sync, F: Fn(u8, u16, u8, u8) + Sync>
     );
 }
 
+// The piece of the hart that stands last.
+fn last_piece<'x, 'p: 'x, R: Threads + Wait + Sync>(
+    harts: &mut [Hart<'x, 'p, WaitingPort<'x, LockedPort<'x, R>, R>, SharedSite<'p>>],
+) -> Option<Piece<'p>> {
+    harts.last_mut()?.piece.take()
+}
+
 // What the program's body writes, by harts over locked ports.
 fn run_body<'x, 'p: 'x, R: Threads + Wait + Sync>(
     rt: &'x R,
@@ -115,17 +122,7 @@ fn run_body<'x, 'p: 'x, R: Threads + Wait + Sync>(
     let job = body_job(alloc, accepted.program())?;
     let mut harts = crew(rt, alloc, lock, accepted.plan(), base, cells, tools, job)?;
     run_each(rt, alloc, &tree, &|_, _, _, _| {}, harts.as_mut_slice());
-    let Some(last) = harts.pop() else {
-        return Err(Fail::new("no hart"));
-    };
-    let Hart {
-        port: _,
-        schedulers: _,
-        base: _,
-        job: _,
-        piece,
-    } = last;
-    Ok(piece.ok_or("want of memory")?)
+    Ok(last_piece(harts.as_mut_slice()).ok_or("want of memory")?)
 }
 
 // The tools of so many harts.
@@ -142,6 +139,50 @@ fn all_tools<'x>(
     Ok(tools_of(alloc, words, rows(alloc, harts)?, claims)?)
 }
 
+// Whether the program's body writes these cells.
+fn body_writes<'x, 'p: 'x, R: Threads + Wait + Sync>(
+    rt: &'x R,
+    alloc: Global,
+    accepted: &'x Accepted<'p>,
+    lock: &'x Mutex<Ledger>,
+    base: &'x Mutex<Base>,
+    cells: &'x [OnceBox<SharedSite<'p>>],
+    harts: u8,
+    written: &[(u16, i64)],
+) -> Result<bool, Fail>
+    requires { (1 ≤ harts) × (harts ≤ 4) }
+{
+    let (words, claims) = Claims::new(alloc, accepted, harts)?;
+    let tools = all_tools(alloc, &words, claims, harts)?;
+    let piece = run_body(rt, alloc, accepted, lock, base, cells, tools)?;
+    Ok(piece.written.pairs() == written)
+}
+
+// Whether harts that share this ledger write these cells.
+fn harts_write<R: Threads + Wait + Sync>(
+    rt: &R,
+    alloc: Global,
+    accepted: &Accepted<'_>,
+    lock: &Mutex<Ledger>,
+    harts: u8,
+    written: &[(u16, i64)],
+) -> Result<bool, Fail>
+    requires { (1 ≤ harts) × (harts ≤ 4) }
+{
+    let base = Mutex::new(Base::new(alloc, accepted.plan().sites())?);
+    let cells = cells(alloc, accepted.plan().sites())?;
+    body_writes(rt, alloc, accepted, lock, &base, &cells, harts, written)
+}
+
+// Whether the ledger is a complete journal of the plan.
+fn is_complete(alloc: Global, plan: &Plan, ledger: Ledger) -> Result<bool, Fail> {
+    let entries = ledger.into_entries();
+    if entries.as_slice().len() > 65_535 {
+        return Err(Fail::new("more entries than any plan allows"));
+    }
+    Ok(first_fault(alloc, plan, entries.as_slice())?.is_none())
+}
+
 // Whether harts over locked ports write these cells, and their ledger is a complete journal.
 fn is_right<R: Threads + Wait + Sync>(
     rt: &R,
@@ -150,22 +191,13 @@ fn is_right<R: Threads + Wait + Sync>(
     harts: u8,
     written: &[(u16, i64)],
 ) -> Result<bool, Fail>
-    requires some { 1 ≤ harts }
-    requires few { harts ≤ 4 }
+    requires { (1 ≤ harts) × (harts ≤ 4) }
 {
     let accepted = check(alloc, program, harts)?;
     let lock = Mutex::new(Ledger::new(alloc, accepted.plan())?);
-    let base = Mutex::new(Base::new(alloc, accepted.plan().sites())?);
-    let cells = cells(alloc, accepted.plan().sites())?;
-    let (words, claims) = Claims::new(alloc, &accepted, harts)?;
-    let tools = all_tools(alloc, &words, claims, harts)?;
-    let piece = run_body(rt, alloc, &accepted, &lock, &base, cells.as_slice(), tools)?;
-    let is_same = piece.written.pairs() == written;
-    let entries = lock.into_inner().into_entries();
-    if entries.as_slice().len() > 65_535 {
-        return Err(Fail::new("more entries than any plan allows"));
-    }
-    Ok(is_same && first_fault(alloc, accepted.plan(), entries.as_slice())?.is_none())
+    let is_same = harts_write(rt, alloc, &accepted, &lock, harts, written)?;
+    let is_whole = is_complete(alloc, accepted.plan(), lock.into_inner())?;
+    Ok(is_same && is_whole)
 }
 
 #[test]
@@ -193,38 +225,59 @@ fn two_tools<'x>(
     Ok((first, next_tools(&mut tools)?))
 }
 
-// What a hart computes that comes to the first construct when its site has come and gone: the other has run the whole body.
-fn computed_late<'x, 'p: 'x, R: Threads + Wait + Sync>(
+// The first hart runs the whole body, and no other is there.
+fn run_whole<'x, 'p: 'x, R: Threads + Wait + Sync>(
     rt: &'x R,
     alloc: Global,
-    program: &'p Program,
     accepted: &'x Accepted<'p>,
+    tree: &SiteTree,
     lock: &'x Mutex<Ledger>,
     base: &'x Mutex<Base>,
     cells: &'x [OnceBox<SharedSite<'p>>],
-    tools: (Tools<'x>, Tools<'x>),
-) -> Result<Overlay, Fail>
-    requires { 1 < accepted.now.plan.harts }
+    tools: Tools<'x>,
+) -> Result<(), Fail>
+    requires some { 0 < accepted.now.plan.harts }
+    requires tree { tree.now ≡ accepted.now.plan }
 {
-    let plan = accepted.plan();
-    let tree = SiteTree::new(alloc, plan)?;
     let job = body_job(alloc, accepted.program())?;
-    let (own, others) = tools;
-    let mut first = hart(rt, alloc, lock, plan, 0, base, cells, own, Some(job))?;
-    work(rt, alloc, &tree, &|_, _, _, _| {}, rt, &mut first);
-    let Hart {
-        mut port,
-        mut schedulers,
-        base: _,
-        job: _,
-        piece: _,
-    } = hart(rt, alloc, lock, plan, 1, base, cells, others, None)?;
-    let mut around: HartSite<'x, 'p, SharedSite<'p>> = HartSite::base(base);
+    let mut first = hart(
+        rt,
+        alloc,
+        lock,
+        accepted.plan(),
+        0,
+        base,
+        cells,
+        tools,
+        Some(job),
+    )?;
+    work(rt, alloc, tree, &|_, _, _, _| {}, rt, &mut first);
+    Ok(())
+}
+
+// What the second hart computes of the first construct.
+fn run_first<'x, 'p: 'x, R: Threads + Wait + Sync>(
+    rt: &'x R,
+    alloc: Global,
+    program: &'p Program,
+    plan: &'x Plan,
+    tree: &SiteTree,
+    lock: &'x Mutex<Ledger>,
+    base: &'x Mutex<Base>,
+    cells: &'x [OnceBox<SharedSite<'p>>],
+    tools: Tools<'x>,
+) -> Result<Overlay, Fail>
+    requires second { 1 < plan.now.harts }
+    requires tree { tree.now ≡ plan.now }
+{
     let nested = first_construct(alloc, program)?;
+    let mut port = WaitingPort::new(LockedPort::new(alloc, lock, plan, 1)?, rt);
+    let mut schedulers = HartSchedulers::new(lines(alloc, cells)?, tools);
+    let mut around: HartSite<'x, 'p, SharedSite<'p>> = HartSite::base(base);
     Ok(run_construct(
         rt,
         alloc,
-        &tree,
+        tree,
         &|_, _| {},
         &mut port,
         rt,
@@ -234,28 +287,85 @@ fn computed_late<'x, 'p: 'x, R: Threads + Wait + Sync>(
     )?)
 }
 
-#[test]
-fn a_construct_whose_site_is_gone_is_computed(rt: HostRuntime) -> Result<(), Fail> {
-    let alloc = rt.alloc();
-    let program = parsed(alloc, TWO_BRANCHES)?;
-    let accepted = check(alloc, &program, 2)?;
-    let lock = Mutex::new(Ledger::new(alloc, accepted.plan())?);
+// Whether a hart that comes to the first construct when its site has come and gone writes both branches: the other has run the
+// whole body.
+fn writes_late<'x, 'p: 'x, R: Threads + Wait + Sync>(
+    rt: &'x R,
+    alloc: Global,
+    program: &'p Program,
+    accepted: &'x Accepted<'p>,
+    lock: &'x Mutex<Ledger>,
+    base: &'x Mutex<Base>,
+    cells: &'x [OnceBox<SharedSite<'p>>],
+    tools: (Tools<'x>, Tools<'x>),
+) -> Result<bool, Fail>
+    requires { 1 < accepted.now.plan.harts }
+{
+    let plan = accepted.plan();
+    let tree = SiteTree::new(alloc, plan)?;
+    let (own, others) = tools;
+    run_whole(rt, alloc, accepted, &tree, lock, base, cells, own)?;
+    let written = run_first(rt, alloc, program, plan, &tree, lock, base, cells, others)?;
+    Ok(written.pairs() == BOTH_BRANCHES.as_slice())
+}
+
+// Whether it does so with tools of a run of two harts.
+fn is_computed<R: Threads + Wait + Sync>(
+    rt: &R,
+    alloc: Global,
+    program: &Program,
+    accepted: &Accepted<'_>,
+    lock: &Mutex<Ledger>,
+) -> Result<bool, Fail>
+    requires { accepted.now.plan.harts ≡ 2 }
+{
     let base = Mutex::new(Base::new(alloc, accepted.plan().sites())?);
     let cells = cells(alloc, accepted.plan().sites())?;
-    let (words, claims) = Claims::new(alloc, &accepted, 2)?;
+    let (words, claims) = Claims::new(alloc, accepted, 2)?;
     let tools = two_tools(alloc, &words, claims)?;
-    let written = computed_late(
-        &rt,
-        alloc,
-        &program,
-        &accepted,
-        &lock,
-        &base,
-        cells.as_slice(),
-        tools,
-    )?;
-    assert!(rt; written.pairs() == BOTH_BRANCHES.as_slice());
+    writes_late(rt, alloc, program, accepted, lock, &base, &cells, tools)
+}
+
+#[test]
+fn a_construct_whose_site_is_gone_is_computed(rt: HostRuntime) -> Result<(), Fail> {
+    let program = parsed(rt.alloc(), TWO_BRANCHES)?;
+    let accepted = check(rt.alloc(), &program, 2)?;
+    let lock = Mutex::new(Ledger::new(rt.alloc(), accepted.plan())?);
+    assert!(rt; is_computed(&rt, rt.alloc(), &program, &accepted, &lock)?);
     Ok(())
+}
+
+// The home opens the first construct by these lines.
+fn open_first<'x, 'p: 'x>(
+    alloc: Global,
+    program: &'p Program,
+    lines: Vec<SiteLine<'x, SharedSite<'p>>>,
+    tools: Tools<'x>,
+) -> Result<(), Fail> {
+    let nested = first_construct(alloc, program)?;
+    let mut home = HartSchedulers::new(lines, tools);
+    let _opened = home.open(alloc, &nested)?;
+    Ok(())
+}
+
+// Whether the second hart enters site 2 by what stands in its cell.
+fn enters_second<'x, 'p: 'x, R: Threads + Wait + Sync>(
+    rt: &'x R,
+    alloc: Global,
+    plan: &'x Plan,
+    lock: &'x Mutex<Ledger>,
+    cells: &'x [OnceBox<SharedSite<'p>>],
+    tools: Tools<'x>,
+) -> Result<bool, Fail>
+    requires plan { plan.now ≡ record { harts = 2; parents = 0 ∷ 0 ∷ [] } }
+    requires cells { length cells.now ≡ 3 }
+{
+    let mut port = WaitingPort::new(LockedPort::new(alloc, lock, plan, 1)?, rt);
+    let mut schedulers = HartSchedulers::new(lines(alloc, cells)?, tools);
+    match schedulers.find(rt, 2) {
+        Some(mut found) => Ok(schedulers.enter(rt, &mut port, rt, &mut found, 2).is_some()),
+        None => Err(Fail::new("nothing is found")),
+    }
 }
 
 // Whether a hart enters site 2 where the pool of site 1 stands in its cell.
@@ -265,52 +375,40 @@ fn enters_by_another<'x, 'p: 'x, R: Threads + Wait + Sync>(
     program: &'p Program,
     plan: &'x Plan,
     lock: &'x Mutex<Ledger>,
-    base: &'x Mutex<Base>,
     cells: &'x [OnceBox<SharedSite<'p>>],
     tools: (Tools<'x>, Tools<'x>),
 ) -> Result<bool, Fail>
     requires plan { plan.now ≡ record { harts = 2; parents = 0 ∷ 0 ∷ [] } }
     requires cells { length cells.now ≡ 3 }
 {
+    let (own, others) = tools;
     let mut turned = lines(alloc, cells)?;
     turned.swap(1, 2);
-    let (own, others) = tools;
-    let mut home = HartSchedulers::new(turned, own);
-    let _opened = home.open(alloc, &first_construct(alloc, program)?)?;
-    let Hart {
-        mut port,
-        mut schedulers,
-        base: _,
-        job: _,
-        piece: _,
-    } = hart(rt, alloc, lock, plan, 1, base, cells, others, None)?;
-    let Some(mut found) = schedulers.find(rt, 2) else {
-        return Err(Fail::new("nothing is found"));
-    };
-    let told = schedulers.enter(rt, &mut port, rt, &mut found, 2);
-    Ok(told.is_some())
+    open_first(alloc, program, turned, own)?;
+    enters_second(rt, alloc, plan, lock, cells, others)
+}
+
+// Whether it does so with tools of a run of two harts.
+fn is_entered<R: Threads + Wait + Sync>(
+    rt: &R,
+    alloc: Global,
+    program: &Program,
+    plan: &Plan,
+    lock: &Mutex<Ledger>,
+) -> Result<bool, Fail>
+    requires { plan.now ≡ record { harts = 2; parents = 0 ∷ 0 ∷ [] } }
+{
+    let cells = cells(alloc, 2)?;
+    let (words, claims) = Claims::new(alloc, &check(alloc, program, 2)?, 2)?;
+    let tools = two_tools(alloc, &words, claims)?;
+    enters_by_another(rt, alloc, program, plan, lock, &cells, tools)
 }
 
 #[test]
 fn a_site_is_not_entered_by_the_pool_of_another(rt: HostRuntime) -> Result<(), Fail> {
-    let alloc = rt.alloc();
-    let program = parsed(alloc, TWO_BRANCHES)?;
-    let plan = Plan::new(alloc, 2, &[0, 0])?;
-    let lock = Mutex::new(Ledger::new(alloc, &plan)?);
-    let base = Mutex::new(Base::new(alloc, 2)?);
-    let cells = cells(alloc, 2)?;
-    let (words, claims) = Claims::new(alloc, &check(alloc, &program, 2)?, 2)?;
-    let tools = two_tools(alloc, &words, claims)?;
-    let inside = enters_by_another(
-        &rt,
-        alloc,
-        &program,
-        &plan,
-        &lock,
-        &base,
-        cells.as_slice(),
-        tools,
-    )?;
-    assert!(rt; !inside);
+    let program = parsed(rt.alloc(), TWO_BRANCHES)?;
+    let plan = Plan::new(rt.alloc(), 2, &[0, 0])?;
+    let lock = Mutex::new(Ledger::new(rt.alloc(), &plan)?);
+    assert!(rt; !is_entered(&rt, rt.alloc(), &program, &plan, &lock)?);
     Ok(())
 }
