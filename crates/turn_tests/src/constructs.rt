@@ -50,6 +50,7 @@ fn construct_in<'p>(
 /// The pool of the first branch.
 pub fn pool_in<'p>(alloc: Global, program: &'p Program) -> Result<Pool<'p>, Fail> {
     let nested = construct_in(alloc, program, 0)?;
+    // By its count a construct has a first phase.
     let _phases = nested.phases();
     let jobs = jobs_of(alloc, &nested, 0, &nested.store)?;
     Ok(Pool::new(alloc, jobs)?)
