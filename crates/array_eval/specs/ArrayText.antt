@@ -6,7 +6,8 @@ use Rattle.array_meaning.specs.Stores.{Arrays, Store, arrays_of}
 
 -- The line of an array: its name, ` =`, for each cell a space and its value in decimal, and a newline.
 abbrev pub array_line : List ℕ → List ℤ → List ℕ
-array_line name cells = name ++ (32 ∷ 61 ∷ []) ++ flat_map (λ value. 32 ∷ signed_decimal value) cells ++ 10 ∷ []
+array_line name cells = name ++ (32 ∷ 61 ∷ [])
+    ++ flat_map (λ value. 32 ∷ signed_decimal value) cells ++ 10 ∷ []
 
 -- The lines of arrays whose cells stand one after another.
 abbrev pub array_lines : Arrays → List ℤ → List ℕ

@@ -5,4 +5,5 @@ use Rattle.array_meaning.specs.Pieces.{IsRising}
 
 -- A rising list of cells below a number has at most so many pairs.
 abbrev pub RisingListsAreShort : Type 0
-RisingListsAreShort = (cells : ℕ) (pairs : List Write) → IsRising pairs → All (λ pair. pair.0 < cells) pairs → length pairs ≤ cells
+RisingListsAreShort = (cells : ℕ) (pairs : List Write) → IsRising pairs
+    → All (λ pair. pair.0 < cells) pairs → length pairs ≤ cells

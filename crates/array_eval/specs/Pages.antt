@@ -29,10 +29,13 @@ page_at number cells = take 64 (drop (64 * number) cells)
 pub record AreChanged (changed : List Bool) (before after : List ℤ) : Type 0 where
   pub as_many : length before ≡ length after
   pub marks : length changed ≡ pages_for (length after)
-  pub kept : (number : ℕ) → slice_index_or changed number true ≡ false → page_at number before ≡ page_at number after
+  pub kept : (number : ℕ) → slice_index_or changed number true ≡ false
+      → page_at number before ≡ page_at number after
 
 -- The same of pages and the cells that are to lie on them.
-pub record AreChangedPages (changed : List Bool) (pages : List (List ℤ)) (after : List ℤ) : Type 0 where
+pub record AreChangedPages (changed : List Bool) (pages : List (List ℤ))
+    (after : List ℤ) : Type 0 where
   pub as_many : length pages ≡ pages_for (length after)
   pub marks : length changed ≡ pages_for (length after)
-  pub kept : (number : ℕ) → number < length pages → slice_index_or changed number true ≡ false → slice_index_or pages number [] ≡ padded (page_at number after)
+  pub kept : (number : ℕ) → number < length pages → slice_index_or changed number true ≡ false
+      → slice_index_or pages number [] ≡ padded (page_at number after)

@@ -14,7 +14,10 @@ fresh store = record { cells = store; marks = replicate (length store) false }
 
 -- One write.
 abbrev pub noted : ℕ → ℤ → Trace → Trace
-noted cell value trace = record { cells = written trace.cells cell value; marks = slice_set trace.marks cell true }
+noted cell value trace = record {
+  cells = written trace.cells cell value;
+  marks = slice_set trace.marks cell true;
+}
 
 -- Writes, one after another.
 abbrev pub noted_all : List Write → Trace → Trace

@@ -48,7 +48,9 @@ impl<'p> Model for Layout<'p> {
 
     ghost view = { λ layout. arrays_of (declarations_of layout.arrays.now) };
 
-    ghost invariant = { λ layout. IsLaidOut (arrays_of (declarations_of layout.arrays.now)) layout.firsts.items layout.cells };
+    ghost invariant = { λ layout.
+        IsLaidOut (arrays_of (declarations_of layout.arrays.now)) layout.firsts.items
+        layout.cells };
 }
 
 impl<'p> Layout<'p> {
@@ -142,10 +144,14 @@ fn cells_in(array: &ArrayDecl) -> usize
 // Where the array of a name lies among declarations, before which come those of a slot's first array.
 fn place_among(declarations: &[ArrayDecl], name: &Name, first: First) -> Place
     requires each { HaveCells (arrays_of (map declaration_of declarations.now)) }
-    requires whole { first.base + cells_of (arrays_of (map declaration_of declarations.now)) ≤ 4096 }
-    ensures number { result.number ≡ first.number + number_of (arrays_of (map declaration_of declarations.now)) name.now }
-    ensures base { result.base ≡ first.base + base_of (arrays_of (map declaration_of declarations.now)) name.now }
-    ensures length { result.length ≡ length_of (arrays_of (map declaration_of declarations.now)) name.now }
+    requires whole { first.base
+        + cells_of (arrays_of (map declaration_of declarations.now)) ≤ 4096 }
+    ensures number { result.number
+        ≡ first.number + number_of (arrays_of (map declaration_of declarations.now)) name.now }
+    ensures base { result.base
+        ≡ first.base + base_of (arrays_of (map declaration_of declarations.now)) name.now }
+    ensures length { result.length
+        ≡ length_of (arrays_of (map declaration_of declarations.now)) name.now }
     ensures base_small { result.base ≤ 4096 }
     ensures length_small { result.length ≤ 4096 }
     ensures some { 0 < result.length }
@@ -175,7 +181,8 @@ fn place_among(declarations: &[ArrayDecl], name: &Name, first: First) -> Place
 fn put_firsts(declarations: &[ArrayDecl], cells: u16, firsts: &mut [First])
     requires cells { cells ≡ cells_of (arrays_of (map declaration_of declarations.now)) }
     requires count { length declarations.now ≤ 4096 }
-    requires none { firsts.old ≡ replicate 256 (record { number = length declarations.now; base = cells }) }
+    requires none { firsts.old
+        ≡ replicate 256 (record { number = length declarations.now; base = cells }) }
     ensures { AreFirsts 0 0 (arrays_of (map declaration_of declarations.now)) firsts.new }
 {
     let mut left = declarations.len();

@@ -30,7 +30,8 @@ impl Model for MarkedStore {
 
     ghost view = { λ store. record { cells = store.cells.items; marks = store.marks.items } };
 
-    ghost invariant = { λ store. (length store.cells.items ≡ length store.marks.items) × AreChanged store.changed.items store.start store.cells.items };
+    ghost invariant = { λ store. (length store.cells.items ≡ length store.marks.items)
+        × AreChanged store.changed.items store.start store.cells.items };
 }
 
 impl MarkedStore {
@@ -73,7 +74,8 @@ impl MarkedStore {
     /// So pieces are merged: where all cells are there, the overlay is laid over what is marked, and its values win.
     pub fn merge(&mut self, written: &Overlay)
         ensures noted { self.new ≡ noted_all written.now.pairs self.old }
-        ensures laid { All (λ pair. pair.0 < length self.old.cells) written.now.pairs → marked self.new ≡ lays written.now.pairs (marked self.old) }
+        ensures laid { All (λ pair. pair.0 < length self.old.cells) written.now.pairs
+            → marked self.new ≡ lays written.now.pairs (marked self.old) }
     {
         // What the type keeps of a store is known where a field of it is seen.
         let _ = &self.marks;

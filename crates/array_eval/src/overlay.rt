@@ -129,7 +129,8 @@ fn place(pairs: &[(u16, i64)], cell: u16) -> usize
 
 // Whether the pair at a place is that of a cell.
 fn is_there(pairs: &[(u16, i64)], place: usize, cell: u16) -> bool
-    ensures { IsTrue result ↔ (place < length pairs.now) × ((slice_index_or pairs.now place (0, pos 0)).0 ≡ cell) }
+    ensures { IsTrue result ↔ (place < length pairs.now)
+        × ((slice_index_or pairs.now place (0, pos 0)).0 ≡ cell) }
 {
     place < pairs.len() && pairs[place].0 == cell
 }
@@ -154,7 +155,8 @@ fn put_pair(pairs: &mut Vec<(u16, i64)>, cell: u16, value: i64) -> Result<(), Al
     ensures ok { OnOk result (pairs.new.items ≡ lay cell value pairs.old.items) }
     ensures err { OnErr result (pairs.new.items ≡ pairs.old.items) }
     ensures room { vec_capacity pairs.old ≤ vec_capacity pairs.new }
-    ensures kept { HasRoom cell pairs.old.items (vec_capacity pairs.old) → vec_capacity pairs.new ≡ vec_capacity pairs.old }
+    ensures kept { HasRoom cell pairs.old.items (vec_capacity pairs.old)
+        → vec_capacity pairs.new ≡ vec_capacity pairs.old }
     ensures full { OnErr result (¬ HasRoom cell pairs.old.items (vec_capacity pairs.old)) }
 {
     match find(pairs, cell) {

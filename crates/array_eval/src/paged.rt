@@ -155,7 +155,8 @@ fn lay_out(
 ) -> Result<Vec<Page>, AllocError>
     requires { AreChangedPages changed.now earlier.now cells.now }
     ensures pages { IfOk result (λ pages. ArePages (length cells.now) pages.items) }
-    ensures same { IfOk result (λ pages. take (length cells.now) (cells_on pages.items) ≡ cells.now) }
+    ensures same { IfOk result
+        (λ pages. take (length cells.now) (cells_on pages.items) ≡ cells.now) }
 {
     let count = cells.len().div_ceil(CELLS);
     let mut pages = Vec::with_capacity(alloc, count)?;

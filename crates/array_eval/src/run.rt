@@ -23,7 +23,8 @@ use std::alloc::{AllocError, Global};
 pub fn run_one(alloc: Global, program: &Program) -> Result<Store, AllocError>
     requires { AreSized (arrays_of (declarations_of program.now.arrays)) }
     ensures meaning { IfOk result (λ store. store ≡ final_store (program_of program.now)) }
-    ensures whole { IfOk result (λ store. length store ≡ cells_of (arrays_of (declarations_of program.now.arrays))) }
+    ensures whole { IfOk result
+        (λ store. length store ≡ cells_of (arrays_of (declarations_of program.now.arrays))) }
 {
     let layout = Layout::new(alloc, &program.arrays)?;
     let zero = Store::zero(alloc, layout.cells() as u16)?;
@@ -40,7 +41,8 @@ pub fn run_block<'s>(
     scope: &'s Scope<'s>,
     store: &mut MarkedStore,
 )
-    ensures { store.new ≡ traced layout.now (sequence_work (sequence_of block.now) (vars_of scope.now)) store.old }
+    ensures { store.new ≡ traced layout.now
+        (sequence_work (sequence_of block.now) (vars_of scope.now)) store.old }
 {
     for statement in &block.statements {
         run_statement(layout, statement, scope, store);
@@ -56,7 +58,10 @@ pub fn run_assign(
     scope: &Scope,
     store: &mut MarkedStore,
 )
-    ensures { store.new ≡ noted (cell_of layout.now array.now (is_dynamic (expression_of index.now)) (value_of layout.now (vars_of scope.now) (expression_of index.now) store.old.cells)) (value_of layout.now (vars_of scope.now) (expression_of right.now) store.old.cells) store.old }
+    ensures { store.new ≡ noted (cell_of layout.now array.now (is_dynamic (expression_of index.now))
+        (value_of layout.now (vars_of scope.now) (expression_of index.now) store.old.cells))
+        (value_of layout.now (vars_of scope.now)
+        (expression_of right.now) store.old.cells) store.old }
 {
     let place = evaluate(layout, index, scope, store.cells());
     let number = evaluate(layout, right, scope, store.cells());
@@ -71,7 +76,8 @@ fn run_statement<'s>(
     scope: &'s Scope<'s>,
     store: &mut MarkedStore,
 )
-    ensures { store.new ≡ traced layout.now (statement_work (statement_of statement.now) (vars_of scope.now)) store.old }
+    ensures { store.new ≡ traced layout.now (statement_work (statement_of statement.now)
+        (vars_of scope.now)) store.old }
 {
     match statement {
         Stmt::Assign {
@@ -121,7 +127,9 @@ pub fn run_loop<'s>(
     scope: &'s Scope<'s>,
     store: &mut MarkedStore,
 )
-    ensures { store.new ≡ traced layout.now (loop var.now low high (sequence_work (sequence_of body.now)) (vars_of scope.now)) store.old }
+    ensures { store.new ≡ traced layout.now
+        (loop var.now low high (sequence_work (sequence_of body.now))
+        (vars_of scope.now)) store.old }
 {
     for number in low..high {
         let turn = Scope::Turn {
@@ -141,7 +149,8 @@ fn run_branches<'s>(
     scope: &'s Scope<'s>,
     store: &mut MarkedStore,
 )
-    ensures { store.new ≡ traced layout.now (branches_work (sequences_of branches.now) (vars_of scope.now)) store.old }
+    ensures { store.new ≡ traced layout.now (branches_work (sequences_of branches.now)
+        (vars_of scope.now)) store.old }
 {
     for branch in &branches.blocks {
         run_block(layout, branch, scope, store);
@@ -159,7 +168,8 @@ fn run_phases<'s>(
     scope: &'s Scope<'s>,
     store: &mut MarkedStore,
 )
-    ensures { store.new ≡ traced layout.now (phases_work (sequences_of phases.now) var.now low high (vars_of scope.now)) store.old }
+    ensures { store.new ≡ traced layout.now (phases_work (sequences_of phases.now) var.now low high
+        (vars_of scope.now)) store.old }
 {
     for phase in &phases.blocks {
         run_loop(layout, phase, var, low, high, scope, store);

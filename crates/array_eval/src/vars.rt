@@ -129,7 +129,8 @@ impl PartialEq for Binding {
 
 // Appends copies of the variables of a scope.
 fn append_scope(bindings: &mut Vec<Binding>, scope: &Scope) -> Result<(), AllocError>
-    ensures { OnOk result (pairs_of bindings.new.items ≡ pairs_of bindings.old.items ++ vars_of scope.now) }
+    ensures { OnOk result (pairs_of bindings.new.items ≡ pairs_of bindings.old.items
+        ++ vars_of scope.now) }
 {
     match scope {
         Scope::Outermost => Ok(()),
@@ -148,7 +149,8 @@ fn append_scope(bindings: &mut Vec<Binding>, scope: &Scope) -> Result<(), AllocE
 // Appends copies of variables that lie one after another, the innermost first.
 #[tactic(auto, using(crate::proofs::ScopeLemmas::stacked_more))]
 fn append_stack(bindings: &mut Vec<Binding>, vars: &[LoopVar]) -> Result<(), AllocError>
-    ensures { OnOk result (pairs_of bindings.new.items ≡ pairs_of bindings.old.items ++ stacked vars.now) }
+    ensures { OnOk result (pairs_of bindings.new.items ≡ pairs_of bindings.old.items
+        ++ stacked vars.now) }
 {
     let mut left = vars.len();
     while left > 0 {
@@ -160,7 +162,8 @@ fn append_stack(bindings: &mut Vec<Binding>, vars: &[LoopVar]) -> Result<(), All
 
 // Appends a variable with a copy of this name.
 fn append_copy(bindings: &mut Vec<Binding>, name: &Name, value: i64) -> Result<(), AllocError>
-    ensures { OnOk result (pairs_of bindings.new.items ≡ pairs_of bindings.old.items ++ (name.now, value) ∷ []) }
+    ensures { OnOk result (pairs_of bindings.new.items ≡ pairs_of bindings.old.items
+        ++ (name.now, value) ∷ []) }
 {
     bindings.push(Binding {
         name: name.copy()?,
@@ -171,7 +174,8 @@ fn append_copy(bindings: &mut Vec<Binding>, name: &Name, value: i64) -> Result<(
 
 // Appends copies of these variables.
 fn append(bindings: &mut Vec<Binding>, others: &[Binding]) -> Result<(), AllocError>
-    ensures { OnOk result (pairs_of bindings.new.items ≡ pairs_of bindings.old.items ++ pairs_of others.now) }
+    ensures { OnOk result (pairs_of bindings.new.items ≡ pairs_of bindings.old.items
+        ++ pairs_of others.now) }
 {
     for binding in others {
         append_copy(bindings, &binding.name, binding.value)?;

@@ -23,4 +23,5 @@ body_of program = record {
 -- What it writes, laid over zeros, is the store that the program ends with.
 abbrev pub BodiesGiveFinalStores : Type 0
 BodiesGiveFinalStores = (program : ProgramTree) →
-    after (piece_of_job (body_of program)) (first_store (arrays_of program.arrays)) ≡ final_store program
+    after (piece_of_job (body_of program)) (first_store (arrays_of program.arrays))
+    ≡ final_store program

@@ -13,7 +13,8 @@ pub record AreAlike (a b : JobTree) : Type 0 where
 pub record IsGroup (jobs : List JobTree) : Type 0 where
   pub some : 0 < length jobs
   pub few : length jobs ≤ 64
-  pub alike : (i j : ℕ) (a b : JobTree) → slice_get jobs i ≡ Some a → slice_get jobs j ≡ Some b → AreAlike a b
+  pub alike : (i j : ℕ) (a b : JobTree) → slice_get jobs i ≡ Some a → slice_get jobs j ≡ Some b
+      → AreAlike a b
   pub places : (i : ℕ) (job : JobTree) → slice_get jobs i ≡ Some job → job.place ≡ i
 
 -- Two lists have the same jobs, in whatever order and however often.

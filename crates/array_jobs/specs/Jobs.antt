@@ -58,12 +58,16 @@ program_in job = record { arrays = job.arrays; body = statements_of job.work }
 -- site are apart. The store has one value per cell, and the sites' numbers have room.
 pub record IsFit (job : JobTree) : Type 0 where
   pub single_names : IsTrue (are_declared_once job.arrays [])
-  pub new_variables : IsTrue (has_new_variables (statements_of job.work) (names_around job.vars ++ names_of job.arrays))
-  pub known_names : IsTrue (has_known_names (statements_of job.work) (names_of job.arrays) (names_around job.vars))
+  pub new_variables : IsTrue
+      (has_new_variables (statements_of job.work) (names_around job.vars ++ names_of job.arrays))
+  pub known_names : IsTrue
+      (has_known_names (statements_of job.work) (names_of job.arrays) (names_around job.vars))
   pub ranges : IsTrue (is_in_range (program_in job))
   pub no_site_under_if : IsTrue (has_no_site_under_if (statements_of job.work) false)
-  pub indices : IsTrue (are_inside (arrays_of job.arrays) (walk (arrays_of job.arrays) (steps_of job.work job.vars)))
-  pub apart : AreSitesApart (arrays_of job.arrays) (sequence_sites (statements_of job.work) job.vars)
+  pub indices : IsTrue (are_inside (arrays_of job.arrays)
+      (walk (arrays_of job.arrays) (steps_of job.work job.vars)))
+  pub apart : AreSitesApart (arrays_of job.arrays)
+      (sequence_sites (statements_of job.work) job.vars)
   pub cells : length job.store ≡ cells_of (arrays_of job.arrays)
   pub phases : job.phase < 8
   pub places : job.place < 64

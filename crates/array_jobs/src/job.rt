@@ -45,7 +45,16 @@ impl<'p> Model for Job<'p> {
 
     ghost view = { λ job. record { arrays = job.arrays.now; site = job.site; phase = job.phase; place = job.place; first = job.first; work = job.work; vars = job.vars; store = job.store } };
 
-    ghost invariant = { λ job. IsFit (job_of record { arrays = job.arrays.now; site = job.site; phase = job.phase; place = job.place; first = job.first; work = job.work; vars = job.vars; store = job.store }) };
+    ghost invariant = { λ job. IsFit (job_of record {
+      arrays = job.arrays.now;
+      site = job.site;
+      phase = job.phase;
+      place = job.place;
+      first = job.first;
+      work = job.work;
+      vars = job.vars;
+      store = job.store;
+    }) };
 }
 
 impl<'p> Job<'p> {

@@ -32,7 +32,10 @@ impl<'p> Model for Piece<'p> {
 
     ghost view = { λ piece. record { job = piece.job; written = piece.written.pairs } };
 
-    ghost invariant = { λ piece. IsRight record { job = piece.job; written = piece.written.pairs } };
+    ghost invariant = { λ piece. IsRight record {
+      job = piece.job;
+      written = piece.written.pairs;
+    } };
 }
 
 impl<'p> Piece<'p> {
@@ -67,7 +70,8 @@ pub fn written_by(alloc: Global, job: &Job) -> Result<Overlay, AllocError>
 
 // Runs a work.
 fn run_work<'s>(layout: &Layout, work: &'s Work<'s>, scope: &'s Scope<'s>, store: &mut MarkedStore)
-    ensures { store.new ≡ traced layout.now (steps_of (work_of work.now) (vars_of scope.now)) store.old }
+    ensures { store.new ≡ traced layout.now
+        (steps_of (work_of work.now) (vars_of scope.now)) store.old }
 {
     match work {
         Work::Branch(body) => run_block(layout, body, scope, store),

@@ -36,7 +36,8 @@ mutual
     lone_sum : {s t : List Spot} {x : Expression} → SpellsSum s t x → SpellsExpression s t x
     -- sum comparison sum
     compared : {s t u : List Spot} {x y : Expression} {l : Lexeme} {a n : ℕ} {op : Op} →
-        SpellsSum s (spot l a n ∷ t) x → operator_of l ≡ Some (comparison, op) → SpellsSum t u y → SpellsExpression s u (Binary op x y)
+        SpellsSum s (spot l a n ∷ t) x → operator_of l ≡ Some (comparison, op) → SpellsSum t u y
+        → SpellsExpression s u (Binary op x y)
 
   -- sum = term { addition term }
   pub data SpellsSum : List Spot → List Spot → Expression → Type 0 where
@@ -44,7 +45,8 @@ mutual
     lone_term : {s t : List Spot} {x : Expression} → SpellsTerm s t x → SpellsSum s t x
     -- sum addition term
     added : {s t u : List Spot} {x y : Expression} {l : Lexeme} {a n : ℕ} {op : Op} →
-        SpellsSum s (spot l a n ∷ t) x → operator_of l ≡ Some (addition, op) → SpellsTerm t u y → SpellsSum s u (Binary op x y)
+        SpellsSum s (spot l a n ∷ t) x → operator_of l ≡ Some (addition, op) → SpellsTerm t u y
+        → SpellsSum s u (Binary op x y)
 
   -- term = factor { product factor }
   pub data SpellsTerm : List Spot → List Spot → Expression → Type 0 where
@@ -52,15 +54,18 @@ mutual
     lone_factor : {s t : List Spot} {x : Expression} → SpellsFactor s t x → SpellsTerm s t x
     -- term product factor
     multiplied : {s t u : List Spot} {x y : Expression} {l : Lexeme} {a n : ℕ} {op : Op} →
-        SpellsTerm s (spot l a n ∷ t) x → operator_of l ≡ Some (product, op) → SpellsFactor t u y → SpellsTerm s u (Binary op x y)
+        SpellsTerm s (spot l a n ∷ t) x → operator_of l ≡ Some (product, op) → SpellsFactor t u y
+        → SpellsTerm s u (Binary op x y)
 
   -- factor = "-" factor | atom
   -- atom = NUMBER | NAME | NAME "[" expr "]" | "(" expr ")"
   pub data SpellsFactor : List Spot → List Spot → Expression → Type 0 where
     -- "-" factor
-    negated : {s t : List Spot} {x : Expression} {a n : ℕ} → SpellsFactor s t x → SpellsFactor (spot (sign signs.Minus) a n ∷ s) t (Neg x)
+    negated : {s t : List Spot} {x : Expression} {a n : ℕ} → SpellsFactor s t x
+        → SpellsFactor (spot (sign signs.Minus) a n ∷ s) t (Neg x)
     -- NUMBER
-    numbered : {t : List Spot} {v : ℤ} {a n : ℕ} → SpellsFactor (spot (number v) a n ∷ t) t (Number v)
+    numbered : {t : List Spot} {v : ℤ} {a n : ℕ}
+        → SpellsFactor (spot (number v) a n ∷ t) t (Number v)
     -- NAME
     named : {t : List Spot} {b : List ℕ} {a n : ℕ} → SpellsFactor (spot (name b) a n ∷ t) t (Var b)
     -- NAME "[" expr "]"
@@ -69,14 +74,17 @@ mutual
         SpellsFactor (spot (name b) a n ∷ spot (sign signs.OpenIndex) a1 n1 ∷ s) t (Read b x)
     -- "(" expr ")"
     grouped : {s t : List Spot} {x : Expression} {a n a1 n1 : ℕ} →
-        SpellsExpression s (spot (sign signs.CloseGroup) a1 n1 ∷ t) x → SpellsFactor (spot (sign signs.OpenGroup) a n ∷ s) t x
+        SpellsExpression s (spot (sign signs.CloseGroup) a1 n1 ∷ t) x
+        → SpellsFactor (spot (sign signs.OpenGroup) a n ∷ s) t x
 
 -- bound = [ "-" ] NUMBER
 pub data SpellsBound : List Spot → List Spot → ℤ → Type 0 where
   -- NUMBER
   plain_bound : {t : List Spot} {v : ℤ} {a n : ℕ} → SpellsBound (spot (number v) a n ∷ t) t v
   -- "-" NUMBER
-  negative_bound : {t : List Spot} {k a n a1 n1 : ℕ} → SpellsBound (spot (sign signs.Minus) a n ∷ spot (number (pos k)) a1 n1 ∷ t) t (neg_ℤ (pos k))
+  negative_bound : {t : List Spot} {k a n a1 n1 : ℕ}
+      → SpellsBound (spot (sign signs.Minus) a n ∷ spot (number (pos k)) a1 n1 ∷ t) t
+      (neg_ℤ (pos k))
 
 -- range = NAME "in" bound ".." bound
 pub data SpellsRange : List Spot → List Spot → List ℕ → ℤ → ℤ → Type 0 where
@@ -87,64 +95,83 @@ pub data SpellsRange : List Spot → List Spot → List ℕ → ℤ → ℤ → 
 mutual
   pub data SpellsStatement : List Spot → List Spot → Statement → Type 0 where
     -- assign = NAME "[" expr "]" "=" expr ";"
-    assigned : {s t u : List Spot} {b : List ℕ} {x y : Expression} {a n a1 n1 a2 n2 a3 n3 a4 n4 : ℕ} →
-        SpellsExpression s (spot (sign signs.CloseIndex) a2 n2 ∷ spot (sign signs.Assign) a3 n3 ∷ t) x →
+    assigned : {s t u : List Spot} {b : List ℕ} {x y : Expression}
+        {a n a1 n1 a2 n2 a3 n3 a4 n4 : ℕ} →
+        SpellsExpression s (spot (sign signs.CloseIndex) a2 n2
+        ∷ spot (sign signs.Assign) a3 n3 ∷ t) x →
         SpellsExpression t (spot (sign signs.Semicolon) a4 n4 ∷ u) y →
-        SpellsStatement (spot (name b) a n ∷ spot (sign signs.OpenIndex) a1 n1 ∷ s) u (Assign n b x y)
+        SpellsStatement (spot (name b) a n ∷ spot (sign signs.OpenIndex) a1 n1 ∷ s) u
+        (Assign n b x y)
     -- for = "for" range block
     looped : {s t u : List Spot} {b : List ℕ} {low high : ℤ} {p : Sequence} {a n : ℕ} →
-        SpellsRange s t b low high → SpellsBlock t u p → SpellsStatement (spot (word words.For) a n ∷ s) u (For n b low high p)
+        SpellsRange s t b low high → SpellsBlock t u p
+        → SpellsStatement (spot (word words.For) a n ∷ s) u (For n b low high p)
     -- if = "if" expr block [ "else" block ]
     chosen : {s t u : List Spot} {x : Expression} {p : Sequence} {a n : ℕ} →
-        SpellsExpression s t x → SpellsBlock t u p → SpellsStatement (spot (word words.If) a n ∷ s) u (If n x p ended)
+        SpellsExpression s t x → SpellsBlock t u p
+        → SpellsStatement (spot (word words.If) a n ∷ s) u (If n x p ended)
     chosen_else : {s t u v : List Spot} {x : Expression} {p q : Sequence} {a n a1 n1 : ℕ} →
-        SpellsExpression s t x → SpellsBlock t (spot (word words.Else) a1 n1 ∷ u) p → SpellsBlock u v q →
+        SpellsExpression s t x → SpellsBlock t (spot (word words.Else) a1 n1 ∷ u) p
+        → SpellsBlock u v q →
         SpellsStatement (spot (word words.If) a n ∷ s) v (If n x p q)
     -- par = "par" "{" block { block } "}"
     parallel : {s t : List Spot} {ps : Sequences} {a n a1 n1 : ℕ} →
-        SpellsBranches s t ps → SpellsStatement (spot (word words.Par) a n ∷ spot (sign signs.OpenBlock) a1 n1 ∷ s) t (Par n ps)
+        SpellsBranches s t ps → SpellsStatement (spot (word words.Par) a n
+        ∷ spot (sign signs.OpenBlock) a1 n1 ∷ s) t (Par n ps)
     -- team = "team" range "by" NUMBER block { "barrier" block }
-    teamed : {s t u : List Spot} {b : List ℕ} {low high members : ℤ} {ps : Sequences} {a n a1 n1 a2 n2 : ℕ} →
-        SpellsRange s (spot (word words.By) a1 n1 ∷ spot (number members) a2 n2 ∷ t) b low high → SpellsPhases t u ps →
+    teamed : {s t u : List Spot} {b : List ℕ} {low high members : ℤ} {ps : Sequences}
+        {a n a1 n1 a2 n2 : ℕ} →
+        SpellsRange s (spot (word words.By) a1 n1 ∷ spot (number members) a2 n2 ∷ t) b low high
+        → SpellsPhases t u ps →
         SpellsStatement (spot (word words.Team) a n ∷ s) u (Team n b low high members ps)
 
   -- block { block } "}"
   pub data SpellsBranches : List Spot → List Spot → Sequences → Type 0 where
     -- block "}"
-    last_branch : {s t : List Spot} {p : Sequence} {a n : ℕ} → SpellsBlock s (spot (sign signs.CloseBlock) a n ∷ t) p → SpellsBranches s t (beside p no_more)
+    last_branch : {s t : List Spot} {p : Sequence} {a n : ℕ}
+        → SpellsBlock s (spot (sign signs.CloseBlock) a n ∷ t) p
+        → SpellsBranches s t (beside p no_more)
     -- block and further branches
-    next_branch : {s t u : List Spot} {p : Sequence} {ps : Sequences} → SpellsBlock s t p → SpellsBranches t u ps → SpellsBranches s u (beside p ps)
+    next_branch : {s t u : List Spot} {p : Sequence} {ps : Sequences} → SpellsBlock s t p
+        → SpellsBranches t u ps → SpellsBranches s u (beside p ps)
 
   -- block { "barrier" block }
   pub data SpellsPhases : List Spot → List Spot → Sequences → Type 0 where
     -- block
-    last_phase : {s t : List Spot} {p : Sequence} → SpellsBlock s t p → SpellsPhases s t (beside p no_more)
+    last_phase : {s t : List Spot} {p : Sequence} → SpellsBlock s t p
+        → SpellsPhases s t (beside p no_more)
     -- block "barrier" and further phases
     next_phase : {s t u : List Spot} {p : Sequence} {ps : Sequences} {a n : ℕ} →
-        SpellsBlock s (spot (word words.Barrier) a n ∷ t) p → SpellsPhases t u ps → SpellsPhases s u (beside p ps)
+        SpellsBlock s (spot (word words.Barrier) a n ∷ t) p → SpellsPhases t u ps
+        → SpellsPhases s u (beside p ps)
 
   -- block = "{" { stmt } "}"
   pub data SpellsBlock : List Spot → List Spot → Sequence → Type 0 where
     block : {s t : List Spot} {p : Sequence} {a n a1 n1 : ℕ} →
-        SpellsSequence s (spot (sign signs.CloseBlock) a1 n1 ∷ t) p → SpellsBlock (spot (sign signs.OpenBlock) a n ∷ s) t p
+        SpellsSequence s (spot (sign signs.CloseBlock) a1 n1 ∷ t) p
+        → SpellsBlock (spot (sign signs.OpenBlock) a n ∷ s) t p
 
   -- { stmt }
   pub data SpellsSequence : List Spot → List Spot → Sequence → Type 0 where
     no_statement : {s : List Spot} → SpellsSequence s s ended
     -- stmt and further statements
-    next_statement : {s t u : List Spot} {c : Statement} {p : Sequence} → SpellsStatement s t c → SpellsSequence t u p → SpellsSequence s u (followed c p)
+    next_statement : {s t u : List Spot} {c : Statement} {p : Sequence} → SpellsStatement s t c
+        → SpellsSequence t u p → SpellsSequence s u (followed c p)
 
 -- decl = "array" NAME "[" NUMBER "]" ";"
 pub data SpellsDeclaration : List Spot → List Spot → Declaration → Type 0 where
   declaration : {t : List Spot} {b : List ℕ} {v : ℤ} {a n a1 n1 a2 n2 a3 n3 a4 n4 a5 n5 : ℕ} →
-      SpellsDeclaration (spot (word words.Array) a n ∷ spot (name b) a1 n1 ∷ spot (sign signs.OpenIndex) a2 n2 ∷ spot (number v) a3 n3 ∷ spot (sign signs.CloseIndex) a4 n4 ∷ spot (sign signs.Semicolon) a5 n5 ∷ t)
+      SpellsDeclaration (spot (word words.Array) a n ∷ spot (name b) a1 n1
+      ∷ spot (sign signs.OpenIndex) a2 n2 ∷ spot (number v) a3 n3
+      ∷ spot (sign signs.CloseIndex) a4 n4 ∷ spot (sign signs.Semicolon) a5 n5 ∷ t)
       t (record { line = n; name = b; length = v })
 
 -- { decl }
 pub data SpellsDeclarations : List Spot → List Spot → List Declaration → Type 0 where
   no_declaration : {s : List Spot} → SpellsDeclarations s s []
   -- decl and further declarations
-  next_declaration : {s t u : List Spot} {d : Declaration} {ds : List Declaration} → SpellsDeclaration s t d → SpellsDeclarations t u ds → SpellsDeclarations s u (d ∷ ds)
+  next_declaration : {s t u : List Spot} {d : Declaration} {ds : List Declaration}
+      → SpellsDeclaration s t d → SpellsDeclarations t u ds → SpellsDeclarations s u (d ∷ ds)
 
 -- The tokens spell the program, but for the bounds on nesting.
 -- program = { decl } { stmt }

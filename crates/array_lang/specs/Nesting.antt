@@ -26,55 +26,70 @@ marks_after m l = if is_mark l then m + 1 else m
 -- For each of these tokens of an outermost expression: whether it is a mark too many, where m marks stand before.
 abbrev pub marks_beyond : ℕ → List Spot → List Bool
 marks_beyond m [] = []
-marks_beyond m (t ∷ ts) = (is_mark t.lexeme && nat_le most_marks m) ∷ marks_beyond (marks_after m t.lexeme) ts
+marks_beyond m (t ∷ ts) =
+    (is_mark t.lexeme && nat_le most_marks m) ∷ marks_beyond (marks_after m t.lexeme) ts
 
 -- the tokens from s up to t
 abbrev pub between : List Spot → List Spot → List Spot
 between s t = take (length s - length t) s
 
-abbrev pub expression_beyond : {s t : List Spot} {x : Expression} → SpellsExpression s t x → List Bool
+abbrev pub expression_beyond : {s t : List Spot} {x : Expression}
+    → SpellsExpression s t x → List Bool
 expression_beyond {s} {t} d = marks_beyond 0 (between s t)
 
 abbrev pub bound_beyond : {s t : List Spot} {v : ℤ} → SpellsBound s t v → List Bool
 bound_beyond plain_bound = false ∷ []
 bound_beyond negative_bound = false ∷ false ∷ []
 
-abbrev pub range_beyond : {s t : List Spot} {b : List ℕ} {low high : ℤ} → SpellsRange s t b low high → List Bool
+abbrev pub range_beyond : {s t : List Spot} {b : List ℕ} {low high : ℤ}
+    → SpellsRange s t b low high → List Bool
 range_beyond (range d e) = false ∷ false ∷ (bound_beyond d ++ false ∷ bound_beyond e)
 
 -- For each token of a statement: whether it is a mark too many of its outermost expression, or opens a brace too many,
 -- where `depth` braces are open around.
 abbrev mutual
-  pub statement_beyond : {s t : List Spot} {c : Statement} → (depth : ℕ) → SpellsStatement s t c → List Bool
-  statement_beyond depth (assigned d e) = false ∷ false ∷ (expression_beyond d ++ false ∷ false ∷ (expression_beyond e ++ false ∷ []))
+  pub statement_beyond : {s t : List Spot} {c : Statement} → (depth : ℕ)
+      → SpellsStatement s t c → List Bool
+  statement_beyond depth (assigned d e) =
+      false ∷ false ∷ (expression_beyond d ++ false ∷ false ∷ (expression_beyond e ++ false ∷ []))
   statement_beyond depth (looped d e) = false ∷ (range_beyond d ++ block_beyond depth e)
   statement_beyond depth (chosen d e) = false ∷ (expression_beyond d ++ block_beyond depth e)
-  statement_beyond depth (chosen_else d e f) = false ∷ (expression_beyond d ++ (block_beyond depth e ++ false ∷ block_beyond depth f))
-  statement_beyond depth (parallel d) = false ∷ nat_le most_open depth ∷ branches_beyond (depth + 1) d
-  statement_beyond depth (teamed d e) = false ∷ (range_beyond d ++ false ∷ false ∷ phases_beyond depth e)
+  statement_beyond depth (chosen_else d e f) =
+      false ∷ (expression_beyond d ++ (block_beyond depth e ++ false ∷ block_beyond depth f))
+  statement_beyond depth (parallel d) =
+      false ∷ nat_le most_open depth ∷ branches_beyond (depth + 1) d
+  statement_beyond depth (teamed d e) =
+      false ∷ (range_beyond d ++ false ∷ false ∷ phases_beyond depth e)
 
-  pub branches_beyond : {s t : List Spot} {ps : Sequences} → (depth : ℕ) → SpellsBranches s t ps → List Bool
+  pub branches_beyond : {s t : List Spot} {ps : Sequences} → (depth : ℕ)
+      → SpellsBranches s t ps → List Bool
   branches_beyond depth (last_branch d) = block_beyond depth d ++ false ∷ []
   branches_beyond depth (next_branch d e) = block_beyond depth d ++ branches_beyond depth e
 
-  pub phases_beyond : {s t : List Spot} {ps : Sequences} → (depth : ℕ) → SpellsPhases s t ps → List Bool
+  pub phases_beyond : {s t : List Spot} {ps : Sequences} → (depth : ℕ)
+      → SpellsPhases s t ps → List Bool
   phases_beyond depth (last_phase d) = block_beyond depth d
   phases_beyond depth (next_phase d e) = block_beyond depth d ++ false ∷ phases_beyond depth e
 
   pub block_beyond : {s t : List Spot} {p : Sequence} → (depth : ℕ) → SpellsBlock s t p → List Bool
-  block_beyond depth (block d) = nat_le most_open depth ∷ (sequence_beyond (depth + 1) d ++ false ∷ [])
+  block_beyond depth (block d) =
+      nat_le most_open depth ∷ (sequence_beyond (depth + 1) d ++ false ∷ [])
 
-  pub sequence_beyond : {s t : List Spot} {p : Sequence} → (depth : ℕ) → SpellsSequence s t p → List Bool
+  pub sequence_beyond : {s t : List Spot} {p : Sequence} → (depth : ℕ)
+      → SpellsSequence s t p → List Bool
   sequence_beyond depth no_statement = []
   sequence_beyond depth (next_statement d e) = statement_beyond depth d ++ sequence_beyond depth e
 
 -- a declaration has six tokens, none of them a mark or a brace
-abbrev pub declarations_beyond : {s t : List Spot} {ds : List Declaration} → SpellsDeclarations s t ds → List Bool
+abbrev pub declarations_beyond : {s t : List Spot} {ds : List Declaration}
+    → SpellsDeclarations s t ds → List Bool
 declarations_beyond no_declaration = []
-declarations_beyond (next_declaration d e) = false ∷ false ∷ false ∷ false ∷ false ∷ false ∷ declarations_beyond e
+declarations_beyond (next_declaration d e) =
+    false ∷ false ∷ false ∷ false ∷ false ∷ false ∷ declarations_beyond e
 
 -- for each token of a program, whether it passes a bound
-abbrev pub program_beyond : {tokens : List Spot} {p : ProgramTree} → SpellsProgram tokens p → List Bool
+abbrev pub program_beyond : {tokens : List Spot} {p : ProgramTree}
+    → SpellsProgram tokens p → List Bool
 program_beyond d = declarations_beyond d.declares ++ sequence_beyond 0 d.does
 
 abbrev pub later : Option ℕ → Option ℕ

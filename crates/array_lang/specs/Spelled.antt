@@ -61,8 +61,10 @@ cutting_fault cutting.Memory = Memory
 -- The fault is the text's first: that of cutting it, and else the first of its tokens. Want of memory may come at any
 -- text, and is no fault of it.
 pub data HasFault (text : List ℕ) (fault : SyntaxFault) : Type 0 where
-  in_cutting : (cause : TokenFault) → tokens_of text ≡ Err cause → fault ≡ cutting_fault cause → fault ≢ Memory → HasFault text fault
-  in_tokens : (tokens : List Spot) → tokens_of text ≡ Ok tokens → HasTokenFault tokens (length text) fault → fault ≢ Memory → HasFault text fault
+  in_cutting : (cause : TokenFault) → tokens_of text ≡ Err cause → fault ≡ cutting_fault cause
+      → fault ≢ Memory → HasFault text fault
+  in_tokens : (tokens : List Spot) → tokens_of text ≡ Ok tokens
+      → HasTokenFault tokens (length text) fault → fault ≢ Memory → HasFault text fault
   no_memory : fault ≡ Memory → HasFault text fault
 
 -- The answer is this program, unless memory ran out.

@@ -13,6 +13,8 @@ pub fn one_program()
 
 /// Besides want of memory, a text has at most one fault, and none where it spells a program.
 pub fn one_fault()
-    ensures one { (text : List ℕ) (f g : SyntaxFault) → HasFault text f → HasFault text g → f ≢ Memory → g ≢ Memory → f ≡ g }
-    ensures none { (text : List ℕ) (p : ProgramTree) (f : SyntaxFault) → Spells text p → HasFault text f → f ≡ Memory }
+    ensures one { (text : List ℕ) (f g : SyntaxFault) → HasFault text f → HasFault text g
+        → f ≢ Memory → g ≢ Memory → f ≡ g }
+    ensures none { (text : List ℕ) (p : ProgramTree) (f : SyntaxFault) → Spells text p
+        → HasFault text f → f ≡ Memory }
 {}

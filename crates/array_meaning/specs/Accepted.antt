@@ -17,7 +17,8 @@ is_inside length (Some index) = int_le (pos 0) index && int_lt index (pos length
 -- Whether each static index of a walk is inside its array.
 abbrev pub are_inside : Arrays → List Visit → Bool
 are_inside arrays [] = true
-are_inside arrays (v ∷ more) = is_inside (length_of arrays v.array) v.index && are_inside arrays more
+are_inside arrays (v ∷ more) =
+    is_inside (length_of arrays v.array) v.index && are_inside arrays more
 
 -- Whether each static index of the program's walk is inside its array.
 abbrev pub has_indices_inside : ProgramTree → Bool

@@ -14,28 +14,38 @@ use Rattle.array_meaning.specs.Plans.{plan_of, sites_in, AreEarlier}
 -- What steps write depends only on what they read: from two stores that agree on the cells they read, they write the
 -- same.
 abbrev pub WritesDependOnReads : Type 0
-WritesDependOnReads = (arrays : Arrays) → HaveCells arrays → (steps : Steps) (s t : Store) → length s ≡ length t →
-    ((cell : ℕ) → reads_of arrays steps cell → at_cell s cell ≡ at_cell t cell) → writes_of arrays steps s ≡ writes_of arrays steps t
+WritesDependOnReads = (arrays : Arrays) → HaveCells arrays → (steps : Steps) (s t : Store)
+    → length s ≡ length t →
+    ((cell : ℕ) → reads_of arrays steps cell → at_cell s cell ≡ at_cell t cell)
+    → writes_of arrays steps s ≡ writes_of arrays steps t
 
 -- Pieces that are apart, each run from the one store and merged in any order, give what they give one after another.
 abbrev pub ArePiecesIndependent : Type 0
-ArePiecesIndependent = (arrays : Arrays) → HaveCells arrays → (pieces order : List Steps) (store : Store) →
+ArePiecesIndependent = (arrays : Arrays) → HaveCells arrays
+    → (pieces order : List Steps) (store : Store) →
     IsApart arrays pieces → HaveSameMembers order pieces →
-    merged (map (λ piece. piece_of arrays piece store) order) [] ≡ last_writes (writes_of arrays (join pieces) store)
+    merged (map (λ piece. piece_of arrays piece store) order) []
+    ≡ last_writes (writes_of arrays (join pieces) store)
 
 -- So do the branches of a `par`: they give what the `par` writes.
 abbrev pub AreBranchesIndependent : Type 0
-AreBranchesIndependent = (arrays : Arrays) → HaveCells arrays → (line : ℕ) (branches : Sequences) (vars : Vars) (order : List Steps) (store : Store) →
-    IsApart arrays (branch_works branches vars) → HaveSameMembers order (branch_works branches vars) →
+AreBranchesIndependent =
+    (arrays : Arrays) → HaveCells arrays
+    → (line : ℕ) (branches : Sequences) (vars : Vars) (order : List Steps) (store : Store) →
+    IsApart arrays (branch_works branches vars)
+    → HaveSameMembers order (branch_works branches vars) →
     merged (map (λ piece. piece_of arrays piece store) order) []
     ≡ last_writes (writes_of arrays (statement_work (Par line branches) vars) store)
 
 -- And so do the members of one phase: they give what the loop over all iterations writes.
 abbrev pub AreMembersIndependent : Type 0
-AreMembersIndependent = (arrays : Arrays) → HaveCells arrays → (var : List ℕ) (low high : ℤ) (members : ℕ) (body : Work) (vars : Vars)
+AreMembersIndependent = (arrays : Arrays) → HaveCells arrays
+    → (var : List ℕ) (low high : ℤ) (members : ℕ) (body : Work) (vars : Vars)
     (order : List Steps) (store : Store) → 0 < members →
-    IsApart arrays (team_works var low high members body vars) → HaveSameMembers order (team_works var low high members body vars) →
-    merged (map (λ piece. piece_of arrays piece store) order) [] ≡ last_writes (writes_of arrays (loop var low high body vars) store)
+    IsApart arrays (team_works var low high members body vars)
+    → HaveSameMembers order (team_works var low high members body vars) →
+    merged (map (λ piece. piece_of arrays piece store) order) []
+    ≡ last_writes (writes_of arrays (loop var low high body vars) store)
 
 -- Pieces are apart exactly where no cell passes the test of an overlap.
 pub record IsApartByTest (arrays : Arrays) (pieces : List Steps) : Type 0 where
@@ -47,11 +57,13 @@ ApartIsTested = (arrays : Arrays) (pieces : List Steps) → IsApartByTest arrays
 
 -- A cell passes the test of an overlap exactly where two different pieces clash on it.
 abbrev pub ClashesAreTested : Type 0
-ClashesAreTested = (arrays : Arrays) (pieces : List Steps) (cell : ℕ) → (overlaps arrays false false pieces cell ≡ true) ↔ IsClash arrays pieces cell
+ClashesAreTested = (arrays : Arrays) (pieces : List Steps) (cell : ℕ)
+    → (overlaps arrays false false pieces cell ≡ true) ↔ IsClash arrays pieces cell
 
 -- The cell that is told of an overlap is the least one on which two different pieces clash.
 abbrev pub LeastClashIsTold : Type 0
-LeastClashIsTold = (arrays : Arrays) (cells : ℕ) (pieces : List Steps) → IsLeastClash arrays cells pieces (overlap arrays cells pieces)
+LeastClashIsTold = (arrays : Arrays) (cells : ℕ) (pieces : List Steps)
+    → IsLeastClash arrays cells pieces (overlap arrays cells pieces)
 
 -- In a plan the parent of a site comes before it, and there are as many sites as the program enters.
 pub record IsPlanOf (program : ProgramTree) (plan : List ℕ) : Type 0 where
@@ -63,4 +75,5 @@ PlansAreRight = (program : ProgramTree) → IsPlanOf program (plan_of program)
 
 -- The sites of the checker are those of the plan, in number.
 abbrev pub SitesArePlanned : Type 0
-SitesArePlanned = (body : Sequence) (vars : Vars) → length (sequence_sites body vars) ≡ sites_in body
+SitesArePlanned = (body : Sequence) (vars : Vars)
+    → length (sequence_sites body vars) ≡ sites_in body

@@ -27,10 +27,13 @@ abbrev mutual
   pub statement_has_right_ranges : Statement → Bool
   statement_has_right_ranges (Assign line array index value) = true
   statement_has_right_ranges (For line var low high body) = int_le low high && has_right_ranges body
-  statement_has_right_ranges (If line cond then_block else_block) = has_right_ranges then_block && has_right_ranges else_block
-  statement_has_right_ranges (Par line branches) = is_up_to (pos 64) (pos (count_of branches)) && have_right_ranges branches
+  statement_has_right_ranges (If line cond then_block else_block) =
+      has_right_ranges then_block && has_right_ranges else_block
+  statement_has_right_ranges (Par line branches) =
+      is_up_to (pos 64) (pos (count_of branches)) && have_right_ranges branches
   statement_has_right_ranges (Team line var low high members phases) =
-      (int_le low high && is_up_to (pos 64) members) && (is_up_to (pos 8) (pos (count_of phases)) && have_right_ranges phases)
+      (int_le low high && is_up_to (pos 64) members)
+      && (is_up_to (pos 8) (pos (count_of phases)) && have_right_ranges phases)
 
   pub have_right_ranges : Sequences → Bool
   have_right_ranges no_more = true
@@ -39,7 +42,8 @@ abbrev mutual
 -- Whether all of these are inside their limits, and the arrays at most 64, with at most 4,096 cells in all.
 abbrev pub is_in_range : ProgramTree → Bool
 is_in_range program =
-    (have_right_lengths program.arrays && (nat_le (length program.arrays) 64 && nat_le (cells_of (arrays_of program.arrays)) 4096))
+    (have_right_lengths program.arrays
+    && (nat_le (length program.arrays) 64 && nat_le (cells_of (arrays_of program.arrays)) 4096))
     && has_right_ranges program.body
 
 -- Whether no `par` or `team` stands inside a side of an `if`. Given is whether this part stands inside one.
@@ -51,17 +55,20 @@ abbrev mutual
 
   pub statement_has_no_site_under_if : Statement → Bool → Bool
   statement_has_no_site_under_if (Assign line array index value) inside = true
-  statement_has_no_site_under_if (For line var low high body) inside = has_no_site_under_if body inside
+  statement_has_no_site_under_if (For line var low high body) inside =
+      has_no_site_under_if body inside
   statement_has_no_site_under_if (If line cond then_block else_block) inside =
       has_no_site_under_if then_block true && has_no_site_under_if else_block true
   statement_has_no_site_under_if (Par line branches) true = false
   statement_has_no_site_under_if (Par line branches) false = have_no_site_under_if branches false
   statement_has_no_site_under_if (Team line var low high members phases) true = false
-  statement_has_no_site_under_if (Team line var low high members phases) false = have_no_site_under_if phases false
+  statement_has_no_site_under_if (Team line var low high members phases) false =
+      have_no_site_under_if phases false
 
   pub have_no_site_under_if : Sequences → Bool → Bool
   have_no_site_under_if no_more inside = true
-  have_no_site_under_if (beside first rest) inside = has_no_site_under_if first inside && have_no_site_under_if rest inside
+  have_no_site_under_if (beside first rest) inside =
+      has_no_site_under_if first inside && have_no_site_under_if rest inside
 
 -- How deep constructs nest in the text.
 abbrev mutual
@@ -72,7 +79,8 @@ abbrev mutual
   pub statement_depth_of : Statement → ℕ
   statement_depth_of (Assign line array index value) = 0
   statement_depth_of (For line var low high body) = depth_of body
-  statement_depth_of (If line cond then_block else_block) = max (depth_of then_block) (depth_of else_block)
+  statement_depth_of (If line cond then_block else_block) =
+      max (depth_of then_block) (depth_of else_block)
   statement_depth_of (Par line branches) = 1 + branches_depth_of branches
   statement_depth_of (Team line var low high members phases) = 1 + branches_depth_of phases
 
@@ -95,11 +103,14 @@ abbrev mutual
   units_of (followed first rest) = statement_units_of first + units_of rest
 
   pub statement_units_of : Statement → ℕ
-  statement_units_of (Assign line array index value) = 1 + (expression_units_of index + expression_units_of value)
+  statement_units_of (Assign line array index value) =
+      1 + (expression_units_of index + expression_units_of value)
   statement_units_of (For line var low high body) = 1 + span low high * (1 + units_of body)
-  statement_units_of (If line cond then_block else_block) = 1 + (expression_units_of cond + (units_of then_block + units_of else_block))
+  statement_units_of (If line cond then_block else_block) =
+      1 + (expression_units_of cond + (units_of then_block + units_of else_block))
   statement_units_of (Par line branches) = 1 + branches_units_of branches
-  statement_units_of (Team line var low high members phases) = 1 + phases_units_of phases (unsigned_abs members) (span low high)
+  statement_units_of (Team line var low high members phases) =
+      1 + phases_units_of phases (unsigned_abs members) (span low high)
 
   pub branches_units_of : Sequences → ℕ
   branches_units_of no_more = 0
@@ -119,7 +130,8 @@ abbrev mutual
   pub statement_pieces_in : Statement → ℕ
   statement_pieces_in (Assign line array index value) = 0
   statement_pieces_in (For line var low high body) = span low high * pieces_in body
-  statement_pieces_in (If line cond then_block else_block) = pieces_in then_block + pieces_in else_block
+  statement_pieces_in (If line cond then_block else_block) =
+      pieces_in then_block + pieces_in else_block
   statement_pieces_in (Par line branches) = count_of branches + branches_pieces_in branches
   statement_pieces_in (Team line var low high members phases) =
       unsigned_abs members * count_of phases + span low high * branches_pieces_in phases

@@ -14,7 +14,8 @@ start_of low high m j = low +ℤ pos (first_of (span low high) m j)
 
 -- The work of a member: the loop over its own iterations.
 abbrev pub member_work : List ℕ → ℤ → ℤ → ℕ → Work → ℕ → Work
-member_work var low high m body j = loop var (start_of low high m j) (start_of low high m (j + 1)) body
+member_work var low high m body j =
+    loop var (start_of low high m j) (start_of low high m (j + 1)) body
 
 -- The works of so many members, from member j on.
 abbrev pub member_works : List ℕ → ℤ → ℤ → ℕ → Work → ℕ → ℕ → Vars → List Steps

@@ -7,24 +7,30 @@ use Rattle.array_meaning.specs.Touch.{Visit, walk, reads_of, changes_of}
 -- Whether an index of an array touches the cell.
 abbrev pub covers : Arrays → List ℕ → Option ℤ → ℕ → Bool
 covers arrays array (Some index) cell = nat_eq cell (cell_of arrays array false index)
-covers arrays array None cell = nat_le (base_of arrays array) cell && nat_lt cell (base_of arrays array + length_of arrays array)
+covers arrays array None cell =
+    nat_le (base_of arrays array) cell
+    && nat_lt cell (base_of arrays array + length_of arrays array)
 
 -- Whether some visit writes the cell.
 abbrev pub changed : Arrays → List Visit → ℕ → Bool
 changed arrays [] cell = false
-changed arrays (v ∷ more) cell = (v.writes && covers arrays v.array v.index cell) || changed arrays more cell
+changed arrays (v ∷ more) cell =
+    (v.writes && covers arrays v.array v.index cell) || changed arrays more cell
 
 -- Whether some visit reads the cell.
 abbrev pub read : Arrays → List Visit → ℕ → Bool
 read arrays [] cell = false
-read arrays (v ∷ more) cell = (not v.writes && covers arrays v.array v.index cell) || read arrays more cell
+read arrays (v ∷ more) cell =
+    (not v.writes && covers arrays v.array v.index cell) || read arrays more cell
 
 -- Whether a piece overlaps with an earlier one, of which some changed the cell, or read it.
 abbrev pub overlaps : Arrays → Bool → Bool → List Steps → ℕ → Bool
 overlaps arrays was_changed was_read [] cell = false
 overlaps arrays was_changed was_read (piece ∷ more) cell =
-    (changed arrays (walk arrays piece) cell && (was_read || was_changed) || read arrays (walk arrays piece) cell && was_changed)
-    || overlaps arrays (was_changed || changed arrays (walk arrays piece) cell) (was_read || read arrays (walk arrays piece) cell) more cell
+    (changed arrays (walk arrays piece) cell && (was_read || was_changed)
+    || read arrays (walk arrays piece) cell && was_changed)
+    || overlaps arrays (was_changed || changed arrays (walk arrays piece) cell) (was_read
+    || read arrays (walk arrays piece) cell) more cell
 
 -- The first of so many numbers, from one on, that passes.
 abbrev pub first_from : (ℕ → Bool) → ℕ → ℕ → Option ℕ
@@ -51,4 +57,5 @@ pub record IsClash (arrays : Arrays) (pieces : List Steps) (cell : ℕ) : Type 0
 abbrev pub IsLeastClash : Arrays → ℕ → List Steps → Option ℕ → Type 0
 IsLeastClash arrays cells pieces None = (cell : ℕ) → cell < cells → ¬ IsClash arrays pieces cell
 IsLeastClash arrays cells pieces (Some told) =
-    (told < cells) × IsClash arrays pieces told × ((cell : ℕ) → cell < told → ¬ IsClash arrays pieces cell)
+    (told < cells) × IsClash arrays pieces told
+    × ((cell : ℕ) → cell < told → ¬ IsClash arrays pieces cell)

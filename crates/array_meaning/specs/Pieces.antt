@@ -8,7 +8,8 @@ use Rattle.array_meaning.specs.Steps.{Steps, writes_of}
 abbrev pub lay : ℕ → ℤ → List Write → List Write
 lay cell value [] = (cell, value) ∷ []
 lay cell value (w ∷ more) =
-    cond (nat_lt cell w.0) ((cell, value) ∷ w ∷ more) (cond (nat_eq cell w.0) ((cell, value) ∷ more) (w ∷ lay cell value more))
+    cond (nat_lt cell w.0) ((cell, value) ∷ w ∷ more)
+    (cond (nat_eq cell w.0) ((cell, value) ∷ more) (w ∷ lay cell value more))
 
 -- With several more, one after another.
 abbrev pub lays : List Write → List Write → List Write
@@ -36,7 +37,8 @@ value_at (w ∷ more) cell = cond (nat_eq w.0 cell) (Some w.1) (value_at more ce
 -- What writes leave at a cell: the last value written there.
 abbrev pub last_value : List Write → ℕ → Option ℤ
 last_value [] cell = None
-last_value (w ∷ more) cell = option_or (last_value more cell) (cond (nat_eq w.0 cell) (Some w.1) None)
+last_value (w ∷ more) cell =
+    option_or (last_value more cell) (cond (nat_eq w.0 cell) (Some w.1) None)
 
 -- Each cell of the list is above this one.
 abbrev pub IsAbove : ℕ → List Write → Type 0

@@ -10,7 +10,8 @@ Parents = ℕ → ℕ → List ℕ
 
 -- Those of one part and then those of the next.
 abbrev pub and_then : Parents → Parents → Parents
-and_then first rest around next = let sites = first around next in sites ++ rest around (next + length sites)
+and_then first rest around next =
+    let sites = first around next in sites ++ rest around (next + length sites)
 
 -- Those of so many turns.
 abbrev pub repeated : ℕ → Parents → Parents
@@ -24,26 +25,31 @@ construct inside around next = around ∷ inside next (next + 1)
 abbrev mutual
   pub statement_parents : Statement → Parents
   statement_parents (Assign line array index value) around next = []
-  statement_parents (For line var low high body) around next = repeated (span low high) (sequence_parents body) around next
+  statement_parents (For line var low high body) around next =
+      repeated (span low high) (sequence_parents body) around next
   statement_parents (If line cond then_block else_block) around next =
       and_then (sequence_parents then_block) (sequence_parents else_block) around next
-  statement_parents (Par line branches) around next = construct (branches_parents branches) around next
+  statement_parents (Par line branches) around next =
+      construct (branches_parents branches) around next
   statement_parents (Team line var low high members phases) around next =
       construct (phases_parents phases (span low high)) around next
 
   pub sequence_parents : Sequence → Parents
   sequence_parents ended around next = []
-  sequence_parents (followed first rest) around next = and_then (statement_parents first) (sequence_parents rest) around next
+  sequence_parents (followed first rest) around next =
+      and_then (statement_parents first) (sequence_parents rest) around next
 
   pub branches_parents : Sequences → Parents
   branches_parents no_more around next = []
-  branches_parents (beside first rest) around next = and_then (sequence_parents first) (branches_parents rest) around next
+  branches_parents (beside first rest) around next =
+      and_then (sequence_parents first) (branches_parents rest) around next
 
   -- Each phase has so many iterations.
   pub phases_parents : Sequences → ℕ → Parents
   phases_parents no_more iterations around next = []
   phases_parents (beside first rest) iterations around next =
-      and_then (repeated iterations (sequence_parents first)) (phases_parents rest iterations) around next
+      and_then (repeated iterations (sequence_parents first))
+      (phases_parents rest iterations) around next
 
 -- The plan: no construct is around the body, and the first site is 1.
 abbrev pub plan_of : ProgramTree → List ℕ
@@ -54,9 +60,11 @@ abbrev mutual
   pub statement_sites_in : Statement → ℕ
   statement_sites_in (Assign line array index value) = 0
   statement_sites_in (For line var low high body) = span low high * sites_in body
-  statement_sites_in (If line cond then_block else_block) = sites_in then_block + sites_in else_block
+  statement_sites_in (If line cond then_block else_block) =
+      sites_in then_block + sites_in else_block
   statement_sites_in (Par line branches) = 1 + branches_sites_in branches
-  statement_sites_in (Team line var low high members phases) = 1 + span low high * branches_sites_in phases
+  statement_sites_in (Team line var low high members phases) =
+      1 + span low high * branches_sites_in phases
 
   pub sites_in : Sequence → ℕ
   sites_in ended = 0

@@ -22,7 +22,8 @@ branch_works (beside first rest) vars = sequence_work first vars ∷ branch_work
 abbrev pub phase_rounds : Sequences → List ℕ → ℤ → ℤ → ℕ → Vars → List (List Steps)
 phase_rounds no_more var low high members vars = []
 phase_rounds (beside first rest) var low high members vars =
-    team_works var low high members (sequence_work first) vars ∷ phase_rounds rest var low high members vars
+    team_works var low high members (sequence_work first) vars
+    ∷ phase_rounds rest var low high members vars
 
 -- The sites of so many turns.
 abbrev pub turn_sites : (ℤ → List Site) → ℤ → ℕ → List Site
@@ -36,12 +37,16 @@ loop_sites var low high body vars = turn_sites (λ x. body ((var, x) ∷ vars)) 
 abbrev mutual
   pub statement_sites : Statement → Vars → List Site
   statement_sites (Assign line array index value) vars = []
-  statement_sites (For line var low high body) vars = loop_sites var low high (sequence_sites body) vars
-  statement_sites (If line cond then_block else_block) vars = sequence_sites then_block vars ++ sequence_sites else_block vars
+  statement_sites (For line var low high body) vars =
+      loop_sites var low high (sequence_sites body) vars
+  statement_sites (If line cond then_block else_block) vars =
+      sequence_sites then_block vars ++ sequence_sites else_block vars
   statement_sites (Par line branches) vars =
-      record { line = line; rounds = branch_works branches vars ∷ [] } ∷ branches_sites branches vars
+      record { line = line; rounds = branch_works branches vars ∷ [] }
+      ∷ branches_sites branches vars
   statement_sites (Team line var low high members phases) vars =
-      record { line = line; rounds = phase_rounds phases var low high (unsigned_abs members) vars } ∷ phases_sites phases var low high vars
+      record { line = line; rounds = phase_rounds phases var low high (unsigned_abs members) vars }
+      ∷ phases_sites phases var low high vars
 
   pub sequence_sites : Sequence → Vars → List Site
   sequence_sites ended vars = []

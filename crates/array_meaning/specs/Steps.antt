@@ -14,8 +14,10 @@ pub data Steps : Type 0 where
 -- One after the other.
 abbrev pub followed_by : Steps → Steps → Steps
 followed_by Done next = next
-followed_by (Set line vars array index value rest) next = Set line vars array index value (followed_by rest next)
-followed_by (Choose line vars test left right rest) next = Choose line vars test left right (followed_by rest next)
+followed_by (Set line vars array index value rest) next =
+    Set line vars array index value (followed_by rest next)
+followed_by (Choose line vars test left right rest) next =
+    Choose line vars test left right (followed_by rest next)
 
 -- All, one after another.
 abbrev pub join : List Steps → Steps
@@ -31,7 +33,8 @@ writes_of arrays (Set line vars array index value rest) store =
     let number = value_of arrays vars value store in
     (cell, number) ∷ writes_of arrays rest (written store cell number)
 writes_of arrays (Choose line vars test left right rest) store =
-    let side = cond (holds (value_of arrays vars test store)) (writes_of arrays left store) (writes_of arrays right store) in
+    let side = cond (holds (value_of arrays vars test store)) (writes_of arrays left store)
+    (writes_of arrays right store) in
     side ++ writes_of arrays rest (after side store)
 
 -- The store after steps.

@@ -82,7 +82,8 @@ place_of length false index = unsigned_abs index
 
 -- The cell that an index of an array leads to.
 abbrev pub cell_of : Arrays → List ℕ → Bool → ℤ → ℕ
-cell_of arrays name dynamic index = base_of arrays name + place_of (length_of arrays name) dynamic index
+cell_of arrays name dynamic index =
+    base_of arrays name + place_of (length_of arrays name) dynamic index
 
 -- The value of an expression.
 abbrev pub value_of : Arrays → Vars → Expression → Store → ℤ
@@ -91,4 +92,5 @@ value_of arrays vars (Var name) store = var_of vars name
 value_of arrays vars (Read name index) store =
     at_cell store (cell_of arrays name (is_dynamic index) (value_of arrays vars index store))
 value_of arrays vars (Neg e) store = wrapping_minus (value_of arrays vars e store)
-value_of arrays vars (Binary op a b) store = applied op (value_of arrays vars a store) (value_of arrays vars b store)
+value_of arrays vars (Binary op a b) store =
+    applied op (value_of arrays vars a store) (value_of arrays vars b store)

@@ -24,28 +24,34 @@ visit arrays line writes vars array index = record {
 abbrev pub reads_in : Arrays → ℕ → Vars → Expression → List Visit
 reads_in arrays line vars (Number n) = []
 reads_in arrays line vars (Var name) = []
-reads_in arrays line vars (Read array index) = reads_in arrays line vars index ++ visit arrays line false vars array index ∷ []
+reads_in arrays line vars (Read array index) =
+    reads_in arrays line vars index ++ visit arrays line false vars array index ∷ []
 reads_in arrays line vars (Neg e) = reads_in arrays line vars e
-reads_in arrays line vars (Binary op a b) = reads_in arrays line vars a ++ reads_in arrays line vars b
+reads_in arrays line vars (Binary op a b) =
+    reads_in arrays line vars a ++ reads_in arrays line vars b
 
 -- The walk through steps: of an assignment the reads of the index, those of the value, and the target; of a choice
 -- the reads of the condition, the first side and the second.
 abbrev pub walk : Arrays → Steps → List Visit
 walk arrays Done = []
 walk arrays (Set line vars array index value rest) =
-    reads_in arrays line vars index ++ (reads_in arrays line vars value ++ (visit arrays line true vars array index ∷ walk arrays rest))
+    reads_in arrays line vars index
+    ++ (reads_in arrays line vars value
+    ++ (visit arrays line true vars array index ∷ walk arrays rest))
 walk arrays (Choose line vars test left right rest) =
     reads_in arrays line vars test ++ (walk arrays left ++ (walk arrays right ++ walk arrays rest))
 
 -- A static index touches its one cell, a dynamic one every cell of the array.
 abbrev pub Covers : Arrays → List ℕ → Option ℤ → ℕ → Type 0
 Covers arrays array (Some index) cell = cell ≡ cell_of arrays array false index
-Covers arrays array None cell = (base_of arrays array ≤ cell) × (cell < base_of arrays array + length_of arrays array)
+Covers arrays array None cell =
+    (base_of arrays array ≤ cell) × (cell < base_of arrays array + length_of arrays array)
 
 -- Some visit that writes, or one that reads, touches the cell.
 abbrev pub Touches : Arrays → Bool → List Visit → ℕ → Type 0
 Touches arrays writes [] cell = ⊥
-Touches arrays writes (v ∷ more) cell = (v.writes ≡ writes) × Covers arrays v.array v.index cell ⊎ Touches arrays writes more cell
+Touches arrays writes (v ∷ more) cell =
+    (v.writes ≡ writes) × Covers arrays v.array v.index cell ⊎ Touches arrays writes more cell
 
 -- The cells that steps read.
 abbrev pub reads_of : Arrays → Steps → ℕ → Type 0
@@ -57,8 +63,10 @@ changes_of arrays steps cell = Touches arrays true (walk arrays steps) cell
 
 -- Neither changes a cell that the other reads or changes.
 pub record IsSeparate (arrays : Arrays) (a b : Steps) : Type 0 where
-  pub left : (cell : ℕ) → changes_of arrays a cell → reads_of arrays b cell ⊎ changes_of arrays b cell → ⊥
-  pub right : (cell : ℕ) → changes_of arrays b cell → reads_of arrays a cell ⊎ changes_of arrays a cell → ⊥
+  pub left : (cell : ℕ) → changes_of arrays a cell
+      → reads_of arrays b cell ⊎ changes_of arrays b cell → ⊥
+  pub right : (cell : ℕ) → changes_of arrays b cell
+      → reads_of arrays a cell ⊎ changes_of arrays a cell → ⊥
 
 -- Separate from each of them.
 abbrev pub IsSeparateFrom : Arrays → Steps → List Steps → Type 0

@@ -33,18 +33,21 @@ abbrev mutual
 
   pub sequence_work : Sequence → Work
   sequence_work ended vars = Done
-  sequence_work (followed first rest) vars = followed_by (statement_work first vars) (sequence_work rest vars)
+  sequence_work (followed first rest) vars =
+      followed_by (statement_work first vars) (sequence_work rest vars)
 
   -- Branches, one after another.
   pub branches_work : Sequences → Work
   branches_work no_more vars = Done
-  branches_work (beside first rest) vars = followed_by (sequence_work first vars) (branches_work rest vars)
+  branches_work (beside first rest) vars =
+      followed_by (sequence_work first vars) (branches_work rest vars)
 
   -- Phases, one after another: each a loop.
   pub phases_work : Sequences → List ℕ → ℤ → ℤ → Work
   phases_work no_more var low high vars = Done
   phases_work (beside first rest) var low high vars =
-      followed_by (loop var low high (sequence_work first) vars) (phases_work rest var low high vars)
+      followed_by (loop var low high (sequence_work first) vars)
+      (phases_work rest var low high vars)
 
 -- All cells are 0 at first.
 abbrev pub first_store : Arrays → Store

@@ -28,7 +28,8 @@ strength_of x = 5
 
 -- A left operand is in parentheses where it binds weaker than the operator, or where both are comparisons.
 abbrev pub groups_left : Op → Expression → Bool
-groups_left op left = nat_lt (strength_of left) (op_strength op) || (nat_eq (op_strength op) 1 && nat_eq (strength_of left) 1)
+groups_left op left = nat_lt (strength_of left) (op_strength op)
+    || (nat_eq (op_strength op) 1 && nat_eq (strength_of left) 1)
 
 -- A right operand is in parentheses where it doesn't bind stronger than the operator.
 abbrev pub groups_right : Op → Expression → Bool
@@ -62,9 +63,11 @@ abbrev pub expression_text : Expression → List ℕ
 expression_text (Number value) = signed_decimal value
 expression_text (Var name) = name
 expression_text (Read array index) = array ++ codes "[" ++ expression_text index ++ codes "]"
-expression_text (Neg operand) = codes "-" ++ grouped_text (groups_negated operand) (expression_text operand)
+expression_text (Neg operand) =
+    codes "-" ++ grouped_text (groups_negated operand) (expression_text operand)
 expression_text (Binary op left right) =
-    grouped_text (groups_left op left) (expression_text left) ++ op_text op ++ grouped_text (groups_right op right) (expression_text right)
+    grouped_text (groups_left op left) (expression_text left) ++ op_text op
+    ++ grouped_text (groups_right op right) (expression_text right)
 
 -- what an assignment begins with: the array, its index and the sign
 abbrev pub target_text : List ℕ → Expression → List ℕ
@@ -72,7 +75,8 @@ target_text array index = array ++ codes "[" ++ expression_text index ++ codes "
 
 -- a loop variable with its bounds
 abbrev pub range_text : List ℕ → ℤ → ℤ → List ℕ
-range_text var low high = var ++ codes " in " ++ signed_decimal low ++ codes ".." ++ signed_decimal high
+range_text var low high =
+    var ++ codes " in " ++ signed_decimal low ++ codes ".." ++ signed_decimal high
 
 -- the same, with the members to whom the iterations are dealt
 abbrev pub dealt_text : List ℕ → ℤ → ℤ → ℤ → List ℕ
@@ -107,27 +111,33 @@ abbrev mutual
   statement_text margin (Assign line array index value) =
       margin ++ target_text array index ++ expression_text value ++ codes ";\n"
   statement_text margin (For line var low high body) =
-      margin ++ codes "for " ++ range_text var low high ++ block_text margin (sequence_text (wider margin) body) ++ codes "\n"
+      margin ++ codes "for " ++ range_text var low high
+      ++ block_text margin (sequence_text (wider margin) body) ++ codes "\n"
   statement_text margin (If line cond left right) =
-      margin ++ codes "if " ++ expression_text cond ++ block_text margin (sequence_text (wider margin) left)
+      margin ++ codes "if " ++ expression_text cond ++ block_text margin
+      (sequence_text (wider margin) left)
       ++ else_text right (block_text margin (sequence_text (wider margin) right)) ++ codes "\n"
   statement_text margin (Par line branches) =
       margin ++ codes "par {\n" ++ branches_text (wider margin) branches ++ margin ++ codes "}\n"
   statement_text margin (Team line var low high members phases) =
-      margin ++ codes "team " ++ dealt_text var low high members ++ phases_text false margin phases ++ codes "\n"
+      margin ++ codes "team " ++ dealt_text var low high members
+      ++ phases_text false margin phases ++ codes "\n"
 
   pub sequence_text : List ℕ → Sequence → List ℕ
   sequence_text margin ended = []
-  sequence_text margin (followed first rest) = statement_text margin first ++ sequence_text margin rest
+  sequence_text margin (followed first rest) =
+      statement_text margin first ++ sequence_text margin rest
 
   pub branches_text : List ℕ → Sequences → List ℕ
   branches_text margin no_more = []
-  branches_text margin (beside first rest) = branch_text margin (sequence_text (wider margin) first) ++ branches_text margin rest
+  branches_text margin (beside first rest) =
+      branch_text margin (sequence_text (wider margin) first) ++ branches_text margin rest
 
   pub phases_text : Bool → List ℕ → Sequences → List ℕ
   phases_text is_later margin no_more = []
   phases_text is_later margin (beside first rest) =
-      barrier_text is_later ++ block_text margin (sequence_text (wider margin) first) ++ phases_text true margin rest
+      barrier_text is_later ++ block_text margin (sequence_text (wider margin) first)
+      ++ phases_text true margin rest
 
 -- a block with its statements
 abbrev pub body_text : List ℕ → Sequence → List ℕ
@@ -135,7 +145,8 @@ body_text margin body = block_text margin (sequence_text (wider margin) body)
 
 -- the line of a declaration
 abbrev pub declaration_text : Declaration → List ℕ
-declaration_text array = codes "array " ++ array.name ++ codes "[" ++ signed_decimal array.length ++ codes "];\n"
+declaration_text array =
+    codes "array " ++ array.name ++ codes "[" ++ signed_decimal array.length ++ codes "];\n"
 
 -- The text of a program: its declarations and then its statements.
 abbrev pub printed : ProgramTree → List ℕ

@@ -35,7 +35,8 @@ marks_of (Number v) = 0
 marks_of (Var b) = 0
 marks_of (Read b x) = 1 + marks_of x
 marks_of (Neg x) = 1 + (parens (groups_negated x) + marks_of x)
-marks_of (Binary op x y) = (parens (groups_left op x) + marks_of x) + 1 + (parens (groups_right op y) + marks_of y)
+marks_of (Binary op x y) =
+    (parens (groups_left op x) + marks_of x) + 1 + (parens (groups_right op y) + marks_of y)
 
 -- an expression whose names and numbers are some that texts spell
 abbrev pub IsPrintable : Expression → Type 0
@@ -57,11 +58,15 @@ IsSome (beside p rest) = Unit {0}
 abbrev mutual
   pub CanStand : ℕ → Statement → Type 0
   CanStand depth (Assign line array index value) = IsName array × IsWhole index × IsWhole value
-  CanStand depth (For line var low high body) = IsName var × IsBound low × IsBound high × (depth < most_open) × CanFollow (depth + 1) body
-  CanStand depth (If line cond left right) = IsWhole cond × (depth < most_open) × CanFollow (depth + 1) left × CanFollow (depth + 1) right
-  CanStand depth (Par line branches) = (depth < most_open) × IsSome branches × CanBranch (depth + 1) branches
+  CanStand depth (For line var low high body) =
+      IsName var × IsBound low × IsBound high × (depth < most_open) × CanFollow (depth + 1) body
+  CanStand depth (If line cond left right) =
+      IsWhole cond × (depth < most_open) × CanFollow (depth + 1) left × CanFollow (depth + 1) right
+  CanStand depth (Par line branches) =
+      (depth < most_open) × IsSome branches × CanBranch (depth + 1) branches
   CanStand depth (Team line var low high members phases) =
-      IsName var × IsBound low × IsBound high × IsNumber members × IsSome phases × CanBranch depth phases
+      IsName var × IsBound low × IsBound high × IsNumber members × IsSome phases
+      × CanBranch depth phases
 
   pub CanFollow : ℕ → Sequence → Type 0
   CanFollow depth ended = Unit {0}
@@ -69,7 +74,8 @@ abbrev mutual
 
   pub CanBranch : ℕ → Sequences → Type 0
   CanBranch depth no_more = Unit {0}
-  CanBranch depth (beside first rest) = (depth < most_open) × CanFollow (depth + 1) first × CanBranch depth rest
+  CanBranch depth (beside first rest) =
+      (depth < most_open) × CanFollow (depth + 1) first × CanBranch depth rest
 
 -- declarations that texts spell
 abbrev pub AreDeclarable : List Declaration → Type 0

@@ -18,7 +18,8 @@ pub fn print_expression(
     out: &mut Vec<u8>,
     expression: &Expr,
 ) -> Result<(), AllocError>
-    ensures { OnOk result (out.new.items ≡ out.old.items ++ expression_text (expression_of expression.now)) }
+    ensures { OnOk result (out.new.items
+        ≡ out.old.items ++ expression_text (expression_of expression.now)) }
 {
     match expression {
         Expr::Number(value) => print_number(alloc, out, *value),

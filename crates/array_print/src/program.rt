@@ -35,7 +35,8 @@ fn program_text(alloc: Global, program: &Program) -> Result<Vec<u8>, AllocError>
 
 // Adds the line of a declaration.
 fn print_declaration(alloc: Global, out: &mut Vec<u8>, array: &ArrayDecl) -> Result<(), AllocError>
-    ensures { OnOk result (out.new.items ≡ out.old.items ++ declaration_text (declaration_of array.now)) }
+    ensures { OnOk result (out.new.items
+        ≡ out.old.items ++ declaration_text (declaration_of array.now)) }
 {
     out.extend_from_slice(b"array ".as_slice())?;
     out.extend_from_slice(array.name.as_bytes())?;

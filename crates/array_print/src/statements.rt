@@ -92,7 +92,8 @@ fn print_target(
     array: &Name,
     index: &Expr,
 ) -> Result<(), AllocError>
-    ensures { OnOk result (out.new.items ≡ out.old.items ++ target_text array.now (expression_of index.now)) }
+    ensures { OnOk result (out.new.items ≡ out.old.items ++ target_text array.now
+        (expression_of index.now)) }
 {
     print_both(out, array.as_bytes(), b"[".as_slice())?;
     print_expression(alloc, out, index)?;
@@ -179,7 +180,8 @@ fn print_par(
     branches: &Blocks,
 ) -> Result<(), AllocError>
     ensures { OnOk result (out.new.items ≡ out.old.items
-        ++ (margin.now ++ codes "par {\n" ++ branches_text (wider margin.now) (sequences_of branches.now)
+        ++ (margin.now ++ codes "par {\n" ++ branches_text (wider margin.now)
+        (sequences_of branches.now)
         ++ margin.now ++ codes "}\n")) }
 {
     let outer = inner_margin(alloc, margin)?;
@@ -196,7 +198,8 @@ fn print_branches(
     margin: &[u8],
     branches: &Blocks,
 ) -> Result<(), AllocError>
-    ensures { OnOk result (out.new.items ≡ out.old.items ++ branches_text margin.now (sequences_of branches.now)) }
+    ensures { OnOk result (out.new.items ≡ out.old.items ++ branches_text margin.now
+        (sequences_of branches.now)) }
 {
     for branch in &branches.blocks {
         print_branch(alloc, out, margin, branch)?;
@@ -297,7 +300,8 @@ fn print_block(
     margin: &[u8],
     block: &Block,
 ) -> Result<(), AllocError>
-    ensures { OnOk result (out.new.items ≡ out.old.items ++ body_text margin.now (sequence_of block.now)) }
+    ensures { OnOk result (out.new.items
+        ≡ out.old.items ++ body_text margin.now (sequence_of block.now)) }
 {
     let inner = inner_margin(alloc, margin)?;
     out.extend_from_slice(b" {\n".as_slice())?;
@@ -313,7 +317,8 @@ pub fn print_statements(
     margin: &[u8],
     block: &Block,
 ) -> Result<(), AllocError>
-    ensures { OnOk result (out.new.items ≡ out.old.items ++ sequence_text margin.now (sequence_of block.now)) }
+    ensures { OnOk result (out.new.items ≡ out.old.items ++ sequence_text margin.now
+        (sequence_of block.now)) }
 {
     for statement in &block.statements {
         print_statement(alloc, out, margin, statement)?;

@@ -115,15 +115,18 @@ abbrev pub name_front : List ℕ → Front
 name_front bytes = piece (named bytes (word_of bytes))
 
 abbrev pub number_front : List ℕ → Front
-number_front digits = if nat_le (decimal digits) 9223372036854775807 then piece (number (pos (decimal digits))) else too_large
+number_front digits = if nat_le (decimal digits) 9223372036854775807
+    then piece (number (pos (decimal digits))) else too_large
 
 -- what stands at the front of bytes that begin with the byte, the longest token first, and how many bytes it takes
 abbrev pub front_of : ℕ → List ℕ → Front × ℕ
 front_of first bytes =
     if is_blank first then (gap, 1)
     else if first == 35 then (gap, prefix_len is_in_line bytes)
-    else if is_letter first then (name_front (take_while is_name_byte bytes), prefix_len is_name_byte bytes)
-    else if is_digit first then (number_front (take_while is_digit bytes), prefix_len is_digit bytes)
+    else if is_letter first then
+    (name_front (take_while is_name_byte bytes), prefix_len is_name_byte bytes)
+    else if is_digit first then
+    (number_front (take_while is_digit bytes), prefix_len is_digit bytes)
     else sign_front bytes
 
 abbrev pub line_after : ℕ → ℕ → ℕ
@@ -136,7 +139,8 @@ with_tokens front (Err fault) = Err fault
 
 abbrev pub then_cut : Front → ℕ → ℕ → Result (List Spot) TokenFault → Result (List Spot) TokenFault
 then_cut gap at line rest = rest
-then_cut (piece l) at line rest = with_tokens (record { lexeme = l; at = at; line = line } ∷ []) rest
+then_cut (piece l) at line rest =
+    with_tokens (record { lexeme = l; at = at; line = line } ∷ []) rest
 then_cut no_token at line rest = Err (BadToken at)
 then_cut too_large at line rest = Err (NumberTooLarge at)
 
@@ -145,7 +149,8 @@ then_cut too_large at line rest = Err (NumberTooLarge at)
 abbrev pub cut : ℕ → ℕ → ℕ → List ℕ → Result (List Spot) TokenFault
 cut inside at line [] = Ok []
 cut zero at line (b ∷ bytes) =
-    then_cut (front_of b (b ∷ bytes)).0 at line (cut ((front_of b (b ∷ bytes)).1 - 1) (at + 1) (line_after line b) bytes)
+    then_cut (front_of b (b ∷ bytes)).0 at line
+    (cut ((front_of b (b ∷ bytes)).1 - 1) (at + 1) (line_after line b) bytes)
 cut (suc inside) at line (b ∷ bytes) = cut inside (at + 1) (line_after line b) bytes
 
 abbrev pub is_ascii : ℕ → Bool

@@ -66,9 +66,11 @@ fn add_front<'t>(
     requires place { at < 2 ^ 32 }
     requires line { line < 2 ^ 32 }
     ensures ok { OnOk result ((rest : Result (List Spot) TokenFault) →
-        with_tokens (spots found.new.items) rest ≡ with_tokens (spots found.old.items) (then_cut (seen front.entry) at line rest)) }
+        with_tokens (spots found.new.items) rest
+        ≡ with_tokens (spots found.old.items) (then_cut (seen front.entry) at line rest)) }
     ensures err { IfErr result (λ fault. (rest : Result (List Spot) TokenFault) →
-        Fails fault (with_tokens (spots found.old.items) (then_cut (seen front.entry) at line rest))) }
+        Fails fault (with_tokens (spots found.old.items)
+        (then_cut (seen front.entry) at line rest))) }
 {
     let at = at as u32;
     let line = line as u32;
@@ -144,7 +146,8 @@ fn name_kind(bytes: &[u8]) -> Kind<'_>
 
 // The value of digits, if it isn't too large.
 fn number(digits: &[u8]) -> Option<i64>
-    ensures { result ≡ (if nat_le (decimal digits.now) 9223372036854775807 then Some (pos (decimal digits.now)) else None) }
+    ensures { result ≡ (if nat_le (decimal digits.now) 9223372036854775807
+        then Some (pos (decimal digits.now)) else None) }
 {
     let mut value = 0u64;
     for digit in digits {

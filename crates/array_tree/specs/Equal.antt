@@ -27,17 +27,22 @@ expression_eq (Number m) (Number n) = int_eq m n
 expression_eq (Var a) (Var b) = name_eq a b
 expression_eq (Read a i) (Read b j) = name_eq a b && expression_eq i j
 expression_eq (Neg x) (Neg y) = expression_eq x y
-expression_eq (Binary o x y) (Binary p u v) = nat_eq (op_number o) (op_number p) && (expression_eq x u && expression_eq y v)
+expression_eq (Binary o x y) (Binary p u v) =
+    nat_eq (op_number o) (op_number p) && (expression_eq x u && expression_eq y v)
 expression_eq x y = false
 
 abbrev mutual
   pub statement_eq : Statement → Statement → Bool
-  statement_eq (Assign k a i v) (Assign l b j w) = nat_eq k l && (name_eq a b && (expression_eq i j && expression_eq v w))
-  statement_eq (For k a m n p) (For l b m' n' q) = nat_eq k l && (name_eq a b && (int_eq m m' && (int_eq n n' && sequence_eq p q)))
-  statement_eq (If k x p q) (If l y p' q') = nat_eq k l && (expression_eq x y && (sequence_eq p p' && sequence_eq q q'))
+  statement_eq (Assign k a i v) (Assign l b j w) =
+      nat_eq k l && (name_eq a b && (expression_eq i j && expression_eq v w))
+  statement_eq (For k a m n p) (For l b m' n' q) =
+      nat_eq k l && (name_eq a b && (int_eq m m' && (int_eq n n' && sequence_eq p q)))
+  statement_eq (If k x p q) (If l y p' q') =
+      nat_eq k l && (expression_eq x y && (sequence_eq p p' && sequence_eq q q'))
   statement_eq (Par k bs) (Par l cs) = nat_eq k l && sequences_eq bs cs
   statement_eq (Team k a m n j bs) (Team l b m' n' j' cs) =
-      nat_eq k l && (name_eq a b && (int_eq m m' && (int_eq n n' && (int_eq j j' && sequences_eq bs cs))))
+      nat_eq k l && (name_eq a b
+      && (int_eq m m' && (int_eq n n' && (int_eq j j' && sequences_eq bs cs))))
   statement_eq c d = false
 
   pub sequence_eq : Sequence → Sequence → Bool

@@ -60,14 +60,17 @@ expression_of (expr.Number value) = Number value
 expression_of (expr.Var name) = Var name
 expression_of (expr.Read' name place index) = Read name (expression_of index)
 expression_of (expr.Neg' place operand) = Neg (expression_of operand)
-expression_of (expr.Binary' op place left place' right) = Binary op (expression_of left) (expression_of right)
+expression_of (expr.Binary' op place left place' right) =
+    Binary op (expression_of left) (expression_of right)
 
 abbrev pub statement_step : open_tree.Stmt-F Statement Sequence Sequences → Statement
-statement_step (open_tree.Assign line array index value) = Assign line array (expression_of index) (expression_of value)
+statement_step (open_tree.Assign line array index value) =
+    Assign line array (expression_of index) (expression_of value)
 statement_step (open_tree.For line var low high body) = For line var low high body
 statement_step (open_tree.If line cond left right) = If line (expression_of cond) left right
 statement_step (open_tree.Par line branches) = Par line branches
-statement_step (open_tree.Team line var low high members phases) = Team line var low high members phases
+statement_step (open_tree.Team line var low high members phases) =
+    Team line var low high members phases
 
 abbrev pub block_step : open_tree.Block-F Statement Sequence Sequences → Sequence
 block_step block = sequence block.statements.items
@@ -91,4 +94,7 @@ abbrev pub declarations_of : Arrays → List Declaration
 declarations_of arrays = map declaration_of arrays.declarations.items
 
 abbrev pub program_of : Program → ProgramTree
-program_of program = record { arrays = declarations_of program.arrays; body = sequence_of program.body }
+program_of program = record {
+  arrays = declarations_of program.arrays;
+  body = sequence_of program.body;
+}

@@ -83,7 +83,8 @@ impl PartialEq for ArrayDecl {
     ghost laws = { equal_laws declaration_of declaration_eq declaration_same declaration_refl };
 
     fn eq(&self, other: &ArrayDecl) -> bool
-        ensures tested { result ≡ declaration_eq (declaration_of self.now) (declaration_of other.now) }
+        ensures tested { result ≡ declaration_eq (declaration_of self.now)
+            (declaration_of other.now) }
         ensures same { IsTrue result ↔ (declaration_of self.now ≡ declaration_of other.now) }
     {
         self.line == other.line && self.name == other.name && self.length == other.length
@@ -100,7 +101,8 @@ impl PartialEq for Arrays {
     ghost laws = { equal_laws declarations_of declarations_eq declarations_same declarations_refl };
 
     fn eq(&self, other: &Arrays) -> bool
-        ensures tested { result ≡ declarations_eq (declarations_of self.now) (declarations_of other.now) }
+        ensures tested { result ≡ declarations_eq (declarations_of self.now)
+            (declarations_of other.now) }
         ensures same { IsTrue result ↔ (declarations_of self.now ≡ declarations_of other.now) }
     {
         self.declarations == other.declarations

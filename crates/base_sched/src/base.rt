@@ -61,7 +61,10 @@ impl Model for Base {
 impl Base {
     /// A base with no wish yet, and room for 15 wishes at each of so many sites.
     pub fn new(alloc: Global, sites: u16) -> Result<Base, AllocError>
-        ensures { IfOk result (λ b. b ≡ record { wishes = record { sites = []; room = 15 * sites }; is_shut = false }) }
+        ensures { IfOk result (λ b. b ≡ record {
+          wishes = record { sites = []; room = 15 * sites };
+          is_shut = false;
+        }) }
     {
         Ok(Base {
             wishes: Wishes::new(alloc, WISHES_PER_SITE * sites as usize)?,
@@ -113,7 +116,9 @@ impl Scheduler for Base {
 
     fn unregister(&mut self, _hold: (), child: u16) -> BaseHeard
         ensures told { result ≡ unregistered_told child }
-        ensures wishes { self.new ≡ record self.old { wishes = without_child self.old.wishes child } }
+        ensures wishes { self.new ≡ record self.old {
+          wishes = without_child self.old.wishes child;
+        } }
     {
         self.wishes.remove(child);
         heard(Call::Unregistered, child, 0)
@@ -121,7 +126,9 @@ impl Scheduler for Base {
 
     fn request(&mut self, _hold: (), child: u16, count: u8) -> BaseHeard
         ensures told { result ≡ requested_told child count }
-        ensures wishes { self.new ≡ record self.old { wishes = with_wishes self.old.wishes child count } }
+        ensures wishes { self.new ≡ record self.old {
+          wishes = with_wishes self.old.wishes child count;
+        } }
     {
         self.wishes.add(child, count);
         heard(Call::Requested, child, count)

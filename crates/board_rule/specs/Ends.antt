@@ -19,7 +19,8 @@ use Rattle.board_rule.specs.Counts.{total, ended_as}
 pub record Spells (p : Plan) (ws : List ℕ) (es : List Entry) : Type 0 where
   pub count : entries_in (slice_index ws 0) ≡ length es
   pub few : length es ≤ room p
-  pub places : (i : ℕ) (e : Entry) → slice_get es i ≡ Some e → (journal_word p ws i ≡ spelled e) × IsEntryOf p e
+  pub places : (i : ℕ) (e : Entry) → slice_get es i ≡ Some e
+      → (journal_word p ws i ≡ spelled e) × IsEntryOf p e
 
 -- all harts but 0 were joined into the view
 abbrev pub AllEnded : Plan → View → Type 0

@@ -12,7 +12,11 @@ St = State (Unit {0}) View
 
 -- the word i has become n, and the seat has the view w
 abbrev pub after_step : St → ℕ → ℕ → ℕ → View → St
-after_step s i n id w = record { words = slice_set s.words i n; homes = s.homes; views = slice_set s.views id w }
+after_step s i n id w = record {
+  words = slice_set s.words i n;
+  homes = s.homes;
+  views = slice_set s.views id w;
+}
 
 -- the rule holds on, with the same journal and the same state of the table
 abbrev pub Keeps : (p : Plan) (s : St) → Stands p s → St → Type 0
@@ -20,4 +24,5 @@ Keeps p s k s' = (k' : Stands p s') × (k'.journal ≡ k.journal) × (k'.table �
 
 -- the rule holds on, the journal has one entry more, and the table admits it
 abbrev pub Appends : (p : Plan) (s : St) → Stands p s → Entry → St → Type 0
-Appends p s k e s' = (k' : Stands p s') × (k'.journal ≡ k.journal ++ e ∷ []) × (admit_of p k.table e ≡ Ok k'.table)
+Appends p s k e s' = (k' : Stands p s') × (k'.journal ≡ k.journal ++ e ∷ [])
+    × (admit_of p k.table e ≡ Ok k'.table)

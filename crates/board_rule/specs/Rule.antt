@@ -55,7 +55,8 @@ pub record IsSiteWord (word : ℕ) (closing : Bool) (c : Load) (r : Row) : Type 
   pub sealed : c.seals ≤ one_if (is_gone r.stage)
   -- the unmet wishes are the want, those for which a hart is reserved, and those that are not yet added to the want
   pub wishes : want + c.reserves + c.credits ≡ r.wishes
-  pub word_is : word + 4 * c.seals ≡ started r.stage + c.claims + 2 * one_if closing + 4 * one_if (is_gone r.stage) + 256 * want + 65536 * (c.reserves + c.lands)
+  pub word_is : word + 4 * c.seals ≡ started r.stage + c.claims + 2 * one_if closing
+      + 4 * one_if (is_gone r.stage) + 256 * want + 65536 * (c.reserves + c.lands)
 
 -- ---- what a seat knows
 
@@ -82,11 +83,14 @@ module _ (p : Plan) (es : List Entry) (t : TableState) (v : View) where
   -- what it is about
   abbrev pub DoesRight : Doing → Type 0
   DoesRight Idle = Unit {0}
-  DoesRight (Claiming x) = IsSite p x × (v.owner ≡ parent p x) × ((row t x).stage ≡ New) × (v.drawn ≡ None)
-  DoesRight (Reserved x) = IsSite p x × (v.owner ≡ parent p x) × ((row t x).stage ≡ Live) × (v.drawn ≡ None)
+  DoesRight (Claiming x) =
+      IsSite p x × (v.owner ≡ parent p x) × ((row t x).stage ≡ New) × (v.drawn ≡ None)
+  DoesRight (Reserved x) =
+      IsSite p x × (v.owner ≡ parent p x) × ((row t x).stage ≡ Live) × (v.drawn ≡ None)
   DoesRight (Crediting x k) = IsSite p x × is_last v.mine (Request v.hart x k)
   DoesRight (Landing x) = IsSite p x × is_last v.mine (Enter v.hart x)
-  DoesRight (Sealing x) = IsSite p x × ((row t x).stage ≡ Gone) × is_last v.mine (Unregister v.hart x)
+  DoesRight (Sealing x) = IsSite p x × ((row t x).stage ≡ Gone)
+      × is_last v.mine (Unregister v.hart x)
 
   -- who it is, and what it made
   pub record KnowsItself (made : ℕ) (ended : List Ended) : Type 0 where
@@ -94,11 +98,13 @@ module _ (p : Plan) (es : List Entry) (t : TableState) (v : View) where
     pub mine : v.mine ≡ made_by v.hart es
     pub owner : v.owner ≡ owner t v.hart
     -- the entry that it is to write stands in the journal at its place, and is the last that it made
-    pub drawn : (d : Drawn) → v.drawn ≡ Some d → (slice_get es d.place ≡ Some d.entry) × is_last v.mine d.entry
+    pub drawn : (d : Drawn) → v.drawn ≡ Some d
+        → (slice_get es d.place ≡ Some d.entry) × is_last v.mine d.entry
     pub joined : v.hart ≡ 0 → (v.made ≡ made) × (v.ended ≡ ended)
 
 -- what it knows of the sites
-pub record KnowsSites (p : Plan) (t : TableState) (h : ℕ) (m : Marks) (closing : ℕ → Bool) (flights : ℕ → ℕ) : Type 0 where
+pub record KnowsSites (p : Plan) (t : TableState) (h : ℕ) (m : Marks) (closing : ℕ → Bool)
+    (flights : ℕ → ℕ) : Type 0 where
   pub sized : HasFlags p m
   pub homes : (x : ℕ) → IsSite p x → is_in m.homes x ≡ lives_with t x h
   pub homes_in : (x : ℕ) → is_in m.homes x ≡ true → IsSite p x
@@ -109,7 +115,8 @@ pub record KnowsSites (p : Plan) (t : TableState) (h : ℕ) (m : Marks) (closing
   pub alone : (x : ℕ) → is_in m.empty x ≡ true → SawChildren p m x → IsAlone p t h x
   pub gone : (x : ℕ) → is_in m.gone x ≡ true → IsSite p x × ((row t x).stage ≡ Gone)
 
-pub record Knows (p : Plan) (es : List Entry) (t : TableState) (v : View) (closing : ℕ → Bool) (flights : ℕ → ℕ) (made : ℕ) (ended : List Ended) : Type 0 where
+pub record Knows (p : Plan) (es : List Entry) (t : TableState) (v : View) (closing : ℕ → Bool)
+    (flights : ℕ → ℕ) (made : ℕ) (ended : List Ended) : Type 0 where
   pub itself : KnowsItself p es t v made ended
   pub does : DoesRight p es t v v.doing
   pub sites : KnowsSites p t v.hart v.marks closing flights
@@ -131,17 +138,22 @@ pub record Stands (p : Plan) (s : State (Unit {0}) View) : Type 0 where
   -- the board word has the journal's length and the state's owners
   pub board : slice_index s.words 0 ≡ board_word table (length journal)
   -- each place of the journal is written, or drawn by one view; behind it nothing is
-  pub places : (i : ℕ) (e : Entry) → slice_get journal i ≡ Some e → IsPlace (journal_word p s.words i) (total (draws i) s.views) e
-  pub beyond : (i : ℕ) → length journal ≤ i → (journal_word p s.words i ≡ 0) × (total (draws i) s.views ≡ 0)
+  pub places : (i : ℕ) (e : Entry) → slice_get journal i ≡ Some e
+      → IsPlace (journal_word p s.words i) (total (draws i) s.views) e
+  pub beyond : (i : ℕ) → length journal ≤ i
+      → (journal_word p s.words i ≡ 0) × (total (draws i) s.views ≡ 0)
   -- each site's word shows its row and what the seats do there
-  pub sites : (x : ℕ) → IsSite p x → IsSiteWord (slice_index s.words x) (closing x) (load x s.views) (row table x)
+  pub sites : (x : ℕ) → IsSite p x
+      → IsSiteWord (slice_index s.words x) (closing x) (load x s.views) (row table x)
   -- each hart has one seat, or was joined away, or has not been made
-  pub seats : (h : ℕ) → IsHart p h → total (numbered h) s.views + total (ended_as h) ended + one_if (nat_le made h) ≡ 1
+  pub seats : (h : ℕ) → IsHart p h → total (numbered h) s.views + total (ended_as h) ended
+      + one_if (nat_le made h) ≡ 1
   pub first : total (numbered 0) s.views ≡ 1
   pub unmade : (h : ℕ) → made ≤ h → made_by h journal ≡ []
   pub over : (k : ℕ) (e : Ended) → get_elem? ended k ≡ some e → e.mine ≡ made_by e.hart journal
   -- each seat knows what stands, and a seat that was joined away knows nothing
-  pub views : (j : ℕ) (v : View) → get_elem? s.views j ≡ some v → IsSeat v → Knows p journal table v closing (flight s.views) made ended
+  pub views : (j : ℕ) (v : View) → get_elem? s.views j ≡ some v → IsSeat v
+      → Knows p journal table v closing (flight s.views) made ended
   pub spent : (j : ℕ) (v : View) → get_elem? s.views j ≡ some v → ¬ IsSeat v → v ≡ spent_view
 
 -- ---- what the rule tells of every seat

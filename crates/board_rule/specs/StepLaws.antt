@@ -23,69 +23,99 @@ use Rattle.board_rule.specs.Laws.{St, after_step, Keeps, Appends}
 
 -- setting the claimed bit of a site
 abbrev pub ClaimKeeps : Type 0
-ClaimKeeps = (p : Plan) (s : St) (k : Stands p s) (id : ℕ) (v : View) (x : ℕ) → get_elem? s.views id ≡ some v → IsSeat v → MayClaim p v x
-    → Keeps p s k (after_step s x (bit_or (slice_index s.words x) 1) id (claim_view x (slice_index s.words x) v))
+ClaimKeeps = (p : Plan) (s : St) (k : Stands p s) (id : ℕ) (v : View) (x : ℕ)
+    → get_elem? s.views id ≡ some v → IsSeat v → MayClaim p v x
+    → Keeps p s k (after_step s x (bit_or (slice_index s.words x) 1) id
+    (claim_view x (slice_index s.words x) v))
 
 -- writing the drawn entry at its place
 abbrev pub JotKeeps : Type 0
-JotKeeps = (p : Plan) (s : St) (k : Stands p s) (id : ℕ) (v : View) (place : ℕ) (e : Entry) → get_elem? s.views id ≡ some v → IsSeat v → v.drawn ≡ Some record { place = place; entry = e }
+JotKeeps = (p : Plan) (s : St) (k : Stands p s) (id : ℕ) (v : View) (place : ℕ) (e : Entry)
+    → get_elem? s.views id ≡ some v → IsSeat v → v.drawn ≡ Some record { place = place; entry = e }
     → Keeps p s k (after_step s (journal_index p place) (spelled e) id (jot_view v))
 
 -- adding to the want of a site
 abbrev pub CreditKeeps : Type 0
-CreditKeeps = (p : Plan) (s : St) (k : Stands p s) (id : ℕ) (v : View) (x n : ℕ) → get_elem? s.views id ≡ some v → IsSeat v → slice_index s.words x < 2 ^ 64 → v.doing ≡ Crediting x n
+CreditKeeps = (p : Plan) (s : St) (k : Stands p s) (id : ℕ) (v : View) (x n : ℕ)
+    → get_elem? s.views id ≡ some v → IsSeat v → slice_index s.words x < 2 ^ 64
+    → v.doing ≡ Crediting x n
     → Keeps p s k (after_step s x ((slice_index s.words x + 256 * n) % 2 ^ 64) id (done_view v))
 
 -- a look at a word: by a hart that means to enter
 abbrev pub GlanceKeeps : Type 0
-GlanceKeeps = (p : Plan) (s : St) (k : Stands p s) (id : ℕ) (v : View) (x : ℕ) → get_elem? s.views id ≡ some v → IsSeat v → IsReady v
-    → Keeps p s k (after_step s x (slice_index s.words x) id (glance_view x (slice_index s.words x) v))
+GlanceKeeps = (p : Plan) (s : St) (k : Stands p s) (id : ℕ) (v : View) (x : ℕ)
+    → get_elem? s.views id ≡ some v → IsSeat v → IsReady v
+    → Keeps p s k (after_step s x (slice_index s.words x) id
+    (glance_view x (slice_index s.words x) v))
 
 -- to see a site gone
 abbrev pub SeeGoneKeeps : Type 0
-SeeGoneKeeps = (p : Plan) (s : St) (k : Stands p s) (id : ℕ) (v : View) (x : ℕ) → get_elem? s.views id ≡ some v → IsSeat v → IsReady v → IsSite p x
-    → Keeps p s k (after_step s x (slice_index s.words x) id (see_gone_view x (slice_index s.words x) v))
+SeeGoneKeeps = (p : Plan) (s : St) (k : Stands p s) (id : ℕ) (v : View) (x : ℕ)
+    → get_elem? s.views id ≡ some v → IsSeat v → IsReady v → IsSite p x
+    → Keeps p s k (after_step s x (slice_index s.words x) id
+    (see_gone_view x (slice_index s.words x) v))
 
 -- to see the owner without a hart on its way in
 abbrev pub SeeDrainedKeeps : Type 0
-SeeDrainedKeeps = (p : Plan) (s : St) (k : Stands p s) (id : ℕ) (v : View) → get_elem? s.views id ≡ some v → IsSeat v → MaySeeDrained v
-    → Keeps p s k (after_step s v.owner (slice_index s.words v.owner) id (see_drained_view (slice_index s.words v.owner) v))
+SeeDrainedKeeps = (p : Plan) (s : St) (k : Stands p s) (id : ℕ) (v : View)
+    → get_elem? s.views id ≡ some v → IsSeat v → MaySeeDrained v
+    → Keeps p s k (after_step s v.owner (slice_index s.words v.owner) id
+    (see_drained_view (slice_index s.words v.owner) v))
 
 -- and a look at the board word, to see the owner without another hart inside
 abbrev pub SeeEmptyKeeps : Type 0
-SeeEmptyKeeps = (p : Plan) (s : St) (k : Stands p s) (id : ℕ) (v : View) → get_elem? s.views id ≡ some v → IsSeat v → MaySeeEmpty v
-    → Keeps p s k (after_step s 0 (slice_index s.words 0) id (see_empty_view (slice_index s.words 0) v))
+SeeEmptyKeeps = (p : Plan) (s : St) (k : Stands p s) (id : ℕ) (v : View)
+    → get_elem? s.views id ≡ some v → IsSeat v → MaySeeEmpty v
+    → Keeps p s k (after_step s 0 (slice_index s.words 0) id
+    (see_empty_view (slice_index s.words 0) v))
 
 -- an exchange that takes one from the want and adds one to the flight
 abbrev pub ReserveKeeps : Type 0
-ReserveKeeps = (p : Plan) (s : St) (k : Stands p s) (id : ℕ) (v : View) (x w : ℕ) → get_elem? s.views id ≡ some v → IsSeat v → MayReserve p v x w
-    → Keeps p s k (after_step s x (either (slice_index s.words x == w) (w - 256 + 65536) (slice_index s.words x)) id (reserve_view x w (slice_index s.words x) v))
+ReserveKeeps = (p : Plan) (s : St) (k : Stands p s) (id : ℕ) (v : View) (x w : ℕ)
+    → get_elem? s.views id ≡ some v → IsSeat v → MayReserve p v x w
+    → Keeps p s k (after_step s x (either (slice_index s.words x == w) (w - 256 + 65536)
+    (slice_index s.words x)) id (reserve_view x w (slice_index s.words x) v))
 
 -- taking one from the flight
 abbrev pub LandKeeps : Type 0
-LandKeeps = (p : Plan) (s : St) (k : Stands p s) (id : ℕ) (v : View) (x : ℕ) → get_elem? s.views id ≡ some v → IsSeat v → slice_index s.words x < 2 ^ 64 → v.doing ≡ Landing x
-    → Keeps p s k (after_step s x ((slice_index s.words x + (2 ^ 64 - 65536)) % 2 ^ 64) id (done_view v))
+LandKeeps = (p : Plan) (s : St) (k : Stands p s) (id : ℕ) (v : View) (x : ℕ)
+    → get_elem? s.views id ≡ some v → IsSeat v → slice_index s.words x < 2 ^ 64
+    → v.doing ≡ Landing x
+    → Keeps p s k (after_step s x ((slice_index s.words x + (2 ^ 64 - 65536)) % 2 ^ 64) id
+    (done_view v))
 
 -- setting the closing bit of the owner
 abbrev pub CloseKeeps : Type 0
-CloseKeeps = (p : Plan) (s : St) (k : Stands p s) (id : ℕ) (v : View) → get_elem? s.views id ≡ some v → IsSeat v → MayClose v
+CloseKeeps = (p : Plan) (s : St) (k : Stands p s) (id : ℕ) (v : View)
+    → get_elem? s.views id ≡ some v → IsSeat v → MayClose v
     → Keeps p s k (after_step s v.owner (bit_or (slice_index s.words v.owner) 2) id (close_view v))
 
 -- setting the closed bit of a site
 abbrev pub SealKeeps : Type 0
-SealKeeps = (p : Plan) (s : St) (k : Stands p s) (id : ℕ) (v : View) (x : ℕ) → get_elem? s.views id ≡ some v → IsSeat v → v.doing ≡ Sealing x
+SealKeeps = (p : Plan) (s : St) (k : Stands p s) (id : ℕ) (v : View) (x : ℕ)
+    → get_elem? s.views id ≡ some v → IsSeat v → v.doing ≡ Sealing x
     → Keeps p s k (after_step s x (bit_or (slice_index s.words x) 4) id (done_view v))
 
 -- hart 0's seat makes the next hart's
 abbrev pub SplitKeeps : Type 0
-SplitKeeps = (p : Plan) (s : St) (k : Stands p s) (id : ℕ) (v : View) → get_elem? s.views id ≡ some v → v.hart ≡ 0 → v.plan ≡ p → v.made < p.harts → v.doing ≡ Idle
-    → Keeps p s k record { words = s.words; homes = s.homes; views = slice_set s.views id (split_left v) ++ split_right v ∷ [] }
+SplitKeeps = (p : Plan) (s : St) (k : Stands p s) (id : ℕ) (v : View)
+    → get_elem? s.views id ≡ some v → v.hart ≡ 0 → v.plan ≡ p → v.made < p.harts → v.doing ≡ Idle
+    → Keeps p s k record {
+      words = s.words;
+      homes = s.homes;
+      views = slice_set s.views id (split_left v) ++ split_right v ∷ [];
+    }
 
 -- hart 0's seat takes in another's
 abbrev pub JoinKeeps : Type 0
-JoinKeeps = (p : Plan) (s : St) (k : Stands p s) (id other : ℕ) (v w : View) → get_elem? s.views id ≡ some v → other ≢ id → get_elem? s.views other ≡ some w
+JoinKeeps = (p : Plan) (s : St) (k : Stands p s) (id other : ℕ) (v w : View)
+    → get_elem? s.views id ≡ some v → other ≢ id → get_elem? s.views other ≡ some w
     → v.hart ≡ 0 → IsSeat v → v.doing ≡ Idle → IsSeat w → IsReady w
-    → Keeps p s k record { words = s.words; homes = s.homes; views = slice_set (slice_set s.views id (joined_view v w)) other spent_view }
+    → Keeps p s k record {
+      words = s.words;
+      homes = s.homes;
+      views = slice_set (slice_set s.views id (joined_view v w)) other spent_view;
+    }
 
 -- ---- these make an entry of the journal, each by one addition to the board word
 
@@ -94,32 +124,50 @@ abbrev pub MovesTo : View → ℕ → ℕ → Type 0
 MovesTo v x amount = amount + v.owner * 4096 ^ v.hart ≡ length_unit + x * 4096 ^ v.hart
 
 abbrev pub RegisterAppends : Type 0
-RegisterAppends = (p : Plan) (s : St) (k : Stands p s) (id : ℕ) (v : View) (x amount : ℕ) → get_elem? s.views id ≡ some v → IsSeat v → v.doing ≡ Claiming x → MovesTo v x amount
-    → Appends p s k (Register v.hart (busy_at v.doing)) (after_step s 0 ((slice_index s.words 0 + amount) % 2 ^ 64) id (register_view (entries_in (slice_index s.words 0)) v))
+RegisterAppends = (p : Plan) (s : St) (k : Stands p s) (id : ℕ) (v : View) (x amount : ℕ)
+    → get_elem? s.views id ≡ some v → IsSeat v → v.doing ≡ Claiming x → MovesTo v x amount
+    → Appends p s k (Register v.hart (busy_at v.doing))
+    (after_step s 0 ((slice_index s.words 0 + amount) % 2 ^ 64) id
+    (register_view (entries_in (slice_index s.words 0)) v))
 
 abbrev pub RequestAppends : Type 0
-RequestAppends = (p : Plan) (s : St) (k : Stands p s) (id : ℕ) (v : View) (n : ℕ) → get_elem? s.views id ≡ some v → IsSeat v → MayRequest p v n
-    → Appends p s k (Request v.hart v.owner n) (after_step s 0 ((slice_index s.words 0 + length_unit) % 2 ^ 64) id (request_view n (entries_in (slice_index s.words 0)) v))
+RequestAppends = (p : Plan) (s : St) (k : Stands p s) (id : ℕ) (v : View) (n : ℕ)
+    → get_elem? s.views id ≡ some v → IsSeat v → MayRequest p v n
+    → Appends p s k (Request v.hart v.owner n)
+    (after_step s 0 ((slice_index s.words 0 + length_unit) % 2 ^ 64) id
+    (request_view n (entries_in (slice_index s.words 0)) v))
 
 abbrev pub EnterAppends : Type 0
-EnterAppends = (p : Plan) (s : St) (k : Stands p s) (id : ℕ) (v : View) (x amount : ℕ) → get_elem? s.views id ≡ some v → IsSeat v → v.doing ≡ Reserved x → MovesTo v x amount
-    → Appends p s k (Enter v.hart (busy_at v.doing)) (after_step s 0 ((slice_index s.words 0 + amount) % 2 ^ 64) id (enter_view (entries_in (slice_index s.words 0)) v))
+EnterAppends = (p : Plan) (s : St) (k : Stands p s) (id : ℕ) (v : View) (x amount : ℕ)
+    → get_elem? s.views id ≡ some v → IsSeat v → v.doing ≡ Reserved x → MovesTo v x amount
+    → Appends p s k (Enter v.hart (busy_at v.doing))
+    (after_step s 0 ((slice_index s.words 0 + amount) % 2 ^ 64) id
+    (enter_view (entries_in (slice_index s.words 0)) v))
 
 abbrev pub YieldAppends : Type 0
-YieldAppends = (p : Plan) (s : St) (k : Stands p s) (id : ℕ) (v : View) (amount : ℕ) → get_elem? s.views id ≡ some v → IsSeat v → MayYield v → MovesTo v (parent p v.owner) amount
-    → Appends p s k (Yield v.hart v.owner) (after_step s 0 ((slice_index s.words 0 + amount) % 2 ^ 64) id (yield_view (entries_in (slice_index s.words 0)) v))
+YieldAppends = (p : Plan) (s : St) (k : Stands p s) (id : ℕ) (v : View) (amount : ℕ)
+    → get_elem? s.views id ≡ some v → IsSeat v → MayYield v → MovesTo v (parent p v.owner) amount
+    → Appends p s k (Yield v.hart v.owner)
+    (after_step s 0 ((slice_index s.words 0 + amount) % 2 ^ 64) id
+    (yield_view (entries_in (slice_index s.words 0)) v))
 
 abbrev pub UnregisterAppends : Type 0
-UnregisterAppends = (p : Plan) (s : St) (k : Stands p s) (id : ℕ) (v : View) (amount : ℕ) → get_elem? s.views id ≡ some v → IsSeat v → MayUnregister p v → MovesTo v (parent p v.owner) amount
-    → Appends p s k (Unregister v.hart v.owner) (after_step s 0 ((slice_index s.words 0 + amount) % 2 ^ 64) id (unregister_view (entries_in (slice_index s.words 0)) v))
+UnregisterAppends = (p : Plan) (s : St) (k : Stands p s) (id : ℕ) (v : View) (amount : ℕ)
+    → get_elem? s.views id ≡ some v → IsSeat v → MayUnregister p v
+    → MovesTo v (parent p v.owner) amount
+    → Appends p s k (Unregister v.hart v.owner)
+    (after_step s 0 ((slice_index s.words 0 + amount) % 2 ^ 64) id
+    (unregister_view (entries_in (slice_index s.words 0)) v))
 
 -- ---- what follows from the rule
 
 -- what is gone stays gone over an entry, so what a seat saw gone stays so
 abbrev pub GoneStaysGone : Type 0
-GoneStaysGone = (p : Plan) (s s' : St) (k : Stands p s) (e : Entry) → (step : Appends p s k e s') → (x : ℕ) → IsSite p x → (row k.table x).stage ≡ Gone → (row (step.0).table x).stage ≡ Gone
+GoneStaysGone = (p : Plan) (s s' : St) (k : Stands p s) (e : Entry) → (step : Appends p s k e s')
+    → (x : ℕ) → IsSite p x → (row k.table x).stage ≡ Gone → (row (step.0).table x).stage ≡ Gone
 
 -- what a site has asked for is its want, the harts that are reserved to it, those that entered it, and what is not yet added to the want
 abbrev pub WantsBalance : Type 0
 WantsBalance = (p : Plan) (s : St) (k : Stands p s) (x : ℕ) → (site : IsSite p x)
-    → (k.sites x site).want + (load x s.views).reserves + enters x k.journal + (load x s.views).credits ≡ (row k.table x).asked
+    → (k.sites x site).want + (load x s.views).reserves + enters x k.journal
+    + (load x s.views).credits ≡ (row k.table x).asked

@@ -22,7 +22,8 @@ MayReserve p v x word = IsReady v × IsSite p x × (v.owner ≡ parent p x) × (
 
 -- the hart is the owner's home, and asks for not too many
 abbrev pub MayRequest : Plan → View → ℕ → Type 0
-MayRequest p v k = IsReady v × (is_in v.marks.homes v.owner ≡ true) × (1 ≤ k) × (requested v.owner v.mine + k ≤ p.harts - 1)
+MayRequest p v k = IsReady v × (is_in v.marks.homes v.owner ≡ true) × (1 ≤ k)
+    × (requested v.owner v.mine + k ≤ p.harts - 1)
 
 -- the hart is a guest of the owner
 abbrev pub MayYield : View → Type 0

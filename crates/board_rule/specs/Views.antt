@@ -18,11 +18,28 @@ use Rattle.board_rule.specs.declared.view.Doing.TheVariants.{Idle, Claiming, Cre
 -- ---- seats that are made, split and joined
 
 abbrev pub no_marks : Plan → Marks
-no_marks p = record { homes = no_site p; closed = no_site p; drained = no_site p; empty = no_site p; gone = no_site p }
+no_marks p = record {
+  homes = no_site p;
+  closed = no_site p;
+  drained = no_site p;
+  empty = no_site p;
+  gone = no_site p;
+}
 
 -- the view of a hart's seat as it is made
 abbrev pub fresh_view : Plan → ℕ → View
-fresh_view p h = record { plan = p; hart = h; owner = 0; mine = []; drawn = None; doing = Idle; marks = no_marks p; looks = []; made = 0; ended = [] }
+fresh_view p h = record {
+  plan = p;
+  hart = h;
+  owner = 0;
+  mine = [];
+  drawn = None;
+  doing = Idle;
+  marks = no_marks p;
+  looks = [];
+  made = 0;
+  ended = [];
+}
 
 -- the first seat is hart 0's
 abbrev pub first_view : Plan → View
@@ -44,7 +61,10 @@ union (a ∷ more) (b ∷ bs) = (a || b) ∷ union more bs
 -- Hart 0's seat when another hart's is joined into it. Nothing is seen empty any more, since the children of a site may be
 -- known to be gone only now.
 abbrev pub joined_view : View → View → View
-joined_view v w = record v { ended = v.ended ++ record { hart = w.hart; mine = w.mine } ∷ []; marks = record v.marks { empty = no_site v.plan; gone = union v.marks.gone w.marks.gone } }
+joined_view v w = record v {
+  ended = v.ended ++ record { hart = w.hart; mine = w.mine } ∷ [];
+  marks = record v.marks { empty = no_site v.plan; gone = union v.marks.gone w.marks.gone };
+}
 
 -- what is left of a seat that was joined away
 abbrev pub spent_view : View
@@ -66,31 +86,50 @@ glance_view x found v = looked x look.Look found v
 -- The marks once the site is seen gone. At the first time its parent is no longer seen empty: a hart may have come from the
 -- site since that look.
 abbrev pub gone_marks : Plan → ℕ → Marks → Marks
-gone_marks p x m = record m { gone = with_site m.gone x; empty = if is_in m.gone x then m.empty else without m.empty (parent p x) }
+gone_marks p x m = record m {
+  gone = with_site m.gone x;
+  empty = if is_in m.gone x then m.empty else without m.empty (parent p x);
+}
 
 -- a look at the site's word, to see whether it is gone
 abbrev pub see_gone_view : ℕ → ℕ → View → View
-see_gone_view x found v = record v { looks = v.looks ++ look_at x look.Look found ∷ []; marks = if is_closed found then gone_marks v.plan x v.marks else v.marks }
+see_gone_view x found v = record v {
+  looks = v.looks ++ look_at x look.Look found ∷ [];
+  marks = if is_closed found then gone_marks v.plan x v.marks else v.marks;
+}
 
 -- a look at the owner's word, to see whether a hart is on its way in
 abbrev pub see_drained_view : ℕ → View → View
-see_drained_view found v = record v { looks = v.looks ++ look_at v.owner look.Look found ∷ []; marks = if flight_of found == 0 then record v.marks { drained = with_site v.marks.drained v.owner } else v.marks }
+see_drained_view found v = record v {
+  looks = v.looks ++ look_at v.owner look.Look found ∷ [];
+  marks = if flight_of found == 0 then record v.marks {
+    drained = with_site v.marks.drained v.owner;
+  } else v.marks;
+}
 
 -- a look at the board word, to see whether another hart is in the owner
 abbrev pub see_empty_view : ℕ → View → View
 see_empty_view found v = record v {
   looks = v.looks ++ look_at 0 look.LookAtBoard found ∷ [];
-  marks = if others_at v.plan.harts found v.hart v.owner then v.marks else record v.marks { empty = with_site v.marks.empty v.owner };
+  marks = if others_at v.plan.harts found v.hart v.owner then v.marks else record v.marks {
+    empty = with_site v.marks.empty v.owner;
+  };
 }
 
 -- ---- steps on a site's word
 
 abbrev pub claim_view : ℕ → ℕ → View → View
-claim_view x found v = record v { looks = v.looks ++ look_at x look.Claim found ∷ []; doing = if is_claimed found then v.doing else Claiming x }
+claim_view x found v = record v {
+  looks = v.looks ++ look_at x look.Claim found ∷ [];
+  doing = if is_claimed found then v.doing else Claiming x;
+}
 
 -- the exchange expects w
 abbrev pub reserve_view : ℕ → ℕ → ℕ → View → View
-reserve_view x w found v = record v { looks = v.looks ++ look_at x look.Reserve found ∷ []; doing = if found == w then Reserved x else v.doing }
+reserve_view x w found v = record v {
+  looks = v.looks ++ look_at x look.Reserve found ∷ [];
+  doing = if found == w then Reserved x else v.doing;
+}
 
 -- a credit, a landing and a seal: what was to be done is done
 abbrev pub done_view : View → View
@@ -107,26 +146,49 @@ jot_view v = record v { drawn = None }
 -- ---- steps on the board word: each draws the place of its entry
 
 abbrev pub home_marks : ℕ → Marks → Marks
-home_marks x m = record m { homes = with_site m.homes x; closed = without m.closed x; drained = without m.drained x; empty = without m.empty x }
+home_marks x m = record m {
+  homes = with_site m.homes x;
+  closed = without m.closed x;
+  drained = without m.drained x;
+  empty = without m.empty x;
+}
 
 abbrev pub left_marks : ℕ → Marks → Marks
-left_marks x m = record m { homes = without m.homes x; closed = without m.closed x; drained = without m.drained x; empty = without m.empty x }
+left_marks x m = record m {
+  homes = without m.homes x;
+  closed = without m.closed x;
+  drained = without m.drained x;
+  empty = without m.empty x;
+}
 
 -- the seat has made the entry, whose place was drawn, and its owner is o
 abbrev pub made_entry : Entry → ℕ → ℕ → View → View
-made_entry e o place v = record v { owner = o; mine = v.mine ++ e ∷ []; drawn = Some record { place = place; entry = e } }
+made_entry e o place v = record v {
+  owner = o;
+  mine = v.mine ++ e ∷ [];
+  drawn = Some record { place = place; entry = e };
+}
 
 abbrev pub register_view : ℕ → View → View
-register_view place v = let x : ℕ = busy_at v.doing in record (made_entry (Register v.hart x) x place v) { doing = Idle; marks = home_marks x v.marks }
+register_view place v = let x : ℕ = busy_at v.doing in record
+    (made_entry (Register v.hart x) x place v) { doing = Idle; marks = home_marks x v.marks }
 
 abbrev pub request_view : ℕ → ℕ → View → View
-request_view k place v = record (made_entry (Request v.hart v.owner k) v.owner place v) { doing = Crediting v.owner k }
+request_view k place v = record (made_entry (Request v.hart v.owner k) v.owner place v) {
+  doing = Crediting v.owner k;
+}
 
 abbrev pub enter_view : ℕ → View → View
-enter_view place v = let x : ℕ = busy_at v.doing in record (made_entry (Enter v.hart x) x place v) { doing = Landing x }
+enter_view place v = let x : ℕ = busy_at v.doing in record (made_entry (Enter v.hart x) x place v) {
+  doing = Landing x;
+}
 
 abbrev pub yield_view : ℕ → View → View
 yield_view place v = made_entry (Yield v.hart v.owner) (parent v.plan v.owner) place v
 
 abbrev pub unregister_view : ℕ → View → View
-unregister_view place v = record (made_entry (Unregister v.hart v.owner) (parent v.plan v.owner) place v) { doing = Sealing v.owner; marks = left_marks v.owner v.marks }
+unregister_view place v =
+    record (made_entry (Unregister v.hart v.owner) (parent v.plan v.owner) place v) {
+      doing = Sealing v.owner;
+      marks = left_marks v.owner v.marks;
+    }

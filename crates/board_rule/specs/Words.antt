@@ -16,7 +16,8 @@ entries_in word = word / length_unit
 -- some hart below n, other than h, has the site in its field of the board word
 abbrev pub others_at : ℕ → ℕ → ℕ → ℕ → Bool
 others_at zero word h site = false
-others_at (suc g) word h site = (not (g == h) && (owner_field word g == site)) || others_at g word h site
+others_at (suc g) word h site =
+    (not (g == h) && (owner_field word g == site)) || others_at g word h site
 
 -- a legal journal has at most so many entries
 abbrev pub room : Plan → ℕ

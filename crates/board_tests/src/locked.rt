@@ -50,7 +50,8 @@ fn has_gone<'a, R: Threads + Wait + Sync>(
     guest: &mut LockedPort<'a, R>,
 ) -> bool
     requires plan { home.old.view.plan ≡ record { harts = 2; parents = 0 ∷ [] } }
-    requires home { (home.old.view.owner ≡ 1) × (is_in home.old.view.homes 1 ≡ true) × (is_in home.old.view.closed 1 ≡ false) }
+    requires home { (home.old.view.owner ≡ 1) × (is_in home.old.view.homes 1 ≡ true)
+        × (is_in home.old.view.closed 1 ≡ false) }
     requires guest { (guest.old.view.owner ≡ 1) × (is_in guest.old.view.homes 1 ≡ false) }
 {
     let held = Seen::Held {

@@ -63,7 +63,8 @@ fn saw_children_gone(board: &WordBoard, plan: &Plan, seat: &mut HartSeat) -> boo
     ensures of { IsOf board.now seat.new }
     ensures hart { seat.new.seat.me.0.hart ≡ seat.old.seat.me.0.hart }
     ensures looked { HasLooked seat.old.seat.me.0 seat.new.seat.me.0 }
-    ensures gone { result ≡ true → SawChildren board.now.plan seat.new.seat.me.0.marks seat.new.seat.me.0.owner }
+    ensures gone { result ≡ true
+        → SawChildren board.now.plan seat.new.seat.me.0.marks seat.new.seat.me.0.owner }
 {
     for before in 0..plan.sites() {
         let site = before + 1;
@@ -82,7 +83,8 @@ fn saw_empty(board: &WordBoard, seat: &mut HartSeat) -> bool
     ensures of { IsOf board.now seat.new }
     ensures hart { seat.new.seat.me.0.hart ≡ seat.old.seat.me.0.hart }
     ensures looked { HasLooked seat.old.seat.me.0 seat.new.seat.me.0 }
-    ensures empty { result ≡ true → is_in seat.new.seat.me.0.marks.empty seat.new.seat.me.0.owner ≡ true }
+    ensures empty { result ≡ true
+        → is_in seat.new.seat.me.0.marks.empty seat.new.seat.me.0.owner ≡ true }
 {
     for _ in 0..LOOKS {
         if let Seen::Empty = board.see_empty(seat) {

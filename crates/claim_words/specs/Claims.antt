@@ -54,7 +54,8 @@ Each F views = (port : ℕ) (v : Sight) → get_elem? views port ≡ some v → 
 -- numbers that were drawn past them, so that no word wraps.
 pub record ClaimsStand (counts : List ℕ) (s : State ℕ Sight) : Type 0 where
   pub parts : weigh (λ (v : Sight). v.parts) s.views ≡ 256
-  pub once_each : (r m : ℕ) → weigh (claims r m) s.views ≡ once m (slice_index s.words r) (slice_index counts r)
+  pub once_each : (r m : ℕ) → weigh (claims r m) s.views ≡ once m (slice_index s.words r)
+      (slice_index counts r)
   pub bound : (r : ℕ) → slice_index s.words r ≤ slice_index counts r + weigh (pasts r) s.views
   pub each : Each (Keeps counts s.words) s.views
   pub rows : length s.words ≡ length counts + 1
@@ -62,11 +63,21 @@ pub record ClaimsStand (counts : List ℕ) (s : State ℕ Sight) : Type 0 where
 
 -- a sight of nothing
 abbrev pub fresh : ℕ → List ℕ → Sight
-fresh parts counts = record { parts = parts; counts = counts; claimed = []; past = []; trying = 0; looks = [] }
+fresh parts counts = record {
+  parts = parts;
+  counts = counts;
+  claimed = [];
+  past = [];
+  trying = 0;
+  looks = [];
+}
 
 -- the sight after a look, and after a number was drawn
 abbrev pub looked : Sight → ℕ → ℕ → Sight
-looked v r n = record v { trying = if nat_lt n (slice_index v.counts r) then suc r else 0; looks = v.looks ++ look r kind.Look n ∷ [] }
+looked v r n = record v {
+  trying = if nat_lt n (slice_index v.counts r) then suc r else 0;
+  looks = v.looks ++ look r kind.Look n ∷ [];
+}
 
 abbrev pub drawn : Sight → ℕ → ℕ → Sight
 drawn v r n = record v {
@@ -77,4 +88,12 @@ drawn v r n = record v {
 }
 
 abbrev pub joined : Sight → Sight → Sight
-joined v w = record { parts = v.parts + w.parts; counts = v.counts; claimed = v.claimed ++ w.claimed; past = v.past ++ w.past; trying = 0; looks = v.looks ++ w.looks }
+joined v w = record {
+  parts = v.parts + w.parts;
+  counts = v.counts;
+  claimed = v.claimed ++ w.claimed;
+  past = v.past
+      ++ w.past;
+  trying = 0;
+  looks = v.looks ++ w.looks;
+}

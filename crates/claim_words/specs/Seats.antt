@@ -45,11 +45,17 @@ IsNew s = ((sight s).claimed ≡ []) × ((sight s).looks ≡ [])
 -- What the seat had, and what it has after a claim in a row. Each word that the call read is noted, as a look or as the addition
 -- that drew it; the word that is told is the last of them.
 abbrev pub ClaimGives : List ℕ → ℕ → ClaimSeat → Claimed → ClaimSeat → Type 0
-ClaimGives counts row old (Member m) new = (m < slice_index counts row) × ((sight new).claimed ≡ (sight old).claimed ++ (row, m) ∷ [])
-    × ((n : ℕ) × (n < slice_index counts row) × ((sight new).looks ≡ (sight old).looks ++ look row kind.Look n ∷ look row kind.Draw m ∷ []))
-ClaimGives counts row old (NoneLeft shown) new = (slice_index counts row ≤ shown) × ((sight new).claimed ≡ (sight old).claimed)
+ClaimGives counts row old (Member m) new =
+    (m < slice_index counts row) × ((sight new).claimed ≡ (sight old).claimed ++ (row, m) ∷ [])
+    × ((n : ℕ) × (n < slice_index counts row)
+    × ((sight new).looks ≡ (sight old).looks ++ look row kind.Look n
+    ∷ look row kind.Draw m ∷ []))
+ClaimGives counts row old (NoneLeft shown) new =
+    (slice_index counts row ≤ shown) × ((sight new).claimed ≡ (sight old).claimed)
     × (((sight new).looks ≡ (sight old).looks ++ look row kind.Look shown ∷ [])
-    ⊎ ((n : ℕ) × (n < slice_index counts row) × ((sight new).looks ≡ (sight old).looks ++ look row kind.Look n ∷ look row kind.Draw shown ∷ [])))
+    ⊎ ((n : ℕ) × (n < slice_index counts row)
+    × ((sight new).looks ≡ (sight old).looks ++ look row kind.Look n
+    ∷ look row kind.Draw shown ∷ [])))
 
 -- how often all these seats claimed this member of this row
 abbrev pub claims_of : ℕ → ℕ → List ClaimSeat → ℕ

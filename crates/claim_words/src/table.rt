@@ -63,8 +63,11 @@ impl ClaimTable {
         requires of { seat.old.seat.table_id ≡ self.now.table.shared.table_id }
         requires parts { 1 < seat.old.seat.me.0.parts }
         requires new { seat.old.seat.me.0.past ≡ [] }
-        ensures of { (seat.new.seat.table_id ≡ seat.old.seat.table_id) × (result.seat.table_id ≡ seat.old.seat.table_id) }
-        ensures cut { seat.new.seat.me.0 ≡ record seat.old.seat.me.0 { parts = seat.old.seat.me.0.parts - 1 } }
+        ensures of { (seat.new.seat.table_id ≡ seat.old.seat.table_id)
+            × (result.seat.table_id ≡ seat.old.seat.table_id) }
+        ensures cut { seat.new.seat.me.0 ≡ record seat.old.seat.me.0 {
+          parts = seat.old.seat.me.0.parts - 1;
+        } }
         ensures fresh { result.seat.me.0 ≡ fresh 1 seat.old.seat.me.0.counts }
     {
         ClaimSeat {

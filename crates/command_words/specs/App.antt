@@ -10,7 +10,10 @@ needed name = record (new_rule name) { long = Some name; action = Some Set; requ
 
 -- a command with these options
 abbrev pub command_with : List ℕ → List (List ℕ) → Shape
-command_with name names = record (new_shape name) { rules = map needed names; disable_help_flag = true }
+command_with name names = record (new_shape name) {
+  rules = map needed names;
+  disable_help_flag = true;
+}
 
 abbrev pub harts_alone : List (List ℕ)
 harts_alone = codes "harts" ∷ []
@@ -39,5 +42,6 @@ make_app = record { top = command_with (codes "make") made_from; subs = [] }
 abbrev pub lithe_app : App
 lithe_app = record {
   top = record program_shape { is_leaf = false };
-  subs = command_with (codes "run") harts_alone ∷ command_with (codes "solo") [] ∷ command_with (codes "audit") harts_alone ∷ command_with (codes "make") made_from ∷ [];
+  subs = command_with (codes "run") harts_alone ∷ command_with (codes "solo") []
+      ∷ command_with (codes "audit") harts_alone ∷ command_with (codes "make") made_from ∷ [];
 }

@@ -17,7 +17,8 @@ abbrev pub with_option : Given → Option (List Given) → Option (List Given)
 with_option option rest = option_map (λ more. option ∷ more) rest
 
 -- what an option's word comes to: with its value, or without it
-abbrev pub option_at : Option (List ℕ × Option (List ℕ)) → (Option (List ℕ) → Option (List Given)) → Option (List Given)
+abbrev pub option_at : Option (List ℕ × Option (List ℕ)) → (Option (List ℕ) → Option (List Given))
+    → Option (List Given)
 option_at None rest = None
 option_at (Some (name, Some value)) rest = with_option (name, value) (rest None)
 option_at (Some (name, None)) rest = rest (Some name)
@@ -43,17 +44,21 @@ is_known names name = list_any (λ known. bytes_eq known name) names
 
 -- each of these names is an option's, once, and no other is
 abbrev pub are_these : List (List ℕ) → List Given → Bool
-are_these names options = list_all (λ name. times name options == 1) names && list_all (λ option. is_known names option.0) options
+are_these names options =
+    list_all (λ name. times name options == 1) names
+    && list_all (λ option. is_known names option.0) options
 
 -- the value of the option with this name
 abbrev pub value_of : List ℕ → List Given → Option (List ℕ)
-value_of name options = option_map (λ option. option.1) (find (λ option. bytes_eq option.0 name) options)
+value_of name options = option_map (λ option. option.1)
+    (find (λ option. bytes_eq option.0 name) options)
 
 -- the number from least to most that the value is
 abbrev pub number_in : ℕ → ℕ → List ℕ → Option ℕ
 number_in least most value =
     let number = digits_value 10 value in
-    if nat_le 1 (length value) && nat_le (length value) 20 && all_ascii_digits value && nat_le least number && nat_le number most then Some number else None
+    if nat_le 1 (length value) && nat_le (length value) 20 && all_ascii_digits value
+    && nat_le least number && nat_le number most then Some number else None
 
 -- the number of an option
 abbrev pub number_of : ℕ → ℕ → List ℕ → List Given → Option ℕ
@@ -64,18 +69,26 @@ harts_in options = number_of 1 4 (codes "harts") options
 
 -- the options, if they are those with these names
 abbrev pub these : List (List ℕ) → List (List ℕ) → Option (List Given)
-these names words = option_and_then (λ options. if are_these names options then Some options else None) (options_of words)
+these names words = option_and_then (λ options. if are_these names options then Some options
+    else None) (options_of words)
 
 abbrev pub make_of : List Given → Option Command
 make_of options =
-    option_and_then (λ seed. option_and_then (λ size. option_map (Make seed size) (harts_in options))
+    option_and_then (λ seed. option_and_then
+    (λ size. option_map (Make seed size) (harts_in options))
     (number_of 1 40 (codes "size") options)) (number_of 0 (2 ^ 64 - 1) (codes "seed") options)
 
 -- the command that the words give, or nothing
 abbrev pub form_of : List (List ℕ) → Option Command
 form_of [] = None
 form_of (command ∷ words) =
-    if bytes_eq (codes "run") command then option_and_then (λ options. option_map Run (harts_in options)) (these (codes "harts" ∷ []) words) else
+    if bytes_eq (codes "run") command
+    then option_and_then (λ options. option_map Run (harts_in options))
+    (these (codes "harts" ∷ []) words) else
     if bytes_eq (codes "solo") command then option_map (λ options. Solo) (these [] words) else
-    if bytes_eq (codes "audit") command then option_and_then (λ options. option_map Audit (harts_in options)) (these (codes "harts" ∷ []) words) else
-    if bytes_eq (codes "make") command then option_and_then make_of (these (codes "seed" ∷ codes "size" ∷ codes "harts" ∷ []) words) else None
+    if bytes_eq (codes "audit") command
+    then option_and_then (λ options. option_map Audit (harts_in options))
+    (these (codes "harts" ∷ []) words) else
+    if bytes_eq (codes "make") command
+    then option_and_then make_of
+    (these (codes "seed" ∷ codes "size" ∷ codes "harts" ∷ []) words) else None

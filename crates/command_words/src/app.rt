@@ -43,7 +43,8 @@ fn bare<'a>(alloc: Global, name: &'a str) -> Command<'a>
 
 // A command with a number of harts.
 fn with_harts<'a>(alloc: Global, name: &'a str) -> Result<Command<'a>, AllocError>
-    ensures app { IfOk result (λ c. app_of c ≡ with_rule (bare_app name.entry.now) (needed (codes "harts"))) }
+    ensures app { IfOk result
+        (λ c. app_of c ≡ with_rule (bare_app name.entry.now) (needed (codes "harts"))) }
     ensures local { IfOk result (λ c. (out-Command c).has_globals ≡ false) }
 {
     let command = bare(alloc, name).arg(needed(alloc, "harts"))?;

@@ -38,7 +38,8 @@ fn has_dashes(words: &[String]) -> bool
 // What clap finds in the words.
 fn matches_of<'a>(alloc: Global, words: &'a [String]) -> Result<ArgMatches<'a>, Error>
     ensures kinds { FailsBy (fault_of lithe_app (map string_bytes words.now)) result }
-    ensures rows { IfOk result (λ m. subcommand_rows_of m ≡ subcommand_of lithe_app (map string_bytes words.now)) }
+    ensures rows { IfOk result
+        (λ m. subcommand_rows_of m ≡ subcommand_of lithe_app (map string_bytes words.now)) }
 {
     let command = commands(alloc)?;
     command.try_get_matches_from(words)

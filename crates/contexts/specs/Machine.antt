@@ -17,7 +17,9 @@ pub record Work : Type 0 where
 -- writes. A machine is finished exactly where nothing is left, and stays so. Nothing is said of a machine that found no
 -- memory.
 abbrev pub Steps : {N : Type 0} → Work → Step N → Work → Type 0
-Steps before More after = ((written : List (ℕ × ℤ)) × (before.rest ≡ written ++ after.rest)) × (after.awaits ≡ false) × (after.left < before.left)
+Steps before More after =
+    ((written : List (ℕ × ℤ)) × (before.rest ≡ written ++ after.rest)) × (after.awaits ≡ false)
+    × (after.left < before.left)
 Steps before (Nest nested) after = (after.rest ≡ before.rest) × (after.left < before.left)
 Steps before Finished after = (before.left ≡ 0) × (before.rest ≡ []) × (after ≡ before)
 Steps before NoMemory after = 0 < before.left

@@ -22,7 +22,14 @@ total f (v ∷ vs) = f v + total f vs
 
 -- a log of nothing
 abbrev pub blank : ℕ → Bool → Log
-blank parts is_home = record { parts = parts; is_home = is_home; pushed = []; popped = []; kept = []; stolen = [] }
+blank parts is_home = record {
+  parts = parts;
+  is_home = is_home;
+  pushed = [];
+  popped = [];
+  kept = [];
+  stolen = [];
+}
 
 abbrev pub idle : Log
 idle = blank 0 false
@@ -34,7 +41,8 @@ pub record IsKept (pushed popped kept : List ℕ) : Type 0 where
 
 -- what one log says of the row. `home` is the number of the home's pass, and `gone` what all steals took, in their order
 pub record Fits (home : ℕ) (gone items : List ℕ) (port : ℕ) (v : Log) : Type 0 where
-  pub homes : v.is_home ≡ true → (port ≡ home) × (v.kept ≡ gone ++ items) × IsKept v.pushed v.popped v.kept
+  pub homes : v.is_home ≡ true
+      → (port ≡ home) × (v.kept ≡ gone ++ items) × IsKept v.pushed v.popped v.kept
   pub spent : v.parts ≡ 0 → v.stolen ≡ []
 
 -- The rule of a row, over its codes, the oldest first, and the logs of all passes: what the home pushed and didn't pop is
@@ -62,11 +70,13 @@ joined v w = record v { parts = v.parts + w.parts; stolen = v.stolen ++ w.stolen
 
 -- a moment at which the row held at most so many codes, and this was the log of a pass
 abbrev pub HeldAtMost : ℕ → Log → Type 0
-HeldAtMost most v = (items : List ℕ) × (logs : List Log) × (port : ℕ) × (length items ≤ most) × RowStands items logs × (get_elem? logs port ≡ some v)
+HeldAtMost most v = (items : List ℕ) × (logs : List Log) × (port : ℕ) × (length items ≤ most)
+    × RowStands items logs × (get_elem? logs port ≡ some v)
 
 -- what a log with all parts says of the row
 abbrev pub Tells : Log → List ℕ → Type 0
-Tells v items = (gone : List ℕ) × (v.kept ≡ gone ++ items) × IsKept v.pushed v.popped v.kept × ((x : ℕ) → times x v.stolen ≡ times x gone)
+Tells v items = (gone : List ℕ) × (v.kept ≡ gone ++ items) × IsKept v.pushed v.popped v.kept
+    × ((x : ℕ) → times x v.stolen ≡ times x gone)
 
 -- The account of a row: `stolen` are the codes that steals gave, `left` those that the row still holds. What was pushed was
 -- taken, by a pop or a steal, or is left. What is left stands in the order in which it was pushed. Of what wasn't popped,

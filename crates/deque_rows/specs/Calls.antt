@@ -9,17 +9,32 @@ use Rattle.deque_rows.specs.Rows.{place, home_logs, pass_logs, bares, home_log, 
 
 -- a further moment at which this row was found bare, and of no other row
 abbrev pub FoundBare : HartRows → ℕ → ℕ → HartRows → Type 0
-FoundBare old hart level new = (n : ℕ) × Rose (bare old hart level) n × (bares new ≡ slice_set (bares old) (place hart level) n)
+FoundBare old hart level new =
+    (n : ℕ) × Rose (bare old hart level) n
+    × (bares new ≡ slice_set (bares old) (place hart level) n)
 
 abbrev pub Pushes : HartRows → ℕ → ℕ → HartRows → Type 0
-Pushes old level code new = (home_logs new ≡ slice_set (home_logs old) (level - 1) (after_push (home_log old level) (code ∷ []))) × (pass_logs new ≡ pass_logs old) × (bares new ≡ bares old)
+Pushes old level code new =
+    (home_logs new ≡ slice_set (home_logs old) (level - 1)
+    (after_push (home_log old level) (code ∷ []))) × (pass_logs new ≡ pass_logs old)
+    × (bares new ≡ bares old)
 
 -- the last code that the home kept; or none, and the row was empty at a moment
 abbrev pub PopGives : HartRows → ℕ → Option ℕ → HartRows → Type 0
-PopGives old level (Some code) new = (w : Log) × Pops (home_log old level) (code ∷ []) w × (home_logs new ≡ slice_set (home_logs old) (level - 1) w) × (pass_logs new ≡ pass_logs old) × (bares new ≡ bares old)
-PopGives old level None new = HeldAtMost 0 (home_log old level) × FoundBare old old.hart level new × (home_logs new ≡ home_logs old) × (pass_logs new ≡ pass_logs old)
+PopGives old level (Some code) new =
+    (w : Log) × Pops (home_log old level) (code ∷ []) w
+    × (home_logs new ≡ slice_set (home_logs old) (level - 1) w) × (pass_logs new ≡ pass_logs old)
+    × (bares new ≡ bares old)
+PopGives old level None new =
+    HeldAtMost 0 (home_log old level) × FoundBare old old.hart level new
+    × (home_logs new ≡ home_logs old) × (pass_logs new ≡ pass_logs old)
 
 -- a code of the row; or none, and the row held at most one code at a moment
 abbrev pub StealGives : HartRows → ℕ → ℕ → Stolen → HartRows → Type 0
-StealGives old hart level (Code code) new = (pass_logs new ≡ slice_set (pass_logs old) (place hart level) (after_steal (pass_log old hart level) (code ∷ []))) × (home_logs new ≡ home_logs old) × (bares new ≡ bares old)
-StealGives old hart level Empty new = HeldAtMost 1 (pass_log old hart level) × FoundBare old hart level new × (home_logs new ≡ home_logs old) × (pass_logs new ≡ pass_logs old)
+StealGives old hart level (Code code) new =
+    (pass_logs new ≡ slice_set (pass_logs old) (place hart level)
+    (after_steal (pass_log old hart level) (code ∷ []))) × (home_logs new ≡ home_logs old)
+    × (bares new ≡ bares old)
+StealGives old hart level Empty new =
+    HeldAtMost 1 (pass_log old hart level) × FoundBare old hart level new
+    × (home_logs new ≡ home_logs old) × (pass_logs new ≡ pass_logs old)

@@ -33,14 +33,18 @@ less v = record v { parts = v.parts - 1 }
 
 -- the rows of a hart before it has any stealing end, among so many harts
 abbrev pub IsHome : ℕ → ℕ → HartRows → Type 0
-IsHome harts hart r = (home_logs r ≡ replicate 3 (blank 64 true)) × (standing r ≡ record { hart = hart; harts = 0; ends = []; bares = replicate (3 * harts) 0 })
+IsHome harts hart r = (home_logs r ≡ replicate 3 (blank 64 true))
+    × (standing r ≡ record { hart = hart; harts = 0; ends = []; bares = replicate (3 * harts) 0 })
 
 -- these are further stealing ends of all rows, in order
 abbrev pub IsLine : List (List RowName) → List StealingEnd → Type 0
-IsLine names ends = (r : ℕ) (d : StealingEnd) (n : RowName) → r < length ends → (end_log (slice_index_or ends r d) ≡ blank 1 false) × (end_name (slice_index_or ends r d) ≡ row_at n names r)
+IsLine names ends = (r : ℕ) (d : StealingEnd) (n : RowName) → r < length ends
+    → (end_log (slice_index_or ends r d) ≡ blank 1 false)
+    × (end_name (slice_index_or ends r d) ≡ row_at n names r)
 
 -- the rows of a hart, when the first harts, so many, have their stealing ends
-pub record IsAt (harts first : ℕ) (names : List (List RowName)) (hart : ℕ) (r : HartRows) : Type 0 where
+pub record IsAt (harts first : ℕ) (names : List (List RowName)) (hart : ℕ)
+    (r : HartRows) : Type 0 where
   pub place : r.hart ≡ hart
   pub bares : r.bare.items ≡ replicate (3 * harts) 0
   pub reaches : hart < first → r.harts ≡ harts

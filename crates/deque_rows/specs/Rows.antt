@@ -84,21 +84,28 @@ pub record AreAll (all : List Kin) : Type 0 where
   pub few : length all ≤ 16
   pub places : (h : ℕ) (d : Kin) → h < length all → (slice_index_or all h d).hart ≡ h
   pub reaches : (h : ℕ) (d : Kin) → h < length all → (slice_index_or all h d).harts ≡ length all
-  pub shares : (r : ℕ) → r < 3 * length all → row_at (0, []) (map (λ (k : Kin). k.home_shares) all) r ≡ (64 - length all, [])
-  pub passes : (h r : ℕ) (d : Kin) (n : RowName) → h < length all → r < 3 * length all → slice_index_or (slice_index_or all h d).pass_names r n ≡ row_at n (map (λ (k : Kin). k.home_names) all) r
-  pub parts : (h r : ℕ) (d : Kin) → h < length all → r < 3 * length all → slice_index (slice_index_or all h d).pass_parts r ≡ 1
+  pub shares : (r : ℕ) → r < 3 * length all
+      → row_at (0, []) (map (λ (k : Kin). k.home_shares) all) r ≡ (64 - length all, [])
+  pub passes : (h r : ℕ) (d : Kin) (n : RowName) → h < length all → r < 3 * length all
+      → slice_index_or (slice_index_or all h d).pass_names r n
+      ≡ row_at n (map (λ (k : Kin). k.home_names) all) r
+  pub parts : (h r : ℕ) (d : Kin) → h < length all → r < 3 * length all
+      → slice_index (slice_index_or all h d).pass_parts r ≡ 1
 
 -- what the first g harts stole of the r-th row, by the logs of their stealing ends
 abbrev pub stolen_by : List (List Log) → ℕ → ℕ → List ℕ
 stolen_by lines r zero = []
-stolen_by lines r (suc g) = stolen_by lines r g ++ (slice_index_or (slice_index_or lines g []) r idle).stolen
+stolen_by lines r (suc g) =
+    stolen_by lines r g ++ (slice_index_or (slice_index_or lines g []) r idle).stolen
 
 -- each row of all these harts is settled with what they stole
 abbrev pub AreSettled : List HartRows → Type 0
-AreSettled rows = (r : ℕ) → r < 3 * length rows → IsSettled (owner_log rows r) (stolen_by (map pass_logs rows) r (length rows))
+AreSettled rows = (r : ℕ) → r < 3 * length rows
+    → IsSettled (owner_log rows r) (stolen_by (map pass_logs rows) r (length rows))
 
 -- nothing was done with these rows, of so many harts
 pub record AreNew (harts : ℕ) (r : HartRows) : Type 0 where
   pub own : (level : ℕ) → IsLevel level → home_log r level ≡ blank (64 - harts) true
-  pub passes : (hart level : ℕ) → hart < harts → IsLevel level → pass_log r hart level ≡ blank 1 false
+  pub passes : (hart level : ℕ) → hart < harts → IsLevel level
+      → pass_log r hart level ≡ blank 1 false
   pub bares : (hart level : ℕ) → hart < harts → IsLevel level → bare r hart level ≡ 0

@@ -39,7 +39,8 @@ impl HartRows {
         requires room { length (home_log self.old level).pushed < 16384 }
         ensures kin { kin self.new ≡ kin self.old }
         ensures pushes { Pushes self.old level code self.new }
-        ensures room { length (home_log self.new level).pushed ≡ length (home_log self.old level).pushed + 1 }
+        ensures room { length (home_log self.new level).pushed
+            ≡ length (home_log self.old level).pushed + 1 }
     {
         self.own[usize::from(level) - 1].push(code);
     }
@@ -79,8 +80,10 @@ impl HartRows {
     fn note_bare(&mut self, row: usize)
         requires { row < length self.old.bare.items }
         ensures kin { kin self.new ≡ kin self.old }
-        ensures same { (home_logs self.new ≡ home_logs self.old) × (pass_logs self.new ≡ pass_logs self.old) }
-        ensures rose { (n : ℕ) × Rose (slice_index (bares self.old) row) n × (bares self.new ≡ slice_set (bares self.old) row n) }
+        ensures same { (home_logs self.new ≡ home_logs self.old)
+            × (pass_logs self.new ≡ pass_logs self.old) }
+        ensures rose { (n : ℕ) × Rose (slice_index (bares self.old) row) n
+            × (bares self.new ≡ slice_set (bares self.old) row n) }
     {
         self.bare[row] = self.bare[row].saturating_add(1);
     }

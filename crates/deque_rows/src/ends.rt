@@ -38,7 +38,8 @@ impl HomeEnd {
     /// Puts a code last.
     pub(crate) fn push(&mut self, code: u32)
         requires { length (worker_view self.old.worker).pushed < 16384 }
-        ensures pushed { worker_view self.new.worker ≡ after_push (worker_view self.old.worker) (code ∷ []) }
+        ensures pushed { worker_view self.new.worker
+            ≡ after_push (worker_view self.old.worker) (code ∷ []) }
         ensures same { worker_deque self.new.worker ≡ worker_deque self.old.worker }
     {
         match self.worker.push_as::<Pushed>(code) {
@@ -50,7 +51,10 @@ impl HomeEnd {
     /// A further stealing end, with a part of the home's.
     pub(crate) fn another(&mut self) -> Result<StealingEnd, AllocError>
         requires { 1 < (worker_view self.old.worker).parts }
-        ensures cut { IfOk result (λ end. worker_view self.new.worker ≡ record (worker_view self.old.worker) { parts = (worker_view self.old.worker).parts - 1 }) }
+        ensures cut { IfOk result
+            (λ end. worker_view self.new.worker ≡ record (worker_view self.old.worker) {
+              parts = (worker_view self.old.worker).parts - 1;
+            }) }
         ensures blank { IfOk result (λ end. view end.pass ≡ blank 1 false) }
         ensures of { IfOk result (λ end. stealer_deque end.stealer ≡ worker_deque self.old.worker) }
         ensures same { worker_deque self.new.worker ≡ worker_deque self.old.worker }
@@ -63,7 +67,8 @@ impl HomeEnd {
     /// Takes a stealing end back.
     pub(crate) fn absorb(&mut self, end: StealingEnd)
         requires { stealer_deque end.stealer ≡ worker_deque self.old.worker }
-        ensures joined { worker_view self.new.worker ≡ joined (worker_view self.old.worker) (view end.pass) }
+        ensures joined { worker_view self.new.worker
+            ≡ joined (worker_view self.old.worker) (view end.pass) }
         ensures same { worker_deque self.new.worker ≡ worker_deque self.old.worker }
     {
         let StealingEnd { stealer: _, pass } = end;
@@ -82,8 +87,11 @@ impl HomeEnd {
 
     /// Takes the last code.
     pub(crate) fn pop(&mut self) -> Option<u32>
-        ensures none { MatchOption result ((worker_view self.new.worker ≡ worker_view self.old.worker) × HeldAtMost 0 (worker_view self.old.worker)) (λ code. ⊤) }
-        ensures took { MatchOption result ⊤ (λ code. Pops (worker_view self.old.worker) (code ∷ []) (worker_view self.new.worker)) }
+        ensures none { MatchOption result
+            ((worker_view self.new.worker ≡ worker_view self.old.worker)
+            × HeldAtMost 0 (worker_view self.old.worker)) (λ code. ⊤) }
+        ensures took { MatchOption result ⊤
+            (λ code. Pops (worker_view self.old.worker) (code ∷ []) (worker_view self.new.worker)) }
         ensures same { worker_deque self.new.worker ≡ worker_deque self.old.worker }
     {
         self.worker.pop_as::<Popped>()
@@ -103,8 +111,10 @@ pub struct StealingEnd {
 impl StealingEnd {
     /// Takes the first code.
     pub(crate) fn steal<R: Wait>(&mut self, rt: &R) -> Option<u32>
-        ensures none { MatchOption result ((view self.new.pass ≡ view self.old.pass) × HeldAtMost 1 (view self.old.pass)) (λ code. ⊤) }
-        ensures took { MatchOption result ⊤ (λ code. view self.new.pass ≡ after_steal (view self.old.pass) (code ∷ [])) }
+        ensures none { MatchOption result ((view self.new.pass ≡ view self.old.pass)
+            × HeldAtMost 1 (view self.old.pass)) (λ code. ⊤) }
+        ensures took { MatchOption result ⊤
+            (λ code. view self.new.pass ≡ after_steal (view self.old.pass) (code ∷ [])) }
         ensures same { stealer_deque self.new.stealer ≡ stealer_deque self.old.stealer }
     {
         'tries: for _ in rt.forever() {

@@ -43,7 +43,9 @@ fn settle_all(rows: &mut [HartRows])
 // Gives all stealing ends back to the homes.
 fn gather(rows: &mut [HartRows])
     requires { AreAll (map kin rows.old) }
-    ensures { (r : ℕ) → r < 3 * length rows.old → owner_log rows.new r ≡ gathered (owner_log rows.old r) 64 (stolen_by (map pass_logs rows.old) r (length rows.old)) }
+    ensures { (r : ℕ) → r < 3 * length rows.old
+        → owner_log rows.new r ≡ gathered (owner_log rows.old r) 64
+        (stolen_by (map pass_logs rows.old) r (length rows.old)) }
 {
     for hart in 0..rows.len() {
         let ends = rows[hart].take_ends();
@@ -54,8 +56,11 @@ fn gather(rows: &mut [HartRows])
 // Gives one hart's stealing ends back to the homes.
 fn give_line(rows: &mut [HartRows], mut ends: Vec<StealingEnd>)
     requires count { vec_len ends ≡ 3 * length rows.old }
-    requires of { (r : ℕ) (d : StealingEnd) (n : RowName) → r < 3 * length rows.old → end_name (slice_index_or ends.items r d) ≡ row_at n (map home_names rows.old) r }
-    ensures joined { (r : ℕ) (d : StealingEnd) → r < 3 * length rows.old → owner_log rows.new r ≡ joined (owner_log rows.old r) (end_log (slice_index_or ends.items r d)) }
+    requires of { (r : ℕ) (d : StealingEnd) (n : RowName) → r < 3 * length rows.old
+        → end_name (slice_index_or ends.items r d) ≡ row_at n (map home_names rows.old) r }
+    ensures joined { (r : ℕ) (d : StealingEnd) → r < 3 * length rows.old
+        → owner_log rows.new r ≡ joined (owner_log rows.old r)
+        (end_log (slice_index_or ends.items r d)) }
     ensures names { map home_names rows.new ≡ map home_names rows.old }
     ensures standing { map standing rows.new ≡ map standing rows.old }
 {
@@ -68,7 +73,8 @@ fn give_line(rows: &mut [HartRows], mut ends: Vec<StealingEnd>)
 fn look_at_all(rows: &mut [HartRows])
     requires few { length rows.old ≤ 16 }
     requires whole { (r : ℕ) → r < 3 * length rows.old → (owner_log rows.old r).parts ≡ 64 }
-    ensures { (r : ℕ) → r < 3 * length rows.old → (items : List ℕ) × Tells (owner_log rows.old r) items }
+    ensures { (r : ℕ) → r < 3 * length rows.old
+        → (items : List ℕ) × Tells (owner_log rows.old r) items }
 {
     for row in 0..3 * rows.len() {
         look(rows, row);

@@ -13,9 +13,15 @@ impl HartRows {
     fn lend_own(&mut self, at: usize) -> Result<StealingEnd, AllocError>
         requires at { at < 3 }
         requires parts { 1 < (slice_index_or (home_logs self.old) at idle).parts }
-        ensures cut { IfOk result (λ end. home_logs self.new ≡ slice_set (home_logs self.old) at (record (slice_index_or (home_logs self.old) at idle) { parts = (slice_index_or (home_logs self.old) at idle).parts - 1 })) }
+        ensures cut { IfOk result
+            (λ end. home_logs self.new
+            ≡ slice_set (home_logs self.old) at
+            (record (slice_index_or (home_logs self.old) at idle) {
+              parts = (slice_index_or (home_logs self.old) at idle).parts - 1;
+            })) }
         ensures blank { IfOk result (λ end. end_log end ≡ blank 1 false) }
-        ensures of { IfOk result (λ end. (n : RowName) → end_name end ≡ slice_index_or (home_names self.old) at n) }
+        ensures of { IfOk result
+            (λ end. (n : RowName) → end_name end ≡ slice_index_or (home_names self.old) at n) }
         ensures names { home_names self.new ≡ home_names self.old }
         ensures standing { standing self.new ≡ standing self.old }
     {
@@ -26,7 +32,9 @@ impl HartRows {
     fn give_own(&mut self, at: usize, end: StealingEnd)
         requires at { at < 3 }
         requires of { (n : RowName) → end_name end ≡ slice_index_or (home_names self.old) at n }
-        ensures joined { home_logs self.new ≡ slice_set (home_logs self.old) at (joined (slice_index_or (home_logs self.old) at idle) (end_log end)) }
+        ensures joined { home_logs self.new
+            ≡ slice_set (home_logs self.old) at
+            (joined (slice_index_or (home_logs self.old) at idle) (end_log end)) }
         ensures names { home_names self.new ≡ home_names self.old }
         ensures standing { standing self.new ≡ standing self.old }
     {
@@ -37,7 +45,8 @@ impl HartRows {
     fn look_own(&mut self, at: usize)
         requires at { at < 3 }
         requires whole { (slice_index_or (home_logs self.old) at idle).parts ≡ 64 }
-        ensures tells { (items : List ℕ) × Tells (slice_index_or (home_logs self.old) at idle) items }
+        ensures tells { (items : List ℕ)
+            × Tells (slice_index_or (home_logs self.old) at idle) items }
         ensures logs { home_logs self.new ≡ home_logs self.old }
     {
         self.own[at].look();
@@ -48,9 +57,14 @@ impl HartRows {
 pub(crate) fn lend(rows: &mut [HartRows], row: usize) -> Result<StealingEnd, AllocError>
     requires row { row < 3 * length rows.old }
     requires parts { 1 < (owner_log rows.old row).parts }
-    ensures cut { IfOk result (λ end. map home_logs rows.new ≡ put (map home_logs rows.old) row (record (owner_log rows.old row) { parts = (owner_log rows.old row).parts - 1 })) }
+    ensures cut { IfOk result
+        (λ end. map home_logs rows.new
+        ≡ put (map home_logs rows.old) row (record (owner_log rows.old row) {
+          parts = (owner_log rows.old row).parts - 1;
+        })) }
     ensures blank { IfOk result (λ end. end_log end ≡ blank 1 false) }
-    ensures of { IfOk result (λ end. (n : RowName) → end_name end ≡ row_at n (map home_names rows.old) row) }
+    ensures of { IfOk result
+        (λ end. (n : RowName) → end_name end ≡ row_at n (map home_names rows.old) row) }
     ensures names { map home_names rows.new ≡ map home_names rows.old }
     ensures standing { map standing rows.new ≡ map standing rows.old }
 {
@@ -61,7 +75,8 @@ pub(crate) fn lend(rows: &mut [HartRows], row: usize) -> Result<StealingEnd, All
 pub(crate) fn give_back(rows: &mut [HartRows], row: usize, end: StealingEnd)
     requires row { row < 3 * length rows.old }
     requires of { (n : RowName) → end_name end ≡ row_at n (map home_names rows.old) row }
-    ensures joined { map home_logs rows.new ≡ put (map home_logs rows.old) row (joined (owner_log rows.old row) (end_log end)) }
+    ensures joined { map home_logs rows.new
+        ≡ put (map home_logs rows.old) row (joined (owner_log rows.old row) (end_log end)) }
     ensures names { map home_names rows.new ≡ map home_names rows.old }
     ensures standing { map standing rows.new ≡ map standing rows.old }
 {

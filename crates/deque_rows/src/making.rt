@@ -14,7 +14,9 @@ pub fn rows(alloc: Global, harts: u8) -> Result<Vec<HartRows>, AllocError>
     requires { (1 ≤ harts) × (harts ≤ 16) }
     ensures count { IfOk result (λ rows. vec_len rows ≡ harts) }
     ensures all { IfOk result (λ rows. AreAll (map kin rows.items)) }
-    ensures new { IfOk result (λ rows. (h : ℕ) (d : HartRows) → h < harts → AreNew harts (slice_index_or rows.items h d)) }
+    ensures new { IfOk result
+        (λ rows. (h : ℕ) (d : HartRows) → h < harts
+        → AreNew harts (slice_index_or rows.items h d)) }
 {
     let mut rows = homes(alloc, harts)?;
     reach_all(alloc, harts, rows.as_mut_slice())?;
@@ -25,9 +27,11 @@ pub fn rows(alloc: Global, harts: u8) -> Result<Vec<HartRows>, AllocError>
 fn reach_all(alloc: Global, harts: u8, rows: &mut [HartRows]) -> Result<(), AllocError>
     requires few { harts ≤ 16 }
     requires count { length rows.old ≡ harts }
-    requires homes { (h : ℕ) (d : HartRows) → h < harts → IsHome harts h (slice_index_or rows.old h d) }
+    requires homes { (h : ℕ) (d : HartRows) → h < harts
+        → IsHome harts h (slice_index_or rows.old h d) }
     ensures all { IfOk result (λ done. AreAll (map kin rows.new)) }
-    ensures new { IfOk result (λ done. (h : ℕ) (d : HartRows) → h < harts → AreNew harts (slice_index_or rows.new h d)) }
+    ensures new { IfOk result
+        (λ done. (h : ℕ) (d : HartRows) → h < harts → AreNew harts (slice_index_or rows.new h d)) }
 {
     for hart in 0..usize::from(harts) {
         let ends = line(alloc, rows)?;
@@ -42,7 +46,10 @@ impl HartRows {
         requires { (vec_len ends ≡ 3 * harts) × (3 * harts ≤ vec_len self.old.bare) }
         ensures logs { home_logs self.new ≡ home_logs self.old }
         ensures names { home_names self.new ≡ home_names self.old }
-        ensures standing { standing self.new ≡ record (standing self.old) { harts = harts; ends = ends.items } }
+        ensures standing { standing self.new ≡ record (standing self.old) {
+          harts = harts;
+          ends = ends.items;
+        } }
     {
         self.harts = harts;
         self.ends = ends;
@@ -53,7 +60,9 @@ impl HartRows {
 fn homes(alloc: Global, harts: u8) -> Result<Vec<HartRows>, AllocError>
     requires { harts ≤ 16 }
     ensures count { IfOk result (λ rows. vec_len rows ≡ harts) }
-    ensures homes { IfOk result (λ rows. (h : ℕ) (d : HartRows) → h < harts → IsHome harts h (slice_index_or rows.items h d)) }
+    ensures homes { IfOk result
+        (λ rows. (h : ℕ) (d : HartRows) → h < harts
+        → IsHome harts h (slice_index_or rows.items h d)) }
 {
     let mut rows = Vec::with_capacity(alloc, usize::from(harts))?;
     for hart in 0..harts {
@@ -86,7 +95,9 @@ fn line(alloc: Global, rows: &mut [HartRows]) -> Result<Vec<StealingEnd>, AllocE
     requires parts { (r : ℕ) → r < 3 * length rows.old → 1 < (owner_log rows.old r).parts }
     ensures count { IfOk result (λ ends. vec_len ends ≡ 3 * length rows.old) }
     ensures ends { IfOk result (λ ends. IsLine (map home_names rows.old) ends.items) }
-    ensures less { IfOk result (λ ends. (r : ℕ) → r < 3 * length rows.old → owner_log rows.new r ≡ less (owner_log rows.old r)) }
+    ensures less { IfOk result
+        (λ ends. (r : ℕ) → r < 3 * length rows.old
+        → owner_log rows.new r ≡ less (owner_log rows.old r)) }
     ensures names { map home_names rows.new ≡ map home_names rows.old }
     ensures standing { map standing rows.new ≡ map standing rows.old }
 {

@@ -9,13 +9,15 @@ use Rattle.disjoint_check.specs.Faults.{unless, first_fault}
 abbrev pub duplicate_declaration : List Declaration → List (List ℕ) → Option ℕ
 duplicate_declaration [] before = None
 duplicate_declaration (d ∷ more) before =
-    first_fault (unless (not (is_among d.name before)) d.line ∷ duplicate_declaration more (d.name ∷ before) ∷ [])
+    first_fault (unless (not (is_among d.name before)) d.line
+    ∷ duplicate_declaration more (d.name ∷ before) ∷ [])
 
 -- The first loop whose variable has a taken name: an array's, or that of a loop around it.
 abbrev mutual
   pub duplicate_in : Sequence → List (List ℕ) → Option ℕ
   duplicate_in ended taken = None
-  duplicate_in (followed first rest) taken = first_fault (statement_duplicate first taken ∷ duplicate_in rest taken ∷ [])
+  duplicate_in (followed first rest) taken =
+      first_fault (statement_duplicate first taken ∷ duplicate_in rest taken ∷ [])
 
   pub statement_duplicate : Statement → List (List ℕ) → Option ℕ
   statement_duplicate (Assign line array index value) taken = None
@@ -25,16 +27,19 @@ abbrev mutual
       first_fault (duplicate_in then_block taken ∷ duplicate_in else_block taken ∷ [])
   statement_duplicate (Par line branches) taken = duplicate_among branches taken
   statement_duplicate (Team line var low high members phases) taken =
-      first_fault (unless (not (is_among var taken)) line ∷ duplicate_among phases (var ∷ taken) ∷ [])
+      first_fault (unless (not (is_among var taken)) line
+      ∷ duplicate_among phases (var ∷ taken) ∷ [])
 
   pub duplicate_among : Sequences → List (List ℕ) → Option ℕ
   duplicate_among no_more taken = None
-  duplicate_among (beside first rest) taken = first_fault (duplicate_in first taken ∷ duplicate_among rest taken ∷ [])
+  duplicate_among (beside first rest) taken =
+      first_fault (duplicate_in first taken ∷ duplicate_among rest taken ∷ [])
 
 -- The line of the first declaration or loop whose name is already an array's, or a loop variable's around it.
 abbrev pub duplicate_name : ProgramTree → Option ℕ
 duplicate_name program =
-    first_fault (duplicate_declaration program.arrays [] ∷ duplicate_in program.body (names_of program.arrays) ∷ [])
+    first_fault (duplicate_declaration program.arrays []
+    ∷ duplicate_in program.body (names_of program.arrays) ∷ [])
 
 -- The first statement that, outside the blocks in it, indexes a name that is no array's, or uses a name without index
 -- that is no loop variable's around it.
@@ -46,13 +51,16 @@ abbrev mutual
 
   pub statement_unknown : Statement → List (List ℕ) → List (List ℕ) → Option ℕ
   statement_unknown (Assign line array index value) arrays vars =
-      unless (is_among array arrays && (uses_known_names index arrays vars && uses_known_names value arrays vars)) line
+      unless (is_among array arrays
+      && (uses_known_names index arrays vars && uses_known_names value arrays vars)) line
   statement_unknown (For line var low high body) arrays vars = unknown_in body arrays (var ∷ vars)
   statement_unknown (If line cond then_block else_block) arrays vars =
       first_fault
-      (unless (uses_known_names cond arrays vars) line ∷ unknown_in then_block arrays vars ∷ unknown_in else_block arrays vars ∷ [])
+      (unless (uses_known_names cond arrays vars) line ∷ unknown_in then_block arrays vars
+      ∷ unknown_in else_block arrays vars ∷ [])
   statement_unknown (Par line branches) arrays vars = unknown_among branches arrays vars
-  statement_unknown (Team line var low high members phases) arrays vars = unknown_among phases arrays (var ∷ vars)
+  statement_unknown (Team line var low high members phases) arrays vars =
+      unknown_among phases arrays (var ∷ vars)
 
   pub unknown_among : Sequences → List (List ℕ) → List (List ℕ) → Option ℕ
   unknown_among no_more arrays vars = None

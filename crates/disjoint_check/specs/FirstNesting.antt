@@ -18,7 +18,8 @@ abbrev mutual
   statement_site_under_if (Par line branches) true = Some line
   statement_site_under_if (Par line branches) false = site_under_if_among branches false
   statement_site_under_if (Team line var low high members phases) true = Some line
-  statement_site_under_if (Team line var low high members phases) false = site_under_if_among phases false
+  statement_site_under_if (Team line var low high members phases) false =
+      site_under_if_among phases false
 
   pub site_under_if_among : Sequences → Bool → Option ℕ
   site_under_if_among no_more inside = None

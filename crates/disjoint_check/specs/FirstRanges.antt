@@ -16,13 +16,15 @@ abbrev pub declaration_fault : Declaration → ℕ → ℕ → Option CheckFault
 declaration_fault d arrays cells = first_fault
     (unless (is_up_to (pos 4096) d.length) (BadRange d.line limit.Length d.length)
     ∷ unless (nat_lt arrays 64) (BadRange d.line limit.Names (pos 65))
-    ∷ unless (nat_le (cells + unsigned_abs d.length) 4096) (BadRange d.line limit.Cells (pos (cells + unsigned_abs d.length)))
+    ∷ unless (nat_le (cells + unsigned_abs d.length) 4096)
+    (BadRange d.line limit.Cells (pos (cells + unsigned_abs d.length)))
     ∷ [])
 
 abbrev pub declarations_fault : List Declaration → ℕ → ℕ → Option CheckFault
 declarations_fault [] arrays cells = None
 declarations_fault (d ∷ more) arrays cells =
-    first_fault (declaration_fault d arrays cells ∷ declarations_fault more (arrays + 1) (cells + unsigned_abs d.length) ∷ [])
+    first_fault (declaration_fault d arrays cells
+    ∷ declarations_fault more (arrays + 1) (cells + unsigned_abs d.length) ∷ [])
 
 -- The limits of a `team` of so many phases.
 abbrev pub team_fault : ℕ → ℤ → ℤ → ℤ → ℕ → Option CheckFault
@@ -35,24 +37,30 @@ team_fault line low high members phases = first_fault
 abbrev mutual
   pub range_fault_in : Sequence → Option CheckFault
   range_fault_in ended = None
-  range_fault_in (followed first rest) = first_fault (statement_range_fault first ∷ range_fault_in rest ∷ [])
+  range_fault_in (followed first rest) =
+      first_fault (statement_range_fault first ∷ range_fault_in rest ∷ [])
 
   pub statement_range_fault : Statement → Option CheckFault
   statement_range_fault (Assign line array index value) = None
   statement_range_fault (For line var low high body) =
-      first_fault (unless (int_le low high) (BadRange line limit.Bounds high) ∷ range_fault_in body ∷ [])
+      first_fault (unless (int_le low high) (BadRange line limit.Bounds high)
+      ∷ range_fault_in body ∷ [])
   statement_range_fault (If line cond then_block else_block) =
       first_fault (range_fault_in then_block ∷ range_fault_in else_block ∷ [])
   statement_range_fault (Par line branches) = first_fault
-      (unless (is_up_to (pos 64) (pos (count_of branches))) (BadRange line limit.Branches (told (count_of branches)))
+      (unless (is_up_to (pos 64) (pos (count_of branches)))
+      (BadRange line limit.Branches (told (count_of branches)))
       ∷ range_fault_among branches
       ∷ [])
   statement_range_fault (Team line var low high members phases) =
-      first_fault (team_fault line low high members (count_of phases) ∷ range_fault_among phases ∷ [])
+      first_fault (team_fault line low high members (count_of phases)
+      ∷ range_fault_among phases ∷ [])
 
   pub range_fault_among : Sequences → Option CheckFault
   range_fault_among no_more = None
-  range_fault_among (beside first rest) = first_fault (range_fault_in first ∷ range_fault_among rest ∷ [])
+  range_fault_among (beside first rest) =
+      first_fault (range_fault_in first ∷ range_fault_among rest ∷ [])
 
 abbrev pub range_fault : ProgramTree → Option CheckFault
-range_fault program = first_fault (declarations_fault program.arrays 0 0 ∷ range_fault_in program.body ∷ [])
+range_fault program = first_fault
+    (declarations_fault program.arrays 0 0 ∷ range_fault_in program.body ∷ [])

@@ -15,7 +15,8 @@ pub record IsTested (program : ProgramTree) : Type 0 where
   pub single_names : (duplicate_name program ≡ None) ↔ IsTrue (has_single_names program)
   pub known_names : (unknown_name program ≡ None) ↔ IsTrue (has_only_known_names program)
   pub ranges : (range_fault program ≡ None) ↔ IsTrue (is_in_range program)
-  pub no_site_under_if : (site_under_if_in program.body false ≡ None) ↔ IsTrue (has_no_site_under_if program.body false)
+  pub no_site_under_if : (site_under_if_in program.body false ≡ None)
+      ↔ IsTrue (has_no_site_under_if program.body false)
   pub limits : (limit_fault_of program ≡ None) ↔ MeetsLimits program
 
 abbrev pub AreConditionsTested : Type 0
@@ -23,4 +24,5 @@ AreConditionsTested = (program : ProgramTree) → IsTested program
 
 -- A program fails none of the conditions exactly where it is accepted.
 abbrev pub AreConditionsChecked : Type 0
-AreConditionsChecked = (program : ProgramTree) → (check_fault_of program ≡ None) ↔ IsAccepted program
+AreConditionsChecked = (program : ProgramTree) → (check_fault_of program ≡ None)
+    ↔ IsAccepted program

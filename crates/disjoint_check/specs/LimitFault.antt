@@ -27,7 +27,8 @@ limit_fault_of program = first_fault
     ∷ unless (nat_le (depth_of program.body) 3) (TooDeep (told_depth (depth_of program.body)))
     ∷ unless (nat_le (units_of program.body) 1048576) (TooMuchWork (capped (units_of program.body)))
     ∷ unless (nat_le (sites_in program.body) 4095) (TooManySites (capped (sites_in program.body)))
-    ∷ unless (nat_le (pieces_in program.body) 16384) (TooManyPieces (capped (pieces_in program.body)))
+    ∷ unless (nat_le (pieces_in program.body) 16384)
+    (TooManyPieces (capped (pieces_in program.body)))
     ∷ [])
 
 -- The conditions on names, ranges and size.

@@ -18,8 +18,10 @@ turns_of_shapes (suc n) body = body ++ turns_of_shapes n body
 abbrev mutual
   pub statement_shapes : Statement → List Shape
   statement_shapes (Assign line array index value) = []
-  statement_shapes (For line var low high body) = turns_of_shapes (span low high) (sequence_shapes body)
-  statement_shapes (If line cond then_block else_block) = sequence_shapes then_block ++ sequence_shapes else_block
+  statement_shapes (For line var low high body) =
+      turns_of_shapes (span low high) (sequence_shapes body)
+  statement_shapes (If line cond then_block else_block) =
+      sequence_shapes then_block ++ sequence_shapes else_block
   statement_shapes (Par line branches) = (count_of branches, 0) ∷ branches_shapes branches
   statement_shapes (Team line var low high members phases) =
       (unsigned_abs members, count_of phases) ∷ phases_shapes phases (span low high)
@@ -35,7 +37,8 @@ abbrev mutual
   -- Each phase has so many iterations.
   pub phases_shapes : Sequences → ℕ → List Shape
   phases_shapes no_more iterations = []
-  phases_shapes (beside first rest) iterations = turns_of_shapes iterations (sequence_shapes first) ++ phases_shapes rest iterations
+  phases_shapes (beside first rest) iterations =
+      turns_of_shapes iterations (sequence_shapes first) ++ phases_shapes rest iterations
 
 abbrev pub shapes_of : ProgramTree → List Shape
 shapes_of program = sequence_shapes program.body

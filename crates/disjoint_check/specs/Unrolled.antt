@@ -38,21 +38,26 @@ repeat (suc n) more rows = repeat n more (more rows)
 abbrev mutual
   pub with_statement : Statement → ℕ → Rows → Rows
   with_statement (Assign line array index value) around rows = rows
-  with_statement (For line var low high body) around rows = repeat (span low high) (with_sequence body around) rows
-  with_statement (If line cond then_block else_block) around rows = with_sequence else_block around (with_sequence then_block around rows)
+  with_statement (For line var low high body) around rows =
+      repeat (span low high) (with_sequence body around) rows
+  with_statement (If line cond then_block else_block) around rows =
+      with_sequence else_block around (with_sequence then_block around rows)
   with_statement (Par line branches) around rows =
-      let more = rows ++ row around (parts (count_of branches)) 0 ∷ [] in with_branches branches (last_site more) more
+      let more = rows ++ row around (parts (count_of branches)) 0
+      ∷ [] in with_branches branches (last_site more) more
   with_statement (Team line var low high members phases) around rows =
       let more = rows ++ row around (parts (unsigned_abs members)) (parts (count_of phases)) ∷ [] in
       with_phases phases (span low high) (last_site more) more
 
   pub with_sequence : Sequence → ℕ → Rows → Rows
   with_sequence ended around rows = rows
-  with_sequence (followed first rest) around rows = with_sequence rest around (with_statement first around rows)
+  with_sequence (followed first rest) around rows =
+      with_sequence rest around (with_statement first around rows)
 
   pub with_branches : Sequences → ℕ → Rows → Rows
   with_branches no_more around rows = rows
-  with_branches (beside first rest) around rows = with_branches rest around (with_sequence first around rows)
+  with_branches (beside first rest) around rows =
+      with_branches rest around (with_sequence first around rows)
 
   pub with_phases : Sequences → ℕ → ℕ → Rows → Rows
   with_phases no_more iterations around rows = rows

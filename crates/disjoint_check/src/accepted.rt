@@ -35,7 +35,12 @@ impl<'p> Model for Accepted<'p> {
 
     ghost view = { λ a. record { program = a.program.now; plan = a.plan; pieces = a.pieces; shapes = shapes_in a.sites.items } };
 
-    ghost invariant = { λ a. IsAcceptedProgram record { program = a.program.now; plan = a.plan; pieces = a.pieces; shapes = shapes_in a.sites.items } };
+    ghost invariant = { λ a. IsAcceptedProgram record {
+      program = a.program.now;
+      plan = a.plan;
+      pieces = a.pieces;
+      shapes = shapes_in a.sites.items;
+    } };
 }
 
 impl<'p> Accepted<'p> {

@@ -40,7 +40,8 @@ pub(crate) fn is_declared(declarations: &[ArrayDecl], name: &Name) -> bool
 /// Whether the name is that of an array or of a loop around.
 #[tactic(auto, using(crate::proofs::Among::among_append))]
 pub(crate) fn is_taken(arrays: &Arrays, loops: &Loops<'_>, name: &Name) -> bool
-    ensures { result ≡ is_among name.now (vars_around loops.now ++ names_of (declarations_of arrays.now)) }
+    ensures { result ≡ is_among name.now
+        (vars_around loops.now ++ names_of (declarations_of arrays.now)) }
 {
     loops.has(name) || is_declared(&arrays.declarations, name)
 }

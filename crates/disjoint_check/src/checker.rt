@@ -24,7 +24,8 @@ pub fn check<'p>(alloc: Global, program: &'p Program, harts: u8) -> Result<Accep
     ensures program { IfOk result (λ a. a.program ≡ program.now) }
     ensures harts { IfOk result (λ a. a.plan.harts ≡ harts) }
     ensures accepted { IfOk result (λ a. IsAccepted (program_of program.now)) }
-    ensures fault { IfErr result (λ why. (why ≡ CheckFault.Memory) ⊎ (check_fault_of (program_of program.now) ≡ Some why)) }
+    ensures fault { IfErr result
+        (λ why. (why ≡ CheckFault.Memory) ⊎ (check_fault_of (program_of program.now) ≡ Some why)) }
 {
     if let Some(fault) = limit_fault(program) {
         return Err(fault);

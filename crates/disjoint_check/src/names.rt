@@ -32,7 +32,8 @@ fn duplicate_declaration(declarations: &[ArrayDecl]) -> Option<u32>
 
 #[cycle(duplicate)]
 fn duplicate_in_block<'s>(arrays: &Arrays, block: &'s Block, loops: &'s Loops<'s>) -> Option<u32>
-    ensures { result ≡ duplicate_in (sequence_of block.now) (vars_around loops.now ++ names_of (declarations_of arrays.now)) }
+    ensures { result ≡ duplicate_in (sequence_of block.now)
+        (vars_around loops.now ++ names_of (declarations_of arrays.now)) }
 {
     for statement in &block.statements {
         if let Some(line) = duplicate_in_statement(arrays, statement, loops) {
@@ -48,7 +49,8 @@ fn duplicate_in_statement<'s>(
     statement: &'s Stmt,
     loops: &'s Loops<'s>,
 ) -> Option<u32>
-    ensures { result ≡ statement_duplicate (statement_of statement.now) (vars_around loops.now ++ names_of (declarations_of arrays.now)) }
+    ensures { result ≡ statement_duplicate (statement_of statement.now)
+        (vars_around loops.now ++ names_of (declarations_of arrays.now)) }
 {
     match statement {
         Stmt::Assign { .. } => None,
@@ -90,7 +92,8 @@ fn duplicate_in_statement<'s>(
 
 #[cycle(duplicate)]
 fn duplicate_among<'s>(arrays: &Arrays, blocks: &'s Blocks, loops: &'s Loops<'s>) -> Option<u32>
-    ensures { result ≡ duplicate_among (sequences_of blocks.now) (vars_around loops.now ++ names_of (declarations_of arrays.now)) }
+    ensures { result ≡ duplicate_among (sequences_of blocks.now)
+        (vars_around loops.now ++ names_of (declarations_of arrays.now)) }
 {
     for block in &blocks.blocks {
         if let Some(line) = duplicate_in_block(arrays, block, loops) {
@@ -110,7 +113,8 @@ pub(crate) fn unknown_name(program: &Program) -> Option<u32>
 
 #[cycle(unknown)]
 fn unknown_in_block<'s>(arrays: &Arrays, block: &'s Block, loops: &'s Loops<'s>) -> Option<u32>
-    ensures { result ≡ unknown_in (sequence_of block.now) (names_of (declarations_of arrays.now)) (vars_around loops.now) }
+    ensures { result ≡ unknown_in (sequence_of block.now) (names_of (declarations_of arrays.now))
+        (vars_around loops.now) }
 {
     for statement in &block.statements {
         if let Some(line) = unknown_in_statement(arrays, statement, loops) {
@@ -126,7 +130,8 @@ fn unknown_in_statement<'s>(
     statement: &'s Stmt,
     loops: &'s Loops<'s>,
 ) -> Option<u32>
-    ensures { result ≡ statement_unknown (statement_of statement.now) (names_of (declarations_of arrays.now)) (vars_around loops.now) }
+    ensures { result ≡ statement_unknown (statement_of statement.now)
+        (names_of (declarations_of arrays.now)) (vars_around loops.now) }
 {
     match statement {
         Stmt::Assign {
@@ -170,7 +175,8 @@ fn unknown_in_statement<'s>(
 
 #[cycle(unknown)]
 fn unknown_among<'s>(arrays: &Arrays, blocks: &'s Blocks, loops: &'s Loops<'s>) -> Option<u32>
-    ensures { result ≡ unknown_among (sequences_of blocks.now) (names_of (declarations_of arrays.now)) (vars_around loops.now) }
+    ensures { result ≡ unknown_among (sequences_of blocks.now)
+        (names_of (declarations_of arrays.now)) (vars_around loops.now) }
 {
     for block in &blocks.blocks {
         if let Some(line) = unknown_in_block(arrays, block, loops) {
@@ -182,7 +188,8 @@ fn unknown_among<'s>(arrays: &Arrays, blocks: &'s Blocks, loops: &'s Loops<'s>) 
 
 // Whether an expression indexes arrays only, and uses without index only variables of loops around.
 fn knows(arrays: &Arrays, loops: &Loops<'_>, expr: &Expr) -> bool
-    ensures { result ≡ uses_known_names (expression_of expr.now) (names_of (declarations_of arrays.now)) (vars_around loops.now) }
+    ensures { result ≡ uses_known_names (expression_of expr.now)
+        (names_of (declarations_of arrays.now)) (vars_around loops.now) }
 {
     match expr {
         Expr::Number(_) => true,

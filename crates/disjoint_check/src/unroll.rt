@@ -18,7 +18,8 @@ pub(crate) struct Site {
 
 /// The sites of a program in the order in which it enters them.
 pub(crate) fn sites_of(alloc: Global, program: &Program) -> Result<Vec<Site>, AllocError>
-    ensures { IfOk result (λ sites. sites.items ≡ with_sequence (program_of program.now).body 0 []) }
+    ensures { IfOk result (λ sites. sites.items
+        ≡ with_sequence (program_of program.now).body 0 []) }
 {
     let mut sites = Vec::new(alloc);
     unroll_block(&program.body, 0, &mut sites)?;
@@ -27,7 +28,8 @@ pub(crate) fn sites_of(alloc: Global, program: &Program) -> Result<Vec<Site>, Al
 
 #[cycle(unroll)]
 fn unroll_block(block: &Block, around: u16, sites: &mut Vec<Site>) -> Result<(), AllocError>
-    ensures { IfOk result (λ _. sites.new.items ≡ with_sequence (sequence_of block.now) around sites.old.items) }
+    ensures { IfOk result (λ _. sites.new.items
+        ≡ with_sequence (sequence_of block.now) around sites.old.items) }
 {
     for statement in &block.statements {
         unroll_statement(statement, around, sites)?;
@@ -37,7 +39,8 @@ fn unroll_block(block: &Block, around: u16, sites: &mut Vec<Site>) -> Result<(),
 
 #[cycle(unroll)]
 fn unroll_statement(statement: &Stmt, around: u16, sites: &mut Vec<Site>) -> Result<(), AllocError>
-    ensures { IfOk result (λ _. sites.new.items ≡ with_statement (statement_of statement.now) around sites.old.items) }
+    ensures { IfOk result (λ _. sites.new.items
+        ≡ with_statement (statement_of statement.now) around sites.old.items) }
 {
     match statement {
         Stmt::Assign { .. } => Ok(()),
@@ -82,7 +85,8 @@ fn unroll_statement(statement: &Stmt, around: u16, sites: &mut Vec<Site>) -> Res
 
 #[cycle(unroll)]
 fn unroll_branches(branches: &Blocks, around: u16, sites: &mut Vec<Site>) -> Result<(), AllocError>
-    ensures { IfOk result (λ _. sites.new.items ≡ with_branches (sequences_of branches.now) around sites.old.items) }
+    ensures { IfOk result (λ _. sites.new.items
+        ≡ with_branches (sequences_of branches.now) around sites.old.items) }
 {
     for branch in &branches.blocks {
         unroll_block(branch, around, sites)?;
@@ -97,7 +101,8 @@ fn unroll_phases(
     around: u16,
     sites: &mut Vec<Site>,
 ) -> Result<(), AllocError>
-    ensures { IfOk result (λ _. sites.new.items ≡ with_phases (sequences_of phases.now) iterations around sites.old.items) }
+    ensures { IfOk result (λ _. sites.new.items
+        ≡ with_phases (sequences_of phases.now) iterations around sites.old.items) }
 {
     for phase in &phases.blocks {
         unroll_turns(phase, iterations, around, sites)?;
@@ -114,7 +119,8 @@ fn unroll_turns(
     around: u16,
     sites: &mut Vec<Site>,
 ) -> Result<(), AllocError>
-    ensures { IfOk result (λ _. sites.new.items ≡ repeat turns (with_sequence (sequence_of body.now) around) sites.old.items) }
+    ensures { IfOk result (λ _. sites.new.items
+        ≡ repeat turns (with_sequence (sequence_of body.now) around) sites.old.items) }
 {
     if turns == 0 {
         return Ok(());

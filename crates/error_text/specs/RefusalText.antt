@@ -12,7 +12,8 @@ use Rattle.disjoint_check.specs.declared.fault.CheckFault.TheVariants.{Duplicate
 abbrev pub cell_text : Arrays → ℕ → List ℕ
 cell_text [] cell = []
 cell_text (array ∷ more) cell =
-    if nat_lt cell array.1 then array.0 ++ codes "[" ++ decimal cell ++ codes "]" else cell_text more (cell - array.1)
+    if nat_lt cell array.1 then array.0 ++ codes "[" ++ decimal cell ++ codes "]"
+    else cell_text more (cell - array.1)
 
 abbrev pub limit_text : Limit → List ℕ
 limit_text limit.Length = codes "length"
@@ -35,15 +36,18 @@ ended text = text ++ 10 ∷ []
 abbrev pub fault_text : ProgramTree → CheckFault → List ℕ
 fault_text program (DuplicateName line) = codes "name used twice" ++ line_text line
 fault_text program (UnknownName line) = codes "unknown name" ++ line_text line
-fault_text program (BadRange line what found) = limit_text what ++ codes " " ++ signed_decimal found ++ line_text line
+fault_text program (BadRange line what found) =
+    limit_text what ++ codes " " ++ signed_decimal found ++ line_text line
 fault_text program (SiteUnderIf line) = codes "parallel construct under if" ++ line_text line
 fault_text program (TooDeep level) = decimal level ++ ended (codes " levels")
 fault_text program (TooMuchWork units) = decimal units ++ ended (codes " units of work")
 fault_text program (TooManySites sites) = decimal sites ++ ended (codes " sites")
 fault_text program (TooManyPieces pieces) = decimal pieces ++ ended (codes " pieces")
 fault_text program (OutOfRange line index length) =
-    codes "index " ++ signed_decimal index ++ codes " outside " ++ decimal length ++ codes " cells" ++ line_text line
-fault_text program (Overlap line cell) = codes "overlap on " ++ cell_text (arrays_of program.arrays) cell ++ line_text line
+    codes "index " ++ signed_decimal index ++ codes " outside " ++ decimal length ++ codes " cells"
+    ++ line_text line
+fault_text program (Overlap line cell) =
+    codes "overlap on " ++ cell_text (arrays_of program.arrays) cell ++ line_text line
 fault_text program Memory = []
 
 abbrev pub refusal_text : ProgramTree → CheckFault → List ℕ

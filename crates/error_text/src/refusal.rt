@@ -32,7 +32,8 @@ fn add_fault(
     fault: CheckFault,
 ) -> Result<(), AllocError>
     requires { fault ≢ CheckFault.Memory }
-    ensures { OnOk result (text.new.items ≡ text.old.items ++ fault_text (program_of program.now) fault) }
+    ensures { OnOk result (text.new.items
+        ≡ text.old.items ++ fault_text (program_of program.now) fault) }
 {
     match fault {
         CheckFault::DuplicateName { line } => add_at_line(alloc, text, "name used twice", line),
@@ -85,7 +86,8 @@ fn add_signed(
     before: &str,
     number: i64,
 ) -> Result<(), AllocError>
-    ensures { OnOk result (text.new.items ≡ text.old.items ++ (before.now ++ signed_decimal number)) }
+    ensures { OnOk result (text.new.items
+        ≡ text.old.items ++ (before.now ++ signed_decimal number)) }
 {
     let number = number.to_string(alloc)?;
     text.extend_from_slice(before.as_bytes())?;
@@ -113,7 +115,9 @@ fn add_range(
     what: Limit,
     found: i64,
 ) -> Result<(), AllocError>
-    ensures { OnOk result (text.new.items ≡ text.old.items ++ (limit_text what ++ codes " " ++ signed_decimal found ++ line_text line)) }
+    ensures { OnOk result (text.new.items
+        ≡ text.old.items ++ (limit_text what ++ codes " " ++ signed_decimal found
+        ++ line_text line)) }
 {
     text.extend_from_slice(limit_name(what).as_bytes())?;
     add_signed(alloc, text, " ", found)?;
@@ -128,7 +132,8 @@ fn add_index(
     length: u16,
 ) -> Result<(), AllocError>
     ensures { OnOk result (text.new.items ≡ text.old.items
-        ++ (codes "index " ++ signed_decimal index ++ codes " outside " ++ decimal length ++ codes " cells" ++ line_text line)) }
+        ++ (codes "index " ++ signed_decimal index ++ codes " outside " ++ decimal length
+        ++ codes " cells" ++ line_text line)) }
 {
     add_signed(alloc, text, "index ", index)?;
     text.extend_from_slice(b" outside ".as_slice())?;
@@ -144,7 +149,8 @@ fn add_overlap(
     cell: u16,
 ) -> Result<(), AllocError>
     ensures { OnOk result (text.new.items ≡ text.old.items
-        ++ (codes "overlap on " ++ cell_text (arrays_of (declarations_of arrays.now)) cell ++ line_text line)) }
+        ++ (codes "overlap on " ++ cell_text (arrays_of (declarations_of arrays.now)) cell
+        ++ line_text line)) }
 {
     text.extend_from_slice(b"overlap on ".as_slice())?;
     add_cell(alloc, text, arrays, cell)?;
@@ -153,7 +159,8 @@ fn add_overlap(
 
 // Adds a cell as its array's name and its index in it.
 fn add_cell(alloc: Global, text: &mut Vec<u8>, arrays: &Arrays, cell: u16) -> Result<(), AllocError>
-    ensures { OnOk result (text.new.items ≡ text.old.items ++ cell_text (arrays_of (declarations_of arrays.now)) cell) }
+    ensures { OnOk result (text.new.items
+        ≡ text.old.items ++ cell_text (arrays_of (declarations_of arrays.now)) cell) }
 {
     let mut index = u64::from(cell);
     for array in &arrays.declarations {
@@ -168,7 +175,8 @@ fn add_cell(alloc: Global, text: &mut Vec<u8>, arrays: &Arrays, cell: u16) -> Re
 
 // Adds the place of an array at an index.
 fn add_place(alloc: Global, text: &mut Vec<u8>, array: &Name, index: u64) -> Result<(), AllocError>
-    ensures { OnOk result (text.new.items ≡ text.old.items ++ (array.now ++ codes "[" ++ decimal index ++ codes "]")) }
+    ensures { OnOk result (text.new.items
+        ≡ text.old.items ++ (array.now ++ codes "[" ++ decimal index ++ codes "]")) }
 {
     text.extend_from_slice(array.as_bytes())?;
     text.extend_from_slice(b"[".as_slice())?;

@@ -24,7 +24,8 @@ pub record IsStill {R : Type 0} (before after : PoolHand R) : Type 0 where
 
 -- the same hand, and a further look under the lock found this
 abbrev pub HasSeen : {R : Type 0} → PoolHand R → Found → PoolHand R → Type 0
-HasSeen before found after = IsSame before after × (after.rows.now ≡ before.rows.now) × Sees before.looks found after.looks
+HasSeen before found after =
+    IsSame before after × (after.rows.now ≡ before.rows.now) × Sees before.looks found after.looks
 
 -- a context that is ready, found under the lock
 abbrev pub TakesReadyBy : {R : Type 0} → PoolHand R → Option PoolWork → PoolHand R → Type 0
@@ -40,7 +41,9 @@ LooksBy before Nothing after = HasSeen before HandedOut after ⊎ HasSeen before
 -- What a hart is told, and by what: a job by its code, taken in this call, or else by a look of this call under the lock. Nothing comes only where
 -- the row was found bare in this call, and a look of this call found the pool handed out, or nothing left in it.
 abbrev pub Tells : {R : Type 0} → PoolHand R → Next PoolWork → PoolHand R → Type 0
-Tells before (Run (Begin job)) after = HasTaken before.home before.level (code_of job) before.rows.now after.rows.now ⊎ Sees before.looks Work after.looks
+Tells before (Run (Begin job)) after =
+    HasTaken before.home before.level (code_of job) before.rows.now after.rows.now
+    ⊎ Sees before.looks Work after.looks
 Tells before (Run (Ready context)) after = Sees before.looks Work after.looks
 Tells before (Lend site) after = Sees before.looks Work after.looks
 Tells before Nothing after =
@@ -48,7 +51,8 @@ Tells before Nothing after =
     × (Sees before.looks HandedOut after.looks ⊎ Sees before.looks NoneLeft after.looks)
 
 -- What `enter` of a hand does: it pushes nothing to the rows.
-pub record AnswersHand {R : Type 0} (before : PoolHand R) (next : Next PoolWork) (after : PoolHand R) : Type 0 where
+pub record AnswersHand {R : Type 0} (before : PoolHand R) (next : Next PoolWork)
+    (after : PoolHand R) : Type 0 where
   pub same : IsSame before after
   pub keeps : Keeps before.rows.now after.rows.now
   pub tells : Tells before next after

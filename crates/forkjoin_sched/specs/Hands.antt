@@ -45,19 +45,22 @@ AnswersUnder (Some pool) next (Some after) = Answers pool next after
 abbrev pub GivesReadyUnder : Option PoolParts → Option PoolWork → Option PoolParts → Type 0
 GivesReadyUnder None ready after = (ready ≡ None) × (after ≡ None)
 GivesReadyUnder (Some pool) ready None = ⊥
-GivesReadyUnder (Some pool) ready (Some after) = GivesReady pool.agenda ready after.agenda × (after ≡ with_agenda pool after.agenda)
+GivesReadyUnder (Some pool) ready (Some after) =
+    GivesReady pool.agenda ready after.agenda × (after ≡ with_agenda pool after.agenda)
 
 -- The rows --
 
 -- the same rows, to which nothing was pushed; no count of moments at which one was found bare fell
 pub record Keeps (before after : HartRows) : Type 0 where
   pub kin : kin after ≡ kin before
-  pub pushed : map (λ (v : Log). v.pushed) (home_logs after) ≡ map (λ (v : Log). v.pushed) (home_logs before)
+  pub pushed : map (λ (v : Log). v.pushed) (home_logs after)
+      ≡ map (λ (v : Log). v.pushed) (home_logs before)
   pub bares : (r : ℕ) → slice_index (bares before) r ≤ slice_index (bares after) r
 
 -- The row was found bare: its count of such moments rose, and what is known of it fits a moment at which it held at most one code.
 abbrev pub IsFoundBare : ℕ → ℕ → HartRows → HartRows → Type 0
-IsFoundBare home level before after = Rose (bare before home level) (bare after home level) × HeldAtMost 1 (pass_log after home level)
+IsFoundBare home level before after =
+    Rose (bare before home level) (bare after home level) × HeldAtMost 1 (pass_log after home level)
 
 -- What the hart popped and stole from the row before, it has still popped and stolen, and perhaps more since.
 pub record TakesMore (home level : ℕ) (before after : HartRows) : Type 0 where
@@ -69,8 +72,10 @@ pub record TakesMore (home level : ℕ) (before after : HartRows) : Type 0 where
 -- The last code that was taken from the row since, by a pop or by a steal, is this one.
 abbrev pub HasTaken : ℕ → ℕ → ℕ → HartRows → HartRows → Type 0
 HasTaken home level code before after =
-    ((earlier : List ℕ) × ((home_log after level).popped ≡ ((home_log before level).popped ++ earlier) ++ code ∷ []))
-    ⊎ ((earlier : List ℕ) × ((pass_log after home level).stolen ≡ ((pass_log before home level).stolen ++ earlier) ++ code ∷ []))
+    ((earlier : List ℕ) × ((home_log after level).popped
+    ≡ ((home_log before level).popped ++ earlier) ++ code ∷ []))
+    ⊎ ((earlier : List ℕ) × ((pass_log after home level).stolen
+    ≡ ((pass_log before home level).stolen ++ earlier) ++ code ∷ []))
 
 -- a code of the row, or none, and it was found bare
 abbrev pub TakesCode : ℕ → ℕ → HartRows → Option ℕ → HartRows → Type 0
@@ -90,7 +95,8 @@ IsFalling n least (place ∷ places) = (place < n) × IsFalling place least plac
 -- The codes of these places of the site are pushed, in this order, and nothing else is done.
 pub record PushesCodes (site level : ℕ) (places : List ℕ) (before after : HartRows) : Type 0 where
   pub kin : kin after ≡ kin before
-  pub own : home_logs after ≡ slice_set (home_logs before) (level - 1) (after_push (home_log before level) (map (code_at site) places))
+  pub own : home_logs after ≡ slice_set (home_logs before) (level - 1)
+      (after_push (home_log before level) (map (code_at site) places))
   pub passes : pass_logs after ≡ pass_logs before
   pub bares : bares after ≡ bares before
 
@@ -102,7 +108,8 @@ RunsTo n (Ready context ∷ works) = ⊥
 
 -- Jobs leave a pool that are not begun, and the code of each is pushed, the last place first. Where they are the last of n jobs,
 -- all leave it.
-pub record OffersJobs (site level n : ℕ) (pool : PoolParts) (rows : HartRows) (places : List ℕ) (pool' : PoolParts) (rows' : HartRows) : Type 0 where
+pub record OffersJobs (site level n : ℕ) (pool : PoolParts) (rows : HartRows) (places : List ℕ)
+    (pool' : PoolParts) (rows' : HartRows) : Type 0 where
   pub falling : IsFalling n 0 places
   pub pushes : PushesCodes site level places rows rows'
   pub rest : pool' ≡ with_agenda pool (record pool.agenda { unbegun = pool'.agenda.unbegun })
@@ -110,8 +117,11 @@ pub record OffersJobs (site level n : ℕ) (pool : PoolParts) (rows : HartRows) 
   pub all : RunsTo n pool.agenda.unbegun → pool'.agenda.unbegun ≡ []
 
 -- A further look, and the jobs of a pool that wasn't handed out are offered.
-abbrev pub OffersUnder : ℕ → ℕ → ℕ → Looks × Option PoolParts × HartRows → Looks × Option PoolParts × HartRows → Type 0
-OffersUnder site level n (looks, None, rows) (looks', kept', rows') = Sees looks HandedOut looks' × (kept' ≡ None) × (rows' ≡ rows)
+abbrev pub OffersUnder : ℕ → ℕ → ℕ → Looks × Option PoolParts × HartRows
+    → Looks × Option PoolParts × HartRows → Type 0
+OffersUnder site level n (looks, None, rows) (looks', kept', rows') =
+    Sees looks HandedOut looks' × (kept' ≡ None) × (rows' ≡ rows)
 OffersUnder site level n (looks, Some pool, rows) (looks', None, rows') = ⊥
 OffersUnder site level n (looks, Some pool, rows) (looks', Some pool', rows') =
-    Sees looks Work looks' × (places : List ℕ) × OffersJobs site level n pool rows places pool' rows'
+    Sees looks Work looks' × (places : List ℕ)
+    × OffersJobs site level n pool rows places pool' rows'

@@ -8,11 +8,14 @@ use Rattle.step_eval.specs.Phases.{phase_writes}
 
 -- A book of the jobs of one phase gives what the phase writes.
 abbrev pub BooksGivePhases : Type 0
-BooksGivePhases = (nested : NestedTree) → IsFitNest nested → (phase : ℕ) (store : Store) → phase < phases_of nested.construct →
-    (book : BookParts) → map job_of book.jobs ≡ jobs_in nested phase store → all_writes book ≡ phase_writes nested phase store
+BooksGivePhases = (nested : NestedTree) → IsFitNest nested → (phase : ℕ) (store : Store)
+    → phase < phases_of nested.construct →
+    (book : BookParts) → map job_of book.jobs ≡ jobs_in nested phase store
+    → all_writes book ≡ phase_writes nested phase store
 
 -- A pool of the jobs of a construct with one phase, as a `par` is, gives what the construct writes, as its machine is to be
 -- supplied with.
 abbrev pub PoolsGiveConstructs : Type 0
 PoolsGiveConstructs = (nested : NestedTree) → IsFitNest nested → phases_of nested.construct ≡ 1 →
-    (book : BookParts) → map job_of book.jobs ≡ jobs_in nested 0 nested.store → all_writes book ≡ nested_writes nested
+    (book : BookParts) → map job_of book.jobs ≡ jobs_in nested 0 nested.store
+    → all_writes book ≡ nested_writes nested

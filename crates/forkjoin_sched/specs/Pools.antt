@@ -29,7 +29,12 @@ wishes_per_job = 15
 abbrev pub new_pool : List JobParts → PoolParts
 new_pool jobs = record {
   site = site_of_jobs jobs;
-  agenda = record { ready = []; room = length jobs; unbegun = map Begin jobs; wishes = record { sites = []; room = wishes_per_job * length jobs } };
+  agenda = record {
+    ready = [];
+    room = length jobs;
+    unbegun = map Begin jobs;
+    wishes = record { sites = []; room = wishes_per_job * length jobs };
+  };
   book = open_book jobs;
 }
 
@@ -45,9 +50,15 @@ pub record Answers (before : PoolParts) (next : Next PoolWork) (after : PoolPart
   pub book : after.book ≡ before.book
 
 abbrev pub Hears : PoolParts → Told → PoolParts → Type 0
-Hears before told after = after ≡ record before { agenda = record before.agenda { wishes = wishes_after told before.agenda.wishes } }
+Hears before told after =
+    after ≡ record before {
+      agenda = record before.agenda {
+        wishes = wishes_after told before.agenda.wishes;
+      };
+    }
 
-pub record Takes (before : PoolParts) (c : PoolWork) (answer : Result (Unit {0}) PoolWork) (after : PoolParts) : Type 0 where
+pub record Takes (before : PoolParts) (c : PoolWork) (answer : Result (Unit {0}) PoolWork)
+    (after : PoolParts) : Type 0 where
   pub ready : PutsReady before.agenda c answer after.agenda
   pub site : after.site ≡ before.site
   pub book : after.book ≡ before.book
@@ -69,4 +80,5 @@ GivesJob before place (Some job) after =
     (before.agenda.unbegun ≡ after.agenda.unbegun ++ Begin job ∷ []) × (job.place ≡ place)
     × (after ≡ with_agenda before (record before.agenda { unbegun = after.agenda.unbegun }))
 GivesJob before place None after =
-    ((rest : List PoolWork) (last : PoolWork) → before.agenda.unbegun ≡ rest ++ last ∷ [] → ¬ IsPieceAt place last) × (after ≡ before)
+    ((rest : List PoolWork) (last : PoolWork) → before.agenda.unbegun ≡ rest ++ last ∷ []
+    → ¬ IsPieceAt place last) × (after ≡ before)

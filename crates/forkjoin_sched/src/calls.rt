@@ -19,7 +19,8 @@ impl<'a, 'r, 'p, R: Wait + 'a> PoolHand<'a, 'r, 'p, R> {
     /// be the home, and its row must have room for a code of each job. It takes no memory.
     pub fn offer(&mut self, rt: &R)
         requires home { self.old.rows.now.hart ≡ self.old.home }
-        requires room { length self.old.shared.now.jobs + length (home_log self.old.rows.now self.old.level).pushed ≤ 16384 }
+        requires room { length self.old.shared.now.jobs
+            + length (home_log self.old.rows.now self.old.level).pushed ≤ 16384 }
         ensures { Offers self.old self.new }
     {
         let site = self.shared.site();

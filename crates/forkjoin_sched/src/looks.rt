@@ -68,7 +68,8 @@ impl Looks {
 
     /// The first context that is ready to go on, if there is one.
     pub(crate) fn take_ready<'p>(&mut self, kept: &mut Option<Pool<'p>>) -> Option<PoolWork<'p>>
-        ensures sees { MatchOption result (self.new ≡ self.old) (λ work. Sees self.old Work self.new) }
+        ensures sees { MatchOption result (self.new ≡ self.old)
+            (λ work. Sees self.old Work self.new) }
         ensures gives { GivesReadyUnder kept.old result kept.new }
     {
         let Some(pool) = kept else { return None };
@@ -91,7 +92,8 @@ impl Looks {
     )
         requires level { IsLevel level }
         requires room { length slots.now + length (home_log rows.old level).pushed ≤ 16384 }
-        ensures { OffersUnder site level (length slots.now) (self.old, kept.old, rows.old) (self.new, kept.new, rows.new) }
+        ensures { OffersUnder site level (length slots.now) (self.old, kept.old, rows.old)
+            (self.new, kept.new, rows.new) }
     {
         let Some(pool) = kept else {
             self.note(Found::HandedOut);

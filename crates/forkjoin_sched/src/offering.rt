@@ -26,7 +26,8 @@ pub(crate) fn offer_jobs<'p, R: Wait>(
 )
     requires level { IsLevel level }
     requires room { length slots.now + length (home_log rows.old level).pushed ≤ 16384 }
-    ensures { (places : List ℕ) × OffersJobs site level (length slots.now) pool.old rows.old places pool.new rows.new }
+    ensures { (places : List ℕ)
+        × OffersJobs site level (length slots.now) pool.old rows.old places pool.new rows.new }
 {
     for place in (0..slots.len()).rev() {
         if let Some(job) = pool.take_last(place) {

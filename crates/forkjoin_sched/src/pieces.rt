@@ -52,7 +52,8 @@ fn pop_code(rows: &mut HartRows, level: u8) -> Option<u32>
     ensures keeps { Keeps rows.old rows.new }
     ensures harts { rows.new.harts ≡ rows.old.harts }
     ensures more { (home : ℕ) → TakesMore home level rows.old rows.new }
-    ensures taken { IfSome result (λ code. (home : ℕ) → HasTaken home level code rows.old rows.new) }
+    ensures taken { IfSome result
+        (λ code. (home : ℕ) → HasTaken home level code rows.old rows.new) }
 {
     rows.pop(level)
 }

@@ -39,7 +39,10 @@ impl<'p> Model for SharedPool<'p> {
 impl<'p> SharedPool<'p> {
     /// Puts the pool behind a lock, and beside it a copy of its jobs and an empty slot for each. No other call takes memory.
     pub fn new(alloc: Global, pool: Pool<'p>) -> Result<SharedPool<'p>, AllocError>
-        ensures { IfOk result (λ shared. shared ≡ record { site = pool.entry.site; jobs = pool.entry.book.jobs }) }
+        ensures { IfOk result (λ shared. shared ≡ record {
+          site = pool.entry.site;
+          jobs = pool.entry.book.jobs;
+        }) }
     {
         let site = pool.site();
         let jobs = copy_jobs(alloc, pool.jobs())?;

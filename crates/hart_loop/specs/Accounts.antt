@@ -6,7 +6,8 @@ use Rattle.work_agenda.specs.Agenda.{AgendaParts}
 
 -- Of a book of jobs and of what there is for harts: no context is ready, the jobs before place `begun` were handed out, and
 -- exactly those before place `done` came back, as a piece or as a failure.
-pub record Stands {C : Type 0} (begin : JobParts → C) (book : BookParts) (agenda : AgendaParts C) (done begun : ℕ) : Type 0 where
+pub record Stands {C : Type 0} (begin : JobParts → C) (book : BookParts) (agenda : AgendaParts C)
+    (done begun : ℕ) : Type 0 where
   pub none_ready : agenda.ready ≡ []
   pub unbegun : agenda.unbegun ≡ drop begun (map begin book.jobs)
   pub back : (i : ℕ) → i < done → ¬ IsMarked book i Open
@@ -19,5 +20,7 @@ abbrev pub AllCameBack : {C : Type 0} → (JobParts → C) → BookParts → Age
 AllCameBack begin book agenda = (k : ℕ) × Stands begin book agenda k k
 
 -- all but this job, which was handed out last
-abbrev pub AllButOneCameBack : {C : Type 0} → (JobParts → C) → BookParts → AgendaParts C → JobParts → Type 0
-AllButOneCameBack begin book agenda job = (k : ℕ) × (slice_get book.jobs k ≡ Some job) × Stands begin book agenda k (suc k)
+abbrev pub AllButOneCameBack : {C : Type 0} → (JobParts → C) → BookParts → AgendaParts C
+    → JobParts → Type 0
+AllButOneCameBack begin book agenda job =
+    (k : ℕ) × (slice_get book.jobs k ≡ Some job) × Stands begin book agenda k (suc k)

@@ -37,7 +37,8 @@ TopSitesSeenGone v = (s : ℕ) → IsSite v.plan s → parent v.plan s ≡ 0 →
 
 -- The hart has done its part of a run, with the tools that it was lent. Where it had a job, it has seen each top site gone, and
 -- its piece is that job's, if there is one.
-pub record HasRun (v : PortView) (tools : ToolKins) (job : Option JobParts) (after : PortView) (tools' : ToolKins) (made : Option PieceParts) : Type 0 where
+pub record HasRun (v : PortView) (tools : ToolKins) (job : Option JobParts) (after : PortView)
+    (tools' : ToolKins) (made : Option PieceParts) : Type 0 where
   pub same : IsSameHart v after
   pub lent : tools' ≡ tools
   pub gone : (j : JobParts) → job ≡ Some j → TopSitesSeenGone after
@@ -47,7 +48,8 @@ pub record HasRun (v : PortView) (tools : ToolKins) (job : Option JobParts) (aft
 -- hart has seen each top site gone
 pub record AreBack (name : List ℕ) (p : Plan) (qs : List HartSeat) : Type 0 where
   pub count : length qs ≡ p.harts
-  pub each : (h : ℕ) (d : HartSeat) → h < length qs → IsAt name p h (port_view (slice_index_or qs h d))
+  pub each : (h : ℕ) (d : HartSeat) → h < length qs
+      → IsAt name p h (port_view (slice_index_or qs h d))
   pub gone : (d : HartSeat) → TopSitesSeenGone (port_view (slice_index_or qs 0 d))
 
 -- a hart that moves by words, and waits
@@ -60,8 +62,12 @@ AllStart p = All (λ hart. StartsIn p (port_view hart.port.port.seat))
 
 -- each has done its part of a run
 abbrev pub HaveRun : {R S : Type 0} → List (Member R S) → List (Member R S) → Type 0
-HaveRun = AllZip (λ before after. HasRun (port_view before.port.port.seat) before.schedulers.tools before.job (port_view after.port.port.seat) after.schedulers.tools after.piece)
+HaveRun = AllZip (λ before after.
+    HasRun (port_view before.port.port.seat) before.schedulers.tools before.job
+    (port_view after.port.port.seat) after.schedulers.tools after.piece)
 
 -- each is the hart that it was, with the tools that it had
 abbrev pub AreTheSame : {R S : Type 0} → List (Member R S) → List (Member R S) → Type 0
-AreTheSame = AllZip (λ before after. IsSameHart (port_view before.port.port.seat) (port_view after.port.port.seat) × (after.schedulers.tools ≡ before.schedulers.tools))
+AreTheSame = AllZip (λ before after.
+    IsSameHart (port_view before.port.port.seat) (port_view after.port.port.seat)
+    × (after.schedulers.tools ≡ before.schedulers.tools))

@@ -15,7 +15,8 @@ PoolFits k place = IsLevel place.level × (place.home < k.harts)
 
 -- the seat is of the place's claim words, of which there is a row for each phase
 abbrev pub TeamFits : SeatKin → TeamPlace → Type 0
-TeamFits k place = IsOf place.claims.now k × RowsFit place.claims.now.counts.items place.row place.team.now
+TeamFits k place = IsOf place.claims.now k
+    × RowsFit place.claims.now.counts.items place.row place.team.now
 
 abbrev pub Fits : ToolKins → Grip → Type 0
 Fits k (Base lock) = Unit {0}

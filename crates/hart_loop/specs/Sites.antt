@@ -26,7 +26,8 @@ construct_in (Team t) = Some t.nested
 
 -- how many jobs a team still hands out, with those of the phases to come
 abbrev pub team_jobs_left : TeamParts → ℕ
-team_jobs_left t = length t.agenda.unbegun + (phases_in t.nested - suc t.opened) * members_in t.nested
+team_jobs_left t = length t.agenda.unbegun + (phases_in t.nested - suc t.opened)
+    * members_in t.nested
 
 -- how many jobs a site still hands out
 abbrev pub jobs_left : LoneSite → ℕ

@@ -54,7 +54,8 @@ pub fn work<'a, 'p, P: PatientPort, R: Wait, S: InDirectory<'p>, F: Fn(u8, u16, 
 )
     requires callable { F.IsAlwaysCallable pass.now }
     requires starts { StartsIn tree.now (P.seen hart.old.port) }
-    ensures { HasRun (P.seen hart.old.port) hart.old.schedulers.tools hart.old.job (P.seen hart.new.port) hart.new.schedulers.tools hart.new.piece }
+    ensures { HasRun (P.seen hart.old.port) hart.old.schedulers.tools hart.old.job
+        (P.seen hart.new.port) hart.new.schedulers.tools hart.new.piece }
 {
     match hart.job.take() {
         Some(job) => {

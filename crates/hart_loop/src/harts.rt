@@ -190,7 +190,10 @@ impl<'a, 'p, S: InDirectory<'p>> Resources for HartSchedulers<'a, 'p, S> {
 
     fn step(&mut self, running: &mut Running<StepMachine<'p>>) -> Step<Nested<'p>>
         requires { is_awaiting running.old.stage ≡ false }
-        ensures goes { Goes (λ (n : NestedParts). nested_writes (nested_of n)) result (left_of running.old.stage running.old.rest) (left_of running.new.stage running.new.rest) (is_awaiting running.new.stage ≡ false) (IsAwaitingWrites running.new) (running.new.job ≡ running.old.job) }
+        ensures goes { Goes (λ (n : NestedParts). nested_writes (nested_of n)) result
+            (left_of running.old.stage running.old.rest)
+            (left_of running.new.stage running.new.rest) (is_awaiting running.new.stage ≡ false)
+            (IsAwaitingWrites running.new) (running.new.job ≡ running.old.job) }
         ensures finished { result ≡ Finished → IsFinished running.new }
         ensures tools { self.new.tools ≡ self.old.tools }
     {
@@ -205,7 +208,9 @@ impl<'a, 'p, S: InDirectory<'p>> Resources for HartSchedulers<'a, 'p, S> {
         requires { IsAwaitingWrites running.old written.pairs }
         ensures job { OnOk result (running.new.job ≡ running.old.job) }
         ensures ready { OnOk result (is_awaiting running.new.stage ≡ false) }
-        ensures left { OnOk result (left_of running.new.stage running.new.rest ≡ left_of running.old.stage running.old.rest) }
+        ensures left { OnOk result
+            (left_of running.new.stage running.new.rest
+            ≡ left_of running.old.stage running.old.rest) }
         ensures tools { self.new.tools ≡ self.old.tools }
     {
         running.machine().supply(&written)

@@ -91,7 +91,10 @@ impl<'p> Resources for LoneSchedulers<'p> {
 
     fn step(&mut self, running: &mut Running<StepMachine<'p>>) -> Step<Nested<'p>>
         requires { is_awaiting running.old.stage ≡ false }
-        ensures goes { Goes (λ (n : NestedParts). nested_writes (nested_of n)) result (left_of running.old.stage running.old.rest) (left_of running.new.stage running.new.rest) (is_awaiting running.new.stage ≡ false) (IsAwaitingWrites running.new) (running.new.job ≡ running.old.job) }
+        ensures goes { Goes (λ (n : NestedParts). nested_writes (nested_of n)) result
+            (left_of running.old.stage running.old.rest)
+            (left_of running.new.stage running.new.rest) (is_awaiting running.new.stage ≡ false)
+            (IsAwaitingWrites running.new) (running.new.job ≡ running.old.job) }
         ensures finished { result ≡ Finished → IsFinished running.new }
     {
         running.step()
@@ -105,7 +108,9 @@ impl<'p> Resources for LoneSchedulers<'p> {
         requires { IsAwaitingWrites running.old written.pairs }
         ensures job { OnOk result (running.new.job ≡ running.old.job) }
         ensures ready { OnOk result (is_awaiting running.new.stage ≡ false) }
-        ensures left { OnOk result (left_of running.new.stage running.new.rest ≡ left_of running.old.stage running.old.rest) }
+        ensures left { OnOk result
+            (left_of running.new.stage running.new.rest
+            ≡ left_of running.old.stage running.old.rest) }
     {
         running.machine().supply(&written)
     }

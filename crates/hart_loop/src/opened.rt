@@ -81,7 +81,8 @@ impl<'a, 'p, S: InDirectory<'p>> OpenSite<'a, 'p, S> {
         level: u8,
     ) -> Result<Overlay, AllocError>
         requires { IsMadeOf self.nested (S.held (on_shelf self.shelf)) }
-        ensures written { IfOk result (λ written. written.pairs ≡ nested_writes (nested_of self.entry.nested)) }
+        ensures written { IfOk result
+            (λ written. written.pairs ≡ nested_writes (nested_of self.entry.nested)) }
         ensures tools { tools.new ≡ tools.old }
     {
         match self.shared() {
@@ -137,7 +138,8 @@ fn take_pool<'b, 'p, R: Wait + 'b>(
     level: u8,
 ) -> Result<Overlay, AllocError>
     requires { IsSharedPoolOf nested.now shared.now }
-    ensures written { IfOk result (λ written. written.pairs ≡ nested_writes (nested_of nested.now)) }
+    ensures written { IfOk result
+        (λ written. written.pairs ≡ nested_writes (nested_of nested.now)) }
     ensures tools { tools.new ≡ tools.old }
 {
     if let Some(place) = tools.pool_place(shared, home, level) {
@@ -158,7 +160,8 @@ fn take_team<'b, 'p, R: Wait + 'b>(
     nested: &Nested<'p>,
     shared: &'b SharedTeam<'p>,
 ) -> Result<Overlay, AllocError>
-    ensures written { IfOk result (λ written. written.pairs ≡ nested_writes (nested_of nested.now)) }
+    ensures written { IfOk result
+        (λ written. written.pairs ≡ nested_writes (nested_of nested.now)) }
     ensures tools { tools.new ≡ tools.old }
 {
     if let Some(place) = tools.team_place(shared) {

@@ -30,8 +30,10 @@ pub fn open_pool<'p>(alloc: Global, nested: &Nested<'p>) -> Result<Pool<'p>, All
 pub fn next_of_pool<'p>(pool: &mut Pool<'p>) -> Task<Job<'p>>
     requires { AllCameBack Begin pool.old.book pool.old.agenda }
     ensures book { pool.new.book ≡ pool.old.book }
-    ensures left { HasNext (length pool.old.agenda.unbegun) result (length pool.new.agenda.unbegun) }
-    ensures account { HasAccount (AllCameBack Begin pool.new.book pool.new.agenda) (AllButOneCameBack Begin pool.new.book pool.new.agenda) result }
+    ensures left { HasNext (length pool.old.agenda.unbegun) result
+        (length pool.new.agenda.unbegun) }
+    ensures account { HasAccount (AllCameBack Begin pool.new.book pool.new.agenda)
+        (AllButOneCameBack Begin pool.new.book pool.new.agenda) result }
     ensures over { result ≡ Task.Nothing → IsFull pool.new.book }
 {
     if pool.is_full() {
@@ -59,7 +61,8 @@ pub fn deposit_in_pool<'p>(pool: &mut Pool<'p>, piece: Piece<'p>)
 
 /// A piece found no memory.
 pub fn fail_in_pool(pool: &mut Pool, place: u8)
-    requires { (job : JobParts) × AllButOneCameBack Begin pool.old.book pool.old.agenda job × (job.place ≡ place) }
+    requires { (job : JobParts) × AllButOneCameBack Begin pool.old.book pool.old.agenda job
+        × (job.place ≡ place) }
     ensures jobs { pool.new.book.jobs ≡ pool.old.book.jobs }
     ensures agenda { pool.new.agenda ≡ pool.old.agenda }
     ensures account { AllCameBack Begin pool.new.book pool.new.agenda }

@@ -27,8 +27,10 @@ use std::alloc::{AllocError, Global};
 /// legal, and every site came and went. Where memory is wanting anywhere, the whole run answers that.
 pub fn run_alone(alloc: Global, accepted: &Accepted<'_>) -> Result<Outcome, AllocError>
     requires { accepted.now.plan.harts ≡ 1 }
-    ensures store { IfOk result (λ outcome. outcome.store ≡ final_store (program_of accepted.now.program)) }
-    ensures journal { IfOk result (λ outcome. IsComplete accepted.now.plan (entries_in outcome.journal)) }
+    ensures store { IfOk result
+        (λ outcome. outcome.store ≡ final_store (program_of accepted.now.program)) }
+    ensures journal { IfOk result
+        (λ outcome. IsComplete accepted.now.plan (entries_in outcome.journal)) }
     ensures short { IfOk result (λ outcome. length (entries_in outcome.journal) ≤ 65535) }
 {
     let plan = accepted.plan();
@@ -53,7 +55,8 @@ fn run_body<'p>(
     requires plan { port.old.view.plan ≡ tree.now }
     requires inner { IsSettled port.old.view }
     ensures back { IsBack port.old.view port.new.view }
-    ensures piece { IfOk result (λ piece. job_of piece.job ≡ body_of (program_of accepted.now.program)) }
+    ensures piece { IfOk result
+        (λ piece. job_of piece.job ≡ body_of (program_of accepted.now.program)) }
 {
     let job = body_job(alloc, accepted.program())?;
     let mut base = LoneSite::Base(Base::new(alloc, tree.plan().sites())?);
@@ -74,7 +77,8 @@ fn run_body<'p>(
 
 // The store after the piece of a program's body.
 pub fn store_after(piece: Piece<'_>) -> Result<Store, AllocError>
-    ensures { IfOk result (λ store. (program : ProgramTree) → job_of piece.entry.job ≡ body_of program → store ≡ final_store program) }
+    ensures { IfOk result (λ store. (program : ProgramTree)
+        → job_of piece.entry.job ≡ body_of program → store ≡ final_store program) }
 {
     store_of(&piece.job, &piece.written)
 }
@@ -82,7 +86,8 @@ pub fn store_after(piece: Piece<'_>) -> Result<Store, AllocError>
 // The store of a job after what it writes.
 fn store_of(job: &Job<'_>, written: &Overlay) -> Result<Store, AllocError>
     requires { written.now.pairs ≡ piece_of_job (job_of job.now) }
-    ensures { IfOk result (λ store. (program : ProgramTree) → job_of job.now ≡ body_of program → store ≡ final_store program) }
+    ensures { IfOk result (λ store. (program : ProgramTree) → job_of job.now ≡ body_of program
+        → store ≡ final_store program) }
 {
     job.store.with(written)
 }

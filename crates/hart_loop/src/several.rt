@@ -50,8 +50,10 @@ pub fn run_harts<R: Threads + Wait + Sync, G: Gate>(
     gate: &G,
 ) -> Result<Outcome, AllocError>
     requires { 2 ≤ accepted.now.plan.harts }
-    ensures store { IfOk result (λ outcome. outcome.store ≡ final_store (program_of accepted.now.program)) }
-    ensures journal { IfOk result (λ outcome. IsComplete accepted.now.plan (entries_in outcome.journal)) }
+    ensures store { IfOk result
+        (λ outcome. outcome.store ≡ final_store (program_of accepted.now.program)) }
+    ensures journal { IfOk result
+        (λ outcome. IsComplete accepted.now.plan (entries_in outcome.journal)) }
     ensures short { IfOk result (λ outcome. length (entries_in outcome.journal) ≤ 65535) }
 {
     let plan = accepted.plan();
@@ -85,8 +87,10 @@ fn run_on_board<'x, 'p: 'x, R: Threads + Wait + Sync, F: Fn(u8, u16, u8, u8) + S
     requires plan { (board.now.plan ≡ accepted.now.plan) × (tree.now ≡ accepted.now.plan) }
     requires count { vec_len seats ≡ board.now.plan.harts }
     requires seats { AreSeats board.now.table.shared.table_id board.now.plan seats.items }
-    ensures piece { IfOk result (λ back. job_of back.0.job ≡ body_of (program_of accepted.now.program)) }
-    ensures seats { IfOk result (λ back. AreBack (table_name board.now.table.shared.table_id) board.now.plan back.1.items) }
+    ensures piece { IfOk result
+        (λ back. job_of back.0.job ≡ body_of (program_of accepted.now.program)) }
+    ensures seats { IfOk result
+        (λ back. AreBack (table_name board.now.table.shared.table_id) board.now.plan back.1.items) }
 {
     let (words, stock) = lend(alloc, accepted, seats)?;
     let (piece, stock) = run_lent(rt, alloc, accepted, pass, tree, board, &words, stock)?;
@@ -158,9 +162,13 @@ fn run_lent<'x, 'p: 'x, R: Threads + Wait + Sync, F: Fn(u8, u16, u8, u8) + Sync>
     requires claims { vec_len stock.claims ≡ board.now.plan.harts }
     requires seats { AreSeats board.now.table.shared.table_id board.now.plan stock.seats.items }
     requires tools { AreTools words.now.table stock.rows.items stock.claims.items }
-    ensures piece { IfOk result (λ back. job_of back.0.job ≡ body_of (program_of accepted.now.program)) }
-    ensures seats { IfOk result (λ back. AreBack (table_name board.now.table.shared.table_id) board.now.plan back.1.seats.items) }
-    ensures tools { IfOk result (λ back. AreTools words.now.table back.1.rows.items back.1.claims.items) }
+    ensures piece { IfOk result
+        (λ back. job_of back.0.job ≡ body_of (program_of accepted.now.program)) }
+    ensures seats { IfOk result
+        (λ back. AreBack (table_name board.now.table.shared.table_id) board.now.plan
+        back.1.seats.items) }
+    ensures tools { IfOk result
+        (λ back. AreTools words.now.table back.1.rows.items back.1.claims.items) }
 {
     let sites = tree.plan().sites();
     let base = Mutex::new(Base::new(alloc, sites)?);
@@ -193,8 +201,11 @@ fn run_on<'x, 'p: 'x, R: Threads + Wait + Sync, F: Fn(u8, u16, u8, u8) + Sync>(
     requires seats { AreSeats board.now.table.shared.table_id board.now.plan stock.seats.items }
     requires tools { AreTools words.now.table stock.rows.items stock.claims.items }
     ensures piece { IfOk result (λ back. back.0.job ≡ job.entry) }
-    ensures seats { IfOk result (λ back. AreBack (table_name board.now.table.shared.table_id) board.now.plan back.1.seats.items) }
-    ensures tools { IfOk result (λ back. AreTools words.now.table back.1.rows.items back.1.claims.items) }
+    ensures seats { IfOk result
+        (λ back. AreBack (table_name board.now.table.shared.table_id) board.now.plan
+        back.1.seats.items) }
+    ensures tools { IfOk result
+        (λ back. AreTools words.now.table back.1.rows.items back.1.claims.items) }
 {
     let mut harts = crew(rt, alloc, board, words, stock, base, cells)?;
     let Some(piece) = run_crew(rt, alloc, pass, tree, harts.as_mut_slice(), job) else {
@@ -216,7 +227,8 @@ fn run_crew<'x, 'p: 'x, R: Threads + Wait + Sync, F: Fn(u8, u16, u8, u8) + Sync>
     requires some { 0 < length harts.old }
     requires starts { AllStart tree.now harts.old }
     ensures same { AreTheSame harts.old harts.new }
-    ensures gone { IfSome (slice_get harts.new 0) (λ hart. TopSitesSeenGone (port_view hart.port.port.seat)) }
+    ensures gone { IfSome (slice_get harts.new 0)
+        (λ hart. TopSitesSeenGone (port_view hart.port.port.seat)) }
     ensures piece { IfSome result (λ piece. piece.job ≡ job.entry) }
 {
     harts[0].job = Some(job);
@@ -238,9 +250,14 @@ fn crew<'x, 'p: 'x, R: Threads + Wait + Sync>(
     requires rows { vec_len stock.rows ≡ vec_len stock.seats }
     requires claims { vec_len stock.claims ≡ vec_len stock.seats }
     requires tools { AreTools words.now.table stock.rows.items stock.claims.items }
-    ensures seats { IfOk result (λ harts. map (λ hart. hart.port.port.seat) harts.items ≡ stock.seats.items) }
-    ensures rows { IfOk result (λ harts. map (λ hart. hart.schedulers.tools.rows) harts.items ≡ map rows_kin stock.rows.items) }
-    ensures claims { IfOk result (λ harts. map (λ hart. hart.schedulers.tools.seat) harts.items ≡ map seat_kin stock.claims.items) }
+    ensures seats { IfOk result
+        (λ harts. map (λ hart. hart.port.port.seat) harts.items ≡ stock.seats.items) }
+    ensures rows { IfOk result
+        (λ harts. map (λ hart. hart.schedulers.tools.rows) harts.items
+        ≡ map rows_kin stock.rows.items) }
+    ensures claims { IfOk result
+        (λ harts. map (λ hart. hart.schedulers.tools.seat) harts.items
+        ≡ map seat_kin stock.claims.items) }
 {
     let Stock {
         seats,
@@ -307,9 +324,14 @@ fn stock_of<'x, 'p: 'x, R>(
     alloc: Global,
     harts: Vec<Hart<'x, 'p, WaitingPort<'x, WordPort<'x>, R>, SharedSite<'p>>>,
 ) -> Result<Stock, AllocError>
-    ensures seats { IfOk result (λ stock. stock.seats.items ≡ map (λ hart. hart.port.port.seat) harts.entry.items) }
-    ensures rows { IfOk result (λ stock. map rows_kin stock.rows.items ≡ map (λ hart. hart.schedulers.tools.rows) harts.entry.items) }
-    ensures claims { IfOk result (λ stock. map seat_kin stock.claims.items ≡ map (λ hart. hart.schedulers.tools.seat) harts.entry.items) }
+    ensures seats { IfOk result
+        (λ stock. stock.seats.items ≡ map (λ hart. hart.port.port.seat) harts.entry.items) }
+    ensures rows { IfOk result
+        (λ stock. map rows_kin stock.rows.items
+        ≡ map (λ hart. hart.schedulers.tools.rows) harts.entry.items) }
+    ensures claims { IfOk result
+        (λ stock. map seat_kin stock.claims.items
+        ≡ map (λ hart. hart.schedulers.tools.seat) harts.entry.items) }
 {
     let mut stock = Stock {
         seats: Vec::with_capacity(alloc, harts.len())?,

@@ -32,7 +32,8 @@ pub fn next_of_team<'p>(team: &mut Team<'p>) -> Task<Job<'p>>
     requires { IsOver team.old ⊎ IsRunning team.old }
     ensures nested { team.new.nested ≡ team.old.nested }
     ensures left { HasNext (team_jobs_left team.old) result (team_jobs_left team.new) }
-    ensures account { HasAccount (IsOver team.new ⊎ IsRunning team.new) (AllButOneCameBack Begin team.new.barrier team.new.agenda) result }
+    ensures account { HasAccount (IsOver team.new ⊎ IsRunning team.new)
+        (AllButOneCameBack Begin team.new.barrier team.new.agenda) result }
     ensures over { result ≡ Task.Nothing → IsOver team.new }
 {
     if team.is_over() {
@@ -62,7 +63,8 @@ pub fn arrive_in_team<'p>(team: &mut Team<'p>, piece: Piece<'p>)
 
 /// A piece found no memory.
 pub fn fail_in_team(team: &mut Team, place: u8)
-    requires { (job : JobParts) × AllButOneCameBack Begin team.old.barrier team.old.agenda job × (job.place ≡ place) }
+    requires { (job : JobParts) × AllButOneCameBack Begin team.old.barrier team.old.agenda job
+        × (job.place ≡ place) }
     ensures nested { team.new.nested ≡ team.old.nested }
     ensures left { team_jobs_left team.new ≤ team_jobs_left team.old }
     ensures over { IsOver team.new }

@@ -51,7 +51,8 @@ impl<'t> Model for Tools<'t> {
 
     ghost view = { λ t. record { rows = rows_kin t.rows; seat = seat_kin t.seat } };
 
-    ghost invariant = { λ t. IsOf t.claims.now.table (seat_kin t.seat) × ((rows_kin t.rows).harts ≡ t.harts) };
+    ghost invariant = { λ t. IsOf t.claims.now.table (seat_kin t.seat)
+        × ((rows_kin t.rows).harts ≡ t.harts) };
 }
 
 /// What a hart makes its hand on.
@@ -461,8 +462,10 @@ pub fn tools_of<'x>(
 ) -> Result<Vec<Tools<'x>>, AllocError>
     requires count { vec_len claims ≡ vec_len rows }
     requires tools { AreTools words.now.table rows.items claims.items }
-    ensures rows { IfOk result (λ tools. map (λ t. t.rows) (reverse tools.items) ≡ map rows_kin rows.items) }
-    ensures seats { IfOk result (λ tools. map (λ t. t.seat) (reverse tools.items) ≡ map seat_kin claims.items) }
+    ensures rows { IfOk result
+        (λ tools. map (λ t. t.rows) (reverse tools.items) ≡ map rows_kin rows.items) }
+    ensures seats { IfOk result
+        (λ tools. map (λ t. t.seat) (reverse tools.items) ≡ map seat_kin claims.items) }
 {
     let harts = rows.len() as u8;
     let mut tools = Vec::with_capacity(alloc, rows.len())?;

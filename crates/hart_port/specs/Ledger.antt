@@ -36,7 +36,9 @@ first_ledger p = record { plan = p; state = first_state p; entries = []; closing
 
 -- Of an entry: the table admits it and it is appended, or the table refuses it and nothing has changed.
 abbrev pub Admits : LedgerState → Entry → Result (Unit {0}) NotAdmitted → LedgerState → Type 0
-Admits l e (Ok done) after = (admit_of l.plan l.state e ≡ Ok after.state) × (after ≡ record l { state = after.state; entries = l.entries ++ e ∷ [] })
+Admits l e (Ok done) after =
+    (admit_of l.plan l.state e ≡ Ok after.state)
+    × (after ≡ record l { state = after.state; entries = l.entries ++ e ∷ [] })
 Admits l e (Err why) after = (admit_of l.plan l.state e ≡ Err why) × (after ≡ l)
 
 -- the ledger after an entry that the table admits

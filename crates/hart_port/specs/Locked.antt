@@ -13,7 +13,8 @@ pub record Locked : Type 0 where
   pub refused : ℕ
 
 -- the view of a hart that shares the table
-abbrev pub shared_view : Plan → ℕ → ℕ → List Entry → List Bool → List Bool → List Bool → List Bool → PortView
+abbrev pub shared_view : Plan → ℕ → ℕ → List Entry → List Bool → List Bool → List Bool
+    → List Bool → PortView
 shared_view p h o mine homes closed empty gone = record {
   plan = p;
   hart = h;
@@ -29,7 +30,12 @@ shared_view p h o mine homes closed empty gone = record {
 
 -- the port of a hart that made no transfer yet
 abbrev pub first_locked : Plan → ℕ → Locked
-first_locked p h = record { view = shared_view p h 0 [] (no_site p) (no_site p) (no_site p) (no_site p); claimed = no_site p; refused = 0 }
+first_locked p h = record {
+  view = shared_view p h 0 [] (no_site p) (no_site p) (no_site p)
+      (no_site p);
+  claimed = no_site p;
+  refused = 0;
+}
 
 -- the hart made no Register and no Request of the site
 pub record IsUnclaimed (mine : List Entry) (s : ℕ) : Type 0 where

@@ -126,8 +126,10 @@ unregistered v = record v {
 -- Of a register: the hart made Register of a site of which it had made no Register and no Request, or the site was claimed,
 -- by the hart itself where no other one shares the table.
 abbrev pub Registers : PortView → ℕ → Result (Unit {0}) Taken → PortView → Type 0
-Registers v s (Ok done) after = (after ≡ registered v s) × (registers s v.mine ≡ 0) × (requested s v.mine ≡ 0)
-Registers v s (Err taken) after = (after ≡ v) × (is_claimed taken.shown ≡ true) × (v.alone ≡ true → 1 ≤ registers s v.mine)
+Registers v s (Ok done) after =
+    (after ≡ registered v s) × (registers s v.mine ≡ 0) × (requested s v.mine ≡ 0)
+Registers v s (Err taken) after =
+    (after ≡ v) × (is_claimed taken.shown ≡ true) × (v.alone ≡ true → 1 ≤ registers s v.mine)
 
 -- Of a try to enter: the hart made Enter of the site, or the word read wants no hart, or the word was another one at the
 -- exchange.

@@ -27,7 +27,8 @@ flight_of word = word / 65536
 
 -- a hart may enter
 abbrev pub is_wanted : ℕ → Bool
-is_wanted word = is_claimed word && not (is_closing word) && not (is_closed word) && not (want_of word == 0)
+is_wanted word = is_claimed word && not (is_closing word) && not (is_closed word)
+    && not (want_of word == 0)
 
 -- the owner of the hart in a board word, which has twelve bits for each hart
 abbrev pub owner_field : ℕ → ℕ → ℕ

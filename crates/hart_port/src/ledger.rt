@@ -29,7 +29,12 @@ impl Model for Ledger {
 
     ghost view = { λ l. record { plan = l.board.plan; state = l.board.state; entries = l.entries.items; closing = l.closing.items } };
 
-    ghost invariant = { λ l. IsRoomy record { plan = l.board.plan; state = l.board.state; entries = l.entries.items; closing = l.closing.items } (vec_capacity l.entries) };
+    ghost invariant = { λ l. IsRoomy record {
+      plan = l.board.plan;
+      state = l.board.state;
+      entries = l.entries.items;
+      closing = l.closing.items;
+    } (vec_capacity l.entries) };
 }
 
 impl Ledger {
@@ -60,7 +65,9 @@ impl Ledger {
 
     /// Marks the site as closing. A site that isn't in the plan isn't marked.
     pub fn mark(&mut self, site: u16)
-        ensures marked { IsSite self.old.plan site → self.new ≡ record self.old { closing = with_site self.old.closing site } }
+        ensures marked { IsSite self.old.plan site → self.new ≡ record self.old {
+          closing = with_site self.old.closing site;
+        } }
         ensures outside { ¬ IsSite self.old.plan site → self.new ≡ self.old }
         ensures kept { IsLedger self.new }
     {
@@ -71,7 +78,8 @@ impl Ledger {
 
     /// The word of the site, which tells of no hart on its way in; 0 for a site that isn't in the plan.
     pub fn site_word(&self, site: u16) -> u64
-        ensures inside { IsSite self.now.plan site → result ≡ site_word (row self.now.state site) (is_in self.now.closing site) }
+        ensures inside { IsSite self.now.plan site
+            → result ≡ site_word (row self.now.state site) (is_in self.now.closing site) }
         ensures outside { ¬ IsSite self.now.plan site → result ≡ 0 }
     {
         if self.has_site(site) {

@@ -48,7 +48,9 @@ impl<'a, R> Model for LockedPort<'a, R> {
       refused = p.refused;
     } };
 
-    ghost invariant = { λ p. IsLocked (shared_view p.plan.now p.hart p.owner p.mine.items p.homes.items p.closed.items p.empty.items p.gone.items) p.claimed.items };
+    ghost invariant = { λ p.
+        IsLocked (shared_view p.plan.now p.hart p.owner p.mine.items p.homes.items p.closed.items
+        p.empty.items p.gone.items) p.claimed.items };
 }
 
 impl<'a, R> Drop for LockedPort<'a, R> {

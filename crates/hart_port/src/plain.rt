@@ -49,7 +49,12 @@ impl PlainPort {
     /// The port of the plan's one hart, with room for all entries that the plan allows.
     pub fn new(alloc: Global, plan: &Plan) -> Result<PlainPort, AllocError>
         requires { plan.now.harts ≡ 1 }
-        ensures { IfOk result (λ p. p ≡ record { view = first_view plan.now; state = first_state plan.now; closing = no_site plan.now; refused = 0 }) }
+        ensures { IfOk result (λ p. p ≡ record {
+          view = first_view plan.now;
+          state = first_state plan.now;
+          closing = no_site plan.now;
+          refused = 0;
+        }) }
     {
         let flags = plan.sites() as usize + 1;
         Ok(PlainPort {
@@ -213,7 +218,8 @@ impl Port for PlainPort {
         requires { IsSite self.old.view.plan site }
         ensures gone { result ≡ true → self.new.view ≡ sees_gone self.old.view site }
         ensures not_yet { result ≡ false → self.new.view ≡ self.old.view }
-        ensures alone { self.old.view.alone ≡ true → 1 ≤ unregisters site self.old.view.mine → result ≡ true }
+        ensures alone { self.old.view.alone ≡ true → 1 ≤ unregisters site self.old.view.mine
+            → result ≡ true }
         ensures count { self.new.refused ≡ self.old.refused }
         ensures kept { IsPortView self.new.view }
         ensures exact { IsTrue result ↔ ((row self.old.state site).stage ≡ Stage.Gone) }

@@ -106,7 +106,8 @@ pub trait Port {
         requires { IsSite (seen self.old).plan site }
         ensures gone { result ≡ true → seen self.new ≡ sees_gone (seen self.old) site }
         ensures not_yet { result ≡ false → seen self.new ≡ seen self.old }
-        ensures alone { (seen self.old).alone ≡ true → 1 ≤ unregisters site (seen self.old).mine → result ≡ true }
+        ensures alone { (seen self.old).alone ≡ true → 1 ≤ unregisters site (seen self.old).mine
+            → result ≡ true }
         ensures count { refused self.new ≡ refused self.old }
         ensures kept { IsPortView (seen self.new) };
 

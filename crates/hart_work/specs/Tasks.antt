@@ -20,13 +20,16 @@ HasAccount settled owed Nothing = settled
 
 -- Of whether a site is settled and what it is owed, before and after: what was so is so still.
 abbrev pub StaysSettled : {J : Type 0} → Type 0 → (J → Type 0) → Type 0 → (J → Type 0) → Type 0
-StaysSettled {J} settled owed settled' owed' = (settled → settled') × ((job : J) → owed job → owed' job)
+StaysSettled {J} settled owed settled' owed' =
+    (settled → settled') × ((job : J) → owed job → owed' job)
 
 -- With each step that goes on what is left falls, and the job stays. Then the machine is ready for a step, or the writes of
 -- the construct that it handed out are awaited.
-abbrev pub Goes : {N : Type 0} → (N → List (ℕ × ℤ)) → Step N → ℕ → ℕ → Type 0 → (List (ℕ × ℤ) → Type 0) → Type 0 → Type 0
+abbrev pub Goes : {N : Type 0} → (N → List (ℕ × ℤ)) → Step N → ℕ → ℕ → Type 0
+    → (List (ℕ × ℤ) → Type 0) → Type 0 → Type 0
 Goes writes More before after ready awaits same = (after < before) × ready × same
-Goes writes (Nest nested) before after ready awaits same = (after < before) × awaits (writes nested) × same
+Goes writes (Nest nested) before after ready awaits same =
+    (after < before) × awaits (writes nested) × same
 Goes writes Finished before after ready awaits same = same
 Goes writes NoMemory before after ready awaits same = Unit {0}
 

@@ -71,7 +71,8 @@ pub trait Resources {
     /// One step of a machine that awaits nothing.
     fn step(&mut self, running: &mut Running<Self::Machine>) -> Step<Self::Nested>
         requires { ready running.old }
-        ensures goes { Goes writes_of result (steps_left running.old) (steps_left running.new) (ready running.new) (awaits running.new) (job_of running.new ≡ job_of running.old) }
+        ensures goes { Goes writes_of result (steps_left running.old) (steps_left running.new)
+            (ready running.new) (awaits running.new) (job_of running.new ≡ job_of running.old) }
         ensures finished { result ≡ Finished → finished running.new }
         ensures tools { tools self.new ≡ tools self.old };
 

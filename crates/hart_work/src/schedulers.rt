@@ -58,7 +58,8 @@ pub trait Schedulers<R>: Resources {
         ensures kept { IsPortView (P.seen port.new) }
         ensures hears { OnOk result (hears around.old (registered_told child) around.new) }
         ensures construct { Self.construct around.new ≡ Self.construct around.old }
-        ensures stays { StaysSettled (Self.settled around.old) (owed around.old) (Self.settled around.new) (owed around.new) }
+        ensures stays { StaysSettled (Self.settled around.old) (owed around.old)
+            (Self.settled around.new) (owed around.new) }
         ensures left { left around.new ≤ left around.old }
         ensures tools { Self.tools self.new ≡ Self.tools self.old };
 
@@ -82,7 +83,8 @@ pub trait Schedulers<R>: Resources {
         ensures kept { IsPortView (P.seen port.new) }
         ensures hears { hears around.old (requested_told child count) around.new }
         ensures construct { Self.construct around.new ≡ Self.construct around.old }
-        ensures stays { StaysSettled (Self.settled around.old) (owed around.old) (Self.settled around.new) (owed around.new) }
+        ensures stays { StaysSettled (Self.settled around.old) (owed around.old)
+            (Self.settled around.new) (owed around.new) }
         ensures left { left around.new ≤ left around.old }
         ensures tools { Self.tools self.new ≡ Self.tools self.old };
 
@@ -93,7 +95,8 @@ pub trait Schedulers<R>: Resources {
         ensures kept { IsPortView (P.seen port.new) }
         ensures hears { hears around.old (unregistered_told (P.seen port.old).owner) around.new }
         ensures construct { Self.construct around.new ≡ Self.construct around.old }
-        ensures stays { StaysSettled (Self.settled around.old) (owed around.old) (Self.settled around.new) (owed around.new) }
+        ensures stays { StaysSettled (Self.settled around.old) (owed around.old)
+            (Self.settled around.new) (owed around.new) }
         ensures left { left around.new ≤ left around.old }
         ensures tools { Self.tools self.new ≡ Self.tools self.old };
 
@@ -122,7 +125,8 @@ pub trait Schedulers<R>: Resources {
         ensures kept { IsPortView (P.seen port.new) }
         ensures hears { hears around.old (yielded_told (P.seen port.old).owner) around.new }
         ensures construct { Self.construct around.new ≡ Self.construct around.old }
-        ensures stays { StaysSettled (Self.settled around.old) (owed around.old) (Self.settled around.new) (owed around.new) }
+        ensures stays { StaysSettled (Self.settled around.old) (owed around.old)
+            (Self.settled around.new) (owed around.new) }
         ensures left { left around.new ≤ left around.old }
         ensures tools { Self.tools self.new ≡ Self.tools self.old };
 
@@ -160,6 +164,7 @@ pub trait Schedulers<R>: Resources {
     fn take(&mut self, rt: &R, alloc: Global, site: Self::Site) -> Result<Self::Written, AllocError>
         requires construct { IsSome (Self.construct site) }
         requires over { over site }
-        ensures written { (nested : Self.Nested) → Self.construct site ≡ Some nested → IfOk result (λ written. Self.written_in written ≡ Self.writes_of nested) }
+        ensures written { (nested : Self.Nested) → Self.construct site ≡ Some nested → IfOk result
+            (λ written. Self.written_in written ≡ Self.writes_of nested) }
         ensures tools { Self.tools self.new ≡ Self.tools self.old };
 }

@@ -31,7 +31,8 @@ pub fn run_piece<P: PatientPort, R, H: Schedulers<R>, F: Fn(u8, &H::Job)>(
     requires inner { IsSettled (P.seen port.old) }
     ensures back { IsBack (P.seen port.old) (P.seen port.new) }
     ensures piece { IfOk result (λ piece. H.job_in piece ≡ job) }
-    ensures stays { StaysSettled (H.settled around.old) (H.owed around.old) (H.settled around.new) (H.owed around.new) }
+    ensures stays { StaysSettled (H.settled around.old) (H.owed around.old) (H.settled around.new)
+        (H.owed around.new) }
     ensures construct { H.construct around.new ≡ H.construct around.old }
     ensures left { H.left around.new ≤ H.left around.old }
     ensures tools { H.tools schedulers.new ≡ H.tools schedulers.old }
@@ -78,8 +79,12 @@ pub fn run_construct<P: PatientPort, R, H: Schedulers<R>, F: Fn(u8, &H::Job)>(
     requires inner { IsSettled (P.seen port.old) }
     ensures back { IsBack (P.seen port.old) (P.seen port.new) }
     ensures written { IfOk result (λ written. H.written_in written ≡ H.writes_of nested) }
-    ensures own { OnOk result (IsSite tree.now (H.number_of nested) → parent tree.now (H.number_of nested) ≡ (P.seen port.old).owner → (P.seen port.new).alone ≡ true → 1 ≤ unregisters (H.number_of nested) (P.seen port.new).mine) }
-    ensures stays { StaysSettled (H.settled around.old) (H.owed around.old) (H.settled around.new) (H.owed around.new) }
+    ensures own { OnOk result (IsSite tree.now (H.number_of nested)
+        → parent tree.now (H.number_of nested) ≡ (P.seen port.old).owner
+        → (P.seen port.new).alone ≡ true
+        → 1 ≤ unregisters (H.number_of nested) (P.seen port.new).mine) }
+    ensures stays { StaysSettled (H.settled around.old) (H.owed around.old) (H.settled around.new)
+        (H.owed around.new) }
     ensures construct { H.construct around.new ≡ H.construct around.old }
     ensures left { H.left around.new ≤ H.left around.old }
     ensures tools { H.tools schedulers.new ≡ H.tools schedulers.old }
@@ -199,7 +204,8 @@ fn visit<P: PatientPort, R, H: Schedulers<R>, F: Fn(u8, &H::Job)>(
     requires callable { F.IsAlwaysCallable pass.now }
     requires inner { IsSettled (P.seen port.old) }
     ensures back { IsBack (P.seen port.old) (P.seen port.new) }
-    ensures stays { StaysSettled (H.settled around.old) (H.owed around.old) (H.settled around.new) (H.owed around.new) }
+    ensures stays { StaysSettled (H.settled around.old) (H.owed around.old) (H.settled around.new)
+        (H.owed around.new) }
     ensures construct { H.construct around.new ≡ H.construct around.old }
     ensures left { H.left around.new ≤ H.left around.old }
     ensures tools { H.tools schedulers.new ≡ H.tools schedulers.old }
@@ -268,7 +274,8 @@ fn ask<P: PatientPort, R, H: Schedulers<R>>(
     requires none_yet { requested site (P.seen port.old).mine ≡ 0 }
     requires inner { IsSettled (P.seen port.old) }
     ensures back { IsBack (P.seen port.old) (P.seen port.new) }
-    ensures stays { StaysSettled (H.settled around.old) (H.owed around.old) (H.settled around.new) (H.owed around.new) }
+    ensures stays { StaysSettled (H.settled around.old) (H.owed around.old) (H.settled around.new)
+        (H.owed around.new) }
     ensures construct { H.construct around.new ≡ H.construct around.old }
     ensures left { H.left around.new ≤ H.left around.old }
     ensures tools { H.tools schedulers.new ≡ H.tools schedulers.old }

@@ -32,7 +32,8 @@ pub record IsKept (jobs : List JobParts) (places : List Place) : Type 0 where
   pub group : IsGroup (map job_of jobs)
   pub fit : (i : ℕ) (job : JobParts) → slice_get jobs i ≡ Some job → IsFit (job_of job)
   pub each : length places ≡ length jobs
-  pub filled : (i : ℕ) (job : JobParts) (written : Laid) → slice_get jobs i ≡ Some job → slice_get places i ≡ Some (place.Filled written) →
+  pub filled : (i : ℕ) (job : JobParts) (written : Laid) → slice_get jobs i ≡ Some job
+      → slice_get places i ≡ Some (place.Filled written) →
       written.pairs ≡ piece_of_job (job_of job)
 
 -- The book of jobs none of which is done.
@@ -45,7 +46,8 @@ IsMarked book i mark = slice_get book.places i ≡ Some mark
 
 -- The place is the job's own.
 abbrev pub IsPlaceOf : BookParts → ℕ → JobParts → Type 0
-IsPlaceOf book i job = (own : JobParts) × (slice_get book.jobs i ≡ Some own) × (job_of own ≡ job_of job)
+IsPlaceOf book i job = (own : JobParts) × (slice_get book.jobs i ≡ Some own)
+    × (job_of own ≡ job_of job)
 
 abbrev pub marked_book : BookParts → ℕ → Mark → BookParts
 marked_book book i mark = record book { places = slice_set book.places i mark }
@@ -68,7 +70,8 @@ filled_pieces (job ∷ jobs) (Failed ∷ marks) = filled_pieces jobs marks
 
 -- Each job starts from a store with as many cells.
 abbrev pub HaveCells : BookParts → ℕ → Type 0
-HaveCells book cells = (i : ℕ) (job : JobParts) → slice_get book.jobs i ≡ Some job → length job.store ≡ cells
+HaveCells book cells = (i : ℕ) (job : JobParts) → slice_get book.jobs i ≡ Some job
+    → length job.store ≡ cells
 
 -- A store of the jobs' cells, of which none is marked.
 pub record IsBlank (book : BookParts) (store : Trace) : Type 0 where
@@ -87,6 +90,7 @@ Deposits before piece Kept after =
     IsPlaceOf before piece.job.place piece.job × IsMarked before piece.job.place Open
     × (after ≡ marked_book before piece.job.place Filled)
 Deposits before piece (Double back) after =
-    IsPlaceOf before piece.job.place piece.job × (¬ IsMarked before piece.job.place Open) × (back ≡ piece) × (after ≡ before)
+    IsPlaceOf before piece.job.place piece.job × (¬ IsMarked before piece.job.place Open)
+    × (back ≡ piece) × (after ≡ before)
 Deposits before piece (Stranger back) after =
     ((i : ℕ) → ¬ IsPlaceOf before i piece.job) × (back ≡ piece) × (after ≡ before)

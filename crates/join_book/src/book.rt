@@ -141,8 +141,10 @@ impl<'p> Book<'p> {
     /// Merges the pieces of the filled places into a blank store, in the order of their places. It takes no memory.
     pub fn merge_into(&self, store: &mut MarkedStore)
         requires { IsBlank self.now store.old }
-        ensures filled { marked store.new ≡ merged (filled_pieces self.now.jobs self.now.places) [] }
-        ensures all { IsFull self.now → (¬ HasFailed self.now) → last_writes (marked store.new) ≡ all_writes self.now }
+        ensures filled { marked store.new
+            ≡ merged (filled_pieces self.now.jobs self.now.places) [] }
+        ensures all { IsFull self.now → (¬ HasFailed self.now)
+            → last_writes (marked store.new) ≡ all_writes self.now }
         ensures cells { length store.new.cells ≡ length store.old.cells }
     {
         for place in &self.places {
@@ -180,8 +182,10 @@ impl<'p> Book<'p> {
 
 // An open place for each job. The jobs are read, since each one that is there is fit.
 fn open_places(alloc: Global, jobs: &[Job]) -> Result<Vec<Place>, AllocError>
-    ensures all_open { IfOk result (λ places. places.items ≡ replicate (length jobs.now) place.Open) }
-    ensures fit { IfOk result (λ _. (i : ℕ) → (job : JobParts) → slice_get jobs.now i ≡ Some job → IsFit (job_of job)) }
+    ensures all_open { IfOk result
+        (λ places. places.items ≡ replicate (length jobs.now) place.Open) }
+    ensures fit { IfOk result
+        (λ _. (i : ℕ) → (job : JobParts) → slice_get jobs.now i ≡ Some job → IsFit (job_of job)) }
 {
     let mut places = Vec::with_capacity(alloc, jobs.len())?;
     for job in jobs {

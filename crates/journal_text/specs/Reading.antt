@@ -30,7 +30,8 @@ spells number word = is_word (decimal number) word
 -- the number that the word spells, if it spells one of at most this
 abbrev pub number_up_to : ℕ → List ℕ → Option ℕ
 number_up_to most word =
-    let number = digits_value 10 word in if nat_le number most && spells number word then Some number else None
+    let number = digits_value 10 word in if nat_le number most && spells number word
+    then Some number else None
 
 -- the word begins with this letter
 abbrev pub is_lettered : ℕ → List ℕ → Bool
@@ -49,9 +50,11 @@ deed_of action [] =
     if is_word (codes "enter") action then Some enters else
     if is_word (codes "yield") action then Some yields else
     if is_word (codes "unregister") action then Some unregisters else None
-deed_of action (count ∷ []) = if is_word (codes "request") action then Some (requests count) else None
+deed_of action (count ∷ []) =
+    if is_word (codes "request") action then Some (requests count) else None
 deed_of action (under ∷ around ∷ []) =
-    if is_word (codes "register") action && is_word (codes "under") under && is_lettered 115 around then Some (registers (drop 1 around)) else None
+    if is_word (codes "register") action && is_word (codes "under") under && is_lettered 115 around
+    then Some (registers (drop 1 around)) else None
 deed_of action more = None
 
 -- a line that has the form of a row: the words of its place, its hart and its site, and its deed
@@ -74,7 +77,8 @@ row_of words = None
 
 -- the entry of a hart and a site, if the words for further numbers are right
 abbrev pub entry_by : Plan → ℕ → ℕ → Deed → Option Entry
-entry_by plan hart site (registers around) = if spells (parent plan site) around then Some (Register hart site) else None
+entry_by plan hart site (registers around) =
+    if spells (parent plan site) around then Some (Register hart site) else None
 entry_by plan hart site (requests count) = option_map (Request hart site) (number_up_to 255 count)
 entry_by plan hart site enters = Some (Enter hart site)
 entry_by plan hart site yields = Some (Yield hart site)
@@ -84,7 +88,8 @@ entry_by plan hart site unregisters = Some (Unregister hart site)
 abbrev pub entry_in : Plan → ℕ → Row → Option Entry
 entry_in plan place row =
     if spells place row.place
-    then option_and_then (λ hart. option_and_then (λ site. entry_by plan hart site row.deed) (number_up_to 65535 row.site)) (number_up_to 255 row.hart)
+    then option_and_then (λ hart. option_and_then (λ site. entry_by plan hart site row.deed)
+    (number_up_to 65535 row.site)) (number_up_to 255 row.hart)
     else None
 
 -- the value, or else this fault
@@ -92,19 +97,22 @@ abbrev pub or_fault : {A : Type 0} → TextFault → Option A → Result A TextF
 or_fault fault None = Err fault
 or_fault fault (Some x) = Ok x
 
-abbrev pub and_then : {A B : Type 0} → (A → Result B TextFault) → Result A TextFault → Result B TextFault
+abbrev pub and_then : {A B : Type 0} → (A → Result B TextFault) → Result A TextFault
+    → Result B TextFault
 and_then f (Ok x) = f x
 and_then f (Err fault) = Err fault
 
 -- the entry of the line that has these words; the line of place 0 is the second
 abbrev pub entry_of : Plan → ℕ → List (List ℕ) → Result Entry TextFault
 entry_of plan place words =
-    and_then (λ row. or_fault (BadNumber (place + 2)) (entry_in plan place row)) (or_fault (BadLine (place + 2)) (row_of words))
+    and_then (λ row. or_fault (BadNumber (place + 2)) (entry_in plan place row))
+    (or_fault (BadLine (place + 2)) (row_of words))
 
 -- the number of transfers that the first line says
 abbrev pub count_in : List (List ℕ) → Result ℕ TextFault
 count_in (word ∷ number ∷ []) =
-    if is_word (codes "transfers") word then or_fault (BadNumber 1) (number_up_to 65535 number) else Err (BadLine 1)
+    if is_word (codes "transfers") word then or_fault (BadNumber 1) (number_up_to 65535 number)
+    else Err (BadLine 1)
 count_in words = Err (BadLine 1)
 
 -- the entries of the lines from this place on; what stands behind the last newline is a line without one
@@ -112,7 +120,8 @@ abbrev pub entries_of : Plan → ℕ → List (List ℕ) → Result (List Entry)
 entries_of plan place [] = Ok []
 entries_of plan place (last ∷ []) = if length last == 0 then Ok [] else Err (BadLine (place + 2))
 entries_of plan place (line ∷ next ∷ more) =
-    and_then (λ entry. and_then (λ rest. Ok (entry ∷ rest)) (entries_of plan (place + 1) (next ∷ more))) (entry_of plan place (words_of line))
+    and_then (λ entry. and_then (λ rest. Ok (entry ∷ rest))
+    (entries_of plan (place + 1) (next ∷ more))) (entry_of plan place (words_of line))
 
 -- the entries, if there are as many as were said
 abbrev pub if_counted : ℕ → List Entry → Result (List Entry) TextFault
@@ -121,7 +130,8 @@ if_counted said list = if length list == said then Ok list else Err (WrongCount 
 -- the entries of a text that is cut into these lines
 abbrev pub journal_in : Plan → List (List ℕ) → Result (List Entry) TextFault
 journal_in plan (first ∷ next ∷ more) =
-    and_then (λ said. and_then (if_counted said) (entries_of plan 0 (next ∷ more))) (count_in (words_of first))
+    and_then (λ said. and_then (if_counted said) (entries_of plan 0 (next ∷ more)))
+    (count_in (words_of first))
 journal_in plan lines = Err (BadLine 1)
 
 -- the entries of which the text is the journal, or the text's first fault

@@ -17,7 +17,8 @@ use transfer_table::{Entries, Entry, Plan};
 pub fn read_entries(alloc: Global, plan: &Plan, text: &[u8]) -> Result<Entries, TextFault>
     requires { length text.now < 2 ^ 32 }
     ensures found { IfOk result (λ list. IsJournalOf plan.now list text.now) }
-    ensures only { (list : List Entry) → IsJournalOf plan.now list text.now → Reads (λ list. list) (Ok list) result }
+    ensures only { (list : List Entry) → IsJournalOf plan.now list text.now
+        → Reads (λ list. list) (Ok list) result }
     ensures first { Reads (λ list. list) (journal_of plan.now text.now) result }
 {
     // The parents of a plan fit its entries.
@@ -45,7 +46,8 @@ fn read(alloc: Global, plan: &Plan, text: &[u8]) -> Result<Entries, TextFault>
 /// The text before its first newline and the text behind it, if it has a newline.
 pub fn cut_line(text: &[u8]) -> Option<(&[u8], &[u8])>
     ensures { MatchOption result (lines_of text.now ≡ text.now ∷ [])
-        (λ cut. (lines_of text.now ≡ cut.0.now ∷ lines_of cut.1.now) × (length cut.0.now + length cut.1.now + 1 ≡ length text.now)) }
+        (λ cut. (lines_of text.now ≡ cut.0.now ∷ lines_of cut.1.now)
+        × (length cut.0.now + length cut.1.now + 1 ≡ length text.now)) }
 {
     let end = newline_in(text)?;
     Some((&text[..end], &text[end + 1..]))
@@ -60,7 +62,8 @@ fn newline_in(text: &[u8]) -> Option<usize>
 
 // The first words of a line, one more than the longest row has.
 fn words_of<'t>(alloc: Global, line: &'t [u8]) -> Result<Vec<&'t [u8]>, AllocError>
-    ensures { IfOk result (λ words. map (λ word. word.now) words.items ≡ take 7 (words_of line.now)) }
+    ensures { IfOk result (λ words. map (λ word. word.now) words.items
+        ≡ take 7 (words_of line.now)) }
 {
     line.split(|byte| *byte == b' ').take(7).collect(alloc)
 }

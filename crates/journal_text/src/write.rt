@@ -21,7 +21,8 @@ pub fn write_entries(alloc: Global, plan: &Plan, list: &[Entry]) -> Result<Vec<u
 
 // Adds the line of an entry.
 fn write_line(text: &mut String, plan: &Plan, place: usize, entry: Entry) -> Result<(), AllocError>
-    ensures { OnOk result (string_bytes text.new ≡ string_bytes text.old ++ line_text plan.now place entry) }
+    ensures { OnOk result (string_bytes text.new ≡ string_bytes text.old
+        ++ line_text plan.now place entry) }
 {
     match entry {
         Entry::Register { hart, site } => {
@@ -55,7 +56,8 @@ fn write_start(
     action: &str,
     site: u16,
 ) -> Result<(), AllocError>
-    ensures { OnOk result (string_bytes text.new ≡ string_bytes text.old ++ start_text place hart action.now site) }
+    ensures { OnOk result (string_bytes text.new ≡ string_bytes text.old
+        ++ start_text place hart action.now site) }
 {
     write!(text, "{place} h{hart} {action} s{site}")
 }

@@ -18,9 +18,11 @@ pub record Fills (before : BookParts) (piece : PieceParts) (after : BookParts) :
 -- Of a barrier and a piece, the answer and the barrier afterwards. It opens with the last piece that it waited for.
 abbrev pub Arrives : BookParts → PieceParts → Arrival → BookParts → Type 0
 Arrives before piece Kept after = Fills before piece after × (¬ IsFull after)
-Arrives before piece (Opened written) after = Fills before piece after × IsFull after × (written.pairs ≡ all_writes before)
+Arrives before piece (Opened written) after =
+    Fills before piece after × IsFull after × (written.pairs ≡ all_writes before)
 Arrives before piece (Stranger back) after =
-    ((i : ℕ) → IsPlaceOf before i piece.job → ¬ IsMarked before i Open) × (back ≡ piece) × (after ≡ before)
+    ((i : ℕ) → IsPlaceOf before i piece.job → ¬ IsMarked before i Open) × (back ≡ piece)
+    × (after ≡ before)
 
 -- Room for the writes of the jobs: a blank store of their size, and an empty overlay with room for each cell.
 pub record IsRoomFor (book : BookParts) (room : Room) : Type 0 where

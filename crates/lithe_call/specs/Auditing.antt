@@ -23,7 +23,8 @@ pub record HasParts (AreSo : List ℕ → List ℕ → Type 0) (bytes : List ℕ
 
 -- what an audit finds in an output of the program's run on so many harts
 abbrev pub found_in : ℕ → ProgramTree → List ℕ → Result Verdict TextFault
-found_in harts program output = audit_of (table_plan program harts) (array_text program (final_store program)) output
+found_in harts program output =
+    audit_of (table_plan program harts) (array_text program (final_store program)) output
 
 -- a first part that spells an accepted program, and this verdict on the second
 pub record AreFound (harts : ℕ) (verdict : Verdict) (first second : List ℕ) : Type 0 where

@@ -87,10 +87,14 @@ IsLong (Make seed size harts) bytes = ⊥
 -- before and after. Want of memory has none.
 abbrev pub IsCause : Command → Fault → Option (List ℕ) → Option (List ℕ) → ℕ → ℕ → Type 0
 IsCause command fault.Usage left left' faults faults' = ⊥
-IsCause command fault.TooLong left left' faults faults' = GivesTooMuch command left left' ⊎ ((bytes : List ℕ) × ReadsAll command left bytes left' × IsLong command bytes)
+IsCause command fault.TooLong left left' faults faults' =
+    GivesTooMuch command left left'
+    ⊎ ((bytes : List ℕ) × ReadsAll command left bytes left' × IsLong command bytes)
 IsCause command fault.ReadFault left left' faults faults' = FailsToRead command faults faults'
-IsCause command (fault.Syntax line) left left' faults faults' = (bytes : List ℕ) × ReadsAll command left bytes left' × IsNoText command bytes line.items
-IsCause command (fault.Refused line) left left' faults faults' = (bytes : List ℕ) × ReadsAll command left bytes left' × IsRefused command bytes line.items
+IsCause command (fault.Syntax line) left left' faults faults' =
+    (bytes : List ℕ) × ReadsAll command left bytes left' × IsNoText command bytes line.items
+IsCause command (fault.Refused line) left left' faults faults' =
+    (bytes : List ℕ) × ReadsAll command left bytes left' × IsRefused command bytes line.items
 IsCause command fault.Memory left left' faults faults' = Unit {0}
 
 -- The words give no command, or memory ran out while they were read.
@@ -104,7 +108,9 @@ IsNoCommand words why = ⊥
 abbrev pub IsFault : List (List ℕ) → Fault → Option (List ℕ) → Option (List ℕ) → ℕ → ℕ → Type 0
 IsFault words fault.Usage left left' faults faults' = form_of words ≡ None
 IsFault words fault.Memory left left' faults faults' = Unit {0}
-IsFault words why left left' faults faults' = (command : Command) × (form_of words ≡ Some command) × IsCause command why left left' faults faults'
+IsFault words why left left' faults faults' =
+    (command : Command) × (form_of words ≡ Some command)
+    × IsCause command why left left' faults faults'
 
 -- why the program of these bytes has no output
 abbrev pub IsNoRun : List ℕ → Fault → Type 0

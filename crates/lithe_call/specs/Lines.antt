@@ -21,7 +21,8 @@ TellsSyntax cause why = ⊥
 
 -- the fault tells why the program isn't accepted, or memory ran out
 abbrev pub TellsRefusal : ProgramTree → CheckFault → Fault → Type 0
-TellsRefusal program cause (fault.Refused line) = (cause ≢ check.Memory) × (line.items ≡ refusal_text program cause)
+TellsRefusal program cause (fault.Refused line) =
+    (cause ≢ check.Memory) × (line.items ≡ refusal_text program cause)
 TellsRefusal program cause fault.Memory = Unit {0}
 TellsRefusal program cause why = ⊥
 

@@ -62,7 +62,8 @@ abbrev pub IsOutputOf : Command → List ℕ → Status → List ℕ → Type 0
 IsOutputOf (Run harts) bytes status text = (status ≡ Done) × IsRunOf (Run harts) bytes text
 IsOutputOf Solo bytes status text = (status ≡ Done) × IsRunOf Solo bytes text
 IsOutputOf (Audit harts) bytes status text = IsAuditOf harts bytes status text
-IsOutputOf (Make seed size harts) bytes status text = (status ≡ Done) × IsRunOf (Make seed size harts) (made_text seed size) text
+IsOutputOf (Make seed size harts) bytes status text =
+    (status ≡ Done) × IsRunOf (Make seed size harts) (made_text seed size) text
 
 -- the text of a made program spells one that is accepted, or one that isn't
 abbrev pub EndsMade : List ℕ → Status → Type 0
@@ -72,7 +73,11 @@ EndsMade text status = ⊥
 
 -- these bytes are for the command, and it has this status with them; `make` has it with any
 abbrev pub EndsWith : Command → List ℕ → Status → Type 0
-EndsWith (Run harts) bytes status = (status ≡ Done) × ((program : ProgramTree) × SpellAccepted bytes program)
-EndsWith Solo bytes status = (status ≡ Done) × ((program : ProgramTree) × SpellAccepted bytes program)
-EndsWith (Audit harts) bytes status = (length bytes ≤ limit_of (Audit harts)) × ((verdict : Verdict) × HasVerdict harts bytes verdict × (status ≡ status_by verdict))
+EndsWith (Run harts) bytes status =
+    (status ≡ Done) × ((program : ProgramTree) × SpellAccepted bytes program)
+EndsWith Solo bytes status =
+    (status ≡ Done) × ((program : ProgramTree) × SpellAccepted bytes program)
+EndsWith (Audit harts) bytes status =
+    (length bytes ≤ limit_of (Audit harts))
+    × ((verdict : Verdict) × HasVerdict harts bytes verdict × (status ≡ status_by verdict))
 EndsWith (Make seed size harts) bytes status = EndsMade (made_text seed size) status

@@ -3,7 +3,8 @@ use Rattle.std.specs.Prelude.{ℕ, ◌<◌, ◌⊎◌, List, length, take, Optio
 use Rattle.outside_io.specs.Outside.{Rose, Gives, Appends, IsAtEnd}
 
 -- the source gave these bytes, and they were all
-pub record GivesAll (before : Option (List ℕ)) (bytes : List ℕ) (after : Option (List ℕ)) : Type 0 where
+pub record GivesAll (before : Option (List ℕ)) (bytes : List ℕ)
+    (after : Option (List ℕ)) : Type 0 where
   pub given : Gives before bytes after
   pub ended : IsAtEnd after
 
@@ -19,4 +20,5 @@ AppendsPrefix before bytes after = (count : ℕ) × Appends before (take count b
 
 -- a text was told: the sink took it whole, or a prefix of it where its count of faults rose
 abbrev pub Tells : Option (List ℕ) → ℕ → List ℕ → Option (List ℕ) → ℕ → Type 0
-Tells before faults text after faults' = Appends before text after ⊎ (Rose faults faults' × AppendsPrefix before text after)
+Tells before faults text after faults' =
+    Appends before text after ⊎ (Rose faults faults' × AppendsPrefix before text after)

@@ -10,13 +10,15 @@ use Rattle.lithe_call.specs.declared.status.Status.{Status}
 use Rattle.lithe_call.specs.declared.status.Status.TheVariants.{Syntax, Refused}
 
 -- the sink took what the command writes for these bytes with this status
-pub record TookOutput (command : Command) (bytes : List ℕ) (status : Status) (taken taken' : Option (List ℕ)) : Type 0 where
+pub record TookOutput (command : Command) (bytes : List ℕ) (status : Status)
+    (taken taken' : Option (List ℕ)) : Type 0 where
   pub text : List ℕ
   pub output : IsOutputOf command bytes status text
   pub written : Appends taken text taken'
 
 -- the sink took a prefix of what it writes with whatever status
-pub record TookPrefix (command : Command) (bytes : List ℕ) (taken taken' : Option (List ℕ)) : Type 0 where
+pub record TookPrefix (command : Command) (bytes : List ℕ)
+    (taken taken' : Option (List ℕ)) : Type 0 where
   pub status : Status
   pub text : List ℕ
   pub output : IsOutputOf command bytes status text
@@ -29,7 +31,8 @@ IsLineOf command Refused bytes text = IsRefused command bytes text
 IsLineOf command status bytes text = text ≡ constant_text status
 
 -- the sink was told it
-pub record ToldLine (command : Command) (status : Status) (bytes : List ℕ) (taken : Option (List ℕ)) (faults : ℕ) (taken' : Option (List ℕ)) (faults' : ℕ) : Type 0 where
+pub record ToldLine (command : Command) (status : Status) (bytes : List ℕ) (taken : Option (List ℕ))
+    (faults : ℕ) (taken' : Option (List ℕ)) (faults' : ℕ) : Type 0 where
   pub text : List ℕ
   pub right : IsLineOf command status bytes text
   pub tells : Tells taken faults text taken' faults'

@@ -23,7 +23,8 @@ pub fn audited(alloc: Global, harts: u8, bytes: &[u8]) -> Result<Answer, Fault>
     requires short { length bytes.now ≤ 4194304 }
     requires some_hart { 1 ≤ harts }
     requires few_harts { harts ≤ 4 }
-    ensures output { IfOk result (λ answer. IsAuditOf harts bytes.now (ended answer.ending) answer.text.items) }
+    ensures output { IfOk result
+        (λ answer. IsAuditOf harts bytes.now (ended answer.ending) answer.text.items) }
     ensures fault { IfErr result (IsNoOutput (Audit harts) bytes.now) }
 {
     let Some((first, second)) = parts_of(bytes) else {

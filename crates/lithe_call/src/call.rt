@@ -57,7 +57,8 @@ pub fn lithe<R: Threads + Wait + Sync, A: Source, B: Sink, E: Sink, G: Gate>(
         (A.left source.old) (A.left source.new) Status.Illegal (B.taken out.old) (B.taken out.new) }
 
     // What is for the command is served with the status that it has, unless memory runs out or the outside fails.
-    ensures complete { (command : Command) → (form : form_of (map string_bytes words.now) ≡ Some command)
+    ensures complete { (command : Command)
+        → (form : form_of (map string_bytes words.now) ≡ Some command)
         → (bytes : List ℕ) → (told : AreInput command (A.left source.old) bytes)
         → (status : Status) → (ends : EndsWith command bytes status)
         → (source_is_calm : FailsToRead command (A.faults source.old) (A.faults source.new) → ⊥)
@@ -67,19 +68,27 @@ pub fn lithe<R: Threads + Wait + Sync, A: Source, B: Sink, E: Sink, G: Gate>(
     // When each other status comes. What is told of Syntax and Refused has their causes. Words that are no form are Usage,
     // unless memory runs out while they are read.
     ensures usage { result ≡ Status.Usage → form_of (map string_bytes words.now) ≡ None }
-    ensures no_form { form_of (map string_bytes words.now) ≡ None → (result ≡ Status.Usage) ⊎ (result ≡ Status.NoMemory) }
-    ensures too_long { result ≡ Status.TooLong → IsTooLong (map string_bytes words.now) (A.left source.old) (A.left source.new) }
-    ensures read_fault { result ≡ Status.ReadFault → Rose (A.faults source.old) (A.faults source.new) }
+    ensures no_form { form_of (map string_bytes words.now) ≡ None
+        → (result ≡ Status.Usage) ⊎ (result ≡ Status.NoMemory) }
+    ensures too_long { result ≡ Status.TooLong
+        → IsTooLong (map string_bytes words.now) (A.left source.old) (A.left source.new) }
+    ensures read_fault { result ≡ Status.ReadFault
+        → Rose (A.faults source.old) (A.faults source.new) }
     ensures write_fault { result ≡ Status.WriteFault → Rose (B.faults out.old) (B.faults out.new) }
-    ensures told { result ≢ Status.Done → result ≢ Status.Illegal → TellsStatus (map string_bytes words.now) result
-        (A.left source.old) (A.left source.new) (E.taken err.old) (E.faults err.old) (E.taken err.new) (E.faults err.new) }
+    ensures told { result ≢ Status.Done → result ≢ Status.Illegal
+        → TellsStatus (map string_bytes words.now) result
+        (A.left source.old) (A.left source.new) (E.taken err.old) (E.faults err.old)
+        (E.taken err.new) (E.faults err.new) }
 
     // What the source gave and what `out` and `err` took otherwise.
     ensures prefix { result ≡ Status.WriteFault → WritesPrefix (map string_bytes words.now)
         (A.left source.old) (A.left source.new) (B.taken out.old) (B.taken out.new) }
     ensures source_stays { form_of (map string_bytes words.now) ≡ None → source.new ≡ source.old }
-    ensures made_from_nothing { (seed size harts : ℕ) → form_of (map string_bytes words.now) ≡ Some (Make seed size harts) → source.new ≡ source.old }
-    ensures out_stays { result ≢ Status.Done → result ≢ Status.Illegal → result ≢ Status.WriteFault → out.new ≡ out.old }
+    ensures made_from_nothing { (seed size harts : ℕ)
+        → form_of (map string_bytes words.now) ≡ Some (Make seed size harts)
+        → source.new ≡ source.old }
+    ensures out_stays { result ≢ Status.Done → result ≢ Status.Illegal → result ≢ Status.WriteFault
+        → out.new ≡ out.old }
     ensures err_stays { (result ≡ Status.Done) ⊎ (result ≡ Status.Illegal) → err.new ≡ err.old }
 {
     match output_of(rt, alloc, gate, words, source) {
@@ -155,7 +164,9 @@ fn output_of<R: Threads + Wait + Sync, G: Gate, A: Source>(
     ensures fault { IfErr result (λ fault. IsFault (map string_bytes words.now) fault
         (A.left source.old) (A.left source.new) (A.faults source.old) (A.faults source.new)) }
     ensures stays { form_of (map string_bytes words.now) ≡ None → source.new ≡ source.old }
-    ensures made { (seed size harts : ℕ) → form_of (map string_bytes words.now) ≡ Some (Make seed size harts) → source.new ≡ source.old }
+    ensures made { (seed size harts : ℕ)
+        → form_of (map string_bytes words.now) ≡ Some (Make seed size harts)
+        → source.new ≡ source.old }
 {
     let command = asked_command(alloc, words)?;
     let bytes = input(alloc, source, command)?;
@@ -165,11 +176,15 @@ fn output_of<R: Threads + Wait + Sync, G: Gate, A: Source>(
 // The command's whole input. `make` has none, and reads nothing.
 fn input<A: Source>(alloc: Global, source: &mut A, command: Command) -> Result<Vec<u8>, ReadError>
     ensures count { A.faults source.old ≤ A.faults source.new }
-    ensures whole { IfOk result (λ bytes. ReadsAll command (A.left source.old) bytes.items (A.left source.new)) }
+    ensures whole { IfOk result
+        (λ bytes. ReadsAll command (A.left source.old) bytes.items (A.left source.new)) }
     ensures short { IfOk result (λ bytes. vec_len bytes ≤ limit_of command) }
-    ensures too_long { IsErrOf result ReadError.TooLong → GivesTooMuch command (A.left source.old) (A.left source.new) }
-    ensures failed { IsErrOf result ReadError.Failed → FailsToRead command (A.faults source.old) (A.faults source.new) }
-    ensures made { (seed size harts : ℕ) → command ≡ Make seed size harts → source.new ≡ source.old }
+    ensures too_long { IsErrOf result ReadError.TooLong
+        → GivesTooMuch command (A.left source.old) (A.left source.new) }
+    ensures failed { IsErrOf result ReadError.Failed
+        → FailsToRead command (A.faults source.old) (A.faults source.new) }
+    ensures made { (seed size harts : ℕ) → command ≡ Make seed size harts
+        → source.new ≡ source.old }
 {
     match command {
         Command::Make { .. } => Ok(Vec::new(alloc)),
@@ -214,7 +229,8 @@ fn answer_to<R: Threads + Wait + Sync, G: Gate>(
     requires few_harts { harts_in command ≤ 4 }
     requires some_size { 1 ≤ size_in command }
     requires small_size { size_in command ≤ 40 }
-    ensures output { IfOk result (λ answer. IsOutputOf command bytes.now (ended answer.ending) answer.text.items) }
+    ensures output { IfOk result
+        (λ answer. IsOutputOf command bytes.now (ended answer.ending) answer.text.items) }
     ensures fault { IfErr result (IsNoOutput command bytes.now) }
 {
     match command {

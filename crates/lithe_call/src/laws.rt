@@ -10,19 +10,25 @@ ghost use Rattle.lithe_call.specs.Told.{TookOutput, TookPrefix, ToldLine};
 
 /// Where the source told its bytes beforehand, what `lithe` wrote and told is that of these bytes.
 pub fn told_bytes_are_served()
-    ensures done { (words : List (List ℕ)) (status : Status) (left left' taken taken' : Option (List ℕ))
+    ensures done { (words : List (List ℕ)) (status : Status)
+        (left left' taken taken' : Option (List ℕ))
         → WritesOutput words left left' status taken taken'
         → (command : Command) → form_of words ≡ Some command
-        → (bytes : List ℕ) → AreInput command left bytes → TookOutput command bytes status taken taken' }
+        → (bytes : List ℕ) → AreInput command left bytes
+        → TookOutput command bytes status taken taken' }
     ensures prefix { (words : List (List ℕ)) (left left' taken taken' : Option (List ℕ))
         → WritesPrefix words left left' taken taken'
         → (command : Command) → form_of words ≡ Some command
         → (bytes : List ℕ) → AreInput command left bytes → TookPrefix command bytes taken taken' }
-    ensures told { (words : List (List ℕ)) (status : Status) (left left' taken taken' : Option (List ℕ)) (faults faults' : ℕ)
+    ensures told { (words : List (List ℕ)) (status : Status)
+        (left left' taken taken' : Option (List ℕ)) (faults faults' : ℕ)
         → TellsStatus words status left left' taken faults taken' faults'
         → (command : Command) → form_of words ≡ Some command
-        → (bytes : List ℕ) → AreInput command left bytes → ToldLine command status bytes taken faults taken' faults' }
-    ensures too_long { (words : List (List ℕ)) (left left' : Option (List ℕ)) → IsTooLong words left left'
+        → (bytes : List ℕ) → AreInput command left bytes
+        → ToldLine command status bytes taken faults taken' faults' }
+    ensures too_long { (words : List (List ℕ)) (left left' : Option (List ℕ))
+        → IsTooLong words left left'
         → (command : Command) → form_of words ≡ Some command
-        → (bytes : List ℕ) → AreInput command left bytes → (limit_of command < length bytes) ⊎ IsLong command bytes }
+        → (bytes : List ℕ) → AreInput command left bytes
+        → (limit_of command < length bytes) ⊎ IsLong command bytes }
 {}

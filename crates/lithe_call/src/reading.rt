@@ -38,10 +38,13 @@ pub fn read_all<A: Source>(
 ) -> Result<Vec<u8>, ReadError>
     requires { limit < 2 ^ 32 }
     ensures count { A.faults source.old ≤ A.faults source.new }
-    ensures whole { IfOk result (λ bytes. GivesAll (A.left source.old) bytes.items (A.left source.new)) }
+    ensures whole { IfOk result
+        (λ bytes. GivesAll (A.left source.old) bytes.items (A.left source.new)) }
     ensures short { IfOk result (λ bytes. vec_len bytes ≤ limit) }
-    ensures too_long { IsErrOf result ReadError.TooLong → GivesMore (A.left source.old) limit (A.left source.new) }
-    ensures failed { IsErrOf result ReadError.Failed → Rose (A.faults source.old) (A.faults source.new) }
+    ensures too_long { IsErrOf result ReadError.TooLong
+        → GivesMore (A.left source.old) limit (A.left source.new) }
+    ensures failed { IsErrOf result ReadError.Failed
+        → Rose (A.faults source.old) (A.faults source.new) }
 {
     let mut bytes = Vec::new(alloc);
     let mut buffer = [0; BUFFER];

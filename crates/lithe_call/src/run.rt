@@ -94,7 +94,8 @@ fn output<R: Threads + Wait + Sync, G: Gate>(
 ) -> Result<Vec<u8>, AllocError>
     requires runs { runs_programs command ≡ true }
     requires harts { accepted.now.plan.harts ≡ harts_in command }
-    ensures { IfOk result (λ output. IsOutput command (program_of accepted.now.program) output.items) }
+    ensures { IfOk result (λ output.
+        IsOutput command (program_of accepted.now.program) output.items) }
 {
     match command {
         Command::Run(_) => run(rt, alloc, gate, accepted),
@@ -106,7 +107,8 @@ fn output<R: Threads + Wait + Sync, G: Gate>(
 
 // The arrays as the one-thread meaning leaves them.
 fn arrays(alloc: Global, accepted: &Accepted<'_>) -> Result<Vec<u8>, AllocError>
-    ensures { IfOk result (λ text. text.items ≡ array_text (program_of accepted.now.program) (final_store (program_of accepted.now.program))) }
+    ensures { IfOk result (λ text. text.items ≡ array_text (program_of accepted.now.program)
+        (final_store (program_of accepted.now.program))) }
 {
     let program = accepted.program();
     let store = run_one(alloc, program)?;
@@ -120,7 +122,8 @@ fn run<R: Threads + Wait + Sync, G: Gate>(
     gate: &G,
     accepted: &Accepted<'_>,
 ) -> Result<Vec<u8>, AllocError>
-    ensures { IfOk result (λ text. IsRunOutput (program_of accepted.now.program) accepted.now.plan.harts text.items) }
+    ensures { IfOk result (λ text.
+        IsRunOutput (program_of accepted.now.program) accepted.now.plan.harts text.items) }
 {
     let outcome = outcome(rt, alloc, gate, accepted)?;
     let mut text = write_arrays(alloc, accepted.program(), &outcome.store)?;
@@ -136,7 +139,8 @@ fn summary<R: Threads + Wait + Sync, G: Gate>(
     gate: &G,
     accepted: &Accepted<'_>,
 ) -> Result<Vec<u8>, AllocError>
-    ensures { IfOk result (λ text. IsSummary (program_of accepted.now.program) accepted.now.plan.harts text.items) }
+    ensures { IfOk result (λ text.
+        IsSummary (program_of accepted.now.program) accepted.now.plan.harts text.items) }
 {
     let outcome = outcome(rt, alloc, gate, accepted)?;
     let entries = outcome.journal.entries();
@@ -156,8 +160,10 @@ fn outcome<R: Threads + Wait + Sync, G: Gate>(
     gate: &G,
     accepted: &Accepted<'_>,
 ) -> Result<Outcome, AllocError>
-    ensures store { IfOk result (λ outcome. outcome.store ≡ final_store (program_of accepted.now.program)) }
-    ensures journal { IfOk result (λ outcome. IsComplete accepted.now.plan (entries_in outcome.journal)) }
+    ensures store { IfOk result
+        (λ outcome. outcome.store ≡ final_store (program_of accepted.now.program)) }
+    ensures journal { IfOk result
+        (λ outcome. IsComplete accepted.now.plan (entries_in outcome.journal)) }
     ensures short { IfOk result (λ outcome. length (entries_in outcome.journal) ≤ 65535) }
 {
     if accepted.plan().harts() == 1 {

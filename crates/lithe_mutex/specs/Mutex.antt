@@ -38,7 +38,8 @@ IsHeld (Held waiting) = Unit {0}
 abbrev pub Releases : {T C : Type 0} → Possession T C → T → Released T C → Possession T C → Type 0
 Releases (Free kept) value answer after = ⊥
 Releases (Held []) value answer after = (answer ≡ released.Free) × (after ≡ Free value)
-Releases (Held (first ∷ more)) value answer after = (answer ≡ released.Handed value first) × (after ≡ Held more)
+Releases (Held (first ∷ more)) value answer after =
+    (answer ≡ released.Handed value first) × (after ≡ Held more)
 
 -- The value of a free mutex.
 abbrev pub value_in : {T C : Type 0} → Possession T C → Option T

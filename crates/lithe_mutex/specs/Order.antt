@@ -49,5 +49,6 @@ handed_in (event ∷ events) = handed_by event ++ handed_in events
 -- Those who waited before and those who were kept, in this order, are those who were handed the value and those who wait
 -- afterwards.
 abbrev pub LeaveInOrder : (T C : Type 0) → Type 0
-LeaveInOrder T C = (before after : Possession T C) (events : List (Event T C)) → Runs T C before events after →
+LeaveInOrder T C = (before after : Possession T C) (events : List (Event T C))
+    → Runs T C before events after →
     waiting_at before ++ kept_in events ≡ handed_in events ++ waiting_at after

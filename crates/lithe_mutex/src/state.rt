@@ -42,7 +42,8 @@ impl<T, C> Model for MutexState<T, C> {
 
     ghost view = { λ m. record { possession = possession_of m.value m.waiting.items; room = m.room } };
 
-    ghost invariant = { λ m. (m.room ≤ deque_capacity m.waiting) × (IsSome m.value → m.waiting.items ≡ []) };
+    ghost invariant = { λ m. (m.room ≤ deque_capacity m.waiting)
+        × (IsSome m.value → m.waiting.items ≡ []) };
 }
 
 impl<T: Drop, C> MutexState<T, C> {

@@ -27,7 +27,9 @@ fn serve<R: Threads + Wait + Sync, A: Source, B: Sink, E: Sink>(
 ) -> Status
     ensures not_text { IsErrOf words NoWords.NotText → result ≡ Status.Usage }
     ensures no_memory { IsErrOf words NoWords.NoMemory → result ≡ Status.NoMemory }
-    ensures told { IfErr words (λ _. Tells (E.taken err.old) (E.faults err.old) (constant_text result) (E.taken err.new) (E.faults err.new)) }
+    ensures told { IfErr words
+        (λ _. Tells (E.taken err.old) (E.faults err.old) (constant_text result) (E.taken err.new)
+        (E.faults err.new)) }
     ensures source_stays { IfErr words (λ _. source.new ≡ source.old) }
     ensures out_stays { IfErr words (λ _. out.new ≡ out.old) }
 {

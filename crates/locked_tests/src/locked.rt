@@ -70,7 +70,8 @@ fn crew<'x, 'p: 'x, R: Threads + Wait + Sync>(
     mut tools: Vec<Tools<'x>>,
     job: Job<'p>,
 ) -> Result<Vec<Hart<'x, 'p, WaitingPort<'x, LockedPort<'x, R>, R>, SharedSite<'p>>>, Fail>
-    ensures { IfOk result (λ harts. All (λ hart. StartsIn plan.now hart.port.port.view) harts.items) }
+    ensures { IfOk result (λ harts.
+        All (λ hart. StartsIn plan.now hart.port.port.view) harts.items) }
 {
     let first = next_tools(&mut tools)?;
     let mut harts = Vec::with_capacity(alloc, usize::from(plan.harts()))?;

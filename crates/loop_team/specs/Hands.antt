@@ -25,16 +25,19 @@ pub record IsSameHand {R : Type 0} (before after : TeamHand R) : Type 0 where
   pub kin : kin after.seat.now ≡ kin before.seat.now
 
 -- The hand looked under the lock, and found this last.
-pub record HasFound {R : Type 0} (before : TeamHand R) (what : Found) (after : TeamHand R) : Type 0 where
+pub record HasFound {R : Type 0} (before : TeamHand R) (what : Found)
+    (after : TeamHand R) : Type 0 where
   pub looked : Rose before.looks after.looks
   pub last : after.found ≡ what
 
 -- The seat claimed a member last: the job is that of its phase and place.
-pub record HasClaimed {R : Type 0} (before : TeamHand R) (job : JobParts) (after : TeamHand R) : Type 0 where
+pub record HasClaimed {R : Type 0} (before : TeamHand R) (job : JobParts)
+    (after : TeamHand R) : Type 0 where
   pub phase : job.phase < phases_in before.shared.now
   pub place : job.place < members_in before.shared.now
   pub earlier : List (ℕ × ℕ)
-  pub claimed : (sight after.seat.now).claimed ≡ ((sight before.seat.now).claimed ++ earlier) ++ (before.row + job.phase, job.place) ∷ []
+  pub claimed : (sight after.seat.now).claimed ≡ ((sight before.seat.now).claimed ++ earlier)
+      ++ (before.row + job.phase, job.place) ∷ []
 
 -- The word that the seat read last is that of a phase's row, and shows as many as the phase has members, or more.
 pub record NoneWasLeft {R : Type 0} (before after : TeamHand R) : Type 0 where
@@ -44,7 +47,8 @@ pub record NoneWasLeft {R : Type 0} (before after : TeamHand R) : Type 0 where
   pub kind : LookKind
   pub shown : ℕ
   pub full : members_in before.shared.now ≤ shown
-  pub looks : (sight after.seat.now).looks ≡ ((sight before.seat.now).looks ++ earlier) ++ look (before.row + phase) kind shown ∷ []
+  pub looks : (sight after.seat.now).looks ≡ ((sight before.seat.now).looks ++ earlier)
+      ++ look (before.row + phase) kind shown ∷ []
 
 -- What runs was found under the lock, or is a member that was claimed.
 abbrev pub Begins : {R : Type 0} → TeamHand R → TeamWork → TeamHand R → Type 0
@@ -56,9 +60,12 @@ Begins before (Ready context) after = HasFound before found.Work after
 abbrev pub HasCause : {R : Type 0} → TeamHand R → Next TeamWork → TeamHand R → Type 0
 HasCause before (Run work) after = Begins before work after
 HasCause before (Lend child) after = HasFound before found.Wish after × NoneWasLeft before after
-HasCause before Nothing after = HasFound before found.HandedOut after ⊎ (HasFound before found.Idle after × NoneWasLeft before after)
+HasCause before Nothing after =
+    HasFound before found.HandedOut after
+    ⊎ (HasFound before found.Idle after × NoneWasLeft before after)
 
-pub record Enters {R : Type 0} (before : TeamHand R) (next : Next TeamWork) (after : TeamHand R) : Type 0 where
+pub record Enters {R : Type 0} (before : TeamHand R) (next : Next TeamWork)
+    (after : TeamHand R) : Type 0 where
   pub same : IsSameHand before after
   pub cause : HasCause before next after
 
@@ -71,20 +78,24 @@ pub record HasLooked {R : Type 0} (before after : TeamHand R) : Type 0 where
   pub looked : Rose before.looks after.looks
 
 -- The hand claimed in the row of a phase, and didn't look under the lock.
-pub record HasTried {R : Type 0} (before : TeamHand R) (phase : ℕ) (answer : Claimed) (after : TeamHand R) : Type 0 where
+pub record HasTried {R : Type 0} (before : TeamHand R) (phase : ℕ) (answer : Claimed)
+    (after : TeamHand R) : Type 0 where
   pub team : after.shared ≡ before.shared
   pub claims : after.claims ≡ before.claims
   pub row : after.row ≡ before.row
   pub name : after.seat.ghost_name ≡ before.seat.ghost_name
   pub kin : kin after.seat.now ≡ kin before.seat.now
   pub looks : after.looks ≡ before.looks
-  pub gives : ClaimGives before.claims.now.counts.items (before.row + phase) before.seat.now answer after.seat.now
+  pub gives : ClaimGives before.claims.now.counts.items (before.row + phase) before.seat.now answer
+      after.seat.now
 
 -- The hand may have looked more often, and its seat read and claimed more.
 pub record HasGoneOn {R : Type 0} (before after : TeamHand R) : Type 0 where
   pub same : IsSameHand before after
-  pub read : (more : List Look) × ((sight after.seat.now).looks ≡ (sight before.seat.now).looks ++ more)
-  pub claimed : (more : List (ℕ × ℕ)) × ((sight after.seat.now).claimed ≡ (sight before.seat.now).claimed ++ more)
+  pub read : (more : List Look)
+      × ((sight after.seat.now).looks ≡ (sight before.seat.now).looks ++ more)
+  pub claimed : (more : List (ℕ × ℕ))
+      × ((sight after.seat.now).claimed ≡ (sight before.seat.now).claimed ++ more)
   pub looks : before.looks ≤ after.looks
 
 -- A turn of `enter`: it is answered, or the hand looks again.

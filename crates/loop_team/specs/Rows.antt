@@ -6,4 +6,5 @@ use Rattle.loop_team.specs.Teams.{phases_in, members_in}
 -- From this row on there is a row for each phase of the construct, of as many members as the construct has.
 pub record RowsFit (counts : List ℕ) (row : ℕ) (nested : NestedParts) : Type 0 where
   pub there : row + phases_in nested ≤ length counts
-  pub same : (phase : ℕ) → phase < phases_in nested → slice_index counts (row + phase) ≡ members_in nested
+  pub same : (phase : ℕ) → phase < phases_in nested
+      → slice_index counts (row + phase) ≡ members_in nested

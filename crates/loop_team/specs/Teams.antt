@@ -47,12 +47,14 @@ members_in nested = members_of (statement_of nested.construct)
 
 -- What a phase writes from the store that those before it leave.
 abbrev pub writes_in : NestedParts → ℕ → List Write
-writes_in nested phase = phase_writes (nested_of nested) phase (store_before (nested_of nested) phase)
+writes_in nested phase =
+    phase_writes (nested_of nested) phase (store_before (nested_of nested) phase)
 
 -- These are the jobs of the members in a phase, from the store that the phases before it leave.
 pub record AreJobsIn (nested : NestedParts) (phase : ℕ) (jobs : List JobParts) : Type 0 where
   pub there : phase < phases_in nested
-  pub same : map job_of jobs ≡ jobs_in (nested_of nested) phase (store_before (nested_of nested) phase)
+  pub same : map job_of jobs
+      ≡ jobs_in (nested_of nested) phase (store_before (nested_of nested) phase)
 
 -- The last phase has opened, or the team is failed.
 abbrev pub IsOver : TeamParts → Type 0
@@ -83,7 +85,10 @@ opened_team team = record team { opened = suc team.opened }
 
 -- The members of a phase, with these jobs, are there to be begun, in place of any that are left.
 abbrev pub with_phase : TeamParts → List JobParts → TeamParts
-with_phase team jobs = record team { agenda = record team.agenda { unbegun = map Begin jobs }; barrier = open_book jobs }
+with_phase team jobs = record team {
+  agenda = record team.agenda { unbegun = map Begin jobs };
+  barrier = open_book jobs;
+}
 
 abbrev pub with_barrier : TeamParts → BookParts → TeamParts
 with_barrier team barrier = record team { barrier = barrier }
@@ -97,15 +102,19 @@ failed_team team = record team { failed = true }
 -- Of a team whose phase has just opened: it is over, or its next phase is there to be begun.
 pub record GoesOn (team after : TeamParts) : Type 0 where
   pub over : IsOver team → after ≡ team
-  pub next : ¬ IsOver team → AreJobsIn team.nested team.opened after.barrier.jobs × (after ≡ with_phase team after.barrier.jobs)
+  pub next : ¬ IsOver team
+      → AreJobsIn team.nested team.opened after.barrier.jobs
+      × (after ≡ with_phase team after.barrier.jobs)
 
 -- The piece was the last one that the barrier waited for, and these are its places then.
-pub record Opens (before : TeamParts) (piece : PieceParts) (written : Laid) (full : BookParts) : Type 0 where
+pub record Opens (before : TeamParts) (piece : PieceParts) (written : Laid)
+    (full : BookParts) : Type 0 where
   pub arrives : Arrives before.barrier piece (Opened written) full
   pub writes : written.pairs ≡ writes_in before.nested before.opened
 
 -- The team goes on without the next phase, for which there was no memory.
-pub record FailsToGoOn (before : TeamParts) (piece : PieceParts) (full : BookParts) (after : TeamParts) : Type 0 where
+pub record FailsToGoOn (before : TeamParts) (piece : PieceParts) (full : BookParts)
+    (after : TeamParts) : Type 0 where
   pub fills : Fills before.barrier piece full
   pub none_left : IsFull full
   pub wanted : ¬ IsOver (opened_team (with_barrier before full))
@@ -114,10 +123,13 @@ pub record FailsToGoOn (before : TeamParts) (piece : PieceParts) (full : BookPar
 -- Of a team and a piece, the answer and the team afterwards: the barrier's, and where it opens the team goes on. Want of memory
 -- comes only where the next phase is to begin, and fails the team.
 abbrev pub MovesOn : {E : Type 0} → TeamParts → PieceParts → Result Arrival E → TeamParts → Type 0
-MovesOn before piece (Ok Kept) after = Arrives before.barrier piece Kept after.barrier × (after ≡ with_barrier before after.barrier)
+MovesOn before piece (Ok Kept) after =
+    Arrives before.barrier piece Kept after.barrier × (after ≡ with_barrier before after.barrier)
 MovesOn before piece (Ok (Opened written)) after =
-    (full : BookParts) × Opens before piece written full × GoesOn (opened_team (with_barrier before full)) after
-MovesOn before piece (Ok (Stranger back)) after = Arrives before.barrier piece (Stranger back) before.barrier × (after ≡ before)
+    (full : BookParts) × Opens before piece written full
+    × GoesOn (opened_team (with_barrier before full)) after
+MovesOn before piece (Ok (Stranger back)) after =
+    Arrives before.barrier piece (Stranger back) before.barrier × (after ≡ before)
 MovesOn before piece (Err refused) after = (full : BookParts) × FailsToGoOn before piece full after
 
 -- The members that aren't begun are the last ones, in the order of their places.
@@ -132,19 +144,25 @@ pub record Answers (before : TeamParts) (next : Next TeamWork) (after : TeamPart
   pub in_order : AreInOrder before
 
 abbrev pub Hears : TeamParts → Told → TeamParts → Type 0
-Hears before told after = after ≡ with_agenda before (record before.agenda { wishes = wishes_after told before.agenda.wishes })
+Hears before told after =
+    after ≡ with_agenda before
+    (record before.agenda { wishes = wishes_after told before.agenda.wishes })
 
-pub record Takes (before : TeamParts) (c : TeamWork) (answer : Result (Unit {0}) TeamWork) (after : TeamParts) : Type 0 where
+pub record Takes (before : TeamParts) (c : TeamWork) (answer : Result (Unit {0}) TeamWork)
+    (after : TeamParts) : Type 0 where
   pub ready : PutsReady before.agenda c answer after.agenda
   pub rest : after ≡ with_agenda before after.agenda
 
 -- A hand takes a context that is ready, or a member, by itself.
-pub record TakesReady (before : TeamParts) (answer : Option TeamWork) (after : TeamParts) : Type 0 where
+pub record TakesReady (before : TeamParts) (answer : Option TeamWork)
+    (after : TeamParts) : Type 0 where
   pub given : GivesReady before.agenda answer after.agenda
   pub rest : after ≡ with_agenda before after.agenda
 
 abbrev pub TakesMember : TeamParts → Option JobParts → TeamParts → Type 0
-TakesMember before (Some job) after = GivesUnbegun before.agenda (Some (Begin job)) after.agenda × (after ≡ with_agenda before after.agenda)
+TakesMember before (Some job) after =
+    GivesUnbegun before.agenda (Some (Begin job)) after.agenda
+    × (after ≡ with_agenda before after.agenda)
 TakesMember before None after = GivesUnbegun before.agenda None after.agenda × (after ≡ before)
 
 -- What the type keeps: the store has what the phases that have opened wrote; while a place is free, the places are those of
@@ -152,7 +170,8 @@ TakesMember before None after = GivesUnbegun before.agenda None after.agenda × 
 pub record IsKept (team : TeamParts) (store : Trace) : Type 0 where
   pub fit : IsFitNest (nested_of team.nested)
   pub reached : HasReached (nested_of team.nested) team.opened store
-  pub running : (place : ℕ) → IsMarked team.barrier place Open → AreJobsIn team.nested team.opened team.barrier.jobs
+  pub running : (place : ℕ) → IsMarked team.barrier place Open
+      → AreJobsIn team.nested team.opened team.barrier.jobs
   pub in_order : AreInOrder team
 
 -- A phase that is to begin: no piece has come, and no member has begun.

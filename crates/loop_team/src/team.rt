@@ -86,7 +86,13 @@ impl<'p> Model for Team<'p> {
 
     ghost view = { λ team. record { nested = team.nested; agenda = team.agenda; opened = team.opened; barrier = team.barrier; failed = team.failed } };
 
-    ghost invariant = { λ team. IsKept record { nested = team.nested; agenda = team.agenda; opened = team.opened; barrier = team.barrier; failed = team.failed } team.store };
+    ghost invariant = { λ team. IsKept record {
+      nested = team.nested;
+      agenda = team.agenda;
+      opened = team.opened;
+      barrier = team.barrier;
+      failed = team.failed;
+    } team.store };
 }
 
 impl<'p> Team<'p> {
@@ -176,7 +182,8 @@ impl<'p> Team<'p> {
         requires phase { self.old.opened < phases_in self.old.nested }
         requires written { written.now.pairs ≡ writes_in self.old.nested self.old.opened }
         ensures ok { OnOk result (GoesOn (opened_team self.old) self.new) }
-        ensures err { OnErr result ((¬ IsOver (opened_team self.old)) × (self.new ≡ failed_team (opened_team self.old))) }
+        ensures err { OnErr result
+            ((¬ IsOver (opened_team self.old)) × (self.new ≡ failed_team (opened_team self.old))) }
     {
         let phases = self.nested.phases();
         lay_phase(&self.nested, self.opened, &mut self.store, written);
@@ -232,7 +239,8 @@ impl<'p> Team<'p> {
     pub fn take_all(self) -> Result<Overlay, AllocError>
         requires { IsOver self }
         ensures failed { self.entry.failed ≡ true → IsErr result }
-        ensures written { IfOk result (λ overlay. overlay.pairs ≡ nested_writes (nested_of self.entry.nested)) }
+        ensures written { IfOk result
+            (λ overlay. overlay.pairs ≡ nested_writes (nested_of self.entry.nested)) }
     {
         if self.failed {
             return Err(AllocError);

@@ -20,7 +20,8 @@ is_listed failing call = list_any (λ listed. listed == call) failing
 -- what a call of the source with a buffer of this size answers: a fault at a listed call; else the end where no byte is
 -- left, and otherwise the least of what a call gives at most, the buffer's length and the number of bytes left
 abbrev pub feed_fill : Feed → ℕ → Fill
-feed_fill feed size = if is_listed feed.failing (risen feed.calls) then fill.Failed else sure_fill feed.left (min feed.most size)
+feed_fill feed size = if is_listed feed.failing (risen feed.calls) then fill.Failed
+    else sure_fill feed.left (min feed.most size)
 
 -- the source after a call with this answer
 abbrev pub fed : Feed → Fill → Feed
@@ -36,16 +37,33 @@ put_within offered room = if room == 0 then put.Failed else put.Took (min offere
 -- otherwise it takes the least of what a call takes at most, the piece's length and the room left
 abbrev pub tray_put : Tray → ℕ → Put
 tray_put tray size =
-    if is_listed tray.failing (risen tray.calls) then put.Failed else put_within (min tray.most size) (tray.room - length tray.taken)
+    if is_listed tray.failing (risen tray.calls) then put.Failed
+    else put_within (min tray.most size) (tray.room - length tray.taken)
 
 -- the sink after a call with this piece and this answer
 abbrev pub laid_in : Tray → List ℕ → Put → Tray
-laid_in tray piece (put.Took count) = record tray { taken = tray.taken ++ take count piece; calls = risen tray.calls }
+laid_in tray piece (put.Took count) = record tray {
+  taken = tray.taken ++ take count piece;
+  calls = risen tray.calls;
+}
 laid_in tray piece put.Failed = record tray { calls = risen tray.calls; faults = risen tray.faults }
 
 -- a source of these bytes, and a sink with this room, that were never called
 abbrev pub new_feed : List ℕ → ℕ → List ℕ → Feed
-new_feed bytes most failing = record { left = bytes; most = most; failing = failing; calls = 0; faults = 0 }
+new_feed bytes most failing = record {
+  left = bytes;
+  most = most;
+  failing = failing;
+  calls = 0;
+  faults = 0;
+}
 
 abbrev pub new_tray : ℕ → ℕ → List ℕ → Tray
-new_tray room most failing = record { taken = []; room = room; most = most; failing = failing; calls = 0; faults = 0 }
+new_tray room most failing = record {
+  taken = [];
+  room = room;
+  most = most;
+  failing = failing;
+  calls = 0;
+  faults = 0;
+}

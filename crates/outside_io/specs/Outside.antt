@@ -30,11 +30,13 @@ IsAtEnd (Some left) = left ≡ []
 -- what one read did: the bytes left and the count of faults before it, the buffer and the answer after it, and the
 -- bytes left and the count then
 abbrev pub Reads : Option (List ℕ) → ℕ → List ℕ → Fill → Option (List ℕ) → ℕ → Type 0
-Reads left faults buf (fill.Got count) left' faults' = (1 ≤ count) × (count ≤ length buf) × Gives left (take count buf) left'
+Reads left faults buf (fill.Got count) left' faults' =
+    (1 ≤ count) × (count ≤ length buf) × Gives left (take count buf) left'
 Reads left faults buf fill.End left' faults' = Gives left [] left' × IsAtEnd left'
 Reads left faults buf fill.Failed left' faults' = Rose faults faults' × Gives left [] left'
 
 -- what one write did, in the same way
 abbrev pub Writes : Option (List ℕ) → ℕ → List ℕ → Put → Option (List ℕ) → ℕ → Type 0
-Writes taken faults piece (put.Took count) taken' faults' = (1 ≤ count) × (count ≤ length piece) × Appends taken (take count piece) taken'
+Writes taken faults piece (put.Took count) taken' faults' =
+    (1 ≤ count) × (count ≤ length piece) × Appends taken (take count piece) taken'
 Writes taken faults piece put.Failed taken' faults' = Rose faults faults' × Appends taken [] taken'

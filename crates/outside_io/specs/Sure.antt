@@ -15,7 +15,8 @@ empty_shelf room = record { room = room; taken = Some [] }
 -- a piece is kept where it fits the room; else nothing is told from then on
 abbrev pub kept_within : ℕ → Option (List ℕ) → List ℕ → Option (List ℕ)
 kept_within room None piece = None
-kept_within room (Some taken) piece = if nat_le (length taken + length piece) room then Some (taken ++ piece) else None
+kept_within room (Some taken) piece =
+    if nat_le (length taken + length piece) room then Some (taken ++ piece) else None
 
 abbrev pub laid_up : Shelf → List ℕ → Shelf
 laid_up shelf piece = record { room = shelf.room; taken = kept_within shelf.room shelf.taken piece }

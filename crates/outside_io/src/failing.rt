@@ -76,7 +76,8 @@ impl Source for MemSource {
     fn read(&mut self, buf: &mut [u8]) -> Fill
         requires { 0 < length buf.old }
         ensures count { self.old.faults ≤ self.new.faults }
-        ensures does { Reads (Some self.old.left) self.old.faults buf.new result (Some self.new.left) self.new.faults }
+        ensures does { Reads (Some self.old.left) self.old.faults buf.new result
+            (Some self.new.left) self.new.faults }
         ensures exact { result ≡ feed_fill self.old (length buf.old) }
         ensures after { self.new ≡ fed self.old result }
     {
@@ -123,7 +124,8 @@ impl Model for MemSink {
       faults = sink.faults;
     } };
 
-    ghost invariant = { λ sink. (vec_len sink.bytes ≤ sink.room) × (sink.room ≤ vec_capacity sink.bytes) × (1 ≤ sink.most) };
+    ghost invariant = { λ sink. (vec_len sink.bytes ≤ sink.room)
+        × (sink.room ≤ vec_capacity sink.bytes) × (1 ≤ sink.most) };
 }
 
 impl MemSink {
@@ -165,7 +167,8 @@ impl Sink for MemSink {
     fn write(&mut self, piece: &[u8]) -> Put
         requires { 0 < length piece.now }
         ensures count { self.old.faults ≤ self.new.faults }
-        ensures does { Writes (Some self.old.taken) self.old.faults piece.now result (Some self.new.taken) self.new.faults }
+        ensures does { Writes (Some self.old.taken) self.old.faults piece.now result
+            (Some self.new.taken) self.new.faults }
         ensures exact { result ≡ tray_put self.old (length piece.now) }
         ensures after { self.new ≡ laid_in self.old piece.now result }
     {

@@ -23,5 +23,6 @@ pub trait Sink {
     fn write(&mut self, piece: &[u8]) -> Put
         requires { 0 < length piece.now }
         ensures count { faults self.old ≤ faults self.new }
-        ensures does { Writes (taken self.old) (faults self.old) piece.now result (taken self.new) (faults self.new) };
+        ensures does { Writes (taken self.old) (faults self.old) piece.now result (taken self.new)
+            (faults self.new) };
 }

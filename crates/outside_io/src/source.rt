@@ -26,5 +26,6 @@ pub trait Source {
     fn read(&mut self, buf: &mut [u8]) -> Fill
         requires { 0 < length buf.old }
         ensures count { faults self.old ≤ faults self.new }
-        ensures does { Reads (left self.old) (faults self.old) buf.new result (left self.new) (faults self.new) };
+        ensures does { Reads (left self.old) (faults self.old) buf.new result (left self.new)
+            (faults self.new) };
 }

@@ -88,7 +88,8 @@ impl Model for SureSink {
 
     ghost view = { λ sink. record { room = sink.room; taken = if sink.whole then Some sink.bytes.items else None } };
 
-    ghost invariant = { λ sink. (vec_len sink.bytes ≤ sink.room) × (sink.room ≤ vec_capacity sink.bytes) };
+    ghost invariant = { λ sink. (vec_len sink.bytes ≤ sink.room)
+        × (sink.room ≤ vec_capacity sink.bytes) };
 }
 
 impl SureSink {

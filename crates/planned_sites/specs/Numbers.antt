@@ -21,11 +21,13 @@ sites_of_jobs (job ∷ more) = numbers_from job.first (sites_of job.work) ++ sit
 abbrev pub sites_of_phases : NestedTree → (ℕ → Store) → ℕ → ℕ → List ℕ
 sites_of_phases nested stores phase zero = []
 sites_of_phases nested stores phase (suc n) =
-    sites_of_jobs (jobs_in nested phase (stores phase)) ++ sites_of_phases nested stores (phase + 1) n
+    sites_of_jobs (jobs_in nested phase (stores phase))
+    ++ sites_of_phases nested stores (phase + 1) n
 
 -- The site of a construct, followed by those inside the jobs of all its phases, are as many numbers as it enters sites,
 -- from its own on, each once. So a number inside is a site of exactly one job of exactly one phase, and no job has another.
 abbrev pub JobsHaveTheSitesInside : Type 0
 JobsHaveTheSitesInside = (nested : NestedTree) (stores : ℕ → Store) →
     IsTrue (is_construct nested.construct) → IsTrue (statement_has_right_ranges nested.construct) →
-    nested.site ∷ sites_of_phases nested stores 0 (phases_of nested.construct) ≡ numbers_from nested.site (statement_sites_in nested.construct)
+    nested.site ∷ sites_of_phases nested stores 0 (phases_of nested.construct)
+    ≡ numbers_from nested.site (statement_sites_in nested.construct)

@@ -15,7 +15,8 @@ use Rattle.array_jobs.specs.Jobs.{JobTree}
 -- The parents of the sites of a work.
 abbrev pub work_parents : WorkTree → Parents
 work_parents (branch_of body) around next = sequence_parents body around next
-work_parents (member_of var low high body) around next = repeated (span low high) (sequence_parents body) around next
+work_parents (member_of var low high body) around next =
+    repeated (span low high) (sequence_parents body) around next
 
 -- The parents of the sites inside a construct.
 abbrev pub inside_parents : Statement → Parents
@@ -23,7 +24,8 @@ inside_parents (Assign line array index value) around next = []
 inside_parents (For line var low high body) around next = []
 inside_parents (If line cond then_block else_block) around next = []
 inside_parents (Par line branches) around next = branches_parents branches around next
-inside_parents (Team line var low high members phases) around next = phases_parents phases (span low high) around next
+inside_parents (Team line var low high members phases) around next =
+    phases_parents phases (span low high) around next
 
 -- From the site `next` on the plan has these parents.
 pub record HasParentsFrom (ps : List ℕ) (next : ℕ) (part : List ℕ) : Type 0 where
@@ -35,12 +37,16 @@ pub record HasParentsFrom (ps : List ℕ) (next : ℕ) (part : List ℕ) : Type 
 -- The sites of each work stand there, one work after another.
 abbrev pub ArePlanned : List ℕ → ℕ → ℕ → List WorkAt → Type 0
 ArePlanned ps around next [] = Unit {0}
-ArePlanned ps around next (w ∷ more) = HasParentsFrom ps next (work_parents w.work around next) × ArePlanned ps around (next + sites_of w.work) more
+ArePlanned ps around next (w ∷ more) =
+    HasParentsFrom ps next (work_parents w.work around next)
+    × ArePlanned ps around (next + sites_of w.work) more
 
 -- A step leaves the works planned.
 abbrev pub WorksStayPlanned : Type 0
-WorksStayPlanned = (ps : List ℕ) (around next : ℕ) (arrays : Arrays) (store : Store) (w : WorkAt) (more : List WorkAt) →
-    has_no_site_under_if (statements_of w.work) false ≡ true → ArePlanned ps around next (w ∷ more) →
+WorksStayPlanned = (ps : List ℕ) (around next : ℕ) (arrays : Arrays) (store : Store) (w : WorkAt)
+    (more : List WorkAt) →
+    has_no_site_under_if (statements_of w.work) false ≡ true
+    → ArePlanned ps around next (w ∷ more) →
     ArePlanned ps around (next + moved_sites w.work) (moved arrays store w.work w.vars ++ more)
 
 -- Of the site of a construct the parent is the site around it, and the sites inside it come next.
@@ -51,18 +57,23 @@ pub record IsPlannedAt (ps : List ℕ) (around next : ℕ) (construct : Statemen
   pub inside : HasParentsFrom ps (next + 1) (inside_parents construct next (next + 1))
 
 abbrev pub ConstructsArePlanned : Type 0
-ConstructsArePlanned = (ps : List ℕ) (around next : ℕ) (w : WorkAt) (more : List WorkAt) (construct : Statement) →
-    construct_of w.work ≡ Some construct → ArePlanned ps around next (w ∷ more) → IsPlannedAt ps around next construct
+ConstructsArePlanned = (ps : List ℕ) (around next : ℕ) (w : WorkAt) (more : List WorkAt)
+    (construct : Statement) →
+    construct_of w.work ≡ Some construct → ArePlanned ps around next (w ∷ more)
+    → IsPlannedAt ps around next construct
 
 -- The sites of each job stand there, from the number of its first on.
 abbrev pub AreJobsPlanned : List ℕ → List JobTree → Type 0
 AreJobsPlanned ps [] = Unit {0}
-AreJobsPlanned ps (job ∷ more) = HasParentsFrom ps job.first (work_parents job.work job.site job.first) × AreJobsPlanned ps more
+AreJobsPlanned ps (job ∷ more) =
+    HasParentsFrom ps job.first (work_parents job.work job.site job.first) × AreJobsPlanned ps more
 
 -- Where the sites inside a construct stand behind its own, those of its pieces' jobs stand where the jobs say.
 abbrev pub JobsArePlanned : Type 0
-JobsArePlanned = (ps : List ℕ) (nested : NestedTree) (phase : ℕ) (store : Store) → phase < phases_of nested.construct →
-    HasParentsFrom ps (nested.site + 1) (inside_parents nested.construct nested.site (nested.site + 1)) → AreJobsPlanned ps (jobs_in nested phase store)
+JobsArePlanned = (ps : List ℕ) (nested : NestedTree) (phase : ℕ) (store : Store)
+    → phase < phases_of nested.construct →
+    HasParentsFrom ps (nested.site + 1) (inside_parents nested.construct nested.site
+    (nested.site + 1)) → AreJobsPlanned ps (jobs_in nested phase store)
 
 -- The sites inside each job are numbered above the site that it is a piece of.
 abbrev pub AreNumberedAbove : List JobTree → Type 0
@@ -71,7 +82,8 @@ AreNumberedAbove (job ∷ more) = (job.site < job.first) × AreNumberedAbove mor
 
 -- So are those of the jobs of a phase.
 abbrev pub JobsAreNumberedAbove : Type 0
-JobsAreNumberedAbove = (nested : NestedTree) (phase : ℕ) (store : Store) → AreNumberedAbove (jobs_in nested phase store)
+JobsAreNumberedAbove = (nested : NestedTree) (phase : ℕ) (store : Store)
+    → AreNumberedAbove (jobs_in nested phase store)
 
 -- No step of a machine lowers the number of the next site, which begins at the job's first.
 pub record NumbersRise (before after : Progress) : Type 0 where
@@ -79,4 +91,5 @@ pub record NumbersRise (before after : Progress) : Type 0 where
   pub next : before.next ≤ after.next
 
 abbrev pub StepsRaiseNumbers : Type 0
-StepsRaiseNumbers = (before after : Progress) → HasMoved before.rest before after → NumbersRise before after
+StepsRaiseNumbers = (before after : Progress) → HasMoved before.rest before after
+    → NumbersRise before after

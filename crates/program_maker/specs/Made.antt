@@ -43,7 +43,8 @@ abbrev pub columns : ℕ → ℕ → Statement → Statement
 columns low high body = For 1 (codes "j") (pos low) (pos high) (sequence (body ∷ []))
 
 abbrev pub rows : ℕ → ℕ → ℕ → Statement → Statement
-rows low high members body = Team 1 (codes "i") (pos low) (pos high) (pos members) (sequences (sequence (body ∷ []) ∷ []))
+rows low high members body =
+    Team 1 (codes "i") (pos low) (pos high) (pos members) (sequences (sequence (body ∷ []) ∷ []))
 
 -- x[i * K + j] = value
 abbrev pub set_cell : ℕ → List ℕ → Expression → Statement
@@ -75,7 +76,8 @@ gathered_grid size = Par 1 (sequences
 
 -- g[i * K + j] = h[i * K + j], all over the grid
 abbrev pub taken_over : ℕ → Statement
-taken_over size = rows 0 size 4 (columns 0 size (set_cell size (codes "g") (cell_at size (codes "h") row_number column_number)))
+taken_over size = rows 0 size 4
+    (columns 0 size (set_cell size (codes "g") (cell_at size (codes "h") row_number column_number)))
 
 -- g[i * K + j] = i * p + j * q + r, all over the grid
 abbrev pub sown : ℕ → ℕ → ℕ → ℕ → Statement
@@ -89,14 +91,16 @@ summed size = rows 0 size 4 (columns 0 size (Assign 1 (codes "s") row_number
 
 -- four times
 abbrev pub swept : ℕ → Statement
-swept size = For 1 (codes "t") (pos 0) (pos 4) (sequence (gathered_grid size ∷ taken_over size ∷ []))
+swept size = For 1 (codes "t") (pos 0) (pos 4)
+    (sequence (gathered_grid size ∷ taken_over size ∷ []))
 
 abbrev pub declared : List ℕ → ℕ → Declaration
 declared name length = record { line = 1; name = name; length = pos length }
 
 abbrev pub stencil : ℕ → ℕ → ℕ → ℕ → ProgramTree
 stencil size p q r = record {
-  arrays = declared (codes "g") (size * size) ∷ declared (codes "h") (size * size) ∷ declared (codes "s") size ∷ [];
+  arrays = declared (codes "g") (size * size) ∷ declared (codes "h") (size * size)
+      ∷ declared (codes "s") size ∷ [];
   body = sequence (sown size p q r ∷ swept size ∷ summed size ∷ []);
 }
 

@@ -30,14 +30,16 @@ pub fn cell(alloc: Global, array: &[u8], index: Expr) -> Result<Expr, AllocError
 
 /// An operator with its operands.
 pub fn binary(alloc: Global, op: Op, left: Expr, right: Expr) -> Result<Expr, AllocError>
-    ensures { IfOk result (λ e. expression_of e ≡ Binary op (expression_of left) (expression_of right)) }
+    ensures { IfOk result (λ e. expression_of e
+        ≡ Binary op (expression_of left) (expression_of right)) }
 {
     Ok(Expr::Binary(op, Box::new(alloc, left)?, Box::new(alloc, right)?))
 }
 
 /// An assignment.
 pub fn assign(alloc: Global, array: &[u8], index: Expr, value: Expr) -> Result<Stmt, AllocError>
-    ensures { IfOk result (λ s. statement_of s ≡ Assign 1 array.now (expression_of index) (expression_of value)) }
+    ensures { IfOk result (λ s. statement_of s ≡ Assign 1 array.now (expression_of index)
+        (expression_of value)) }
 {
     Ok(Stmt::Assign {
         line: 1,
@@ -58,7 +60,8 @@ pub fn alone(alloc: Global, statement: Stmt) -> Result<Block, AllocError>
 
 /// A block of two statements.
 pub fn in_turn(alloc: Global, first: Stmt, second: Stmt) -> Result<Block, AllocError>
-    ensures { IfOk result (λ b. sequence_of b ≡ sequence (statement_of first ∷ statement_of second ∷ [])) }
+    ensures { IfOk result (λ b. sequence_of b
+        ≡ sequence (statement_of first ∷ statement_of second ∷ [])) }
 {
     let mut statements = Vec::new(alloc);
     statements.push(first)?;
@@ -69,7 +72,8 @@ pub fn in_turn(alloc: Global, first: Stmt, second: Stmt) -> Result<Block, AllocE
 /// Two branches of one statement each.
 pub fn beside(alloc: Global, first: Stmt, second: Stmt) -> Result<Stmt, AllocError>
     ensures { IfOk result (λ s. statement_of s
-        ≡ Par 1 (sequences (sequence (statement_of first ∷ []) ∷ sequence (statement_of second ∷ []) ∷ []))) }
+        ≡ Par 1 (sequences (sequence (statement_of first ∷ [])
+        ∷ sequence (statement_of second ∷ []) ∷ []))) }
 {
     let mut blocks = Vec::new(alloc);
     blocks.push(alone(alloc, first)?)?;
@@ -82,7 +86,8 @@ pub fn beside(alloc: Global, first: Stmt, second: Stmt) -> Result<Stmt, AllocErr
 
 /// A loop from 0 to before 4 over `t`.
 pub fn four_times(alloc: Global, body: Block) -> Result<Stmt, AllocError>
-    ensures { IfOk result (λ s. statement_of s ≡ For 1 (codes "t") (pos 0) (pos 4) (sequence_of body)) }
+    ensures { IfOk result (λ s. statement_of s
+        ≡ For 1 (codes "t") (pos 0) (pos 4) (sequence_of body)) }
 {
     Ok(Stmt::For {
         line: 1,

@@ -6,5 +6,6 @@ ghost use Rattle.program_maker.specs.Made.{made_program};
 
 /// The printed text of a made program spells it, up to line numbers.
 pub fn made_text_spells()
-    ensures { (seed size : ℕ) → size ≤ 40 → SpellsButLines (printed (made_program seed size)) (made_program seed size) }
+    ensures { (seed size : ℕ) → size ≤ 40
+        → SpellsButLines (printed (made_program seed size)) (made_program seed size) }
 {}

@@ -36,7 +36,8 @@ fn stencil(alloc: Global, size: u8, p: u8, q: u8, r: u8) -> Result<Program, Allo
 // The grid, the grid of the sweep that is under way, and the sums of the rows.
 fn arrays(alloc: Global, size: u8) -> Result<Arrays, AllocError>
     requires { size ≤ 40 }
-    ensures { IfOk result (λ arrays. declarations_of arrays ≡ declared (codes "g") (size * size) ∷ declared (codes "h") (size * size) ∷ declared (codes "s") size ∷ []) }
+    ensures { IfOk result (λ arrays. declarations_of arrays ≡ declared (codes "g") (size * size)
+        ∷ declared (codes "h") (size * size) ∷ declared (codes "s") size ∷ []) }
 {
     let cells = u16::from(size) * u16::from(size);
     let mut declarations = Vec::new(alloc);
@@ -49,7 +50,8 @@ fn arrays(alloc: Global, size: u8) -> Result<Arrays, AllocError>
 // Sows the grid, sweeps it four times, and sums its rows.
 fn body(alloc: Global, size: u8, p: u8, q: u8, r: u8) -> Result<Block, AllocError>
     requires { 1 ≤ size }
-    ensures { IfOk result (λ block. sequence_of block ≡ sequence (sown size p q r ∷ swept size ∷ summed size ∷ [])) }
+    ensures { IfOk result (λ block. sequence_of block
+        ≡ sequence (sown size p q r ∷ swept size ∷ summed size ∷ [])) }
 {
     let mut statements = Vec::new(alloc);
     statements.push(sown(alloc, size, p, q, r)?)?;
@@ -93,7 +95,8 @@ fn moved(alloc: Global, size: u8, coordinate: Expr, by: u8) -> Result<Expr, Allo
 
 // The index of a row and a column.
 fn place_at(alloc: Global, size: u8, row: Expr, column: Expr) -> Result<Expr, AllocError>
-    ensures { IfOk result (λ e. expression_of e ≡ place_at size (expression_of row) (expression_of column)) }
+    ensures { IfOk result (λ e. expression_of e
+        ≡ place_at size (expression_of row) (expression_of column)) }
 {
     let first = times(alloc, row, size)?;
     plus(alloc, first, column)
@@ -107,7 +110,8 @@ fn cell_at(
     row: Expr,
     column: Expr,
 ) -> Result<Expr, AllocError>
-    ensures { IfOk result (λ e. expression_of e ≡ cell_at size array.now (expression_of row) (expression_of column)) }
+    ensures { IfOk result (λ e. expression_of e ≡ cell_at size array.now (expression_of row)
+        (expression_of column)) }
 {
     cell(alloc, array, place_at(alloc, size, row, column)?)
 }
@@ -135,14 +139,16 @@ fn set_cell(alloc: Global, size: u8, array: &[u8], value: Expr) -> Result<Stmt, 
 
 // The cell of the grid that is so many columns further on, and so many rows.
 fn cell_beside(alloc: Global, size: u8, by: u8) -> Result<Expr, AllocError>
-    ensures { IfOk result (λ e. expression_of e ≡ cell_at size (codes "g") row_number (moved size column_number by)) }
+    ensures { IfOk result (λ e. expression_of e
+        ≡ cell_at size (codes "g") row_number (moved size column_number by)) }
 {
     let column = moved(alloc, size, column_number(alloc)?, by)?;
     cell_at(alloc, size, b"g", row_number(alloc)?, column)
 }
 
 fn cell_below(alloc: Global, size: u8, by: u8) -> Result<Expr, AllocError>
-    ensures { IfOk result (λ e. expression_of e ≡ cell_at size (codes "g") (moved size row_number by) column_number) }
+    ensures { IfOk result (λ e. expression_of e
+        ≡ cell_at size (codes "g") (moved size row_number by) column_number) }
 {
     let row = moved(alloc, size, row_number(alloc)?, by)?;
     cell_at(alloc, size, b"g", row, column_number(alloc)?)

@@ -24,13 +24,15 @@ earliest None number wanted found = if is_word wanted found then None else Some 
 
 -- the lines behind this line, which is the one that is wanted or isn't
 abbrev pub after_line : ℕ → List ℕ → List ℕ → Compared → Compared
-after_line number wanted found rest = record rest { differs = if is_word wanted found then rest.differs else Some (number + 1) }
+after_line number wanted found rest =
+    record rest { differs = if is_word wanted found then rest.differs else Some (number + 1) }
 
 -- The wanted lines against those of an output, of which so many stand before. Behind the last newline of what is wanted
 -- the journal begins. A line that is missing, or that no newline ends, is bad.
 abbrev pub compared : ℕ → List (List ℕ) → List (List ℕ) → Result Compared TextFault
 compared number (wanted ∷ next ∷ more) (found ∷ after ∷ others) =
-    and_then (λ rest. Ok (after_line number wanted found rest)) (compared (number + 1) (next ∷ more) (after ∷ others))
+    and_then (λ rest. Ok (after_line number wanted found rest))
+    (compared (number + 1) (next ∷ more) (after ∷ others))
 compared number (wanted ∷ next ∷ more) found = Err (BadLine (number + 1))
 compared number last found = Ok record { differs = None; lines = number; rest = found }
 
@@ -55,8 +57,10 @@ verdict_of plan (Some line) list = verdict.Differs line
 verdict_of plan None list = of_fault (first_fault_of plan list) (length list)
 
 abbrev pub audited : Plan → Compared → Result Verdict TextFault
-audited plan found = and_then (λ list. Ok (verdict_of plan found.differs list)) (behind found.lines (journal_in plan found.rest))
+audited plan found = and_then (λ list. Ok (verdict_of plan found.differs list))
+    (behind found.lines (journal_in plan found.rest))
 
 -- the verdict on an output, by the array lines that are wanted; or the first fault of its text
 abbrev pub audit_of : Plan → List ℕ → List ℕ → Result Verdict TextFault
-audit_of plan wanted output = and_then (audited plan) (compared 0 (lines_of wanted) (lines_of output))
+audit_of plan wanted output =
+    and_then (audited plan) (compared 0 (lines_of wanted) (lines_of output))

@@ -31,12 +31,18 @@ cause_text (Unfinished site) = codes "s" ++ decimal site ++ codes " is unfinishe
 -- the line of a verdict
 abbrev pub verdict_text : Verdict → List ℕ
 verdict_text (verdict.Legal entries) = codes "legal " ++ decimal entries ++ 10 ∷ []
-verdict_text (verdict.Differs line) = codes "illegal: line " ++ decimal line ++ codes " differs" ++ 10 ∷ []
-verdict_text (verdict.Illegal found) = codes "illegal: entry " ++ decimal found.place ++ codes ", " ++ cause_text found.why ++ 10 ∷ []
+verdict_text (verdict.Differs line) =
+    codes "illegal: line " ++ decimal line ++ codes " differs" ++ 10 ∷ []
+verdict_text (verdict.Illegal found) =
+    codes "illegal: entry " ++ decimal found.place ++ codes ", " ++ cause_text found.why ++ 10 ∷ []
 
 -- the line that tells a fault of the second part; want of memory has none
 abbrev pub text_fault_text : TextFault → List ℕ
-text_fault_text (fault.BadLine line) = codes "syntax: bad line " ++ decimal line ++ codes " after %%" ++ 10 ∷ []
-text_fault_text (fault.BadNumber line) = codes "syntax: bad number in line " ++ decimal line ++ codes " after %%" ++ 10 ∷ []
-text_fault_text (fault.WrongCount said found) = codes "syntax: " ++ decimal said ++ codes " transfers said, " ++ decimal found ++ codes " found" ++ 10 ∷ []
+text_fault_text (fault.BadLine line) =
+    codes "syntax: bad line " ++ decimal line ++ codes " after %%" ++ 10 ∷ []
+text_fault_text (fault.BadNumber line) =
+    codes "syntax: bad number in line " ++ decimal line ++ codes " after %%" ++ 10 ∷ []
+text_fault_text (fault.WrongCount said found) =
+    codes "syntax: " ++ decimal said ++ codes " transfers said, " ++ decimal found
+    ++ codes " found" ++ 10 ∷ []
 text_fault_text fault.Memory = []

@@ -7,7 +7,11 @@ use Rattle.run_audit.specs.declared.auditing.ArrayLines.{ArrayLines}
 use Rattle.run_audit.specs.Audit.{Compared}
 
 abbrev pub compared_seen : ArrayLines → Compared
-compared_seen found = record { differs = found.differs; lines = found.lines; rest = lines_of found.rest.now }
+compared_seen found = record {
+  differs = found.differs;
+  lines = found.lines;
+  rest = lines_of found.rest.now;
+}
 
 -- a fault that tells a line tells one up to this
 abbrev pub IsWithin : ℕ → TextFault → Type 0

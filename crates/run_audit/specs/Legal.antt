@@ -11,7 +11,8 @@ use Rattle.run_audit.specs.Audit.{audit_of}
 use Rattle.run_audit.specs.declared.verdict.Verdict.TheVariants as verdict
 
 -- the output is these array lines, and then the text of a list of so many entries that is complete for the plan
-pub record IsLegalOutput (plan : Plan) (arrays : List ℕ) (entries : ℕ) (output : List ℕ) : Type 0 where
+pub record IsLegalOutput (plan : Plan) (arrays : List ℕ) (entries : ℕ)
+    (output : List ℕ) : Type 0 where
   pub list : List Entry
   pub complete : IsComplete plan list
   pub many : length list ≡ entries
@@ -19,5 +20,7 @@ pub record IsLegalOutput (plan : Plan) (arrays : List ℕ) (entries : ℕ) (outp
 
 -- an audit finds so many entries legal exactly in such an output
 abbrev pub LegalOutputsAreFound : Type 0
-LegalOutputsAreFound = (plan : Plan) → IsPlan plan → (program : ProgramTree) (store : Store) (output : List ℕ) (entries : ℕ)
-    → (audit_of plan (array_text program store) output ≡ Ok (verdict.Legal entries)) ↔ IsLegalOutput plan (array_text program store) entries output
+LegalOutputsAreFound = (plan : Plan) → IsPlan plan
+    → (program : ProgramTree) (store : Store) (output : List ℕ) (entries : ℕ)
+    → (audit_of plan (array_text program store) output ≡ Ok (verdict.Legal entries))
+    ↔ IsLegalOutput plan (array_text program store) entries output

@@ -21,7 +21,8 @@ use transfer_table::{Entries, Plan, first_fault};
 pub fn audit(alloc: Global, accepted: &Accepted<'_>, output: &[u8]) -> Result<Verdict, TextFault>
     requires { length output.now ≤ 4194304 }
     ensures { Reads (λ verdict. verdict) (audit_of accepted.now.plan
-        (array_text (program_of accepted.now.program) (final_store (program_of accepted.now.program))) output.now) result }
+        (array_text (program_of accepted.now.program)
+        (final_store (program_of accepted.now.program))) output.now) result }
 {
     let wanted = wanted_lines(alloc, accepted)?;
     audit_against(alloc, accepted.plan(), &wanted, output)
@@ -29,7 +30,8 @@ pub fn audit(alloc: Global, accepted: &Accepted<'_>, output: &[u8]) -> Result<Ve
 
 // The array lines of the program.
 fn wanted_lines(alloc: Global, accepted: &Accepted<'_>) -> Result<Vec<u8>, AllocError>
-    ensures { IfOk result (λ text. text.items ≡ array_text (program_of accepted.now.program) (final_store (program_of accepted.now.program))) }
+    ensures { IfOk result (λ text. text.items ≡ array_text (program_of accepted.now.program)
+        (final_store (program_of accepted.now.program))) }
 {
     let program = accepted.program();
     let store = run_one(alloc, program)?;

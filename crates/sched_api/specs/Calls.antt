@@ -28,16 +28,24 @@ blocked_told = record { call = Blocked; child = 0; count = 0 }
 
 -- Of a register with a parent: the port's register was done and the parent heard of the child, or the port was refused and
 -- the parent is as it was. A hart that shares the table with no other one is refused only at a site that it registered.
-abbrev pub IsHeard : {S H : Type 0} → (H → Told) → (S → Told → S → Type 0) → ℕ → PortView → S → Result H Taken → PortView → S → Type 0
-IsHeard told hears child view parent (Ok heard) view' parent' = Registers view child (Ok tt) view' × (told heard ≡ registered_told child) × hears parent (registered_told child) parent'
-IsHeard told hears child view parent (Err taken) view' parent' = Registers view child (Err taken) view' × (parent' ≡ parent)
+abbrev pub IsHeard : {S H : Type 0} → (H → Told) → (S → Told → S → Type 0) → ℕ → PortView → S
+    → Result H Taken → PortView → S → Type 0
+IsHeard told hears child view parent (Ok heard) view' parent' =
+    Registers view child (Ok tt) view' × (told heard ≡ registered_told child)
+    × hears parent (registered_told child) parent'
+IsHeard told hears child view parent (Err taken) view' parent' =
+    Registers view child (Err taken) view' × (parent' ≡ parent)
 
 -- Of a try to enter a child: the hart is inside and was answered by the child, or the port was refused and the child is as it
 -- was.
-abbrev pub Lends : {S C : Type 0} → (S → Next C → S → Type 0) → ℕ → PortView → S → Lent C → PortView → S → Type 0
-Lends answers site view child (Inside next) view' child' = (view' ≡ entered view site) × answers child next child'
-Lends answers site view child (NotWanted shown) view' child' = (view' ≡ view) × (is_wanted shown ≡ false) × (child' ≡ child)
-Lends answers site view child (Moved read found) view' child' = (view' ≡ view) × (is_wanted read ≡ true) × (read ≢ found) × (child' ≡ child)
+abbrev pub Lends : {S C : Type 0} → (S → Next C → S → Type 0) → ℕ → PortView → S → Lent C
+    → PortView → S → Type 0
+Lends answers site view child (Inside next) view' child' =
+    (view' ≡ entered view site) × answers child next child'
+Lends answers site view child (NotWanted shown) view' child' =
+    (view' ≡ view) × (is_wanted shown ≡ false) × (child' ≡ child)
+Lends answers site view child (Moved read found) view' child' =
+    (view' ≡ view) × (is_wanted read ≡ true) × (read ≢ found) × (child' ≡ child)
 
 -- Of a try to enter a child: the port's count of refusals rose unless the hart is inside.
 abbrev pub RoseUnlessLent : {C : Type 0} → Lent C → ℕ → ℕ → Type 0

@@ -12,7 +12,8 @@ pub record WishList : Type 0 where
 
 -- the child at the end as often as it asks, as far as there is room
 abbrev pub with_wishes : WishList → ℕ → ℕ → WishList
-with_wishes w child count = record w { sites = w.sites ++ replicate (min count (w.room - length w.sites)) child }
+with_wishes w child count =
+    record w { sites = w.sites ++ replicate (min count (w.room - length w.sites)) child }
 
 -- no wish of the child
 abbrev pub without_child : WishList → ℕ → WishList

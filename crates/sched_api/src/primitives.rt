@@ -18,7 +18,8 @@ pub fn sched_register<P: Port, S: Scheduler>(
 ) -> Result<S::Heard, Taken>
     requires known { IsSite (P.seen port.old).plan site }
     requires child { (P.seen port.old).owner ≡ parent_of (P.seen port.old).plan site }
-    ensures does { IsHeard S.Heard.heard S.hears site (P.seen port.old) parent.old result (P.seen port.new) parent.new }
+    ensures does { IsHeard S.Heard.heard S.hears site (P.seen port.old) parent.old result
+        (P.seen port.new) parent.new }
     ensures count { RoseIfErr result (P.refused port.old) (P.refused port.new) }
     ensures site { S.site_of parent.new ≡ S.site_of parent.old }
     ensures kept { IsPortView (P.seen port.new) }
@@ -99,8 +100,10 @@ pub fn sched_enter<P: Port, S: Scheduler>(
     sh: S::Hold,
 ) -> Lent<S::Ctx>
     requires known { IsSite (P.seen port.old).plan (S.site_of child.old) }
-    requires child { (P.seen port.old).owner ≡ parent_of (P.seen port.old).plan (S.site_of child.old) }
-    ensures does { Lends S.answers (S.site_of child.old) (P.seen port.old) child.old result (P.seen port.new) child.new }
+    requires child { (P.seen port.old).owner
+        ≡ parent_of (P.seen port.old).plan (S.site_of child.old) }
+    ensures does { Lends S.answers (S.site_of child.old) (P.seen port.old) child.old result
+        (P.seen port.new) child.new }
     ensures count { RoseUnlessLent result (P.refused port.old) (P.refused port.new) }
     ensures site { S.site_of child.new ≡ S.site_of child.old }
     ensures kept { IsPortView (P.seen port.new) }

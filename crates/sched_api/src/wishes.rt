@@ -48,7 +48,8 @@ impl Wishes {
 
     /// Takes the oldest wish, if there is one.
     pub fn take_oldest(&mut self) -> Option<u16>
-        ensures some { IfSome result (λ site. self.old ≡ record self.new { sites = site ∷ self.new.sites }) }
+        ensures some { IfSome result
+            (λ site. self.old ≡ record self.new { sites = site ∷ self.new.sites }) }
         ensures none { IfNone result ((self.old.sites ≡ []) × (self.new ≡ self.old)) }
     {
         self.sites.pop_front()

@@ -156,7 +156,8 @@ fn times(turns: u64, number: u64) -> u64
 
 // The pieces of a team of so many members and phases, with so many inside each turn of all phases.
 fn pieces_of_team(members: u64, phases: u64, turns: u64, inside: u64) -> u64
-    ensures { (each : ℕ) → inside ≡ capped each → result ≡ capped (members * phases + turns * each) }
+    ensures { (each : ℕ) → inside ≡ capped each
+        → result ≡ capped (members * phases + turns * each) }
 {
     members
         .saturating_mul(phases)

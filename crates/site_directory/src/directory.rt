@@ -31,7 +31,10 @@ impl<'a, S: Drop> SiteLine<'a, S> {
     /// it found none before.
     pub fn find(&mut self) -> Option<&'a S>
         ensures cell { self.new.note.cell ≡ self.old.note.cell }
-        ensures found { MatchOption result ((self.old.note.known ≡ None) × (self.new.note.known ≡ None)) (λ shared. (self.new.note.known ≡ Some shared.now) × Agrees self.old.note.known shared.now) }
+        ensures found { MatchOption result ((self.old.note.known ≡ None)
+            × (self.new.note.known ≡ None))
+            (λ shared. (self.new.note.known ≡ Some shared.now)
+            × Agrees self.old.note.known shared.now) }
     {
         self.cell.get_as(&mut self.note)
     }
@@ -56,7 +59,8 @@ impl<'a, S: Drop> SiteLine<'a, S> {
     /// stands there.
     pub fn publish(&mut self, shared: Box<S>) -> Result<&'a S, Box<S>>
         ensures cell { self.new.note.cell ≡ self.old.note.cell }
-        ensures gives { MatchResult result (λ published. published.now ≡ shared.value) (λ back. back.value ≡ shared.value) }
+        ensures gives { MatchResult result (λ published. published.now ≡ shared.value)
+            (λ back. back.value ≡ shared.value) }
         ensures first { IfOk result (λ published. self.old.note.known ≡ None) }
         ensures known { IfOk result (λ published. self.new.note.known ≡ Some shared.value) }
         ensures full { IfErr result (λ back. IsSome self.new.note.known) }
@@ -87,7 +91,8 @@ pub fn lines<'a, S: Drop>(
     cells: &'a [OnceBox<S>],
 ) -> Result<Vec<SiteLine<'a, S>>, AllocError>
     ensures count { IfOk result (λ lines. vec_len lines ≡ length cells.now) }
-    ensures order { IfOk result (λ lines. map (λ line. line.note.cell) lines.items ≡ map cell_name cells.now) }
+    ensures order { IfOk result
+        (λ lines. map (λ line. line.note.cell) lines.items ≡ map cell_name cells.now) }
 {
     let mut lines = Vec::with_capacity(alloc, cells.len())?;
     for cell in cells {

@@ -24,7 +24,8 @@ pub record IsBack (h after : PortView) : Type 0 where
 
 -- where no other hart shares the table, each child of the hart's owner was unregistered
 abbrev pub ChildrenOver : PortView → Type 0
-ChildrenOver h = h.alone ≡ true → (c : ℕ) → IsSite h.plan c → parent h.plan c ≡ h.owner → 1 ≤ unregisters c h.mine
+ChildrenOver h = h.alone ≡ true → (c : ℕ) → IsSite h.plan c → parent h.plan c ≡ h.owner
+    → 1 ≤ unregisters c h.mine
 
 -- the hart has looked at sites, and at the owner: it made no entry
 pub record HasLooked (h after : PortView) : Type 0 where

@@ -25,7 +25,8 @@ pub record AreLinkedFrom (p : Plan) (n : ℕ) (first next : List ℕ) : Type 0 w
   pub first_size : length first ≡ site_count p + 1
   pub next_size : length next ≡ site_count p + 1
   pub children : (s : ℕ) → s ≤ site_count p → NextChild p s n (site_if (slice_index first s))
-  pub siblings : (c : ℕ) → IsSite p c → n < c → NextChild p (parent p c) c (site_if (slice_index next c))
+  pub siblings : (c : ℕ) → IsSite p c → n < c
+      → NextChild p (parent p c) c (site_if (slice_index next c))
 
 -- all links of a plan
 pub record AreLinked (p : Plan) (first next : List ℕ) : Type 0 where

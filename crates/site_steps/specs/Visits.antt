@@ -21,8 +21,10 @@ IsBefore (Some next) c = c < next
 
 -- where no other hart shares the table, the children before the next one were unregistered
 abbrev pub ChildrenOverBefore : PortView → Option ℕ → Type 0
-ChildrenOverBefore h next = h.alone ≡ true → (c : ℕ) → IsSite h.plan c → parent h.plan c ≡ h.owner → IsBefore next c → 1 ≤ unregisters c h.mine
+ChildrenOverBefore h next = h.alone ≡ true → (c : ℕ) → IsSite h.plan c → parent h.plan c ≡ h.owner
+    → IsBefore next c → 1 ≤ unregisters c h.mine
 
 -- the hart has seen the children before the next one gone
 abbrev pub SeenGoneBefore : PortView → Option ℕ → Type 0
-SeenGoneBefore h next = (c : ℕ) → IsSite h.plan c → parent h.plan c ≡ h.owner → IsBefore next c → is_in h.gone c ≡ true
+SeenGoneBefore h next = (c : ℕ) → IsSite h.plan c → parent h.plan c ≡ h.owner → IsBefore next c
+    → is_in h.gone c ≡ true

@@ -11,7 +11,8 @@ pub trait PatientPort: Port {
     /// Looks at the site until it is gone. Where no other hart shares the table, the hart has unregistered it.
     fn until_gone(&mut self, hold: Self::Hold, site: u16)
         requires known { IsSite (Self.seen self.old).plan site }
-        requires over { (Self.seen self.old).alone ≡ true → 1 ≤ unregisters site (Self.seen self.old).mine }
+        requires over { (Self.seen self.old).alone ≡ true
+            → 1 ≤ unregisters site (Self.seen self.old).mine }
         ensures does { Self.seen self.new ≡ sees_gone (Self.seen self.old) site }
         ensures kept { IsPortView (Self.seen self.new) };
 

@@ -18,12 +18,15 @@ cell_fault line (Some cell) = Some (Overlap line cell)
 -- The first of the rounds in which two pieces overlap, and the least cell on which they do.
 abbrev pub rounds_fault : Arrays → ℕ → List (List Steps) → Option WalkFault
 rounds_fault arrays line [] = None
-rounds_fault arrays line (round ∷ more) = option_or (cell_fault line (overlap arrays (cells_of arrays) round)) (rounds_fault arrays line more)
+rounds_fault arrays line (round ∷ more) =
+    option_or (cell_fault line (overlap arrays (cells_of arrays) round))
+    (rounds_fault arrays line more)
 
 -- The first of the sites with an overlap.
 abbrev pub first_overlap : Arrays → List Site → Option WalkFault
 first_overlap arrays [] = None
-first_overlap arrays (site ∷ more) = option_or (rounds_fault arrays site.line site.rounds) (first_overlap arrays more)
+first_overlap arrays (site ∷ more) =
+    option_or (rounds_fault arrays site.line site.rounds) (first_overlap arrays more)
 
 -- What was found, or else the first overlap of sites.
 abbrev pub or_overlap : Arrays → List Site → Option WalkFault → Option WalkFault

@@ -8,10 +8,12 @@ use Rattle.site_walk.specs.FirstOverlap.{overlap_of}
 
 -- No index is found exactly where each static index is inside its array.
 abbrev pub AreOutsidesFound : Type 0
-AreOutsidesFound = (program : ProgramTree) → (out_of_range_of program ≡ None) ↔ IsTrue (has_indices_inside program)
+AreOutsidesFound = (program : ProgramTree) → (out_of_range_of program ≡ None)
+    ↔ IsTrue (has_indices_inside program)
 
 -- In a program whose names are known and whose indexes are inside, no overlap is found exactly where the pieces of each
 -- round of each site are apart.
 abbrev pub AreOverlapsFound : Type 0
-AreOverlapsFound = (program : ProgramTree) → IsTrue (has_only_known_names program) → IsTrue (has_indices_inside program) →
+AreOverlapsFound = (program : ProgramTree) → IsTrue (has_only_known_names program)
+    → IsTrue (has_indices_inside program) →
     (overlap_of program ≡ None) ↔ HasApartSites program

@@ -51,7 +51,8 @@ with_static number cell inside touch table =
       everywhere = table.everywhere;
       read = cond all.written table.read (added number all table.read);
       written = cond all.written (added number all table.written) table.written;
-      suspect = table.suspect || not inside || clashes (joined all (touched_at table.everywhere number));
+      suspect = table.suspect || not inside
+          || clashes (joined all (touched_at table.everywhere number));
     }
 
 -- With a touch of all cells of an array.
@@ -63,14 +64,16 @@ with_dynamic number touch table =
       everywhere = slice_set table.everywhere number all;
       read = table.read;
       written = table.written;
-      suspect = table.suspect || clashes (joined all (touched_at table.read number)) || clashes (joined all (touched_at table.written number));
+      suspect = table.suspect || clashes (joined all (touched_at table.read number))
+          || clashes (joined all (touched_at table.written number));
     }
 
 -- With a visit of an array under an index.
 abbrev pub with_touch : Arrays → Touched → List ℕ → Option ℤ → Table → Table
 with_touch arrays touch array None table = with_dynamic (number_of arrays array) touch table
 with_touch arrays touch array (Some index) table =
-    with_static (number_of arrays array) (cell_of arrays array false index) (is_inside (length_of arrays array) (Some index)) touch table
+    with_static (number_of arrays array) (cell_of arrays array false index)
+    (is_inside (length_of arrays array) (Some index)) touch table
 
 -- The touch of a piece.
 abbrev pub touch_of : ℕ → Bool → Touched
@@ -80,7 +83,8 @@ touch_of piece writes = record { by = One piece; written = writes }
 abbrev pub with_visits : Arrays → ℕ → List Visit → Table → Table
 with_visits arrays piece [] table = table
 with_visits arrays piece (v ∷ more) table =
-    with_visits arrays piece more (with_touch arrays (touch_of piece v.writes) v.array v.index table)
+    with_visits arrays piece more
+    (with_touch arrays (touch_of piece v.writes) v.array v.index table)
 
 -- With all that a piece does.
 abbrev pub with_piece : Arrays → ℕ → Steps → Table → Table
@@ -89,8 +93,10 @@ with_piece arrays piece steps table = with_visits arrays piece (walk arrays step
 -- With all that pieces do, numbered from one on.
 abbrev pub with_pieces : Arrays → ℕ → List Steps → Table → Table
 with_pieces arrays piece [] table = table
-with_pieces arrays piece (steps ∷ more) table = with_pieces arrays (piece + 1) more (with_piece arrays piece steps table)
+with_pieces arrays piece (steps ∷ more) table =
+    with_pieces arrays (piece + 1) more (with_piece arrays piece steps table)
 
 -- What was done to a cell, by static and by dynamic indexes.
 abbrev pub done_at : Arrays → Table → ℕ → Touched
-done_at arrays table cell = joined (touched_at table.cells cell) (touched_at table.everywhere (array_at arrays cell))
+done_at arrays table cell =
+    joined (touched_at table.cells cell) (touched_at table.everywhere (array_at arrays cell))

@@ -13,12 +13,14 @@ use Rattle.site_walk.specs.declared.fault.WalkFault.TheVariants.{OutOfRange}
 -- What is wrong with an index of an array of this length.
 abbrev pub index_fault : ℕ → ℕ → Option ℤ → Option WalkFault
 index_fault line length None = None
-index_fault line length (Some index) = if is_inside length (Some index) then None else Some (OutOfRange line index length)
+index_fault line length (Some index) =
+    if is_inside length (Some index) then None else Some (OutOfRange line index length)
 
 -- The first fault of an index in a walk.
 abbrev pub first_outside : Arrays → List Visit → Option WalkFault
 first_outside arrays [] = None
-first_outside arrays (v ∷ more) = option_or (index_fault v.line (length_of arrays v.array) v.index) (first_outside arrays more)
+first_outside arrays (v ∷ more) =
+    option_or (index_fault v.line (length_of arrays v.array) v.index) (first_outside arrays more)
 
 -- What was found, or else the first fault of an index in the walk through steps.
 abbrev pub or_outside : Arrays → Steps → Option WalkFault → Option WalkFault

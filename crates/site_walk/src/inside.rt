@@ -24,7 +24,8 @@ fn index_outside(
     index: &Expr,
 ) -> Option<WalkFault>
     ensures { result ≡ index_fault line (length_of layout.now array.now)
-        (visit layout.now line false (vars_of scope.now) array.now (expression_of index.now)).index }
+        (visit layout.now line false (vars_of scope.now) array.now
+        (expression_of index.now)).index }
 {
     if is_dynamic(index) {
         return None;
@@ -52,7 +53,8 @@ fn keep_index(
     found: &mut Option<WalkFault>,
 )
     ensures { found.new ≡ option_or found.old (index_fault line (length_of layout.now array.now)
-        (visit layout.now line false (vars_of scope.now) array.now (expression_of index.now)).index) }
+        (visit layout.now line false (vars_of scope.now) array.now
+        (expression_of index.now)).index) }
 {
     if found.is_none() {
         *found = index_outside(layout, line, scope, array, index);
@@ -81,7 +83,9 @@ fn keep_reads(layout: &Layout, line: u32, scope: &Scope, expr: &Expr, found: &mu
 
 // Whether the text of a statement shows that each static index of it is inside its array.
 fn is_settled<'s>(alloc: Global, layout: &Layout, statement: &'s Stmt, scope: &'s Scope<'s>) -> bool
-    ensures { OnTrue result (first_outside layout.now (walk layout.now (statement_work (statement_of statement.now) (vars_of scope.now))) ≡ None) }
+    ensures { OnTrue result (first_outside layout.now
+        (walk layout.now (statement_work (statement_of statement.now) (vars_of scope.now)))
+        ≡ None) }
 {
     statement_pays(statement) && indices_are_inside(alloc, layout, statement, scope)
 }
@@ -95,7 +99,8 @@ fn keep_unless_settled<'s>(
     scope: &'s Scope<'s>,
     found: &mut Option<WalkFault>,
 )
-    ensures { found.new ≡ or_outside layout.now (statement_work (statement_of statement.now) (vars_of scope.now)) found.old }
+    ensures { found.new ≡ or_outside layout.now (statement_work (statement_of statement.now)
+        (vars_of scope.now)) found.old }
 {
     if is_settled(alloc, layout, statement, scope) {
         return;
@@ -106,7 +111,8 @@ fn keep_unless_settled<'s>(
 /// Keeps the first fault of an index in a program's walk, unless something was found before. Statements of its body whose
 /// text shows that there is none are passed over.
 pub(crate) fn keep_body(alloc: Global, layout: &Layout, body: &Block, found: &mut Option<WalkFault>)
-    ensures { found.new ≡ or_outside layout.now (sequence_work (sequence_of body.now) []) found.old }
+    ensures { found.new ≡ or_outside layout.now
+        (sequence_work (sequence_of body.now) []) found.old }
 {
     for statement in &body.statements {
         keep_unless_settled(alloc, layout, statement, &Scope::Outermost, found);
@@ -121,7 +127,8 @@ fn keep_block<'s>(
     scope: &'s Scope<'s>,
     found: &mut Option<WalkFault>,
 )
-    ensures { found.new ≡ or_outside layout.now (sequence_work (sequence_of block.now) (vars_of scope.now)) found.old }
+    ensures { found.new ≡ or_outside layout.now
+        (sequence_work (sequence_of block.now) (vars_of scope.now)) found.old }
 {
     for statement in &block.statements {
         keep_statement(layout, statement, scope, found);
@@ -137,7 +144,8 @@ fn keep_statement<'s>(
     scope: &'s Scope<'s>,
     found: &mut Option<WalkFault>,
 )
-    ensures { found.new ≡ or_outside layout.now (statement_work (statement_of statement.now) (vars_of scope.now)) found.old }
+    ensures { found.new ≡ or_outside layout.now (statement_work (statement_of statement.now)
+        (vars_of scope.now)) found.old }
 {
     match statement {
         Stmt::Assign {
@@ -189,7 +197,9 @@ fn keep_loop<'s>(
     scope: &'s Scope<'s>,
     found: &mut Option<WalkFault>,
 )
-    ensures { found.new ≡ or_outside layout.now (loop var.now low high (sequence_work (sequence_of body.now)) (vars_of scope.now)) found.old }
+    ensures { found.new ≡ or_outside layout.now
+        (loop var.now low high (sequence_work (sequence_of body.now))
+        (vars_of scope.now)) found.old }
 {
     for number in low..high {
         let turn = Scope::Turn {
@@ -209,7 +219,8 @@ fn keep_branches<'s>(
     scope: &'s Scope<'s>,
     found: &mut Option<WalkFault>,
 )
-    ensures { found.new ≡ or_outside layout.now (branches_work (sequences_of branches.now) (vars_of scope.now)) found.old }
+    ensures { found.new ≡ or_outside layout.now (branches_work (sequences_of branches.now)
+        (vars_of scope.now)) found.old }
 {
     for branch in &branches.blocks {
         keep_block(layout, branch, scope, found);
@@ -227,7 +238,8 @@ fn keep_phases<'s>(
     scope: &'s Scope<'s>,
     found: &mut Option<WalkFault>,
 )
-    ensures { found.new ≡ or_outside layout.now (phases_work (sequences_of phases.now) var.now low high (vars_of scope.now)) found.old }
+    ensures { found.new ≡ or_outside layout.now
+        (phases_work (sequences_of phases.now) var.now low high (vars_of scope.now)) found.old }
 {
     for phase in &phases.blocks {
         keep_loop(layout, phase, var, low, high, scope, found);

@@ -85,7 +85,8 @@ impl Layer {
     /// Adds what is done at a place. The result is what is done there in all.
     pub(crate) fn add(&mut self, place: usize, touched: Touched) -> Touched
         ensures all { result ≡ joined touched (touched_at self.old place) }
-        ensures added { self.new ≡ slice_set self.old place (joined touched (touched_at self.old place)) }
+        ensures added { self.new
+            ≡ slice_set self.old place (joined touched (touched_at self.old place)) }
     {
         let all = touched.with(self.get(place));
         self.put(place, all);

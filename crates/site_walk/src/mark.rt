@@ -22,7 +22,8 @@ fn mark_index(
     table: &mut Table,
 )
     ensures { table.new ≡ with_touch layout.now (touch_of piece writes) array.now
-        (visit layout.now 0 writes (vars_of scope.now) array.now (expression_of index.now)).index table.old }
+        (visit layout.now 0 writes (vars_of scope.now) array.now
+        (expression_of index.now)).index table.old }
 {
     let place = layout.place_of(array);
     let touch = Touched {
@@ -68,7 +69,8 @@ pub(crate) fn mark_block<'s>(
     scope: &'s Scope<'s>,
     table: &mut Table,
 )
-    ensures { table.new ≡ with_piece layout.now piece (sequence_work (sequence_of block.now) (vars_of scope.now)) table.old }
+    ensures { table.new ≡ with_piece layout.now piece
+        (sequence_work (sequence_of block.now) (vars_of scope.now)) table.old }
 {
     for statement in &block.statements {
         mark_statement(layout, piece, statement, scope, table);
@@ -84,7 +86,8 @@ fn mark_statement<'s>(
     scope: &'s Scope<'s>,
     table: &mut Table,
 )
-    ensures { table.new ≡ with_piece layout.now piece (statement_work (statement_of statement.now) (vars_of scope.now)) table.old }
+    ensures { table.new ≡ with_piece layout.now piece (statement_work (statement_of statement.now)
+        (vars_of scope.now)) table.old }
 {
     match statement {
         Stmt::Assign {
@@ -137,7 +140,9 @@ pub(crate) fn mark_loop<'s>(
     scope: &'s Scope<'s>,
     table: &mut Table,
 )
-    ensures { table.new ≡ with_piece layout.now piece (loop var.now low high (sequence_work (sequence_of body.now)) (vars_of scope.now)) table.old }
+    ensures { table.new ≡ with_piece layout.now piece
+        (loop var.now low high (sequence_work (sequence_of body.now))
+        (vars_of scope.now)) table.old }
 {
     for number in low..high {
         let turn = Scope::Turn {
@@ -158,7 +163,8 @@ fn mark_branches<'s>(
     scope: &'s Scope<'s>,
     table: &mut Table,
 )
-    ensures { table.new ≡ with_piece layout.now piece (branches_work (sequences_of branches.now) (vars_of scope.now)) table.old }
+    ensures { table.new ≡ with_piece layout.now piece (branches_work (sequences_of branches.now)
+        (vars_of scope.now)) table.old }
 {
     for branch in &branches.blocks {
         mark_block(layout, piece, branch, scope, table);
@@ -177,7 +183,8 @@ fn mark_phases<'s>(
     scope: &'s Scope<'s>,
     table: &mut Table,
 )
-    ensures { table.new ≡ with_piece layout.now piece (phases_work (sequences_of phases.now) var.now low high (vars_of scope.now)) table.old }
+    ensures { table.new ≡ with_piece layout.now piece
+        (phases_work (sequences_of phases.now) var.now low high (vars_of scope.now)) table.old }
 {
     for phase in &phases.blocks {
         mark_loop(layout, piece, phase, var, low, high, scope, table);

@@ -30,7 +30,9 @@ fn keep_par<'s>(
 )
     requires places { HasPlaces layout.now table.old }
     ensures places { HasPlaces layout.now table.new }
-    ensures found { found.new ≡ option_or found.old (rounds_fault layout.now line (branch_works (sequences_of branches.now) (vars_of scope.now) ∷ [])) }
+    ensures found { found.new
+        ≡ option_or found.old (rounds_fault layout.now line
+        (branch_works (sequences_of branches.now) (vars_of scope.now) ∷ [])) }
 {
     if found.is_none() {
         if let Some(cell) = overlap_of_branches(alloc, layout, branches, scope, table) {
@@ -58,7 +60,9 @@ fn keep_team<'s>(
 )
     requires places { HasPlaces layout.now table.old }
     ensures places { HasPlaces layout.now table.new }
-    ensures found { found.new ≡ option_or found.old (rounds_fault layout.now line (phase_rounds (sequences_of phases.now) var.now low high members (vars_of scope.now))) }
+    ensures found { found.new
+        ≡ option_or found.old (rounds_fault layout.now line
+        (phase_rounds (sequences_of phases.now) var.now low high members (vars_of scope.now))) }
 {
     for phase in &phases.blocks {
         keep_phase(
@@ -83,7 +87,10 @@ fn keep_phase<'s>(
 )
     requires places { HasPlaces layout.now table.old }
     ensures places { HasPlaces layout.now table.new }
-    ensures found { found.new ≡ option_or found.old (rounds_fault layout.now line (team_works var.now low high members (sequence_work (sequence_of phase.now)) (vars_of scope.now) ∷ [])) }
+    ensures found { found.new
+        ≡ option_or found.old (rounds_fault layout.now line
+        (team_works var.now low high members (sequence_work (sequence_of phase.now))
+        (vars_of scope.now) ∷ [])) }
 {
     if found.is_none() {
         if let Some(cell) = overlap_of_members(
@@ -110,7 +117,9 @@ pub(crate) fn seek_block<'s>(
 )
     requires places { HasPlaces layout.now table.old }
     ensures places { HasPlaces layout.now table.new }
-    ensures found { found.new ≡ or_overlap layout.now (sequence_sites (sequence_of block.now) (vars_of scope.now)) found.old }
+    ensures found { found.new
+        ≡ or_overlap layout.now (sequence_sites (sequence_of block.now)
+        (vars_of scope.now)) found.old }
 {
     for statement in &block.statements {
         seek_statement(alloc, layout, statement, scope, table, found);
@@ -129,7 +138,9 @@ fn seek_statement<'s>(
 )
     requires places { HasPlaces layout.now table.old }
     ensures places { HasPlaces layout.now table.new }
-    ensures found { found.new ≡ or_overlap layout.now (statement_sites (statement_of statement.now) (vars_of scope.now)) found.old }
+    ensures found { found.new
+        ≡ or_overlap layout.now (statement_sites (statement_of statement.now)
+        (vars_of scope.now)) found.old }
 {
     match statement {
         Stmt::Assign { .. } => {}
@@ -194,7 +205,9 @@ fn seek_loop<'s>(
 )
     requires places { HasPlaces layout.now table.old }
     ensures places { HasPlaces layout.now table.new }
-    ensures found { found.new ≡ or_overlap layout.now (loop_sites var.now low high (sequence_sites (sequence_of body.now)) (vars_of scope.now)) found.old }
+    ensures found { found.new
+        ≡ or_overlap layout.now (loop_sites var.now low high (sequence_sites (sequence_of body.now))
+        (vars_of scope.now)) found.old }
 {
     if sites_in_block(body) == 0 {
         return;
@@ -226,7 +239,9 @@ fn seek_branches<'s>(
 )
     requires places { HasPlaces layout.now table.old }
     ensures places { HasPlaces layout.now table.new }
-    ensures found { found.new ≡ or_overlap layout.now (branches_sites (sequences_of branches.now) (vars_of scope.now)) found.old }
+    ensures found { found.new
+        ≡ or_overlap layout.now (branches_sites (sequences_of branches.now)
+        (vars_of scope.now)) found.old }
 {
     for branch in &branches.blocks {
         seek_block(alloc, layout, branch, scope, table, found);
@@ -248,7 +263,9 @@ fn seek_phases<'s>(
 )
     requires places { HasPlaces layout.now table.old }
     ensures places { HasPlaces layout.now table.new }
-    ensures found { found.new ≡ or_overlap layout.now (phases_sites (sequences_of phases.now) var.now low high (vars_of scope.now)) found.old }
+    ensures found { found.new
+        ≡ or_overlap layout.now (phases_sites (sequences_of phases.now) var.now low high
+        (vars_of scope.now)) found.old }
 {
     for phase in &phases.blocks {
         seek_loop(alloc, layout, phase, var, low, high, scope, table, found);

@@ -30,7 +30,8 @@ fn clashes_on(layout: &Layout, table: &Table, cell: usize) -> bool
 // The least cell on which the pieces of a round clash.
 #[tactic(auto, using(crate::proofs::PieceLemmas::first_found, crate::proofs::PieceLemmas::first_later, crate::proofs::PieceLemmas::first_end))]
 fn least_clash(layout: &Layout, table: &Table) -> Option<usize>
-    ensures least { result ≡ first_from (λ cell. clashes (done_at layout.now table.now cell)) 0 (cells_of layout.now) }
+    ensures least { result ≡ first_from (λ cell. clashes (done_at layout.now table.now cell)) 0
+        (cells_of layout.now) }
     ensures small { IfSome result (λ cell. cell < 4096) }
 {
     for cell in 0..layout.cells() {
@@ -43,7 +44,9 @@ fn least_clash(layout: &Layout, table: &Table) -> Option<usize>
 
 // The least cell on which the pieces of a round clash. Mostly nothing is suspect, and no cell is looked at.
 fn least_overlap(layout: &Layout, table: &Table) -> Option<usize>
-    ensures least { result ≡ cond table.now.suspect (first_from (λ cell. clashes (done_at layout.now table.now cell)) 0 (cells_of layout.now)) None }
+    ensures least { result ≡ cond table.now.suspect
+        (first_from (λ cell. clashes (done_at layout.now table.now cell)) 0
+        (cells_of layout.now)) None }
     ensures small { IfSome result (λ cell. cell < 4096) }
 {
     if table.suspect {
@@ -55,7 +58,8 @@ fn least_overlap(layout: &Layout, table: &Table) -> Option<usize>
 
 // Marks what the branches of a `par` do, each as a piece.
 fn mark_pieces<'s>(layout: &Layout, branches: &'s Blocks, scope: &'s Scope<'s>, table: &mut Table)
-    ensures { table.new ≡ with_pieces layout.now 0 (branch_works (sequences_of branches.now) (vars_of scope.now)) table.old }
+    ensures { table.new ≡ with_pieces layout.now 0 (branch_works (sequences_of branches.now)
+        (vars_of scope.now)) table.old }
 {
     for (piece, branch) in branches.blocks.iter().enumerate() {
         mark_block(layout, piece, branch, scope, table);
@@ -73,7 +77,8 @@ pub(crate) fn overlap_of_branches<'s>(
 ) -> Option<usize>
     requires places { HasPlaces layout.now table.old }
     ensures places { HasPlaces layout.now table.new }
-    ensures found { result ≡ overlap layout.now (cells_of layout.now) (branch_works (sequences_of branches.now) (vars_of scope.now)) }
+    ensures found { result ≡ overlap layout.now (cells_of layout.now)
+        (branch_works (sequences_of branches.now) (vars_of scope.now)) }
     ensures small { IfSome result (λ cell. cell < 4096) }
 {
     if branches.blocks.len() < 2 {
@@ -100,7 +105,9 @@ fn mark_members<'s>(
     scope: &'s Scope<'s>,
     table: &mut Table,
 )
-    ensures { table.new ≡ with_pieces layout.now 0 (team_works var.now low high members (sequence_work (sequence_of phase.now)) (vars_of scope.now)) table.old }
+    ensures { table.new ≡ with_pieces layout.now 0
+        (team_works var.now low high members (sequence_work (sequence_of phase.now))
+        (vars_of scope.now)) table.old }
 {
     for member in 0..members {
         let start = start_of_member(low, high, members, member);
@@ -133,7 +140,9 @@ pub(crate) fn overlap_of_members<'s>(
 ) -> Option<usize>
     requires places { HasPlaces layout.now table.old }
     ensures places { HasPlaces layout.now table.new }
-    ensures found { result ≡ overlap layout.now (cells_of layout.now) (team_works var.now low high members (sequence_work (sequence_of phase.now)) (vars_of scope.now)) }
+    ensures found { result ≡ overlap layout.now (cells_of layout.now)
+        (team_works var.now low high members (sequence_work (sequence_of phase.now))
+        (vars_of scope.now)) }
     ensures small { IfSome result (λ cell. cell < 4096) }
 {
     if members < 2 {

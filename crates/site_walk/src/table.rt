@@ -26,7 +26,8 @@ pub(crate) struct Table {
 impl Table {
     /// A table for the arrays of a layout, with nothing done.
     pub(crate) fn new(alloc: Global, layout: &Layout) -> Result<Table, AllocError>
-        ensures { IfOk result (λ table. table ≡ nothing_done (cells_of layout.now) (length layout.now)) }
+        ensures { IfOk result (λ table. table
+            ≡ nothing_done (cells_of layout.now) (length layout.now)) }
     {
         let count = layout.count();
         Ok(Table {

@@ -26,9 +26,12 @@ pub fn walk_program(alloc: Global, program: &Program) -> Result<(), WalkFault>
     requires { AreSized (arrays_of (declarations_of program.now.arrays)) }
     ensures ok { OnOk result (walk_fault_of (program_of program.now) ≡ None) }
     ensures indices { OnOk result (IsTrue (has_indices_inside (program_of program.now))) }
-    ensures apart { OnOk result (IsTrue (has_only_known_names (program_of program.now)) → HasApartSites (program_of program.now)) }
+    ensures apart { OnOk result (IsTrue (has_only_known_names (program_of program.now))
+        → HasApartSites (program_of program.now)) }
 
-    ensures fault { IfErr result (λ fault. (fault ≡ WalkFault.Memory) ⊎ (walk_fault_of (program_of program.now) ≡ Some fault)) }
+    ensures fault { IfErr result
+        (λ fault. (fault ≡ WalkFault.Memory)
+        ⊎ (walk_fault_of (program_of program.now) ≡ Some fault)) }
 {
     let layout = match Layout::new(alloc, &program.arrays) {
         Ok(layout) => layout,

@@ -21,14 +21,19 @@ name_code = coded_list coded_ℕ
 abbrev pub expression_code : Expression → Gv
 expression_code (Number n) = gcons (gnum 0) (coded_ℤ.code n)
 expression_code (Var name) = gcons (gnum 1) (name_code.code name)
-expression_code (Read array index) = gcons (gnum 2) (gcons (name_code.code array) (expression_code index))
+expression_code (Read array index) =
+    gcons (gnum 2) (gcons (name_code.code array) (expression_code index))
 expression_code (Neg e) = gcons (gnum 3) (expression_code e)
-expression_code (Binary op a b) = gcons (gnum 4) (gcons (op_type.the_row.coded.code op) (gcons (expression_code a) (expression_code b)))
+expression_code (Binary op a b) =
+    gcons (gnum 4) (gcons (op_type.the_row.coded.code op)
+    (gcons (expression_code a) (expression_code b)))
 
 pub expression_inj : (x y : Expression) → expression_code x ≡ expression_code y → x ≡ y
 expression_inj (Number n) (Number m) p = ap Number (coded_ℤ.inj n m (ap tail p))
 expression_inj (Var v) (Var w) p = ap Var (name_code.inj v w (ap tail p))
-expression_inj (Read a i) (Read b j) p = let e = name_code.inj a b (ap (λ g. head (tail g)) p) in let f = expression_inj i j (ap (λ g. tail (tail g)) p) in cc
+expression_inj (Read a i) (Read b j) p =
+    let e = name_code.inj a b (ap (λ g. head (tail g)) p) in let f = expression_inj i j
+    (ap (λ g. tail (tail g)) p) in cc
 expression_inj (Neg e) (Neg f) p = ap Neg (expression_inj e f (ap tail p))
 expression_inj (Binary o a b) (Binary q c d) p =
     let same = op_type.the_row.coded.inj o q (ap (λ g. head (tail g)) p) in
@@ -39,14 +44,22 @@ expression_inj x y p = cc
 abbrev mutual
   pub statement_code : Statement → Gv
   statement_code (Assign line array index value) =
-      gcons (gnum 0) (gcons (gnum line) (gcons (name_code.code array) (gcons (expression_code index) (expression_code value))))
+      gcons (gnum 0) (gcons (gnum line)
+      (gcons (name_code.code array) (gcons (expression_code index) (expression_code value))))
   statement_code (For line var low high body) =
-      gcons (gnum 1) (gcons (gnum line) (gcons (name_code.code var) (gcons (coded_ℤ.code low) (gcons (coded_ℤ.code high) (sequence_code body)))))
+      gcons (gnum 1) (gcons (gnum line)
+      (gcons (name_code.code var)
+      (gcons (coded_ℤ.code low) (gcons (coded_ℤ.code high) (sequence_code body)))))
   statement_code (If line cond then_block else_block) =
-      gcons (gnum 2) (gcons (gnum line) (gcons (expression_code cond) (gcons (sequence_code then_block) (sequence_code else_block))))
+      gcons (gnum 2) (gcons (gnum line)
+      (gcons (expression_code cond)
+      (gcons (sequence_code then_block) (sequence_code else_block))))
   statement_code (Par line branches) = gcons (gnum 3) (gcons (gnum line) (sequences_code branches))
   statement_code (Team line var low high members phases) =
-      gcons (gnum 4) (gcons (gnum line) (gcons (name_code.code var) (gcons (coded_ℤ.code low) (gcons (coded_ℤ.code high) (gcons (coded_ℤ.code members) (sequences_code phases))))))
+      gcons (gnum 4) (gcons (gnum line)
+      (gcons (name_code.code var)
+      (gcons (coded_ℤ.code low)
+      (gcons (coded_ℤ.code high) (gcons (coded_ℤ.code members) (sequences_code phases))))))
 
   pub sequence_code : Sequence → Gv
   sequence_code ended = gnil

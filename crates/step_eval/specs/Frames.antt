@@ -23,9 +23,11 @@ statements_from block from = sequence (map statement_of (drop from block.stateme
 -- those around its turns.
 abbrev pub works_in : List Frame → Vars → List WorkAt
 works_in [] vars = []
-works_in (Statements block from ∷ below) vars = at (branch_of (statements_from block.now from)) vars ∷ works_in below vars
+works_in (Statements block from ∷ below) vars =
+    at (branch_of (statements_from block.now from)) vars ∷ works_in below vars
 works_in (Turns body next high ∷ below) [] = []
-works_in (Turns body next high ∷ below) (v ∷ outer) = at (member_of v.0 next high (sequence_of body.now)) outer ∷ works_in below outer
+works_in (Turns body next high ∷ below) (v ∷ outer) =
+    at (member_of v.0 next high (sequence_of body.now)) outer ∷ works_in below outer
 
 -- All loop variables around the next work, given those around the whole.
 abbrev pub vars_in : Frames → Vars → Vars
@@ -72,11 +74,14 @@ AreAll work frames = (around : Vars) → works_of frames around ≡ at work arou
 
 -- One more work has begun on top of this frame, with the variables around that were there.
 abbrev pub HasBegun : WorkTree → Frame → Frames → Frames → Type 0
-HasBegun work rest before after = (around : Vars) → works_of after around ≡ at work (vars_in before around) ∷ works_with rest before around
+HasBegun work rest before after =
+    (around : Vars) → works_of after around ≡ at work (vars_in before around)
+    ∷ works_with rest before around
 
 -- The top was taken off.
 abbrev pub IsEnded : Frames → Frames → Type 0
-IsEnded before after = (frames_in after ≡ reverse before.below.items) × (after.vars.items ≡ before.vars.items)
+IsEnded before after = (frames_in after ≡ reverse before.below.items)
+    × (after.vars.items ≡ before.vars.items)
 
 -- The first of these works has moved, and others with it have stayed.
 abbrev pub HaveMoved : Arrays → List WorkAt → Trace → List WorkAt → Trace → Type 0
@@ -87,14 +92,16 @@ HaveMoved arrays (w ∷ more) store after store_after =
 
 -- Whether a step was taken. If it was, the first work has moved; if not, there is none.
 abbrev pub Went : Arrays → Bool → List WorkAt → Trace → List WorkAt → Trace → Type 0
-Went arrays false works store after store_after = (works ≡ []) × (after ≡ works) × (store_after ≡ store)
+Went arrays false works store after store_after =
+    (works ≡ []) × (after ≡ works) × (store_after ≡ store)
 Went arrays true works store after store_after = HaveMoved arrays works store after store_after
 
 -- The loop on top has moved.
 abbrev pub HasTurned : Bor Block → ℤ → ℤ → Frames → Frames → Type 0
 HasTurned body next high before after =
     (arrays : Arrays) (around : Vars) (store : Trace) →
-    HaveMoved arrays (works_with (Turns body next high) before around) store (works_of after around) store
+    HaveMoved arrays (works_with (Turns body next high) before around) store
+    (works_of after around) store
 
 -- The first work has moved past its construct, whatever that wrote.
 abbrev pub IsPast : Arrays → Trace → List WorkAt → List WorkAt → Type 0
@@ -108,7 +115,8 @@ IsBehind (Turns body next high) after = ⊥
 
 -- The construct that is next was passed.
 abbrev pub HasPassed : Frames → Frames → Type 0
-HasPassed before after = (arrays : Arrays) (around : Vars) (store : Trace) → IsPast arrays store (works_of before around) (works_of after around)
+HasPassed before after = (arrays : Arrays) (around : Vars) (store : Trace)
+    → IsPast arrays store (works_of before around) (works_of after around)
 
 abbrev pub seen : Option (Bor Stmt) → Option Statement
 seen None = None
@@ -116,8 +124,10 @@ seen (Some construct) = Some (statement_of construct.now)
 
 -- It is the construct that is to be run next, or there is none.
 abbrev pub IsConstruct : Option (Bor Stmt) → Frames → Type 0
-IsConstruct construct frames = (around : Vars) → seen construct ≡ next_construct (works_of frames around)
+IsConstruct construct frames =
+    (around : Vars) → seen construct ≡ next_construct (works_of frames around)
 
 -- It is the construct that stands there in the block, or there is none.
 abbrev pub IsConstructAt : Option (Bor Stmt) → Block → ℕ → Type 0
-IsConstructAt construct block place = seen construct ≡ construct_of (branch_of (statements_from block place))
+IsConstructAt construct block place =
+    seen construct ≡ construct_of (branch_of (statements_from block place))

@@ -21,7 +21,8 @@ use Rattle.step_eval.specs.Frames.{works_of, IsStacked, HaveMoved}
 
 -- What the parts of a machine keep that isn't failed: each loop that has begun has its variable, and there is room for
 -- a pair for each cell.
-pub record IsWhole (stage : Stage) (job : JobParts) (frames : Frames) (store : Trace) (room : Laid) (next : ℕ) : Type 0 where
+pub record IsWhole (stage : Stage) (job : JobParts) (frames : Frames) (store : Trace) (room : Laid)
+    (next : ℕ) : Type 0 where
   pub kept : IsKept stage (job_of job) (works_of frames job.vars) store next
   pub stacked : IsStacked frames
   pub none : room.pairs ≡ []
@@ -39,15 +40,24 @@ IsLayoutOf layout job = layout ≡ arrays_of (declarations_of job.arrays)
 
 -- A machine that goes on.
 abbrev pub while_going : JobParts → List WorkAt → Trace → ℕ → Progress
-while_going job rest store next = record { job = job; rest = rest; store = store; next = next; stage = Going }
+while_going job rest store next = record {
+  job = job;
+  rest = rest;
+  store = store;
+  next = next;
+  stage = Going;
+}
 
 -- What a step that found memory does to the rest and to the store.
 abbrev pub Advanced : Progress → Step NestedParts → List WorkAt → Trace → Type 0
 Advanced before step.More rest store =
-    (next_nest before ≡ None) × HaveMoved (arrays_of (declarations_of before.job.arrays)) before.rest before.store rest store
+    (next_nest before ≡ None)
+    × HaveMoved (arrays_of (declarations_of before.job.arrays)) before.rest
+    before.store rest store
 Advanced before (step.Nest nested) rest store =
     (next_nest before ≡ Some (nested_of nested)) × (rest ≡ before.rest) × (store ≡ before.store)
-Advanced before step.Finished rest store = (before.rest ≡ []) × (rest ≡ before.rest) × (store ≡ before.store)
+Advanced before step.Finished rest store =
+    (before.rest ≡ []) × (rest ≡ before.rest) × (store ≡ before.store)
 Advanced before step.NoMemory rest store = ⊥
 
 -- The construct that is next is handed out.

@@ -30,7 +30,9 @@ pub record Progress : Type 0 where
 -- now is, are its job's piece; the next site's number is the job's first plus the sites that were entered so far; and
 -- each work of the rest is fit to be run.
 pub record IsRight (job : JobTree) (rest : List WorkAt) (store : Trace) (next : ℕ) : Type 0 where
-  pub writes : last_writes (marked store ++ writes_of (arrays_of job.arrays) (rest_steps rest) store.cells) ≡ piece_of_job job
+  pub writes : last_writes
+      (marked store ++ writes_of (arrays_of job.arrays) (rest_steps rest) store.cells)
+      ≡ piece_of_job job
   pub sites : next + rest_sites rest ≡ job.first + sites_of job.work
   pub fit : AreFit job next rest
   pub cells : length store.cells ≡ length job.store
@@ -43,7 +45,8 @@ construct_of (branch_of (followed (Assign line array index value) rest)) = None
 construct_of (branch_of (followed (For line var low high body) rest)) = None
 construct_of (branch_of (followed (If line cond then_block else_block) rest)) = None
 construct_of (branch_of (followed (Par line branches) rest)) = Some (Par line branches)
-construct_of (branch_of (followed (Team line var low high members phases) rest)) = Some (Team line var low high members phases)
+construct_of (branch_of (followed (Team line var low high members phases) rest)) =
+    Some (Team line var low high members phases)
 construct_of (member_of var low high body) = None
 
 -- The construct that is to be run next.
@@ -69,7 +72,8 @@ fresh_machine job = record {
 
 -- What is still to be written.
 abbrev pub rest_writes : Progress → List Write
-rest_writes machine = writes_of (arrays_of (declarations_of machine.job.arrays)) (rest_steps machine.rest) machine.store.cells
+rest_writes machine = writes_of (arrays_of (declarations_of machine.job.arrays))
+    (rest_steps machine.rest) machine.store.cells
 
 -- Whether a machine awaits what a construct writes.
 abbrev pub is_awaiting : Stage → Bool
@@ -85,7 +89,11 @@ left_of Failed rest = 1
 
 -- What a machine has still to do, as any machine tells it.
 abbrev pub to_do : Progress → Work
-to_do machine = record { rest = rest_writes machine; awaits = is_awaiting machine.stage; left = left_of machine.stage machine.rest }
+to_do machine = record {
+  rest = rest_writes machine;
+  awaits = is_awaiting machine.stage;
+  left = left_of machine.stage machine.rest;
+}
 
 -- A construct, handed out at this place of a machine.
 abbrev pub handed_out : Progress → WorkAt → Option Statement → Option NestedTree
@@ -123,10 +131,17 @@ HasMoved (w ∷ more) before after =
 -- is next is handed out, with its site's number, the variables and the store at this place, and the machine awaits
 -- what it writes. Finished: nothing is left. NoMemory: the machine is failed.
 abbrev pub Advances : Progress → Step NestedParts → Progress → Type 0
-Advances before step.More after = (before.stage ≡ Going) × (next_nest before ≡ None) × HasMoved before.rest before after
+Advances before step.More after =
+    (before.stage ≡ Going) × (next_nest before ≡ None) × HasMoved before.rest before after
 Advances before (step.Nest nested) after =
     (before.stage ≡ Going) × (next_nest before ≡ Some (nested_of nested))
-    × (after ≡ record { job = before.job; rest = before.rest; store = before.store; next = before.next; stage = Awaiting })
+    × (after ≡ record {
+      job = before.job;
+      rest = before.rest;
+      store = before.store;
+      next = before.next;
+      stage = Awaiting;
+    })
 Advances before step.Finished after = (before.stage ≡ Going) × (before.rest ≡ []) × (after ≡ before)
 Advances before step.NoMemory after = after.stage ≡ Failed
 

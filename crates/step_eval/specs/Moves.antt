@@ -15,34 +15,42 @@ abbrev pub begun : Arrays → Store → Statement → Vars → List WorkAt
 begun arrays store (Assign line array index value) vars = []
 begun arrays store (For line var low high body) vars = at (member_of var low high body) vars ∷ []
 begun arrays store (If line cond then_block else_block) vars =
-    at (branch_of (if holds (value_of arrays vars cond store) then then_block else else_block)) vars ∷ []
+    at (branch_of (if holds (value_of arrays vars cond store) then then_block
+    else else_block)) vars ∷ []
 begun arrays store (Par line branches) vars = []
 begun arrays store (Team line var low high members phases) vars = []
 
 -- What one step leaves of a work: the first statement has begun, or the first turn; what has nothing left is ended.
 abbrev pub moved : Arrays → Store → WorkTree → Vars → List WorkAt
 moved arrays store (branch_of ended) vars = []
-moved arrays store (branch_of (followed first rest)) vars = begun arrays store first vars ++ at (branch_of rest) vars ∷ []
+moved arrays store (branch_of (followed first rest)) vars =
+    begun arrays store first vars ++ at (branch_of rest) vars ∷ []
 moved arrays store (member_of var low high body) vars =
     if int_lt low high
-    then (at (branch_of body) ((var, low) ∷ vars) ∷ at (member_of var (low +ℤ pos 1) high body) vars ∷ [])
+    then (at (branch_of body) ((var, low) ∷ vars)
+    ∷ at (member_of var (low +ℤ pos 1) high body) vars ∷ [])
     else []
 
 -- What a statement writes when it begins: an assignment its cell, and a construct, once its pieces are done, all that
 -- they wrote, each cell with its last value.
 abbrev pub begun_writes : Arrays → Store → Statement → Vars → List Write
-begun_writes arrays store (Assign line array index value) vars =
-    (cell_of arrays array (is_dynamic index) (value_of arrays vars index store), value_of arrays vars value store) ∷ []
+begun_writes arrays store (Assign line array index value) vars = (
+  cell_of arrays array (is_dynamic index) (value_of arrays vars index store),
+  value_of arrays
+      vars value store,
+) ∷ []
 begun_writes arrays store (For line var low high body) vars = []
 begun_writes arrays store (If line cond then_block else_block) vars = []
-begun_writes arrays store (Par line branches) vars = piece_of arrays (statement_work (Par line branches) vars) store
+begun_writes arrays store (Par line branches) vars =
+    piece_of arrays (statement_work (Par line branches) vars) store
 begun_writes arrays store (Team line var low high members phases) vars =
     piece_of arrays (statement_work (Team line var low high members phases) vars) store
 
 -- What one step of a work writes.
 abbrev pub moved_writes : Arrays → Store → WorkTree → Vars → List Write
 moved_writes arrays store (branch_of ended) vars = []
-moved_writes arrays store (branch_of (followed first rest)) vars = begun_writes arrays store first vars
+moved_writes arrays store (branch_of (followed first rest)) vars =
+    begun_writes arrays store first vars
 moved_writes arrays store (member_of var low high body) vars = []
 
 -- The sites that are passed when a statement begins: all of a construct.
@@ -51,7 +59,8 @@ begun_sites (Assign line array index value) = 0
 begun_sites (For line var low high body) = 0
 begun_sites (If line cond then_block else_block) = 0
 begun_sites (Par line branches) = statement_sites_in (Par line branches)
-begun_sites (Team line var low high members phases) = statement_sites_in (Team line var low high members phases)
+begun_sites (Team line var low high members phases) =
+    statement_sites_in (Team line var low high members phases)
 
 -- The sites that one step of a work passes.
 abbrev pub moved_sites : WorkTree → ℕ
@@ -68,7 +77,8 @@ abbrev mutual
   pub statement_left : Statement → ℕ
   statement_left (Assign line array index value) = 1
   statement_left (For line var low high body) = 2 + span low high * (2 + sequence_left body)
-  statement_left (If line cond then_block else_block) = 3 + (sequence_left then_block + sequence_left else_block)
+  statement_left (If line cond then_block else_block) =
+      3 + (sequence_left then_block + sequence_left else_block)
   statement_left (Par line branches) = 1
   statement_left (Team line var low high members phases) = 1
 

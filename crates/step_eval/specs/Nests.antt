@@ -53,7 +53,8 @@ rounds_of (Assign line array index value) vars = []
 rounds_of (For line var low high body) vars = []
 rounds_of (If line cond then_block else_block) vars = []
 rounds_of (Par line branches) vars = branch_works branches vars ∷ []
-rounds_of (Team line var low high members phases) vars = phase_rounds phases var low high (unsigned_abs members) vars
+rounds_of (Team line var low high members phases) vars =
+    phase_rounds phases var low high (unsigned_abs members) vars
 
 -- The works of branches.
 abbrev pub branch_trees : Sequences → List WorkTree
@@ -64,7 +65,8 @@ branch_trees (beside first rest) = branch_of first ∷ branch_trees rest
 abbrev pub member_trees : List ℕ → ℤ → ℤ → ℕ → Sequence → ℕ → ℕ → List WorkTree
 member_trees var low high m body j zero = []
 member_trees var low high m body j (suc k) =
-    member_of var (start_of low high m j) (start_of low high m (j + 1)) body ∷ member_trees var low high m body (j + 1) k
+    member_of var (start_of low high m j) (start_of low high m (j + 1)) body
+    ∷ member_trees var low high m body (j + 1) k
 
 -- The body of a phase.
 abbrev pub phase_at : Sequences → ℕ → Sequence
@@ -79,7 +81,8 @@ piece_trees (For line var low high body) phase = []
 piece_trees (If line cond then_block else_block) phase = []
 piece_trees (Par line branches) phase = branch_trees branches
 piece_trees (Team line var low high members phases) phase =
-    member_trees var low high (unsigned_abs members) (phase_at phases phase) 0 (unsigned_abs members)
+    member_trees var low high (unsigned_abs members) (phase_at phases phase) 0
+    (unsigned_abs members)
 
 -- How many sites the bodies of the phases before this one enter.
 abbrev pub sites_before : Sequences → ℕ → ℕ
@@ -93,7 +96,8 @@ earlier_sites (Assign line array index value) phase = 0
 earlier_sites (For line var low high body) phase = 0
 earlier_sites (If line cond then_block else_block) phase = 0
 earlier_sites (Par line branches) phase = 0
-earlier_sites (Team line var low high members phases) phase = span low high * sites_before phases phase
+earlier_sites (Team line var low high members phases) phase =
+    span low high * sites_before phases phase
 
 -- The jobs of works in a phase, from this place on, over a store. The sites of each are numbered after those of the one before.
 abbrev pub numbered : NestedTree → ℕ → Store → ℕ → ℕ → List WorkTree → List JobTree
@@ -112,7 +116,8 @@ numbered nested phase store place first (work ∷ more) = record {
 -- The jobs of the pieces of a phase, in the order of their places. The sites inside come after the construct's own.
 abbrev pub jobs_in : NestedTree → ℕ → Store → List JobTree
 jobs_in nested phase store =
-    numbered nested phase store 0 (nested.site + 1 + earlier_sites nested.construct phase) (piece_trees nested.construct phase)
+    numbered nested phase store 0 (nested.site + 1 + earlier_sites nested.construct phase)
+    (piece_trees nested.construct phase)
 
 -- Each is fit to be run.
 abbrev pub AreFitJobs : List JobTree → Type 0
@@ -133,8 +138,10 @@ pub record IsFitNest (nested : NestedTree) : Type 0 where
   pub construct : IsTrue (is_construct nested.construct)
   pub limits : IsTrue (statement_has_right_ranges nested.construct)
   pub apart : AreRoundsApart (arrays_of nested.arrays) (rounds_of nested.construct nested.vars)
-  pub jobs : (phase : ℕ) → phase < phases_of nested.construct → AreFitJobs (jobs_in nested phase nested.store)
+  pub jobs : (phase : ℕ) → phase < phases_of nested.construct
+      → AreFitJobs (jobs_in nested phase nested.store)
 
 -- What the construct writes: each cell with its last value.
 abbrev pub nested_writes : NestedTree → List Write
-nested_writes nested = piece_of (arrays_of nested.arrays) (statement_work nested.construct nested.vars) nested.store
+nested_writes nested = piece_of (arrays_of nested.arrays)
+    (statement_work nested.construct nested.vars) nested.store

@@ -22,7 +22,8 @@ round_of nested phase = round_at (rounds_of nested.construct nested.vars) phase
 
 -- What a phase writes from a store, its pieces one after another: each cell with its last value.
 abbrev pub phase_writes : NestedTree → ℕ → Store → List Write
-phase_writes nested phase store = piece_of (arrays_of nested.arrays) (join (round_of nested phase)) store
+phase_writes nested phase store =
+    piece_of (arrays_of nested.arrays) (join (round_of nested phase)) store
 
 -- The store that the phases before this one leave.
 abbrev pub store_before : NestedTree → ℕ → Store
@@ -34,7 +35,8 @@ store_before nested (suc phase) =
 -- What the phases before this one write, laid together.
 abbrev pub writes_before : NestedTree → ℕ → List Write
 writes_before nested zero = []
-writes_before nested (suc phase) = lays (phase_writes nested phase (store_before nested phase)) (writes_before nested phase)
+writes_before nested (suc phase) =
+    lays (phase_writes nested phase (store_before nested phase)) (writes_before nested phase)
 
 -- What a job does.
 abbrev pub steps_of_job : JobTree → Steps
@@ -42,29 +44,34 @@ steps_of_job job = steps_of job.work job.vars
 
 -- The jobs of a phase do what its pieces do, in the order of their places.
 abbrev pub JobsAreRounds : Type 0
-JobsAreRounds = (nested : NestedTree) (phase : ℕ) (store : Store) → phase < phases_of nested.construct →
+JobsAreRounds = (nested : NestedTree) (phase : ℕ) (store : Store)
+    → phase < phases_of nested.construct →
     map steps_of_job (jobs_in nested phase store) ≡ round_of nested phase
 
 -- They are as many as the construct has branches or members.
 abbrev pub JobsAreCounted : Type 0
-JobsAreCounted = (nested : NestedTree) (phase : ℕ) (store : Store) → phase < phases_of nested.construct →
+JobsAreCounted = (nested : NestedTree) (phase : ℕ) (store : Store)
+    → phase < phases_of nested.construct →
     length (jobs_in nested phase store) ≡ members_of nested.construct
 
 -- They are a group.
 abbrev pub JobsAreGroups : Type 0
-JobsAreGroups = (nested : NestedTree) → IsFitNest nested → (phase : ℕ) (store : Store) → phase < phases_of nested.construct →
+JobsAreGroups = (nested : NestedTree) → IsFitNest nested → (phase : ℕ) (store : Store)
+    → phase < phases_of nested.construct →
     IsGroup (jobs_in nested phase store)
 
 -- Their pieces, merged in any order, are what the phase writes.
 abbrev pub PhasesAreMerged : Type 0
-PhasesAreMerged = (nested : NestedTree) → IsFitNest nested → (phase : ℕ) (store : Store) → phase < phases_of nested.construct →
+PhasesAreMerged = (nested : NestedTree) → IsFitNest nested → (phase : ℕ) (store : Store)
+    → phase < phases_of nested.construct →
     (order : List JobTree) → HaveSameJobs order (jobs_in nested phase store) →
     merged (map piece_of_job order) [] ≡ phase_writes nested phase store
 
 -- Phase after phase, each from the store that the one before left, they are what the construct writes and leaves.
 pub record IsWhole (nested : NestedTree) : Type 0 where
   pub writes : writes_before nested (phases_of nested.construct) ≡ nested_writes nested
-  pub store : store_before nested (phases_of nested.construct) ≡ after (nested_writes nested) nested.store
+  pub store : store_before nested (phases_of nested.construct)
+      ≡ after (nested_writes nested) nested.store
 
 abbrev pub PhasesAreConstructs : Type 0
 PhasesAreConstructs = (nested : NestedTree) → IsFitNest nested → IsWhole nested

@@ -107,7 +107,9 @@ impl<'p> Frames<'p> {
     ) -> Result<bool, AllocError>
         requires stacked { IsStacked self.old }
         requires simple { next_construct (works_of self.old around.now) ≡ None }
-        ensures went { IfOk result (λ went. Went layout.now went (works_of self.old around.now) store.old (works_of self.new around.now) store.new) }
+        ensures went { IfOk result
+            (λ went. Went layout.now went (works_of self.old around.now) store.old
+            (works_of self.new around.now) store.new) }
         ensures stacked { IfOk result (λ _. IsStacked self.new) }
         ensures more { IfErr result (λ _. IsMore (works_of self.old around.now)) }
     {
@@ -142,7 +144,9 @@ impl<'p> Frames<'p> {
     ) -> Result<(), AllocError>
         requires stacked { IsStackedWith top self.old }
         requires simple { next_construct (works_with top self.old around.now) ≡ None }
-        ensures moved { OnOk result (HaveMoved layout.now (works_with top.entry self.old around.now) store.old (works_of self.new around.now) store.new) }
+        ensures moved { OnOk result
+            (HaveMoved layout.now (works_with top.entry self.old around.now) store.old
+            (works_of self.new around.now) store.new) }
         ensures stacked { OnOk result (IsStacked self.new) }
     {
         match top {
@@ -165,7 +169,9 @@ impl<'p> Frames<'p> {
     ) -> Result<(), AllocError>
         requires stacked { IsStackedWith (Statements block from) self.old }
         requires simple { construct_of (branch_of (statements_from block.now from)) ≡ None }
-        ensures moved { OnOk result (HaveMoved layout.now (works_with (Statements block.entry from) self.old around.now) store.old (works_of self.new around.now) store.new) }
+        ensures moved { OnOk result
+            (HaveMoved layout.now (works_with (Statements block.entry from) self.old around.now)
+            store.old (works_of self.new around.now) store.new) }
         ensures stacked { OnOk result (IsStacked self.new) }
     {
         if from < block.statements.len() {
@@ -218,8 +224,13 @@ impl<'p> Frames<'p> {
     ) -> Result<(), AllocError>
         requires stacked { IsStackedWith rest self.old }
         requires simple { is_construct (statement_of statement.now) ≡ false }
-        ensures begun { OnOk result (works_of self.new around.now ≡ begun layout.now store.old.cells (statement_of statement.now) (vars_in self.old around.now) ++ works_with rest.entry self.old around.now) }
-        ensures store { OnOk result (store.new ≡ noted_all (begun_writes layout.now store.old.cells (statement_of statement.now) (vars_in self.old around.now)) store.old) }
+        ensures begun { OnOk result
+            (works_of self.new around.now
+            ≡ begun layout.now store.old.cells (statement_of statement.now)
+            (vars_in self.old around.now) ++ works_with rest.entry self.old around.now) }
+        ensures store { OnOk result
+            (store.new ≡ noted_all (begun_writes layout.now store.old.cells
+            (statement_of statement.now) (vars_in self.old around.now)) store.old) }
         ensures stacked { OnOk result (IsStacked self.new) }
     {
         let outer = Scope::Kept(around);
@@ -267,7 +278,8 @@ impl<'p> Frames<'p> {
     // Puts a block on top, and this below it in the place of what was on top.
     #[inline(always)]
     fn begin_block(&mut self, block: &'p Block, rest: Frame<'p>) -> Result<(), AllocError>
-        ensures begun { OnOk result (HasBegun (branch_of (sequence_of block.now)) rest.entry self.old self.new) }
+        ensures begun { OnOk result
+            (HasBegun (branch_of (sequence_of block.now)) rest.entry self.old self.new) }
         ensures stacked { OnOk result (IsStackedWith rest.entry self.old → IsStacked self.new) }
     {
         self.below.push(rest)?;
@@ -285,7 +297,9 @@ impl<'p> Frames<'p> {
         body: &'p Block,
         rest: Frame<'p>,
     ) -> Result<(), AllocError>
-        ensures begun { OnOk result (HasBegun (member_of var.now low high (sequence_of body.now)) rest.entry self.old self.new) }
+        ensures begun { OnOk result
+            (HasBegun (member_of var.now low high (sequence_of body.now)) rest.entry
+            self.old self.new) }
         ensures stacked { OnOk result (IsStackedWith rest.entry self.old → IsStacked self.new) }
     {
         self.below.push(rest)?;

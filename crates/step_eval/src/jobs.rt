@@ -28,7 +28,8 @@ pub fn jobs_of<'p>(
 ) -> Result<Vec<Job<'p>>, AllocError>
     requires phase { phase < phases_of (statement_of nested.now.construct) }
     requires cells { length store.now ≡ length nested.now.store }
-    ensures jobs { IfOk result (λ jobs. map job_of jobs.items ≡ jobs_in (nested_of nested.now) phase store.now) }
+    ensures jobs { IfOk result
+        (λ jobs. map job_of jobs.items ≡ jobs_in (nested_of nested.now) phase store.now) }
     ensures group { IfOk result (λ jobs. IsGroup (map job_of jobs.items)) }
 {
     let works = works_of(alloc, nested.construct, phase)?;
@@ -45,7 +46,8 @@ pub fn jobs_of<'p>(
 // The number of the first site inside the pieces of a phase.
 fn first_site(nested: &Nested, phase: u8) -> u16
     requires { phase < phases_of (statement_of nested.now.construct) }
-    ensures { result ≡ nested.now.site + 1 + earlier_sites (statement_of nested.now.construct) phase }
+    ensures { result ≡ nested.now.site + 1
+        + earlier_sites (statement_of nested.now.construct) phase }
 {
     nested.site + 1 + earlier_sites(nested.construct, phase) as u16
 }
@@ -81,7 +83,8 @@ fn sites_before(phases: &Blocks, low: i64, high: i64, phase: u8) -> u64
 // What the pieces of a phase run.
 fn works_of<'p>(alloc: Global, construct: &'p Stmt, phase: u8) -> Result<Vec<Work<'p>>, AllocError>
     requires { phase < phases_of (statement_of construct.now) }
-    ensures { IfOk result (λ works. map work_of works.items ≡ piece_trees (statement_of construct.now) phase) }
+    ensures { IfOk result (λ works. map work_of works.items
+        ≡ piece_trees (statement_of construct.now) phase) }
 {
     match construct {
         Stmt::Par { branches, .. } => branch_works(alloc, branches),
@@ -106,7 +109,8 @@ fn works_of<'p>(alloc: Global, construct: &'p Stmt, phase: u8) -> Result<Vec<Wor
 
 // What the branches of a `par` run.
 fn branch_works<'p>(alloc: Global, branches: &'p Blocks) -> Result<Vec<Work<'p>>, AllocError>
-    ensures { IfOk result (λ works. map work_of works.items ≡ branch_trees (sequences_of branches.now)) }
+    ensures { IfOk result (λ works. map work_of works.items
+        ≡ branch_trees (sequences_of branches.now)) }
 {
     let mut works = Vec::new(alloc);
     for branch in &branches.blocks {
@@ -124,7 +128,8 @@ fn member_works<'p>(
     members: u64,
     body: &'p Block,
 ) -> Result<Vec<Work<'p>>, AllocError>
-    ensures { IfOk result (λ works. map work_of works.items ≡ member_trees var.now low high members (sequence_of body.now) 0 members) }
+    ensures { IfOk result (λ works. map work_of works.items
+        ≡ member_trees var.now low high members (sequence_of body.now) 0 members) }
 {
     let mut works = Vec::new(alloc);
     for member in 0..members {
@@ -147,8 +152,10 @@ fn jobs_of_works<'p>(
     next: u16,
     works: &[Work<'p>],
 ) -> Result<Vec<Job<'p>>, AllocError>
-    requires { AreFitJobs (numbered (nested_of nested.now) phase store.now 0 next (map work_of works.now)) }
-    ensures { IfOk result (λ jobs. map job_of jobs.items ≡ numbered (nested_of nested.now) phase store.now 0 next (map work_of works.now)) }
+    requires { AreFitJobs (numbered (nested_of nested.now) phase store.now 0 next
+        (map work_of works.now)) }
+    ensures { IfOk result (λ jobs. map job_of jobs.items
+        ≡ numbered (nested_of nested.now) phase store.now 0 next (map work_of works.now)) }
 {
     let mut jobs = Vec::new(alloc);
     let mut first = next;
@@ -168,8 +175,10 @@ fn job_of_work<'p>(
     first: u16,
     work: Work<'p>,
 ) -> Result<Job<'p>, AllocError>
-    requires { AreFitJobs (numbered (nested_of nested.now) phase store.now place first (work_of work ∷ [])) }
-    ensures { IfOk result (λ job. job_of job ∷ [] ≡ numbered (nested_of nested.now) phase store.now place first (work_of work.entry ∷ [])) }
+    requires { AreFitJobs (numbered (nested_of nested.now) phase store.now place first
+        (work_of work ∷ [])) }
+    ensures { IfOk result (λ job. job_of job ∷ []
+        ≡ numbered (nested_of nested.now) phase store.now place first (work_of work.entry ∷ [])) }
 {
     Ok(Job {
         arrays: nested.arrays,

@@ -53,7 +53,9 @@ impl<'p> Model for StepMachine<'p> {
 
     ghost view = { λ machine. record { job = machine.job; rest = works_of machine.frames machine.job.vars; store = machine.store; next = machine.next; stage = machine.stage } };
 
-    ghost invariant = { λ machine. IsSound machine.stage machine.job machine.frames machine.store machine.room machine.next × IsLayoutOf machine.layout machine.job };
+    ghost invariant = { λ machine.
+        IsSound machine.stage machine.job machine.frames machine.store machine.room machine.next
+        × IsLayoutOf machine.layout machine.job };
 }
 
 impl<'p> StepMachine<'p> {
@@ -86,7 +88,8 @@ impl<'p> StepMachine<'p> {
         requires awaits { self.old.stage ≡ Awaiting }
         requires written { AreAwaited self.old written.now.pairs }
         ensures ok { OnOk result (HasMoved self.old.rest self.old self.new) }
-        ensures left { OnOk result (left_of self.new.stage self.new.rest ≡ left_of self.old.stage self.old.rest) }
+        ensures left { OnOk result
+            (left_of self.new.stage self.new.rest ≡ left_of self.old.stage self.old.rest) }
         ensures err { OnErr result (self.new.stage ≡ Failed) }
     {
         let sites = sites_in_construct(self.frames.construct());
@@ -186,7 +189,9 @@ fn advance<'p>(
     requires layout { IsLayoutOf layout.now job.now }
     requires right { IsRight (job_of job.now) (works_of frames.old job.now.vars) store.old next }
     requires stacked { IsStacked frames.old }
-    ensures advanced { IfOk result (λ step. Advanced (while_going job.now (works_of frames.old job.now.vars) store.old next) step (works_of frames.new job.now.vars) store.new) }
+    ensures advanced { IfOk result
+        (λ step. Advanced (while_going job.now (works_of frames.old job.now.vars) store.old next)
+        step (works_of frames.new job.now.vars) store.new) }
     ensures stacked { IfOk result (λ _. IsStacked frames.new) }
     ensures more { IfErr result (λ _. IsMore (works_of frames.old job.now.vars)) }
 {
@@ -216,8 +221,10 @@ fn hand_out<'p>(
     construct: &'p Stmt,
 ) -> Result<Nested<'p>, AllocError>
     requires right { IsRight (job_of job.now) (works_of frames.now job.now.vars) store.now next }
-    requires construct { IsConstructNext (statement_of construct.now) (works_of frames.now job.now.vars) }
-    ensures { IfOk result (IsHandedOut (while_going job.now (works_of frames.now job.now.vars) store.now next)) }
+    requires construct { IsConstructNext (statement_of construct.now)
+        (works_of frames.now job.now.vars) }
+    ensures { IfOk result (IsHandedOut
+        (while_going job.now (works_of frames.now job.now.vars) store.now next)) }
 {
     Ok(Nested {
         arrays: job.arrays,

@@ -38,7 +38,14 @@ impl<'p> Model for Nested<'p> {
 
     ghost view = { λ nested. record { arrays = nested.arrays.now; site = nested.site; construct = nested.construct.now; vars = nested.vars; store = nested.store } };
 
-    ghost invariant = { λ nested. IsFitNest (nested_of record { arrays = nested.arrays.now; site = nested.site; construct = nested.construct.now; vars = nested.vars; store = nested.store }) };
+    ghost invariant = { λ nested.
+        IsFitNest (nested_of record {
+          arrays = nested.arrays.now;
+          site = nested.site;
+          construct = nested.construct.now;
+          vars = nested.vars;
+          store = nested.store;
+        }) };
 }
 
 impl<'p> Nested<'p> {

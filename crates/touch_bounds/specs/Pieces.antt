@@ -18,7 +18,8 @@ abbrev pub ArePiecesTold : Arrays → List (List Touch) → List Steps → Type 
 ArePiecesTold arrays [] [] = Unit {0}
 ArePiecesTold arrays [] (piece ∷ more) = ⊥
 ArePiecesTold arrays (t ∷ rest) [] = ⊥
-ArePiecesTold arrays (t ∷ rest) (piece ∷ more) = AreVisitsTold arrays t (walk arrays piece) × ArePiecesTold arrays rest more
+ArePiecesTold arrays (t ∷ rest) (piece ∷ more) =
+    AreVisitsTold arrays t (walk arrays piece) × ArePiecesTold arrays rest more
 
 -- The pieces of a round, by the values of the variables around.
 abbrev pub Round : Type 0
@@ -26,23 +27,28 @@ Round = Vars → List Steps
 
 -- What is told of each piece is true, whatever values the variables have between their bounds.
 abbrev pub IsRoundTold : Arrays → List (List Touch) → Bounds → Round → Type 0
-IsRoundTold arrays tables bounds round = (vars : Vars) → AreWithin bounds vars → ArePiecesTold arrays tables (round vars)
+IsRoundTold arrays tables bounds round =
+    (vars : Vars) → AreWithin bounds vars → ArePiecesTold arrays tables (round vars)
 
 -- The pieces are apart, whatever values the variables have between their bounds.
 abbrev pub IsRoundApart : Arrays → Bounds → Round → Type 0
-IsRoundApart arrays bounds round = (vars : Vars) → AreWithin bounds vars → IsApart arrays (round vars)
+IsRoundApart arrays bounds round =
+    (vars : Vars) → AreWithin bounds vars → IsApart arrays (round vars)
 
 -- The rounds of a construct, and the sites of a text, by the values of the variables around: all are so.
 abbrev pub AreAllRoundsApart : Arrays → Bounds → (Vars → List (List Steps)) → Type 0
-AreAllRoundsApart arrays bounds rounds = (vars : Vars) → AreWithin bounds vars → AreRoundsApart arrays (rounds vars)
+AreAllRoundsApart arrays bounds rounds =
+    (vars : Vars) → AreWithin bounds vars → AreRoundsApart arrays (rounds vars)
 
 abbrev pub AreAllSitesApart : Arrays → Bounds → (Vars → List Site) → Type 0
-AreAllSitesApart arrays bounds sites = (vars : Vars) → AreWithin bounds vars → AreSitesApart arrays (sites vars)
+AreAllSitesApart arrays bounds sites =
+    (vars : Vars) → AreWithin bounds vars → AreSitesApart arrays (sites vars)
 
 -- What one piece does to an array clashes with what none of these do to it.
 abbrev pub IsClearOf : ℕ → Touch → List (List Touch) → Type 0
 IsClearOf number touch [] = Unit {0}
-IsClearOf number touch (other ∷ more) = (¬ DoClash touch (touch_at other number)) × IsClearOf number touch more
+IsClearOf number touch (other ∷ more) =
+    (¬ DoClash touch (touch_at other number)) × IsClearOf number touch more
 
 -- No two of them clash on an array.
 abbrev pub AreClear : ℕ → List (List Touch) → Type 0
@@ -51,5 +57,6 @@ AreClear number (t ∷ more) = IsClearOf number (touch_at t number) more × AreC
 
 -- Pieces are apart where what is told of them is true, and clashes on no array.
 abbrev pub ClearPiecesAreApart : Type 0
-ClearPiecesAreApart = (arrays : Arrays) (tables : List (List Touch)) (pieces : List Steps) → ArePiecesTold arrays tables pieces →
+ClearPiecesAreApart = (arrays : Arrays) (tables : List (List Touch)) (pieces : List Steps)
+    → ArePiecesTold arrays tables pieces →
     ((number : ℕ) → number < length arrays → AreClear number tables) → IsApart arrays pieces

@@ -35,4 +35,5 @@ interval_of (b ∷ more) name = cond (name_eq b.0 name) b.1 (interval_of more na
 -- Whatever the arrays and the store, and whatever values the variables have between their bounds, the value of the
 -- expression lies between the bounds that are told.
 abbrev pub IsTold : Bounds → Expression → Interval → Type 0
-IsTold bounds expr told = (arrays : Arrays) (vars : Vars) (store : Store) → AreWithin bounds vars → LiesIn told (value_of arrays vars expr store)
+IsTold bounds expr told = (arrays : Arrays) (vars : Vars) (store : Store) → AreWithin bounds vars
+    → LiesIn told (value_of arrays vars expr store)

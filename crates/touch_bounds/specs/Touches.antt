@@ -45,7 +45,9 @@ touch_at touches number = slice_index_or touches number untouched
 
 -- What was told is still told.
 pub record Widens (before after : List Touch) : Type 0 where
-  pub kept : (number : ℕ) (writes : Bool) (cell : ℕ) → Includes (side (touch_at before number) writes) cell → Includes (side (touch_at after number) writes) cell
+  pub kept : (number : ℕ) (writes : Bool) (cell : ℕ)
+      → Includes (side (touch_at before number) writes) cell
+      → Includes (side (touch_at after number) writes) cell
 
 -- The values of an interval are all inside an array of this length, and their cells, counted from its first one, are
 -- these.
@@ -55,36 +57,43 @@ pub record AreCellsWithin (base count : ℕ) (within : Interval) (cells : Stretc
 
 -- The index of a visit, whatever values the variables have between their bounds, is inside its array where it is static,
 -- and the cells that it touches are in the stretch.
-pub record IsReach (arrays : Arrays) (array : List ℕ) (index : Option ℤ) (cells : Stretch) : Type 0 where
+pub record IsReach (arrays : Arrays) (array : List ℕ) (index : Option ℤ)
+    (cells : Stretch) : Type 0 where
   pub inside : IsTrue (is_inside (length_of arrays array) index)
   pub covered : (cell : ℕ) → Covers arrays array index cell → Includes cells cell
 
 abbrev pub IsReachOf : Arrays → List ℕ → Expression → Bounds → Stretch → Type 0
 IsReachOf arrays array index bounds cells =
-    (vars : Vars) → AreWithin bounds vars → IsReach arrays array (visit arrays 0 false vars array index).index cells
+    (vars : Vars) → AreWithin bounds vars
+    → IsReach arrays array (visit arrays 0 false vars array index).index cells
 
 -- What is told of a visit is true: its array is one of the program, its index is inside, and each cell that it touches is
 -- told of the array, as read or as written.
 pub record IsVisitTold (arrays : Arrays) (touches : List Touch) (v : Visit) : Type 0 where
   pub known : number_of arrays v.array < length arrays
-  pub reach : IsReach arrays v.array v.index (side (touch_at touches (number_of arrays v.array)) v.writes)
+  pub reach : IsReach arrays v.array v.index
+      (side (touch_at touches (number_of arrays v.array)) v.writes)
 
 abbrev pub AreVisitsTold : Arrays → List Touch → List Visit → Type 0
 AreVisitsTold arrays touches [] = Unit {0}
-AreVisitsTold arrays touches (v ∷ more) = IsVisitTold arrays touches v × AreVisitsTold arrays touches more
+AreVisitsTold arrays touches (v ∷ more) =
+    IsVisitTold arrays touches v × AreVisitsTold arrays touches more
 
 -- So is what is told of a visit under an index, whatever values the variables have between their bounds.
 abbrev pub IsIndexTold : Arrays → List Touch → Bounds → Bool → List ℕ → Expression → Type 0
 IsIndexTold arrays touches bounds writes array index =
-    (line : ℕ) (vars : Vars) → AreWithin bounds vars → IsVisitTold arrays touches (visit arrays line writes vars array index)
+    (line : ℕ) (vars : Vars) → AreWithin bounds vars
+    → IsVisitTold arrays touches (visit arrays line writes vars array index)
 
 -- Of the reads of an expression.
 abbrev pub AreReadsTold : Arrays → List Touch → Bounds → Expression → Type 0
-AreReadsTold arrays touches bounds expr = (line : ℕ) (vars : Vars) → AreWithin bounds vars → AreVisitsTold arrays touches (reads_in arrays line vars expr)
+AreReadsTold arrays touches bounds expr = (line : ℕ) (vars : Vars) → AreWithin bounds vars
+    → AreVisitsTold arrays touches (reads_in arrays line vars expr)
 
 -- Of a work.
 abbrev pub IsWorkTold : Arrays → List Touch → Bounds → Work → Type 0
-IsWorkTold arrays touches bounds work = (vars : Vars) → AreWithin bounds vars → AreVisitsTold arrays touches (walk arrays (work vars))
+IsWorkTold arrays touches bounds work =
+    (vars : Vars) → AreWithin bounds vars → AreVisitsTold arrays touches (walk arrays (work vars))
 
 -- Of an assignment, on whatever line.
 abbrev pub IsAssignTold : Arrays → List Touch → Bounds → List ℕ → Expression → Expression → Type 0
@@ -94,4 +103,5 @@ IsAssignTold arrays touches bounds array index value =
 -- Of an `if`, on whatever line.
 abbrev pub IsChoiceTold : Arrays → List Touch → Bounds → Expression → Sequence → Sequence → Type 0
 IsChoiceTold arrays touches bounds test then_block else_block =
-    (line : ℕ) → IsWorkTold arrays touches bounds (statement_work (If line test then_block else_block))
+    (line : ℕ) → IsWorkTold arrays touches bounds
+    (statement_work (If line test then_block else_block))

@@ -56,8 +56,10 @@ fn are_clear(pieces: &[Piece], number: usize) -> bool
 
 /// Whether no two pieces clash on any of so many arrays.
 pub(crate) fn are_all_clear(pieces: &[Piece], arrays: usize) -> bool
-    ensures clear { OnTrue result ((number : ℕ) → number < arrays → AreClear number (tables_of pieces.now)) }
-    ensures clash { OnFalse result (¬ ((number : ℕ) → number < arrays → AreClear number (tables_of pieces.now))) }
+    ensures clear { OnTrue result
+        ((number : ℕ) → number < arrays → AreClear number (tables_of pieces.now)) }
+    ensures clash { OnFalse result
+        (¬ ((number : ℕ) → number < arrays → AreClear number (tables_of pieces.now))) }
 {
     for number in 0..arrays {
         if !are_clear(pieces, number) {

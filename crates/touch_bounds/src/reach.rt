@@ -32,7 +32,8 @@ fn cells_within(place: Place, within: Interval) -> Option<Stretch>
 /// The cells that an index of an array leads to, whatever values the variables have between their bounds. There are none
 /// where the index may be outside the array. A dynamic one leads to each cell.
 pub(crate) fn reach(layout: &Layout, array: &Name, index: &Expr, ranges: &Ranges) -> Option<Stretch>
-    ensures { IfSome result (λ cells. IsReachOf layout.now array.now (expression_of index.now) (bounds_of ranges.now) cells) }
+    ensures { IfSome result (λ cells.
+        IsReachOf layout.now array.now (expression_of index.now) (bounds_of ranges.now) cells) }
 {
     let place = layout.place_of(array);
     if is_dynamic(index) {

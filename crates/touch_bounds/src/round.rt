@@ -27,7 +27,8 @@ fn told_block<'s>(
     block: &'s Block,
     ranges: &'s Ranges<'s>,
 ) -> Option<Piece>
-    ensures { IfSome result (λ p. IsWorkTold layout.now p.touches.items (bounds_of ranges.now) (sequence_work (sequence_of block.now))) }
+    ensures { IfSome result (λ p. IsWorkTold layout.now p.touches.items (bounds_of ranges.now)
+        (sequence_work (sequence_of block.now))) }
 {
     let mut touches = vec![in alloc; UNTOUCHED; layout.count()].ok()?;
     if tell_block(layout, block, ranges, &mut touches) {
@@ -47,7 +48,8 @@ fn told_loop<'s>(
     high: i64,
     ranges: &'s Ranges<'s>,
 ) -> Option<Piece>
-    ensures { IfSome result (λ p. IsWorkTold layout.now p.touches.items (bounds_of ranges.now) (loop var.now low high (sequence_work (sequence_of body.now)))) }
+    ensures { IfSome result (λ p. IsWorkTold layout.now p.touches.items (bounds_of ranges.now)
+        (loop var.now low high (sequence_work (sequence_of body.now)))) }
 {
     let mut touches = vec![in alloc; UNTOUCHED; layout.count()].ok()?;
     if tell_loop(layout, body, var, low, high, ranges, &mut touches) {
@@ -64,7 +66,9 @@ fn told_branches<'s>(
     branches: &'s Blocks,
     ranges: &'s Ranges<'s>,
 ) -> Option<Vec<Piece>>
-    ensures { IfSome result (λ pieces. IsRoundTold layout.now (tables_of pieces.items) (bounds_of ranges.now) (branch_works (sequences_of branches.now))) }
+    ensures { IfSome result (λ pieces.
+        IsRoundTold layout.now (tables_of pieces.items) (bounds_of ranges.now)
+        (branch_works (sequences_of branches.now))) }
 {
     let mut pieces = Vec::new(alloc);
     for branch in &branches.blocks {
@@ -85,7 +89,9 @@ fn told_members<'s>(
     members: u64,
     ranges: &'s Ranges<'s>,
 ) -> Option<Vec<Piece>>
-    ensures { IfSome result (λ pieces. IsRoundTold layout.now (tables_of pieces.items) (bounds_of ranges.now) (team_works var.now low high members (sequence_work (sequence_of phase.now)))) }
+    ensures { IfSome result (λ pieces.
+        IsRoundTold layout.now (tables_of pieces.items) (bounds_of ranges.now)
+        (team_works var.now low high members (sequence_work (sequence_of phase.now)))) }
 {
     let mut pieces = Vec::new(alloc);
     for member in 0..members {
@@ -106,7 +112,8 @@ pub fn branches_are_apart<'s>(
     branches: &'s Blocks,
     ranges: &'s Ranges<'s>,
 ) -> bool
-    ensures { OnTrue result (IsRoundApart layout.now (bounds_of ranges.now) (branch_works (sequences_of branches.now))) }
+    ensures { OnTrue result (IsRoundApart layout.now (bounds_of ranges.now)
+        (branch_works (sequences_of branches.now))) }
 {
     match told_branches(alloc, layout, branches, ranges) {
         Some(pieces) => are_all_clear(&pieces, layout.count()),
@@ -125,7 +132,8 @@ pub fn members_are_apart<'s>(
     members: u64,
     ranges: &'s Ranges<'s>,
 ) -> bool
-    ensures { OnTrue result (IsRoundApart layout.now (bounds_of ranges.now) (team_works var.now low high members (sequence_work (sequence_of phase.now)))) }
+    ensures { OnTrue result (IsRoundApart layout.now (bounds_of ranges.now)
+        (team_works var.now low high members (sequence_work (sequence_of phase.now)))) }
 {
     match told_members(alloc, layout, phase, var, low, high, members, ranges) {
         Some(pieces) => are_all_clear(&pieces, layout.count()),
@@ -141,7 +149,9 @@ pub fn indices_are_inside<'s>(
     statement: &'s Stmt,
     scope: &'s Scope<'s>,
 ) -> bool
-    ensures { OnTrue result (IsTrue (are_inside layout.now (walk layout.now (statement_work (statement_of statement.now) (vars_of scope.now))))) }
+    ensures { OnTrue result (IsTrue
+        (are_inside layout.now (walk layout.now
+        (statement_work (statement_of statement.now) (vars_of scope.now))))) }
 {
     let ranges = Ranges::Fixed(scope);
     match vec![in alloc; UNTOUCHED; layout.count()] {

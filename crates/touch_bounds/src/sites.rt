@@ -24,7 +24,8 @@ fn phases_are_apart<'s>(
     members: u64,
     ranges: &'s Ranges<'s>,
 ) -> bool
-    ensures { OnTrue result (AreAllRoundsApart layout.now (bounds_of ranges.now) (phase_rounds (sequences_of phases.now) var.now low high members)) }
+    ensures { OnTrue result (AreAllRoundsApart layout.now (bounds_of ranges.now)
+        (phase_rounds (sequences_of phases.now) var.now low high members)) }
 {
     for phase in &phases.blocks {
         if !members_are_apart(alloc, layout, phase, var, low, high, members, ranges) {
@@ -43,7 +44,8 @@ fn block_is_settled<'s>(
     block: &'s Block,
     ranges: &'s Ranges<'s>,
 ) -> bool
-    ensures { OnTrue result (AreAllSitesApart layout.now (bounds_of ranges.now) (sequence_sites (sequence_of block.now))) }
+    ensures { OnTrue result (AreAllSitesApart layout.now (bounds_of ranges.now)
+        (sequence_sites (sequence_of block.now))) }
 {
     for statement in &block.statements {
         if !statement_is_settled(alloc, layout, statement, ranges) {
@@ -61,7 +63,8 @@ fn statement_is_settled<'s>(
     statement: &'s Stmt,
     ranges: &'s Ranges<'s>,
 ) -> bool
-    ensures { OnTrue result (AreAllSitesApart layout.now (bounds_of ranges.now) (statement_sites (statement_of statement.now))) }
+    ensures { OnTrue result (AreAllSitesApart layout.now (bounds_of ranges.now)
+        (statement_sites (statement_of statement.now))) }
 {
     match statement {
         Stmt::Assign { .. } => true,
@@ -118,7 +121,8 @@ pub fn loop_is_settled<'s>(
     high: i64,
     ranges: &'s Ranges<'s>,
 ) -> bool
-    ensures { OnTrue result (AreAllSitesApart layout.now (bounds_of ranges.now) (loop_sites var.now low high (sequence_sites (sequence_of body.now)))) }
+    ensures { OnTrue result (AreAllSitesApart layout.now (bounds_of ranges.now)
+        (loop_sites var.now low high (sequence_sites (sequence_of body.now)))) }
 {
     if low >= high {
         return true;
@@ -142,7 +146,8 @@ fn branches_are_settled<'s>(
     branches: &'s Blocks,
     ranges: &'s Ranges<'s>,
 ) -> bool
-    ensures { OnTrue result (AreAllSitesApart layout.now (bounds_of ranges.now) (branches_sites (sequences_of branches.now))) }
+    ensures { OnTrue result (AreAllSitesApart layout.now (bounds_of ranges.now)
+        (branches_sites (sequences_of branches.now))) }
 {
     for branch in &branches.blocks {
         if !block_is_settled(alloc, layout, branch, ranges) {
@@ -163,7 +168,8 @@ fn phases_are_settled<'s>(
     high: i64,
     ranges: &'s Ranges<'s>,
 ) -> bool
-    ensures { OnTrue result (AreAllSitesApart layout.now (bounds_of ranges.now) (phases_sites (sequences_of phases.now) var.now low high)) }
+    ensures { OnTrue result (AreAllSitesApart layout.now (bounds_of ranges.now)
+        (phases_sites (sequences_of phases.now) var.now low high)) }
 {
     for phase in &phases.blocks {
         if !loop_is_settled(alloc, layout, phase, var, low, high, ranges) {

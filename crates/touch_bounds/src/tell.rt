@@ -15,7 +15,9 @@ use array_tree::{Expr, Name};
 fn add_cells(number: usize, writes: bool, cells: Stretch, touches: &mut [Touch]) -> bool
     ensures wider { Widens touches.old touches.new }
     ensures known { OnTrue result (number < length touches.old) }
-    ensures added { OnTrue result (side (touch_at touches.new number) writes ≡ hull (side (touch_at touches.old number) writes) cells) }
+    ensures added { OnTrue result
+        (side (touch_at touches.new number) writes
+        ≡ hull (side (touch_at touches.old number) writes) cells) }
 {
     if number >= touches.len() {
         return false;
@@ -36,7 +38,9 @@ fn tell_index(
 ) -> bool
     requires places { length touches.old ≡ length layout.now }
     ensures wider { Widens touches.old touches.new }
-    ensures told { OnTrue result (IsIndexTold layout.now touches.new (bounds_of ranges.now) writes array.now (expression_of index.now)) }
+    ensures told { OnTrue result
+        (IsIndexTold layout.now touches.new (bounds_of ranges.now) writes array.now
+        (expression_of index.now)) }
 {
     match reach(layout, array, index, ranges) {
         Some(cells) => add_cells(layout.place_of(array).number, writes, cells, touches),
@@ -53,7 +57,8 @@ pub(crate) fn tell_reads(
 ) -> bool
     requires places { length touches.old ≡ length layout.now }
     ensures wider { Widens touches.old touches.new }
-    ensures told { OnTrue result (AreReadsTold layout.now touches.new (bounds_of ranges.now) (expression_of expr.now)) }
+    ensures told { OnTrue result
+        (AreReadsTold layout.now touches.new (bounds_of ranges.now) (expression_of expr.now)) }
 {
     match expr {
         Expr::Number(_) | Expr::Var(_) => true,
@@ -84,7 +89,9 @@ pub(crate) fn tell_assign(
 ) -> bool
     requires places { length touches.old ≡ length layout.now }
     ensures wider { Widens touches.old touches.new }
-    ensures told { OnTrue result (IsAssignTold layout.now touches.new (bounds_of ranges.now) array.now (expression_of index.now) (expression_of value.now)) }
+    ensures told { OnTrue result
+        (IsAssignTold layout.now touches.new (bounds_of ranges.now) array.now
+        (expression_of index.now) (expression_of value.now)) }
 {
     if !tell_reads(layout, index, ranges, touches) {
         return false;

@@ -27,7 +27,9 @@ pub fn tell_block<'s>(
 ) -> bool
     requires places { length touches.old ≡ length layout.now }
     ensures wider { Widens touches.old touches.new }
-    ensures told { OnTrue result (IsWorkTold layout.now touches.new (bounds_of ranges.now) (sequence_work (sequence_of block.now))) }
+    ensures told { OnTrue result
+        (IsWorkTold layout.now touches.new (bounds_of ranges.now)
+        (sequence_work (sequence_of block.now))) }
 {
     for statement in &block.statements {
         if !tell_statement(layout, statement, ranges, touches) {
@@ -47,7 +49,9 @@ pub(crate) fn tell_statement<'s>(
 ) -> bool
     requires places { length touches.old ≡ length layout.now }
     ensures wider { Widens touches.old touches.new }
-    ensures told { OnTrue result (IsWorkTold layout.now touches.new (bounds_of ranges.now) (statement_work (statement_of statement.now))) }
+    ensures told { OnTrue result
+        (IsWorkTold layout.now touches.new (bounds_of ranges.now)
+        (statement_work (statement_of statement.now))) }
 {
     match statement {
         Stmt::Assign {
@@ -101,7 +105,9 @@ pub(crate) fn tell_loop<'s>(
 ) -> bool
     requires places { length touches.old ≡ length layout.now }
     ensures wider { Widens touches.old touches.new }
-    ensures told { OnTrue result (IsWorkTold layout.now touches.new (bounds_of ranges.now) (loop var.now low high (sequence_work (sequence_of body.now)))) }
+    ensures told { OnTrue result
+        (IsWorkTold layout.now touches.new (bounds_of ranges.now)
+        (loop var.now low high (sequence_work (sequence_of body.now)))) }
 {
     if low >= high {
         return true;
@@ -127,7 +133,9 @@ fn tell_branches<'s>(
 ) -> bool
     requires places { length touches.old ≡ length layout.now }
     ensures wider { Widens touches.old touches.new }
-    ensures told { OnTrue result (IsWorkTold layout.now touches.new (bounds_of ranges.now) (branches_work (sequences_of branches.now))) }
+    ensures told { OnTrue result
+        (IsWorkTold layout.now touches.new (bounds_of ranges.now)
+        (branches_work (sequences_of branches.now))) }
 {
     for branch in &branches.blocks {
         if !tell_block(layout, branch, ranges, touches) {
@@ -150,7 +158,8 @@ fn tell_phases<'s>(
 ) -> bool
     requires places { length touches.old ≡ length layout.now }
     ensures wider { Widens touches.old touches.new }
-    ensures told { OnTrue result (IsWorkTold layout.now touches.new (bounds_of ranges.now) (λ vars. phases_work (sequences_of phases.now) var.now low high vars)) }
+    ensures told { OnTrue result (IsWorkTold layout.now touches.new (bounds_of ranges.now)
+        (λ vars. phases_work (sequences_of phases.now) var.now low high vars)) }
 {
     for phase in &phases.blocks {
         if !tell_loop(layout, phase, var, low, high, ranges, touches) {

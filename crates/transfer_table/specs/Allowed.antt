@@ -16,8 +16,15 @@ ChildrenGone p t s = (c : ℕ) → IsSite p c → parent p c ≡ s → (row t c)
 
 -- where an entry is allowed
 abbrev pub IsAllowed : Plan → TableState → Entry → Type 0
-IsAllowed p t (Register h s) = IsHart p h × IsSite p s × (owner t h ≡ parent p s) × ((row t s).stage ≡ New)
-IsAllowed p t (Request h s k) = IsHart p h × IsSite p s × (owner t h ≡ s) × ((row t s).home ≡ Some h) × (1 ≤ k) × ((row t s).asked + k ≤ p.harts - 1)
-IsAllowed p t (Enter h s) = IsHart p h × IsSite p s × (owner t h ≡ parent p s) × ((row t s).stage ≡ Live) × (1 ≤ (row t s).wishes)
+IsAllowed p t (Register h s) =
+    IsHart p h × IsSite p s × (owner t h ≡ parent p s) × ((row t s).stage ≡ New)
+IsAllowed p t (Request h s k) =
+    IsHart p h × IsSite p s × (owner t h ≡ s) × ((row t s).home ≡ Some h) × (1 ≤ k)
+    × ((row t s).asked + k ≤ p.harts - 1)
+IsAllowed p t (Enter h s) =
+    IsHart p h × IsSite p s × (owner t h ≡ parent p s) × ((row t s).stage ≡ Live)
+    × (1 ≤ (row t s).wishes)
 IsAllowed p t (Yield h s) = IsHart p h × IsSite p s × (owner t h ≡ s) × ((row t s).home ≢ Some h)
-IsAllowed p t (Unregister h s) = IsHart p h × IsSite p s × (owner t h ≡ s) × ((row t s).home ≡ Some h) × IsAlone p t h s × ChildrenGone p t s
+IsAllowed p t (Unregister h s) =
+    IsHart p h × IsSite p s × (owner t h ≡ s) × ((row t s).home ≡ Some h) × IsAlone p t h s
+    × ChildrenGone p t s

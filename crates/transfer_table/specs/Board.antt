@@ -8,7 +8,8 @@ use Rattle.transfer_table.specs.declared.entry.Row.{Row}
 abbrev pub count_left : List ℕ → List Row → ℕ → ℕ
 count_left [] rs s = 0
 count_left (q ∷ qs) [] s = 0
-count_left (q ∷ qs) (r ∷ rs) s = if ((q == s) && not (is_gone r.stage)) then 1 + count_left qs rs s else count_left qs rs s
+count_left (q ∷ qs) (r ∷ rs) s = if ((q == s) && not (is_gone r.stage)) then 1 + count_left qs rs s
+    else count_left qs rs s
 
 -- the list has, for the base and each site, how many of its children aren't gone
 pub record IsCount (p : Plan) (rows : List Row) (counts : List ℕ) : Type 0 where

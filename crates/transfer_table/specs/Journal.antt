@@ -46,13 +46,15 @@ unfinished [] k = None
 unfinished (r ∷ rs) k = if is_gone r.stage then unfinished rs (k + 1) else Some k
 
 -- goes on where the entry at place k is admitted, and tells its refusal
-abbrev pub or_refused : ℕ → (TableState → Option Fault) → Result TableState NotAdmitted → Option Fault
+abbrev pub or_refused : ℕ → (TableState → Option Fault) → Result TableState NotAdmitted
+    → Option Fault
 or_refused k f (Ok u) = f u
 or_refused k f (Err why) = Some record { place = k; why = Refused why }
 
 -- the first fault from a state on, where the next entry stands at place k
 abbrev pub fault_from : Plan → TableState → List Entry → ℕ → Option Fault
-fault_from p t [] k = option_map (λ s. record { place = k; why = Unfinished s }) (unfinished t.rows 1)
+fault_from p t [] k = option_map (λ s. record { place = k; why = Unfinished s })
+    (unfinished t.rows 1)
 fault_from p t (e ∷ es) k = or_refused k (λ u. fault_from p u es (k + 1)) (admit_of p t e)
 
 -- the place and the refusal of the first refused entry; where none is refused, the list's length

@@ -63,7 +63,8 @@ home_number (Some g) = g
 -- the least hart from k on, other than h, whose owner is s; the list has the owners from k on
 abbrev pub other_inside : List ℕ → ℕ → ℕ → ℕ → Option ℕ
 other_inside [] h s k = None
-other_inside (o ∷ os) h s k = if (not (k == h) && (o == s)) then Some k else other_inside os h s (k + 1)
+other_inside (o ∷ os) h s k =
+    if (not (k == h) && (o == s)) then Some k else other_inside os h s (k + 1)
 
 -- the least other hart whose owner is the site
 abbrev pub hart_inside : TableState → ℕ → ℕ → Option ℕ
@@ -73,7 +74,8 @@ hart_inside t h s = other_inside t.owners h s 0
 abbrev pub least_left : List ℕ → List Row → ℕ → ℕ → Option ℕ
 least_left [] rs s k = None
 least_left (q ∷ qs) [] s k = None
-least_left (q ∷ qs) (r ∷ rs) s k = if ((q == s) && not (is_gone r.stage)) then Some k else least_left qs rs s (k + 1)
+least_left (q ∷ qs) (r ∷ rs) s k =
+    if ((q == s) && not (is_gone r.stage)) then Some k else least_left qs rs s (k + 1)
 
 -- the least child of the site that isn't gone
 abbrev pub child_left : Plan → TableState → ℕ → Option ℕ
@@ -128,11 +130,28 @@ with_row t s r = slice_set t.rows (s - 1) r
 
 -- what an entry that isn't refused does; all that a case doesn't name stays
 abbrev pub effect_of : Plan → TableState → Entry → TableState
-effect_of p t (Register h s) = record { owners = moved t h s; rows = with_row t s record { stage = Live; home = Some h; wishes = 0; asked = 0 } }
-effect_of p t (Request h s k) = record t { rows = with_row t s record (row t s) { wishes = (row t s).wishes + k; asked = (row t s).asked + k } }
-effect_of p t (Enter h s) = record { owners = moved t h s; rows = with_row t s record (row t s) { wishes = (row t s).wishes - 1 } }
+effect_of p t (Register h s) =
+    record {
+      owners = moved t h s;
+      rows = with_row t s record { stage = Live; home = Some h; wishes = 0; asked = 0 };
+    }
+effect_of p t (Request h s k) =
+    record t {
+      rows = with_row t s record (row t s) {
+        wishes = (row t s).wishes + k;
+        asked = (row t s).asked + k;
+      };
+    }
+effect_of p t (Enter h s) =
+    record {
+      owners = moved t h s;
+      rows = with_row t s record (row t s) { wishes = (row t s).wishes - 1 };
+    }
 effect_of p t (Yield h s) = record t { owners = moved t h (parent p s) }
-effect_of p t (Unregister h s) = record { owners = moved t h (parent p s); rows = with_row t s record (row t s) { stage = Gone } }
+effect_of p t (Unregister h s) = record {
+  owners = moved t h (parent p s);
+  rows = with_row t s record (row t s) { stage = Gone };
+}
 
 abbrev pub unless_refused : Option NotAdmitted → TableState → Result TableState NotAdmitted
 unless_refused None t = Ok t
@@ -154,7 +173,8 @@ pub record IsPosition (b : Position) : Type 0 where
   pub rows : length b.state.rows ≡ site_count b.plan
 
 -- the answer to an entry: its effect, or its refusal, which changes nothing; the plan stays
-pub record IsAnswer (old new : Position) (e : Entry) (answer : Result (Unit {0}) NotAdmitted) : Type 0 where
+pub record IsAnswer (old new : Position) (e : Entry)
+    (answer : Result (Unit {0}) NotAdmitted) : Type 0 where
   pub plan : new.plan ≡ old.plan
   pub kept : IsPosition new
   pub ok : IfOk answer (λ _. admit_of old.plan old.state e ≡ Ok new.state)

@@ -30,13 +30,17 @@ impl Model for Board {
 
     ghost view = { λ b. record { plan = b.plan; state = record { owners = b.owners.items; rows = b.rows.items } } };
 
-    ghost invariant = { λ b. IsBoard record { plan = b.plan; state = record { owners = b.owners.items; rows = b.rows.items } } b.children_left.items };
+    ghost invariant = { λ b. IsBoard record {
+      plan = b.plan;
+      state = record { owners = b.owners.items; rows = b.rows.items };
+    } b.children_left.items };
 }
 
 impl Board {
     /// The first state of the plan's table: every hart is in the base, and every site is new.
     pub fn new(alloc: Global, plan: &Plan) -> Result<Board, AllocError>
-        ensures first { IfOk result (λ b. b ≡ record { plan = plan.now; state = first_state plan.now }) }
+        ensures first { IfOk result
+            (λ b. b ≡ record { plan = plan.now; state = first_state plan.now }) }
         ensures kept { IfOk result IsPosition }
     {
         let blank = Row {
@@ -110,7 +114,8 @@ impl Board {
     /// nothing. It takes no memory.
     pub fn admit(&mut self, entry: Entry) -> Result<(), NotAdmitted>
         ensures plan { self.new.plan ≡ self.old.plan }
-        ensures ok { IfOk result (λ _. admit_of self.old.plan self.old.state entry ≡ Ok self.new.state) }
+        ensures ok { IfOk result
+            (λ _. admit_of self.old.plan self.old.state entry ≡ Ok self.new.state) }
         ensures err { IfErr result (λ why. admit_of self.old.plan self.old.state entry ≡ Err why) }
         ensures unchanged { OnErr result (self.new ≡ self.old) }
         ensures kept { IsPosition self.new }
@@ -212,9 +217,15 @@ impl Board {
     // What every entry may be refused for: its hart, its site, and an owner that isn't the wanted
     // one.
     fn check_owner(&self, hart: u8, site: u16, wanted: u16) -> Result<(), NotAdmitted>
-        ensures ok { IfOk result (λ _. first_cause (common_refusals self.now.plan self.now.state hart site wanted) ≡ None) }
-        ensures found { IfOk result (λ _. (IsHart self.now.plan hart) × (IsSite self.now.plan site) × (owner self.now.state hart ≡ wanted)) }
-        ensures err { IfErr result (λ why. first_cause (common_refusals self.now.plan self.now.state hart site wanted) ≡ Some why) }
+        ensures ok { IfOk result
+            (λ _. first_cause (common_refusals self.now.plan self.now.state hart site wanted)
+            ≡ None) }
+        ensures found { IfOk result
+            (λ _. (IsHart self.now.plan hart) × (IsSite self.now.plan site)
+            × (owner self.now.state hart ≡ wanted)) }
+        ensures err { IfErr result
+            (λ why. first_cause (common_refusals self.now.plan self.now.state hart site wanted)
+            ≡ Some why) }
     {
         if hart >= self.plan.harts() {
             return Err(NotAdmitted::NoSuchHart);
@@ -245,7 +256,9 @@ impl Board {
     fn check_home(&self, hart: u8, site: u16) -> Result<(), NotAdmitted>
         requires { IsSite self.now.plan site }
         ensures ok { IfOk result (λ _. is_home (row self.now.state site).home hart ≡ true) }
-        ensures err { IfErr result (λ why. (is_home (row self.now.state site).home hart ≡ false) × (why ≡ NotAdmitted.NotHome (home_number (row self.now.state site).home))) }
+        ensures err { IfErr result
+            (λ why. (is_home (row self.now.state site).home hart ≡ false)
+            × (why ≡ NotAdmitted.NotHome (home_number (row self.now.state site).home))) }
     {
         match self.rows[site as usize - 1].home {
             None => Err(NotAdmitted::NotHome { home: 0 }),
@@ -292,7 +305,8 @@ impl Board {
 
     fn is_left(&self, i: usize, site: u16) -> bool
         requires { i < site_count self.now.plan }
-        ensures { result ≡ ((slice_index self.now.plan.parents i == site) && not (is_gone (slice_index_or self.now.state.rows i blank).stage)) }
+        ensures { result ≡ ((slice_index self.now.plan.parents i == site)
+            && not (is_gone (slice_index_or self.now.state.rows i blank).stage)) }
     {
         self.plan.parent(i as u16 + 1) == site && !self.rows[i].stage.is_gone()
     }

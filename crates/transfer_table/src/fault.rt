@@ -52,8 +52,10 @@ fn fault_from(board: &mut Board, list: &[Entry]) -> Option<Fault>
 // The first entry that the board refuses. The board admits all before it.
 fn first_refused(board: &mut Board, list: &[Entry]) -> Option<Fault>
     requires { length list.now < 2 ^ 32 }
-    ensures some { IfSome result (λ fault. fault_from board.old.plan board.old.state list.now 0 ≡ Some fault) }
-    ensures none { IfNone result (fault_from board.old.plan board.old.state list.now 0 ≡ fault_from board.old.plan board.new.state [] (length list.now)) }
+    ensures some { IfSome result
+        (λ fault. fault_from board.old.plan board.old.state list.now 0 ≡ Some fault) }
+    ensures none { IfNone result (fault_from board.old.plan board.old.state list.now 0
+        ≡ fault_from board.old.plan board.new.state [] (length list.now)) }
 {
     for place in 0..list.len() {
         if let Err(refusal) = board.admit(list[place]) {

@@ -57,8 +57,10 @@ impl Plan {
     pub fn new(alloc: Global, harts: u8, parents: &[u16]) -> Result<Plan, PlanFault>
         ensures plan { IfOk result (λ p. p ≡ record { harts = harts; parents = parents.now }) }
         ensures kept { IfOk result IsPlan }
-        ensures fault { (why : PlanFault) → plan_fault_of harts parents.now ≡ Some why → result ≡ Err why }
-        ensures only { (why : PlanFault) → result ≡ Err why → why ≢ PlanFault.Memory → plan_fault_of harts parents.now ≡ Some why }
+        ensures fault { (why : PlanFault) → plan_fault_of harts parents.now ≡ Some why
+            → result ≡ Err why }
+        ensures only { (why : PlanFault) → result ≡ Err why → why ≢ PlanFault.Memory
+            → plan_fault_of harts parents.now ≡ Some why }
     {
         if let Some(fault) = fault_of(harts, parents) {
             return Err(fault);

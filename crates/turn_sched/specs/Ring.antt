@@ -20,18 +20,23 @@ wishing_more count p = record p { wishes = min (p.wishes + count) 255 }
 -- the places, that of the child with more wishes
 abbrev pub with_more : ℕ → ℕ → List Place → List Place
 with_more child count [] = []
-with_more child count (p ∷ ps) = if p.child == child then wishing_more count p ∷ ps else p ∷ with_more child count ps
+with_more child count (p ∷ ps) =
+    if p.child == child then wishing_more count p ∷ ps else p ∷ with_more child count ps
 
 -- the ring with a last place for the child, if there is room
 abbrev pub with_place : ℕ → ℕ → RingParts → RingParts
 with_place child count ring =
-    if nat_lt (length ring.places) ring.room then record ring { places = ring.places ++ record { child = child; wishes = count } ∷ [] } else ring
+    if nat_lt (length ring.places) ring.room then record ring {
+      places = ring.places ++ record { child = child; wishes = count } ∷ [];
+    } else ring
 
 -- the ring after a child asked for so many harts
 abbrev pub with_wishes : ℕ → ℕ → RingParts → RingParts
 with_wishes child count ring =
     if count == 0 then ring else
-    if has_place child ring.places then record ring { places = with_more child count ring.places } else
+    if has_place child ring.places then record ring {
+      places = with_more child count ring.places;
+    } else
     with_place child count ring
 
 -- the ring without the child's place

@@ -59,10 +59,12 @@ PassesOver child (Put c answer) = Unit {0}
 
 -- While a child with a wish is passed over, no child is lent to twice, and only as many as were ahead of it.
 abbrev pub TurnsGoRound : (C : Type 0) → Type 0
-TurnsGoRound C = (site room children : ℕ) (earlier events : List (Event C)) (before after : TurnsState C) →
+TurnsGoRound C = (site room children : ℕ) (earlier events : List (Event C))
+    (before after : TurnsState C) →
     Runs C (new_turns site room children) earlier before → Runs C before events after →
     (child : ℕ) → has_place child before.ring.places ≡ true → All (PassesOver child) events →
-    ((other : ℕ) → how_often other (lent_in events) ≤ 1) × (length (lent_in events) ≤ length (ahead_of child before.ring.places))
+    ((other : ℕ) → how_often other (lent_in events) ≤ 1)
+    × (length (lent_in events) ≤ length (ahead_of child before.ring.places))
 
 -- the context that a call hands out
 abbrev pub run_by : {C : Type 0} → Event C → List C
@@ -90,5 +92,6 @@ kept_in (event ∷ events) = kept_by event ++ kept_in events
 -- The contexts that were ready and those that were kept, in this order, are those that were handed out and those that are
 -- ready afterwards.
 abbrev pub ContextsGoInOrder : (C : Type 0) → Type 0
-ContextsGoInOrder C = (before after : TurnsState C) (events : List (Event C)) → Runs C before events after →
+ContextsGoInOrder C = (before after : TurnsState C) (events : List (Event C))
+    → Runs C before events after →
     before.ready ++ kept_in events ≡ run_in events ++ after.ready

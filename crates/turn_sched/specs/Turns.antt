@@ -16,7 +16,12 @@ pub record TurnsState (C : Type 0) : Type 0 where
 
 -- one with no context and no wish yet
 abbrev pub new_turns : {C : Type 0} → ℕ → ℕ → ℕ → TurnsState C
-new_turns site room children = record { site = site; ready = []; room = room; ring = record { places = []; room = children } }
+new_turns site room children = record {
+  site = site;
+  ready = [];
+  room = room;
+  ring = record { places = []; room = children };
+}
 
 -- One call of `enter`: the first context runs. Where there is none, the hart is lent to the child whose turn it is.
 abbrev pub RunsOrLends : {C : Type 0} → TurnsState C → Next C → TurnsState C → Type 0
@@ -24,7 +29,8 @@ RunsOrLends before (Run c) after = before ≡ record after { ready = c ∷ after
 RunsOrLends before (Lend child) after =
     (before.ready ≡ []) × TakesTurn before.ring.places child after.ring.places
     × (after ≡ record before { ring = record before.ring { places = after.ring.places } })
-RunsOrLends before Nothing after = (before.ready ≡ []) × (before.ring.places ≡ []) × (after ≡ before)
+RunsOrLends before Nothing after =
+    (before.ready ≡ []) × (before.ring.places ≡ []) × (after ≡ before)
 
 -- the ring after a callback: a request adds wishes, the child's going takes its place, and the others change nothing
 abbrev pub ring_by : Call → ℕ → ℕ → RingParts → RingParts
@@ -43,5 +49,7 @@ HearsOf before told after = after ≡ record before { ring = ring_after told bef
 
 -- A context goes last, or is given back exactly where all room is filled.
 abbrev pub PutsLast : {C : Type 0} → TurnsState C → C → Result (Unit {0}) C → TurnsState C → Type 0
-PutsLast before c (Ok done) after = (length before.ready < before.room) × (after ≡ record before { ready = before.ready ++ c ∷ [] })
-PutsLast before c (Err back) after = (before.room ≤ length before.ready) × (back ≡ c) × (after ≡ before)
+PutsLast before c (Ok done) after =
+    (length before.ready < before.room) × (after ≡ record before { ready = before.ready ++ c ∷ [] })
+PutsLast before c (Err back) after =
+    (before.room ≤ length before.ready) × (back ≡ c) × (after ≡ before)

@@ -31,7 +31,8 @@ pub fn opens<P: Port, S: Scheduler<Hold = ()>>(
     requires child { (P.seen port.old).owner ≡ parent_of (P.seen port.old).plan site }
     requires some { 1 ≤ count }
     requires few { count ≤ (P.seen port.old).plan.harts - 1 }
-    ensures home { result ≡ true → P.seen port.new ≡ requested_by (registered (P.seen port.old) site) site count }
+    ensures home { result ≡ true
+        → P.seen port.new ≡ requested_by (registered (P.seen port.old) site) site count }
     ensures parent { S.site_of parent.new ≡ S.site_of parent.old }
 {
     if sched_register(port, hold, parent, (), site).is_err() {
@@ -46,7 +47,8 @@ pub fn leaves<P: Port, S: Scheduler<Hold = ()>>(port: &mut P, hold: P::Hold, par
     requires home { is_in (P.seen port.old).homes (P.seen port.old).owner ≡ true }
     requires open_yet { is_in (P.seen port.old).closed (P.seen port.old).owner ≡ false }
     requires children { ChildrenSeenGone (P.seen port.old) }
-    ensures back { result ≡ true → P.seen port.new ≡ unregistered (sees_empty (closes (P.seen port.old))) }
+    ensures back { result ≡ true
+        → P.seen port.new ≡ unregistered (sees_empty (closes (P.seen port.old))) }
     ensures parent { S.site_of parent.new ≡ S.site_of parent.old }
 {
     port.close_site(hold);

@@ -22,7 +22,12 @@ use Rattle.board_rule.specs.Views.{look_at, looked, home_marks, see_gone_view}
 -- the view after an entry: the new owner, the entry last among those that the hart made, the new marks, and the words that
 -- the call read; all else is as it was
 abbrev pub did : Entry → ℕ → Marks → List Look → View → View
-did e o m words v = record v { owner = o; mine = v.mine ++ e ∷ []; marks = m; looks = v.looks ++ words }
+did e o m words v = record v {
+  owner = o;
+  mine = v.mine ++ e ∷ [];
+  marks = m;
+  looks = v.looks ++ words;
+}
 
 -- and of a call that read no word
 abbrev pub did_blind : Entry → ℕ → Marks → View → View
@@ -31,8 +36,12 @@ did_blind e o m v = record v { owner = o; mine = v.mine ++ e ∷ []; marks = m }
 -- Of a register: the claim found the site unclaimed, and the hart made its Register, having made neither Register nor Request
 -- of the site before; or it found the site claimed.
 abbrev pub Registers : View → ℕ → Result (Unit {0}) Taken → View → Type 0
-Registers v x (Ok done) w = (found : ℕ) × (is_claimed found ≡ false) × (w ≡ did (Register v.hart x) x (home_marks x v.marks) (look_at x look.Claim found ∷ []) v) × (registers x v.mine ≡ 0) × (requested x v.mine ≡ 0)
-Registers v x (Err taken) w = (is_claimed taken.shown ≡ true) × (w ≡ looked x look.Claim taken.shown v)
+Registers v x (Ok done) w =
+    (found : ℕ) × (is_claimed found ≡ false)
+    × (w ≡ did (Register v.hart x) x (home_marks x v.marks) (look_at x look.Claim found ∷ []) v)
+    × (registers x v.mine ≡ 0) × (requested x v.mine ≡ 0)
+Registers v x (Err taken) w =
+    (is_claimed taken.shown ≡ true) × (w ≡ looked x look.Claim taken.shown v)
 
 -- when a hart may ask for more harts: it is its owner's home, hasn't closed it, and asks for some but not too many
 pub record MayAsk (p : Plan) (v : View) (x k : ℕ) : Type 0 where
@@ -45,9 +54,16 @@ pub record MayAsk (p : Plan) (v : View) (x k : ℕ) : Type 0 where
 -- Of a try to enter: the word that was read wants a hart, was found again by the exchange, and the hart made its Enter; or the
 -- word wants none; or it wants one, and the exchange found another.
 abbrev pub Enters : View → ℕ → Entered → View → Type 0
-Enters v x Inside w = (read : ℕ) × (is_wanted read ≡ true) × (w ≡ did (Enter v.hart x) x v.marks (look_at x look.Look read ∷ look_at x look.Reserve read ∷ []) v)
+Enters v x Inside w = (read : ℕ) × (is_wanted read ≡ true)
+    × (w ≡ did (Enter v.hart x) x v.marks
+    (look_at x look.Look read ∷ look_at x look.Reserve read ∷ []) v)
 Enters v x (NotWanted shown) w = (is_wanted shown ≡ false) × (w ≡ looked x look.Look shown v)
-Enters v x (Moved read found) w = (is_wanted read ≡ true) × (read ≢ found) × (w ≡ record v { looks = v.looks ++ look_at x look.Look read ∷ look_at x look.Reserve found ∷ [] })
+Enters v x (Moved read found) w =
+    (is_wanted read ≡ true) × (read ≢ found)
+    × (w ≡ record v {
+      looks = v.looks ++ look_at x look.Look read
+          ∷ look_at x look.Reserve found ∷ [];
+    })
 
 -- Of a look whether a site is gone: whether the word that was read is closed. Where it is, the site is among those seen gone,
 -- and its parent is no longer seen empty if it wasn't among them before.
@@ -59,16 +75,28 @@ abbrev pub drained_marks : View → Marks
 drained_marks v = record v.marks { drained = with_site v.marks.drained v.owner }
 
 abbrev pub empty_marks : View → Marks
-empty_marks v = record v.marks { drained = with_site v.marks.drained v.owner; empty = with_site v.marks.empty v.owner }
+empty_marks v = record v.marks {
+  drained = with_site v.marks.drained v.owner;
+  empty = with_site v.marks.empty v.owner;
+}
 
 -- Of a look whether the owner is empty: its word has no hart on its way in, and the board word no other hart in it; or its
 -- word has one on its way; or the board word has one in it.
 abbrev pub Sees : View → Seen → View → Type 0
-Sees v Empty w = (site board : ℕ) × (flight_of site ≡ 0) × (others_at v.plan.harts board v.hart v.owner ≡ false)
-    × (w ≡ record v { marks = empty_marks v; looks = v.looks ++ look_at v.owner look.Look site ∷ look_at 0 look.LookAtBoard board ∷ [] })
+Sees v Empty w = (site board : ℕ) × (flight_of site ≡ 0)
+    × (others_at v.plan.harts board v.hart v.owner ≡ false)
+    × (w ≡ record v {
+      marks = empty_marks v;
+      looks = v.looks ++ look_at v.owner look.Look site ∷ look_at 0 look.LookAtBoard board ∷ [];
+    })
 Sees v (Flying shown) w = (1 ≤ flight_of shown) × (w ≡ looked v.owner look.Look shown v)
 Sees v (Held shown) w = (others_at v.plan.harts shown v.hart v.owner ≡ true)
-    × ((site : ℕ) × (flight_of site ≡ 0) × (w ≡ record v { marks = drained_marks v; looks = v.looks ++ look_at v.owner look.Look site ∷ look_at 0 look.LookAtBoard shown ∷ [] }))
+    × ((site : ℕ) × (flight_of site ≡ 0)
+    × (w ≡ record v {
+      marks = drained_marks v;
+      looks = v.looks ++ look_at v.owner look.Look site
+          ∷ look_at 0 look.LookAtBoard shown ∷ [];
+    }))
 
 -- when a hart may unregister its owner: it is the home, has closed it and seen it empty since, and each child gone
 pub record MayLeaveHome (p : Plan) (v : View) : Type 0 where

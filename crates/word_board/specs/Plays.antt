@@ -8,7 +8,8 @@ use Rattle.board_rule.specs.Counts.{busy_at}
 use Rattle.board_rule.specs.Rule.{FitsPlan}
 
 -- the new view, by the word found; that it fits the plan; and what else the word found tells
-abbrev pub Tells : (ℕ → View → View) → (ℕ → Type 0) → Me (Unit {0}) View → ℕ → Me (Unit {0}) View → Type 0
+abbrev pub Tells : (ℕ → View → View) → (ℕ → Type 0) → Me (Unit {0}) View → ℕ
+    → Me (Unit {0}) View → Type 0
 Tells next more me found after = (after ≡ (next found me.0, me.1)) × FitsPlan after.0 × more found
 
 abbrev pub nothing_more : ℕ → Type 0
@@ -20,7 +21,8 @@ IsPlaceOf v found = entries_in found < room v.plan
 
 -- and the hart had made neither Register nor Request of the site that it claimed
 abbrev pub IsNewPlace : View → ℕ → Type 0
-IsNewPlace v found = (entries_in found < room v.plan) × (registers (busy_at v.doing) v.mine ≡ 0) × (requested (busy_at v.doing) v.mine ≡ 0)
+IsNewPlace v found = (entries_in found < room v.plan) × (registers (busy_at v.doing) v.mine ≡ 0)
+    × (requested (busy_at v.doing) v.mine ≡ 0)
 
 -- the word of a site is far from the end of its type
 abbrev pub IsSmall : ℕ → Type 0

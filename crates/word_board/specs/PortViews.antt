@@ -11,7 +11,18 @@ table_name z = z.words ∷ z.slots ∷ z.views_name ∷ z.atom ∷ z.block ∷ z
 
 -- a view, of a hart that shares the table of this name
 abbrev pub shared_view : List ℕ → View → PortView
-shared_view name v = record { plan = v.plan; hart = v.hart; owner = v.owner; mine = v.mine; homes = v.marks.homes; closed = v.marks.closed; empty = v.marks.empty; gone = v.marks.gone; alone = false; table = name }
+shared_view name v = record {
+  plan = v.plan;
+  hart = v.hart;
+  owner = v.owner;
+  mine = v.mine;
+  homes = v.marks.homes;
+  closed = v.marks.closed;
+  empty = v.marks.empty;
+  gone = v.marks.gone;
+  alone = false;
+  table = name;
+}
 
 -- the seat's view
 abbrev pub port_view : HartSeat → PortView

@@ -21,7 +21,8 @@ pub record IsNewSeat (z : TableId) (p : Plan) (n h : ℕ) (q : HartSeat) : Type 
 
 -- the seat at place h is hart h's, as it is made
 abbrev pub AreSeats : TableId → Plan → List HartSeat → Type 0
-AreSeats z p qs = (h : ℕ) (d : HartSeat) → h < length qs → IsNewSeat z p (length qs) h (slice_index_or qs h d)
+AreSeats z p qs = (h : ℕ) (d : HartSeat) → h < length qs
+    → IsNewSeat z p (length qs) h (slice_index_or qs h d)
 
 -- the seats are all seats of the words z, in order
 pub record AreAll (z : TableId) (p : Plan) (qs : List HartSeat) : Type 0 where
@@ -32,14 +33,16 @@ pub record AreAll (z : TableId) (p : Plan) (qs : List HartSeat) : Type 0 where
 
 -- some seat has seen the site gone
 abbrev pub SawGone : List HartSeat → ℕ → Type 0
-SawGone qs x = (h : ℕ) × (h < length qs) × ((d : HartSeat) → is_in (slice_index_or qs h d).seat.me.0.marks.gone x ≡ true)
+SawGone qs x = (h : ℕ) × (h < length qs)
+    × ((d : HartSeat) → is_in (slice_index_or qs h d).seat.me.0.marks.gone x ≡ true)
 
 -- The journal of the board: a legal list, in which each hart has the entries that its seat made. What a seat has seen gone is
 -- gone at its end. It is complete where each top site was seen gone.
 pub record IsJournalOf (p : Plan) (qs : List HartSeat) (es : List Entry) : Type 0 where
   pub table : TableState
   pub legal : Reaches p es table
-  pub each : (h : ℕ) (d : HartSeat) → h < p.harts → made_by h es ≡ (slice_index_or qs h d).seat.me.0.mine
+  pub each : (h : ℕ) (d : HartSeat) → h < p.harts
+      → made_by h es ≡ (slice_index_or qs h d).seat.me.0.mine
   pub gone : (x : ℕ) → SawGone qs x → IsSite p x × ((row table x).stage ≡ Gone)
   pub complete : ((x : ℕ) → IsSite p x → parent p x ≡ 0 → SawGone qs x) → IsComplete p es
 
@@ -47,7 +50,9 @@ pub record IsJournalOf (p : Plan) (qs : List HartSeat) (es : List Entry) : Type 
 
 -- the seats of the harts from 1 on
 abbrev pub AreOthers : TableId → Plan → List HartSeat → Type 0
-AreOthers z p qs = (i : ℕ) (d : HartSeat) → i < length qs → ((slice_index_or qs i d).seat.table_id ≡ z) × ((slice_index_or qs i d).seat.me.0.plan ≡ p) × ((slice_index_or qs i d).seat.me.0.hart ≡ i + 1)
+AreOthers z p qs = (i : ℕ) (d : HartSeat) → i < length qs
+    → ((slice_index_or qs i d).seat.table_id ≡ z) × ((slice_index_or qs i d).seat.me.0.plan ≡ p)
+    × ((slice_index_or qs i d).seat.me.0.hart ≡ i + 1)
 
 -- the view has taken in hart h, which had this view
 pub record HasOne (v : View) (h : ℕ) (w : View) : Type 0 where
@@ -57,4 +62,5 @@ pub record HasOne (v : View) (h : ℕ) (w : View) : Type 0 where
 
 -- the view has taken in each of the seats from the n-th on
 abbrev pub HasFrom : View → List HartSeat → ℕ → Type 0
-HasFrom v qs n = (i : ℕ) (d : HartSeat) → n ≤ i → i < length qs → HasOne v (i + 1) (slice_index_or qs i d).seat.me.0
+HasFrom v qs n = (i : ℕ) (d : HartSeat) → n ≤ i → i < length qs
+    → HasOne v (i + 1) (slice_index_or qs i d).seat.me.0

@@ -58,7 +58,9 @@ impl WordBoard {
         requires site { IsSite self.now.plan site }
         requires may { MayAsk self.now.plan seat.old.seat.me.0 site count }
         ensures of { IsOf self.now seat.new }
-        ensures does { seat.new.seat.me.0 ≡ did_blind (Request seat.old.seat.me.0.hart site count) site seat.old.seat.me.0.marks seat.old.seat.me.0 }
+        ensures does { seat.new.seat.me.0
+            ≡ did_blind (Request seat.old.seat.me.0.hart site count) site seat.old.seat.me.0.marks
+            seat.old.seat.me.0 }
     {
         let hart = seat.hart;
         let place = self.make_request(&mut seat.seat, count);
@@ -96,7 +98,10 @@ impl WordBoard {
         requires inside { 0 < seat.old.seat.me.0.owner }
         requires guest { is_in seat.old.seat.me.0.marks.homes seat.old.seat.me.0.owner ≡ false }
         ensures of { IsOf self.now seat.new }
-        ensures does { seat.new.seat.me.0 ≡ did_blind (Yield seat.old.seat.me.0.hart seat.old.seat.me.0.owner) (parent self.now.plan seat.old.seat.me.0.owner) seat.old.seat.me.0.marks seat.old.seat.me.0 }
+        ensures does { seat.new.seat.me.0
+            ≡ did_blind (Yield seat.old.seat.me.0.hart seat.old.seat.me.0.owner)
+            (parent self.now.plan seat.old.seat.me.0.owner) seat.old.seat.me.0.marks
+            seat.old.seat.me.0 }
     {
         let (hart, site) = (seat.hart, seat.owner);
         let above = self.plan.parent(site);
@@ -153,7 +158,10 @@ impl WordBoard {
         requires of { IsOf self.now seat.old }
         requires may { MayLeaveHome self.now.plan seat.old.seat.me.0 }
         ensures of { IsOf self.now seat.new }
-        ensures does { seat.new.seat.me.0 ≡ did_blind (Unregister seat.old.seat.me.0.hart seat.old.seat.me.0.owner) (parent self.now.plan seat.old.seat.me.0.owner) (left_marks seat.old.seat.me.0.owner seat.old.seat.me.0.marks) seat.old.seat.me.0 }
+        ensures does { seat.new.seat.me.0
+            ≡ did_blind (Unregister seat.old.seat.me.0.hart seat.old.seat.me.0.owner)
+            (parent self.now.plan seat.old.seat.me.0.owner)
+            (left_marks seat.old.seat.me.0.owner seat.old.seat.me.0.marks) seat.old.seat.me.0 }
     {
         let (hart, site) = (seat.hart, seat.owner);
         let above = self.plan.parent(site);

@@ -78,7 +78,8 @@ fn gather_all(board: &WordBoard, first: &mut HartSeat, mut seats: Vec<HartSeat>)
     ensures hart { first.new.seat.me.0.hart ≡ 0 }
     ensures plan { first.new.seat.me.0.plan ≡ first.old.seat.me.0.plan }
     ensures mine { first.new.seat.me.0.mine ≡ first.old.seat.me.0.mine }
-    ensures gone { (x : ℕ) → is_in first.old.seat.me.0.marks.gone x ≡ true → is_in first.new.seat.me.0.marks.gone x ≡ true }
+    ensures gone { (x : ℕ) → is_in first.old.seat.me.0.marks.gone x ≡ true
+        → is_in first.new.seat.me.0.marks.gone x ≡ true }
     ensures gathered { HasFrom first.new.seat.me.0 seats.items 0 }
 {
     while let Some(other) = seats.pop() {
@@ -88,8 +89,10 @@ fn gather_all(board: &WordBoard, first: &mut HartSeat, mut seats: Vec<HartSeat>)
 
 // The first seat takes in another hart's.
 fn gather(board: &WordBoard, first: &mut HartSeat, other: HartSeat)
-    requires boards { (first.old.seat.table_id ≡ board.now.table.shared.table_id) × (other.seat.table_id ≡ board.now.table.shared.table_id) }
-    requires plans { (first.old.seat.me.0.plan ≡ board.now.plan) × (other.seat.me.0.plan ≡ board.now.plan) }
+    requires boards { (first.old.seat.table_id ≡ board.now.table.shared.table_id)
+        × (other.seat.table_id ≡ board.now.table.shared.table_id) }
+    requires plans { (first.old.seat.me.0.plan ≡ board.now.plan)
+        × (other.seat.me.0.plan ≡ board.now.plan) }
     requires first { first.old.seat.me.0.hart ≡ 0 }
     ensures boards { first.new.seat.table_id ≡ board.now.table.shared.table_id }
     ensures joined { first.new.seat.me.0 ≡ joined_view first.old.seat.me.0 other.seat.me.0 }
@@ -108,7 +111,8 @@ fn gather(board: &WordBoard, first: &mut HartSeat, other: HartSeat)
 // The journal of a board whose other seats were all joined into hart 0's.
 fn finish(board: WordBoard, first: HartSeat, mut list: Vec<Entry>) -> Vec<Entry>
     requires board { first.seat.table_id ≡ board.table.shared.table_id }
-    requires first { (first.seat.me.0.hart ≡ 0) × (first.seat.me.0.plan ≡ board.plan) × AllEnded board.plan first.seat.me.0 }
+    requires first { (first.seat.me.0.hart ≡ 0) × (first.seat.me.0.plan ≡ board.plan)
+        × AllEnded board.plan first.seat.me.0 }
     requires list { (list.items ≡ []) × (room board.plan ≤ vec_capacity list) }
     ensures { IsJournal board.plan first.seat.me.0 result.items }
 {
@@ -134,7 +138,8 @@ fn read_journal(closed: &atomic_table::Closed<(), Global>, plan: &Plan, list: &m
     requires words { IsFull closed.now.words × (slots_len closed.now.words ≡ width plan.now) }
     requires list { (list.old.items ≡ []) × (room plan.now ≤ vec_capacity list.old) }
     requires spelled { (es : List Entry) × Spells plan.now (slots_items closed.now.words) es }
-    ensures { (es : List Entry) → Spells plan.now (slots_items closed.now.words) es → list.new.items ≡ es }
+    ensures { (es : List Entry) → Spells plan.now (slots_items closed.now.words) es
+        → list.new.items ≡ es }
 {
     let count = closed.word(0) / LENGTH_UNIT;
     let first = 1 + plan.sites() as usize;

@@ -14,7 +14,9 @@ impl WordBoard {
     /// that a legal journal may have.
     pub fn new(alloc: Global, plan: &Plan) -> Result<(WordBoard, Vec<HartSeat>), AllocError>
         ensures plan { IfOk result (λ r. r.0.plan ≡ plan.now) }
-        ensures seats { IfOk result (λ r. (vec_len r.1 ≡ plan.now.harts) × AreSeats r.0.table.shared.table_id plan.now r.1.items) }
+        ensures seats { IfOk result
+            (λ r. (vec_len r.1 ≡ plan.now.harts)
+            × AreSeats r.0.table.shared.table_id plan.now r.1.items) }
     {
         let sites = plan.sites();
         let harts = plan.harts();
@@ -42,7 +44,8 @@ impl WordBoard {
 fn deal(board: &WordBoard, seats: &mut Vec<HartSeat>, harts: u8) -> Result<(), AllocError>
     requires count { (vec_len seats.old ≡ 1) × (harts ≡ board.now.plan.harts) }
     requires seats { AreSeats board.now.table.shared.table_id board.now.plan seats.old.items }
-    ensures { IfOk result (λ _. (vec_len seats.new ≡ harts) × AreSeats board.now.table.shared.table_id board.now.plan seats.new.items) }
+    ensures { IfOk result (λ _. (vec_len seats.new ≡ harts)
+        × AreSeats board.now.table.shared.table_id board.now.plan seats.new.items) }
 {
     for hart in 1..harts {
         next_seat(board, seats, hart)?;
@@ -54,7 +57,8 @@ fn deal(board: &WordBoard, seats: &mut Vec<HartSeat>, harts: u8) -> Result<(), A
 fn next_seat(board: &WordBoard, seats: &mut Vec<HartSeat>, hart: u8) -> Result<(), AllocError>
     requires count { (vec_len seats.old ≡ hart) × (0 < hart) × (hart < board.now.plan.harts) }
     requires seats { AreSeats board.now.table.shared.table_id board.now.plan seats.old.items }
-    ensures { IfOk result (λ _. (vec_len seats.new ≡ hart + 1) × AreSeats board.now.table.shared.table_id board.now.plan seats.new.items) }
+    ensures { IfOk result (λ _. (vec_len seats.new ≡ hart + 1)
+        × AreSeats board.now.table.shared.table_id board.now.plan seats.new.items) }
 {
     let first = &mut seats[0];
     let seat = board.table.shared.split_seat::<Deal>(&mut first.seat);

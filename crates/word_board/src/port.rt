@@ -70,7 +70,8 @@ impl<'a> Port for WordPort<'a> {
 
     fn register(&mut self, _hold: (), site: u16) -> Result<(), Taken>
         requires known { IsSite (port_view self.old.seat).plan site }
-        requires child { (port_view self.old.seat).owner ≡ parent (port_view self.old.seat).plan site }
+        requires child { (port_view self.old.seat).owner
+            ≡ parent (port_view self.old.seat).plan site }
         ensures does { Registers (port_view self.old.seat) site result (port_view self.new.seat) }
         ensures count { RoseIfErr result self.old.refused self.new.refused }
         ensures kept { IsPortView (port_view self.new.seat) }
@@ -96,7 +97,8 @@ impl<'a> Port for WordPort<'a> {
 
     fn try_enter(&mut self, _hold: (), site: u16) -> Entered
         requires known { IsSite (port_view self.old.seat).plan site }
-        requires child { (port_view self.old.seat).owner ≡ parent (port_view self.old.seat).plan site }
+        requires child { (port_view self.old.seat).owner
+            ≡ parent (port_view self.old.seat).plan site }
         ensures does { Enters (port_view self.old.seat) site result (port_view self.new.seat) }
         ensures count { RoseUnlessInside result self.old.refused self.new.refused }
         ensures kept { IsPortView (port_view self.new.seat) }
@@ -111,7 +113,8 @@ impl<'a> Port for WordPort<'a> {
 
     fn yield_hart(&mut self, _hold: ())
         requires inside { 0 < (port_view self.old.seat).owner }
-        requires guest { is_in (port_view self.old.seat).homes (port_view self.old.seat).owner ≡ false }
+        requires guest { is_in (port_view self.old.seat).homes
+            (port_view self.old.seat).owner ≡ false }
         ensures does { port_view self.new.seat ≡ yielded (port_view self.old.seat) }
         ensures count { self.new.refused ≡ self.old.refused }
         ensures kept { IsPortView (port_view self.new.seat) }
@@ -121,8 +124,10 @@ impl<'a> Port for WordPort<'a> {
     }
 
     fn close_site(&mut self, _hold: ())
-        requires home { is_in (port_view self.old.seat).homes (port_view self.old.seat).owner ≡ true }
-        requires open_yet { is_in (port_view self.old.seat).closed (port_view self.old.seat).owner ≡ false }
+        requires home { is_in (port_view self.old.seat).homes
+            (port_view self.old.seat).owner ≡ true }
+        requires open_yet { is_in (port_view self.old.seat).closed
+            (port_view self.old.seat).owner ≡ false }
         ensures does { port_view self.new.seat ≡ closes (port_view self.old.seat) }
         ensures count { self.new.refused ≡ self.old.refused }
         ensures kept { IsPortView (port_view self.new.seat) }
@@ -133,9 +138,11 @@ impl<'a> Port for WordPort<'a> {
 
     fn see_gone(&mut self, _hold: (), site: u16) -> bool
         requires { IsSite (port_view self.old.seat).plan site }
-        ensures gone { result ≡ true → port_view self.new.seat ≡ sees_gone (port_view self.old.seat) site }
+        ensures gone { result ≡ true
+            → port_view self.new.seat ≡ sees_gone (port_view self.old.seat) site }
         ensures not_yet { result ≡ false → port_view self.new.seat ≡ port_view self.old.seat }
-        ensures alone { (port_view self.old.seat).alone ≡ true → 1 ≤ unregisters site (port_view self.old.seat).mine → result ≡ true }
+        ensures alone { (port_view self.old.seat).alone ≡ true
+            → 1 ≤ unregisters site (port_view self.old.seat).mine → result ≡ true }
         ensures count { self.new.refused ≡ self.old.refused }
         ensures kept { IsPortView (port_view self.new.seat) }
         ensures board { self.new.board.now ≡ self.old.board.now }
@@ -144,8 +151,10 @@ impl<'a> Port for WordPort<'a> {
     }
 
     fn see_empty(&mut self, _hold: ()) -> Seen
-        requires home { is_in (port_view self.old.seat).homes (port_view self.old.seat).owner ≡ true }
-        requires closed { is_in (port_view self.old.seat).closed (port_view self.old.seat).owner ≡ true }
+        requires home { is_in (port_view self.old.seat).homes
+            (port_view self.old.seat).owner ≡ true }
+        requires closed { is_in (port_view self.old.seat).closed
+            (port_view self.old.seat).owner ≡ true }
         ensures does { Sees (port_view self.old.seat) result (port_view self.new.seat) }
         ensures count { self.new.refused ≡ self.old.refused }
         ensures kept { IsPortView (port_view self.new.seat) }

@@ -51,7 +51,8 @@ impl WordBoard {
         ensures view { seat.new.me ≡ (register_view result seat.old.me.0, seat.old.me.1) }
         ensures fits { FitsPlan seat.new.me.0 }
         ensures place { result < room self.now.plan }
-        ensures first { (registers site seat.old.me.0.mine ≡ 0) × (requested site seat.old.me.0.mine ≡ 0) }
+        ensures first { (registers site seat.old.me.0.mine ≡ 0)
+            × (requested site seat.old.me.0.mine ≡ 0) }
     {
         let amount = LENGTH_UNIT + digit(site - owner, hart);
         self.table.shared.fetch_add::<MakeRegister>(seat, 0, amount) / LENGTH_UNIT

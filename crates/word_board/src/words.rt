@@ -94,7 +94,8 @@ pub(crate) fn word_of(entry: Entry) -> u64
 
 /// The entry that the word spells.
 pub(crate) fn entry_of(word: u64) -> Entry
-    requires { (e : Entry) × (hart_of e ≤ 31) × (count_of e ≤ 255) × (site_of e ≤ 4095) × (word ≡ spelled e) }
+    requires { (e : Entry) × (hart_of e ≤ 31) × (count_of e ≤ 255) × (site_of e ≤ 4095)
+        × (word ≡ spelled e) }
     ensures { (hart_of result ≤ 31) × (count_of result ≤ 255) × (word ≡ spelled result) }
 {
     let hart = (word / 8 % 32) as u8;

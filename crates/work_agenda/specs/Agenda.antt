@@ -13,17 +13,20 @@ pub record AgendaParts (C : Type 0) : Type 0 where
   pub wishes : WishList
 
 -- The first that is ready runs; where none is, the first that isn't begun.
-pub record TakesReady {C : Type 0} (before : AgendaParts C) (c : C) (after : AgendaParts C) : Type 0 where
+pub record TakesReady {C : Type 0} (before : AgendaParts C) (c : C)
+    (after : AgendaParts C) : Type 0 where
   pub first : before.ready ≡ c ∷ after.ready
   pub rest : after ≡ record before { ready = after.ready }
 
-pub record TakesUnbegun {C : Type 0} (before : AgendaParts C) (c : C) (after : AgendaParts C) : Type 0 where
+pub record TakesUnbegun {C : Type 0} (before : AgendaParts C) (c : C)
+    (after : AgendaParts C) : Type 0 where
   pub none_ready : before.ready ≡ []
   pub first : before.unbegun ≡ c ∷ after.unbegun
   pub rest : after ≡ record before { unbegun = after.unbegun }
 
 -- Where there is neither, the hart is lent to the child of the oldest wish.
-pub record TakesWish {C : Type 0} (before : AgendaParts C) (site : ℕ) (after : AgendaParts C) : Type 0 where
+pub record TakesWish {C : Type 0} (before : AgendaParts C) (site : ℕ)
+    (after : AgendaParts C) : Type 0 where
   pub none_ready : before.ready ≡ []
   pub all_begun : before.unbegun ≡ []
   pub oldest : before.wishes.sites ≡ site ∷ after.wishes.sites
@@ -42,9 +45,12 @@ TakesNext before Nothing after = IsIdle before × (after ≡ before)
 
 -- Of an agenda and a context that is ready, the answer, and the agenda afterwards: it is put last, or given back exactly where
 -- the room is filled.
-abbrev pub PutsReady : {C : Type 0} → AgendaParts C → C → Result (Unit {0}) C → AgendaParts C → Type 0
-PutsReady before c (Ok done) after = (length before.ready < before.room) × (after ≡ record before { ready = before.ready ++ c ∷ [] })
-PutsReady before c (Err back) after = (before.room ≤ length before.ready) × (back ≡ c) × (after ≡ before)
+abbrev pub PutsReady : {C : Type 0} → AgendaParts C → C → Result (Unit {0}) C
+    → AgendaParts C → Type 0
+PutsReady before c (Ok done) after =
+    (length before.ready < before.room) × (after ≡ record before { ready = before.ready ++ c ∷ [] })
+PutsReady before c (Err back) after =
+    (before.room ≤ length before.ready) × (back ≡ c) × (after ≡ before)
 
 -- The first context that is ready is taken, or there is none.
 abbrev pub GivesReady : {C : Type 0} → AgendaParts C → Option C → AgendaParts C → Type 0
@@ -57,10 +63,12 @@ IsLastUnbegun {C} agenda (Some c) = (rest : List C) × (agenda.unbegun ≡ rest 
 IsLastUnbegun agenda None = agenda.unbegun ≡ []
 
 abbrev pub GivesLast : {C : Type 0} → AgendaParts C → Option C → AgendaParts C → Type 0
-GivesLast before (Some c) after = (before.unbegun ≡ after.unbegun ++ c ∷ []) × (after ≡ record before { unbegun = after.unbegun })
+GivesLast before (Some c) after =
+    (before.unbegun ≡ after.unbegun ++ c ∷ []) × (after ≡ record before { unbegun = after.unbegun })
 GivesLast before None after = (before.unbegun ≡ []) × (after ≡ before)
 
 -- The first context that is not begun, or there is none.
 abbrev pub GivesUnbegun : {C : Type 0} → AgendaParts C → Option C → AgendaParts C → Type 0
-GivesUnbegun before (Some c) after = (before.unbegun ≡ c ∷ after.unbegun) × (after ≡ record before { unbegun = after.unbegun })
+GivesUnbegun before (Some c) after =
+    (before.unbegun ≡ c ∷ after.unbegun) × (after ≡ record before { unbegun = after.unbegun })
 GivesUnbegun before None after = (before.unbegun ≡ []) × (after ≡ before)

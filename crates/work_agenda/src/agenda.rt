@@ -40,7 +40,12 @@ impl<C: Drop> Agenda<C> {
         wishes: usize,
         unbegun: VecDeque<C>,
     ) -> Result<Agenda<C>, AllocError>
-        ensures { IfOk result (λ a. a ≡ record { ready = []; room = room; unbegun = unbegun.items; wishes = record { sites = []; room = wishes } }) }
+        ensures { IfOk result (λ a. a ≡ record {
+          ready = [];
+          room = room;
+          unbegun = unbegun.items;
+          wishes = record { sites = []; room = wishes };
+        }) }
     {
         Ok(Agenda {
             ready: VecDeque::with_capacity(alloc, room)?,

@@ -94,7 +94,8 @@ abbrev pub IsNegated : List Spot → Parsed ℤ → Type 0
 IsNegated s (Ok r) = StartsWithNatural s r.0 (spots r.1.now)
 IsNegated s (Err e) = IsRefused (is_natural (head_of s) ≡ false) s e
 
-pub record StartsWithOperator (s : List Spot) (strength : Strength) (op : Op) (t : List Spot) : Type 0 where
+pub record StartsWithOperator (s : List Spot) (strength : Strength) (op : Op)
+    (t : List Spot) : Type 0 where
   pub lexeme : Lexeme
   pub is : operator_of lexeme ≡ Some (strength, op)
   pub starts : StartsWith lexeme s t

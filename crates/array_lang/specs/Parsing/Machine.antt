@@ -149,37 +149,64 @@ opened n b = state statement (nest n.arrays [] (record { before = n.done; branch
 
 abbrev pub ends : Nest → Expression → Top → Lexeme → Option State
 ends n x (target line b) (sign signs.CloseIndex) = Some (state (equals line b x) n)
-ends n x (value line b i) (sign signs.Semicolon) = Some (state statement (with_done n (Assign line b i x)))
+ends n x (value line b i) (sign signs.Semicolon) =
+    Some (state statement (with_done n (Assign line b i x)))
 ends n x (condition line) (sign signs.OpenBlock) = Some (opened n (then_side line x))
 ends n x top l = None
 
 abbrev pub closes : Nest → Expression → List Outer → Top → Lexeme → Option State
 closes n x [] top l = ends n x top l
-closes n x (group o ∷ outers) top (sign signs.CloseGroup) = Some (state (after (bare x) o outers top) n)
-closes n x (index b o ∷ outers) top (sign signs.CloseIndex) = Some (state (after (bare (Read b x)) o outers top) n)
+closes n x (group o ∷ outers) top (sign signs.CloseGroup) =
+    Some (state (after (bare x) o outers top) n)
+closes n x (index b o ∷ outers) top (sign signs.CloseIndex) =
+    Some (state (after (bare (Read b x)) o outers top) n)
 closes n x (o ∷ outers) top l = None
 
 -- what comes after the term x, which stands to the right of what waits
-abbrev pub goes_on : Nest → Left → Left → Expression → List Outer → Top → Lexeme → Option (Strength × Op) → Option State
+abbrev pub goes_on : Nest → Left → Left → Expression → List Outer → Top → Lexeme
+    → Option (Strength × Op) → Option State
 goes_on n c s x outers top l (Some (product, op)) =
-    Some (state (operand (record { compare = c; sum = s; term = Some (x, op); minus = 0 }) outers top) n)
+    Some (state (operand (record {
+      compare = c;
+      sum = s;
+      term = Some (x, op);
+      minus = 0;
+    }) outers top) n)
 goes_on n c s x outers top l (Some (addition, op)) =
-    Some (state (operand (record { compare = c; sum = Some (joined s x, op); term = None; minus = 0 }) outers top) n)
+    Some (state (operand (record {
+      compare = c;
+      sum = Some (joined s x, op);
+      term = None;
+      minus = 0;
+    }) outers top) n)
 goes_on n None s x outers top l (Some (comparison, op)) =
-    Some (state (operand (record { compare = Some (joined s x, op); sum = None; term = None; minus = 0 }) outers top) n)
+    Some (state (operand (record {
+      compare = Some (joined s x, op);
+      sum = None;
+      term = None;
+      minus = 0;
+    }) outers top) n)
 goes_on n (Some c) s x outers top l (Some (comparison, op)) = None
 goes_on n c s x outers top l None = closes n (joined c (joined s x)) outers top l
 
 abbrev pub step_after : Nest → Operand → Level → List Outer → Top → Lexeme → Option State
-step_after n (called b) l outers top (sign signs.OpenIndex) = Some (state (operand fresh (index b l ∷ outers) top) n)
-step_after n x l outers top t = goes_on n l.compare l.sum (term_value l (operand_value x)) outers top t (operator_of t)
+step_after n (called b) l outers top (sign signs.OpenIndex) =
+    Some (state (operand fresh (index b l ∷ outers) top) n)
+step_after n x l outers top t =
+    goes_on n l.compare l.sum (term_value l (operand_value x)) outers top t (operator_of t)
 
 abbrev pub step_operand : Nest → Level → List Outer → Top → Lexeme → Option State
 step_operand n l outers top (number v) = Some (state (after (bare (Number v)) l outers top) n)
 step_operand n l outers top (name b) = Some (state (after (called b) l outers top) n)
 step_operand n l outers top (sign signs.Minus) =
-    Some (state (operand (record { compare = l.compare; sum = l.sum; term = l.term; minus = suc l.minus }) outers top) n)
-step_operand n l outers top (sign signs.OpenGroup) = Some (state (operand fresh (group l ∷ outers) top) n)
+    Some (state (operand (record {
+      compare = l.compare;
+      sum = l.sum;
+      term = l.term;
+      minus = suc l.minus;
+    }) outers top) n)
+step_operand n l outers top (sign signs.OpenGroup) =
+    Some (state (operand fresh (group l ∷ outers) top) n)
 step_operand n l outers top t = None
 
 -- after a block, which is closed
@@ -192,7 +219,8 @@ close_into n (in_team c ps) p = state (phase_closed c ps p) n
 
 abbrev pub close_block : List Declaration → List Statement → List Frame → Option State
 close_block ds done [] = None
-close_block ds done (f ∷ frames) = Some (close_into (nest ds f.before frames) f.branch (sequence done))
+close_block ds done (f ∷ frames) =
+    Some (close_into (nest ds f.before frames) f.branch (sequence done))
 
 abbrev pub step_statement : Nest → ℕ → Lexeme → Option State
 step_statement n line (name b) = Some (state (array line b) n)
@@ -210,20 +238,34 @@ bounded (high_of r line b low) v = range_over r line b low v
 
 abbrev pub step_header : Position → Nest → Lexeme → Option State
 step_header (array_name line) n (name b) = Some (state (header (array_open line b)) n)
-step_header (array_open line b) n (sign signs.OpenIndex) = Some (state (header (array_length line b)) n)
+step_header (array_open line b) n (sign signs.OpenIndex) =
+    Some (state (header (array_length line b)) n)
 step_header (array_length line b) n (number v) = Some (state (header (array_close line b v)) n)
-step_header (array_close line b v) n (sign signs.CloseIndex) = Some (state (header (array_end line b v)) n)
-step_header (array_end line b v) n (sign signs.Semicolon) = Some (state declaring (with_array n (record { line = line; name = b; length = v })))
+step_header (array_close line b v) n (sign signs.CloseIndex) =
+    Some (state (header (array_end line b v)) n)
+step_header (array_end line b v) n (sign signs.Semicolon) =
+    Some (state declaring (with_array n (record { line = line; name = b; length = v })))
 step_header (range_name r line) n (name b) = Some (state (header (range_in r line b)) n)
-step_header (range_in r line b) n (word words.In) = Some (state (header (bound (low_of r line b))) n)
+step_header (range_in r line b) n (word words.In) =
+    Some (state (header (bound (low_of r line b))) n)
 step_header (bound s) n (sign signs.Minus) = Some (state (header (bound_number s)) n)
 step_header (bound s) n (number v) = Some (state (header (bounded s v)) n)
-step_header (bound_number s) n (number (pos k)) = Some (state (header (bounded s (neg_ℤ (pos k)))) n)
-step_header (range_dots r line b low) n (sign signs.Range) = Some (state (header (bound (high_of r line b low))) n)
-step_header (range_over looping line b low high) n (sign signs.OpenBlock) = Some (opened n (in_for line b low high))
-step_header (range_over teaming line b low high) n (word words.By) = Some (state (header (team_members line b low high)) n)
+step_header (bound_number s) n (number (pos k)) =
+    Some (state (header (bounded s (neg_ℤ (pos k)))) n)
+step_header (range_dots r line b low) n (sign signs.Range) =
+    Some (state (header (bound (high_of r line b low))) n)
+step_header (range_over looping line b low high) n (sign signs.OpenBlock) =
+    Some (opened n (in_for line b low high))
+step_header (range_over teaming line b low high) n (word words.By) =
+    Some (state (header (team_members line b low high)) n)
 step_header (team_members line b low high) n (number v) =
-    Some (state (phase_open (record { line = line; var = b; low = low; high = high; members = v }) []) n)
+    Some (state (phase_open (record {
+      line = line;
+      var = b;
+      low = low;
+      high = high;
+      members = v;
+    }) []) n)
 step_header at n t = None
 
 abbrev pub step : Mode → Nest → ℕ → Lexeme → Option State
@@ -246,25 +288,29 @@ step (par_begun at) n line t = None
 step (par_open at) n line (sign signs.OpenBlock) = Some (opened n (in_par at []))
 step (par_open at) n line t = None
 step (par_side at ps p) n line (sign signs.OpenBlock) = Some (opened n (in_par at (ps ++ p ∷ [])))
-step (par_side at ps p) n line (sign signs.CloseBlock) = Some (state statement (with_done n (Par at (sequences (ps ++ p ∷ [])))))
+step (par_side at ps p) n line (sign signs.CloseBlock) =
+    Some (state statement (with_done n (Par at (sequences (ps ++ p ∷ [])))))
 step (par_side at ps p) n line t = None
 step (phase_open c ps) n line (sign signs.OpenBlock) = Some (opened n (in_team c ps))
 step (phase_open c ps) n line t = None
-step (phase_closed c ps p) n line (word words.Barrier) = Some (state (phase_open c (ps ++ p ∷ [])) n)
+step (phase_closed c ps p) n line (word words.Barrier) =
+    Some (state (phase_open c (ps ++ p ∷ [])) n)
 step (phase_closed c ps p) n line t = step_statement (with_done n (team_of c (ps ++ p ∷ []))) line t
 
 abbrev pub program : List Declaration → List Statement → ProgramTree
 program ds done = record { arrays = ds; body = sequence done }
 
 -- the program, where the tokens end here
-abbrev pub at_end : Mode → List Declaration → List Statement → List Frame → Result ProgramTree (List Spot)
+abbrev pub at_end : Mode → List Declaration → List Statement → List Frame
+    → Result ProgramTree (List Spot)
 at_end declaring ds done [] = Ok (program ds done)
 at_end statement ds done [] = Ok (program ds done)
 at_end (closed line x p) ds done [] = Ok (program ds (done ++ If line x p ended ∷ []))
 at_end (phase_closed c ps p) ds done [] = Ok (program ds (done ++ team_of c (ps ++ p ∷ []) ∷ []))
 at_end m ds done frames = Err []
 
-abbrev pub continued : Option State → (State → Result ProgramTree (List Spot)) → List Spot → Result ProgramTree (List Spot)
+abbrev pub continued : Option State → (State → Result ProgramTree (List Spot)) → List Spot
+    → Result ProgramTree (List Spot)
 continued None go here = Err here
 continued (Some s) go here = go s
 

@@ -34,45 +34,63 @@ Stops (Unexpected rest) at = at (spots rest.now)
 -- many tokens as the part has at least. Where the reader stops, each such run does. One of these for each number of
 -- arguments that say which run it is.
 
-pub record Takes1 {A : Type 0} (least : ℕ) (waits goes_on : A → State) (s t : List Spot) : Type 0 where
+pub record Takes1 {A : Type 0} (least : ℕ) (waits goes_on : A → State)
+    (s t : List Spot) : Type 0 where
   pub shorter : length t + least ≤ length s
   pub runs : (a : A) → run_from (waits a) s ≡ run_from (goes_on a) t
 
-abbrev pub Reads1 : {A X : Type 0} → ℕ → (A → State) → (X → A → State) → List Spot → Parsed X → Type 0
+abbrev pub Reads1 : {A X : Type 0} → ℕ → (A → State) → (X → A → State) → List Spot
+    → Parsed X → Type 0
 Reads1 least waits goes_on s (Ok r) = Takes1 least waits (goes_on r.0) s (spots r.1.now)
-Reads1 {A} least waits goes_on s (Err e) = Stops e (λ rest. (a : A) → run_from (waits a) s ≡ Err rest)
+Reads1 {A} least waits goes_on s (Err e) =
+    Stops e (λ rest. (a : A) → run_from (waits a) s ≡ Err rest)
 
-pub record Takes2 {A B : Type 0} (least : ℕ) (waits goes_on : A → B → State) (s t : List Spot) : Type 0 where
+pub record Takes2 {A B : Type 0} (least : ℕ) (waits goes_on : A → B → State)
+    (s t : List Spot) : Type 0 where
   pub shorter : length t + least ≤ length s
   pub runs : (a : A) (b : B) → run_from (waits a b) s ≡ run_from (goes_on a b) t
 
-abbrev pub Reads2 : {A B X : Type 0} → ℕ → (A → B → State) → (X → A → B → State) → List Spot → Parsed X → Type 0
+abbrev pub Reads2 : {A B X : Type 0} → ℕ → (A → B → State) → (X → A → B → State) → List Spot
+    → Parsed X → Type 0
 Reads2 least waits goes_on s (Ok r) = Takes2 least waits (goes_on r.0) s (spots r.1.now)
-Reads2 {A} {B} least waits goes_on s (Err e) = Stops e (λ rest. (a : A) (b : B) → run_from (waits a b) s ≡ Err rest)
+Reads2 {A} {B} least waits goes_on s (Err e) =
+    Stops e (λ rest. (a : A) (b : B) → run_from (waits a b) s ≡ Err rest)
 
-pub record Takes3 {A B C : Type 0} (least : ℕ) (waits goes_on : A → B → C → State) (s t : List Spot) : Type 0 where
+pub record Takes3 {A B C : Type 0} (least : ℕ) (waits goes_on : A → B → C → State)
+    (s t : List Spot) : Type 0 where
   pub shorter : length t + least ≤ length s
   pub runs : (a : A) (b : B) (c : C) → run_from (waits a b c) s ≡ run_from (goes_on a b c) t
 
-abbrev pub Reads3 : {A B C X : Type 0} → ℕ → (A → B → C → State) → (X → A → B → C → State) → List Spot → Parsed X → Type 0
+abbrev pub Reads3 : {A B C X : Type 0} → ℕ → (A → B → C → State) → (X → A → B → C → State)
+    → List Spot → Parsed X → Type 0
 Reads3 least waits goes_on s (Ok r) = Takes3 least waits (goes_on r.0) s (spots r.1.now)
-Reads3 {A} {B} {C} least waits goes_on s (Err e) = Stops e (λ rest. (a : A) (b : B) (c : C) → run_from (waits a b c) s ≡ Err rest)
+Reads3 {A} {B} {C} least waits goes_on s (Err e) =
+    Stops e (λ rest. (a : A) (b : B) (c : C) → run_from (waits a b c) s ≡ Err rest)
 
-pub record Takes4 {A B C D : Type 0} (least : ℕ) (waits goes_on : A → B → C → D → State) (s t : List Spot) : Type 0 where
+pub record Takes4 {A B C D : Type 0} (least : ℕ) (waits goes_on : A → B → C → D → State)
+    (s t : List Spot) : Type 0 where
   pub shorter : length t + least ≤ length s
-  pub runs : (a : A) (b : B) (c : C) (d : D) → run_from (waits a b c d) s ≡ run_from (goes_on a b c d) t
+  pub runs : (a : A) (b : B) (c : C) (d : D)
+      → run_from (waits a b c d) s ≡ run_from (goes_on a b c d) t
 
-abbrev pub Reads4 : {A B C D X : Type 0} → ℕ → (A → B → C → D → State) → (X → A → B → C → D → State) → List Spot → Parsed X → Type 0
+abbrev pub Reads4 : {A B C D X : Type 0} → ℕ → (A → B → C → D → State) → (X → A → B → C → D → State)
+    → List Spot → Parsed X → Type 0
 Reads4 least waits goes_on s (Ok r) = Takes4 least waits (goes_on r.0) s (spots r.1.now)
-Reads4 {A} {B} {C} {D} least waits goes_on s (Err e) = Stops e (λ rest. (a : A) (b : B) (c : C) (d : D) → run_from (waits a b c d) s ≡ Err rest)
+Reads4 {A} {B} {C} {D} least waits goes_on s (Err e) =
+    Stops e (λ rest. (a : A) (b : B) (c : C) (d : D) → run_from (waits a b c d) s ≡ Err rest)
 
-pub record Takes5 {A B C D E : Type 0} (least : ℕ) (waits goes_on : A → B → C → D → E → State) (s t : List Spot) : Type 0 where
+pub record Takes5 {A B C D E : Type 0} (least : ℕ) (waits goes_on : A → B → C → D → E → State)
+    (s t : List Spot) : Type 0 where
   pub shorter : length t + least ≤ length s
-  pub runs : (a : A) (b : B) (c : C) (d : D) (e : E) → run_from (waits a b c d e) s ≡ run_from (goes_on a b c d e) t
+  pub runs : (a : A) (b : B) (c : C) (d : D) (e : E)
+      → run_from (waits a b c d e) s ≡ run_from (goes_on a b c d e) t
 
-abbrev pub Reads5 : {A B C D E X : Type 0} → ℕ → (A → B → C → D → E → State) → (X → A → B → C → D → E → State) → List Spot → Parsed X → Type 0
+abbrev pub Reads5 : {A B C D E X : Type 0} → ℕ → (A → B → C → D → E → State)
+    → (X → A → B → C → D → E → State) → List Spot → Parsed X → Type 0
 Reads5 least waits goes_on s (Ok r) = Takes5 least waits (goes_on r.0) s (spots r.1.now)
-Reads5 {A} {B} {C} {D} {E} least waits goes_on s (Err e) = Stops e (λ rest. (a : A) (b : B) (c : C) (d : D) (e : E) → run_from (waits a b c d e) s ≡ Err rest)
+Reads5 {A} {B} {C} {D} {E} least waits goes_on s (Err e) =
+    Stops e (λ rest. (a : A) (b : B) (c : C) (d : D) (e : E)
+    → run_from (waits a b c d e) s ≡ Err rest)
 
 -- What follows binds at most so strongly to what is read.
 abbrev pub IsFollowed : {X : Type 0} → ℕ → Parsed X → Type 0
@@ -87,11 +105,13 @@ behind_operand x n l outers top = state (after (bare x) l outers top) n
 
 -- a factor
 abbrev pub IsFactor : List Spot → Parsed Expr → Type 0
-IsFactor s r = Reads4 1 before_operand (λ (x : Expr). behind_operand (expression_of x)) s r × IsFollowed 3 r
+IsFactor s r = Reads4 1 before_operand (λ (x : Expr). behind_operand (expression_of x)) s r
+    × IsFollowed 3 r
 
 -- a factor that begins with this name, which stands before the tokens
 abbrev pub IsAfterName : List ℕ → List Spot → Parsed Expr → Type 0
-IsAfterName b s r = Reads4 0 (λ n l outers top. state (after (called b) l outers top) n) (λ (x : Expr). behind_operand (expression_of x)) s r × IsFollowed 3 r
+IsAfterName b s r = Reads4 0 (λ n l outers top. state (after (called b) l outers top) n)
+    (λ (x : Expr). behind_operand (expression_of x)) s r × IsFollowed 3 r
 
 -- what waits for a term, and for a sum
 abbrev pub waiting : Left → Left → Level
@@ -125,30 +145,43 @@ IsSum s r = Reads4 1 before_sum (λ (x : Expr). behind_sum (expression_of x)) s 
 
 -- an expression
 abbrev pub IsExpr : List Spot → Parsed Expr → Type 0
-IsExpr s r = Reads3 1 (λ n outers top. before_operand n fresh outers top) (λ (x : Expr) n outers top. behind_operand (expression_of x) n fresh outers top) s r × IsFollowed 0 r
+IsExpr s r = Reads3 1 (λ n outers top. before_operand n fresh outers top)
+    (λ (x : Expr) n outers top. behind_operand (expression_of x) n fresh outers top) s r
+    × IsFollowed 0 r
 
 -- the index of an assignment's target, up to the value
 abbrev pub IsTarget : List Spot → Parsed Expr → Type 0
-IsTarget s r = Reads3 1 (λ n line b. state (array line b) n) (λ (x : Expr) n line b. state (operand fresh [] (value line b (expression_of x))) n) s r
+IsTarget s r = Reads3 1 (λ n line b. state (array line b) n) (λ (x : Expr) n line b.
+    state (operand fresh [] (value line b (expression_of x))) n) s r
 
 -- the value of an assignment, up to its end
 abbrev pub IsValue : List Spot → Parsed Expr → Type 0
-IsValue s r = Reads4 1 (λ n line b i. state (operand fresh [] (value line b i)) n) (λ (x : Expr) n line b i. state statement (with_done n (Assign line b i (expression_of x)))) s r
+IsValue s r = Reads4 1 (λ n line b i. state (operand fresh [] (value line b i)) n)
+    (λ (x : Expr) n line b i. state statement (with_done n (Assign line b i (expression_of x)))) s r
 
 -- a bound
 abbrev pub IsBound : List Spot → Parsed ℤ → Type 0
-IsBound s r = Reads2 1 (λ n slot. state (header (bound slot)) n) (λ v n slot. state (header (bounded slot v)) n) s r
+IsBound s r = Reads2 1 (λ n slot. state (header (bound slot)) n)
+    (λ v n slot. state (header (bounded slot v)) n) s r
 
 -- a range
 abbrev pub IsRange : List Spot → Parsed LoopRange → Type 0
-IsRange s r = Reads3 1 (λ n of line. state (header (range_name of line)) n) (λ (x : LoopRange) n of line. state (header (range_over of line x.var.now x.low x.high)) n) s r
+IsRange s r = Reads3 1 (λ n of line. state (header (range_name of line)) n)
+    (λ (x : LoopRange) n of line. state (header (range_over of line x.var.now x.low x.high)) n) s r
 
 abbrev pub crew_of : ℕ → TeamHead → Crew
-crew_of line h = record { line = line; var = h.range.var.now; low = h.range.low; high = h.range.high; members = h.members }
+crew_of line h = record {
+  line = line;
+  var = h.range.var.now;
+  low = h.range.low;
+  high = h.range.high;
+  members = h.members;
+}
 
 -- the head of a team
 abbrev pub IsHead : List Spot → Parsed TeamHead → Type 0
-IsHead s r = Reads2 1 (λ n line. state (header (range_name teaming line)) n) (λ h n line. state (phase_open (crew_of line h) []) n) s r
+IsHead s r = Reads2 1 (λ n line. state (header (range_name teaming line)) n)
+    (λ h n line. state (phase_open (crew_of line h) []) n) s r
 
 -- behind a statement
 abbrev pub behind : Statement → Nest → State
@@ -164,7 +197,8 @@ IsBlock s r = Reads2 1 opened (λ (p : Block) n b. close_into n b (sequence_of p
 
 -- what follows the first block of a choice
 abbrev pub IsElseBlock : List Spot → Parsed Block → Type 0
-IsElseBlock s r = Reads4 0 (λ n line x p. state (closed line x p) n) (λ (q : Block) n line x p. behind (If line x p (sequence_of q)) n) s r
+IsElseBlock s r = Reads4 0 (λ n line x p. state (closed line x p) n) (λ (q : Block) n line x p.
+    behind (If line x p (sequence_of q)) n) s r
 
 abbrev pub IsAssign : ℕ → List ℕ → List Spot → Parsed Stmt → Type 0
 IsAssign line b s r = IsRestOf (array line b) s r
@@ -203,7 +237,8 @@ pub record TakesPhases (s t : List Spot) (all : List Sequence) : Type 0 where
 
 -- the phases of a team
 abbrev pub IsPhases : List Spot → Parsed (Vec Block Global) → Type 0
-IsPhases s r = Reads2 1 before_phases (λ (blocks : Vec Block Global) n c. behind (team_of c (sequence_list blocks.items)) n) s r
+IsPhases s r = Reads2 1 before_phases (λ (blocks : Vec Block Global) n c.
+    behind (team_of c (sequence_list blocks.items)) n) s r
 
 abbrev pub starts : Lexeme → Bool
 starts (name b) = true
@@ -232,15 +267,20 @@ behind_all cs n = state statement (nest n.arrays (n.done ++ cs) n.frames)
 
 -- the statements one after another
 abbrev pub IsStatements : List Spot → Parsed (Vec Stmt Global) → Type 0
-IsStatements s r = Reads1 0 (state statement) (λ (cs : Vec Stmt Global). behind_all (statements_of cs.items)) s r × IfOk r (λ r. statement_follows (spots r.1.now) ≡ false)
+IsStatements s r = Reads1 0 (state statement) (λ (cs : Vec Stmt Global).
+    behind_all (statements_of cs.items)) s r × IfOk r
+    (λ r. statement_follows (spots r.1.now) ≡ false)
 
 -- the length of an array, and the rest of its declaration
 abbrev pub IsLength : List Spot → Parsed ℤ → Type 0
-IsLength s r = Reads3 1 (λ n line b. state (header (array_open line b)) n) (λ v n line b. state declaring (with_array n (record { line = line; name = b; length = v }))) s r
+IsLength s r = Reads3 1 (λ n line b. state (header (array_open line b)) n) (λ v n line b.
+    state declaring (with_array n (record { line = line; name = b; length = v }))) s r
 
 -- the rest of a declaration
 abbrev pub IsDeclaration : ℕ → List Spot → Parsed ArrayDecl → Type 0
-IsDeclaration line s r = Reads1 1 (state (header (array_name line))) (λ (d : ArrayDecl) n. state declaring (with_array n (declaration_of d))) s r
+IsDeclaration line s r =
+    Reads1 1 (state (header (array_name line))) (λ (d : ArrayDecl) n.
+    state declaring (with_array n (declaration_of d))) s r
 
 abbrev pub declaration_list : List ArrayDecl → List Declaration
 declaration_list declarations = map declaration_of declarations
@@ -251,12 +291,16 @@ declared_all ds n = state declaring (nest (n.arrays ++ ds) n.done n.frames)
 
 -- the declarations one after another
 abbrev pub IsDeclarations : List Spot → Parsed (Vec ArrayDecl Global) → Type 0
-IsDeclarations s r = Reads1 0 (state declaring) (λ (ds : Vec ArrayDecl Global). declared_all (declaration_list ds.items)) s r × IfOk r (λ r. head_of (spots r.1.now) ≢ Some (word words.Array))
+IsDeclarations s r = Reads1 0 (state declaring) (λ (ds : Vec ArrayDecl Global).
+    declared_all (declaration_list ds.items)) s r × IfOk r
+    (λ r. head_of (spots r.1.now) ≢ Some (word words.Array))
 
 -- the statements to the end of the tokens
 abbrev pub IsBody : List Spot → Result Block Stop → Type 0
-IsBody s (Ok b) = (ds : List Declaration) → run statement (nest ds [] []) s ≡ Ok (record { arrays = ds; body = sequence_of b })
-IsBody s (Err e) = Stops e (λ rest. (ds : List Declaration) → run statement (nest ds [] []) s ≡ Err rest)
+IsBody s (Ok b) = (ds : List Declaration)
+    → run statement (nest ds [] []) s ≡ Ok (record { arrays = ds; body = sequence_of b })
+IsBody s (Err e) = Stops e
+    (λ rest. (ds : List Declaration) → run statement (nest ds [] []) s ≡ Err rest)
 
 abbrev pub IsProgram : List Spot → Result Program Stop → Type 0
 IsProgram s (Ok p) = parse_of s ≡ Ok (program_of p)
@@ -265,7 +309,9 @@ IsProgram s (Err e) = Stops e (λ rest. parse_of s ≡ Err rest)
 -- what is read of tokens that pass no bound
 abbrev pub IsWhole : List Spot → ℕ → Result Program SyntaxFault → Type 0
 IsWhole tokens end (Ok program) = parse_of tokens ≡ Ok (program_of program)
-IsWhole tokens end (Err fault) = HasTokenFault tokens end fault × ((p : ProgramTree) → SpellsProgram tokens p → fault ≡ faults.Memory)
+IsWhole tokens end (Err fault) =
+    HasTokenFault tokens end fault
+    × ((p : ProgramTree) → SpellsProgram tokens p → fault ≡ faults.Memory)
 
 -- whether the tokens have no fault by themselves
 abbrev pub IsReading : {X : Type 0} → List Spot → Result X Stop → Type 0

@@ -36,7 +36,8 @@ is_over depth r = nat_lt most_open depth || nat_lt most_marks (marks_of r)
 abbrev pub nested_at : Reach → ℕ → List Spot → Option ℕ
 nested_at r depth [] = None
 nested_at r depth (t ∷ ts) =
-    first_over (is_over (depth_after depth t.lexeme) (reach_after r t.lexeme)) (nested_at (reach_after r t.lexeme) (depth_after depth t.lexeme) ts)
+    first_over (is_over (depth_after depth t.lexeme) (reach_after r t.lexeme))
+    (nested_at (reach_after r t.lexeme) (depth_after depth t.lexeme) ts)
 
 -- of all tokens
 abbrev pub first_nested : List Spot → Option ℕ
