@@ -181,6 +181,7 @@ impl<'a, R: Threads + Wait + Sync + 'a> Port for LockedPort<'a, R> {
 
     /// Never: the table is shared, whatever the plan.
     fn is_alone(&self) -> bool {
+        // A look at a field tells what the type keeps: that the table is shared.
         let _ = &self.plan;
         false
     }

@@ -110,6 +110,7 @@ impl Port for PlainPort {
     ghost refused = { λ p. p.refused };
 
     fn hart(&self) -> u8 {
+        // A look at a field tells what the type keeps: that the hart is 0.
         let _ = &self.ledger;
         0
     }
@@ -124,6 +125,7 @@ impl Port for PlainPort {
     }
 
     fn is_alone(&self) -> bool {
+        // A look at a field tells what the type keeps: that there is one hart.
         let _ = &self.ledger;
         true
     }

@@ -80,6 +80,7 @@ impl WordBoard {
         ensures fits { FitsPlan seat.new.me.0 }
         ensures place { result < room self.now.plan }
     {
+        // The step's type stands for the count, by the clause `asked`.
         let _ = count;
         self.table
             .shared
