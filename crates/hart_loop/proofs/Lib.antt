@@ -1,9 +1,2 @@
-pub mod Accounts
 pub mod Crossings
 pub mod Crews
-pub mod Ends
-pub mod Hearings
-pub mod Steps
-pub mod Stocks
-pub mod Stores
-pub mod TeamAccounts

@@ -10,7 +10,7 @@ use Rattle.word_board.specs.declared.seat.HartSeat.{HartSeat}
 use Rattle.word_board.specs.PortViews.{port_view}
 use Rattle.word_board.specs.declared.port.WordPort.{WordPort}
 use Rattle.waiting_port.specs.declared.waiting.WaitingPort.{WaitingPort}
-use Rattle.hart_loop.specs.Kins.{ToolKins}
+use Rattle.hart_tools.specs.Kins.{ToolKins}
 use Rattle.hart_loop.specs.declared.hart.Hart.{Hart}
 
 -- the hart is in the base, and the home of no site

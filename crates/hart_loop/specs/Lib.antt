@@ -1,9 +1,3 @@
-pub mod Accounts
-pub mod Sites
-pub mod Journals
 pub mod Openings
-pub mod Kins
-pub mod Places
 pub mod Offers
-pub mod Stocks
 pub mod Harts

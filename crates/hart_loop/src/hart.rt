@@ -5,9 +5,9 @@ ghost use Rattle.hart_loop.specs.Harts.{StartsIn, IsSameHart, TopSitesSeenGone, 
 use crate::hart_site::HartSite;
 use crate::harts::HartSchedulers;
 use crate::in_directory::InDirectory;
-use crate::tools::Tools;
 use array_jobs::{Job, Piece};
 use base_sched::{Base, BaseHand};
+use hart_tools::Tools;
 use hart_work::{run_piece, serve};
 use site_steps::{PatientPort, SiteTree, finish_base, sweep_failed};
 use std::alloc::{AllocError, Global};

@@ -1,12 +1,12 @@
 //! One site, as one of several harts has it.
 ghost use Rattle.std.specs.Prelude.{◌≡◌};
-ghost use Rattle.hart_loop.specs.Places.{Fits};
+ghost use Rattle.hart_tools.specs.Places.{Fits};
 ghost use Rattle.hart_loop.specs.Offers.{IsOpened};
 
 use crate::in_directory::InDirectory;
 use crate::opened::OpenSite;
-use crate::tools::{Grip, Tools};
 use base_sched::Base;
+use hart_tools::{Grip, Tools};
 use std::sync::Mutex;
 
 /// The scheduler of one site, as one of several harts has it.

@@ -6,16 +6,13 @@ ghost use Rattle.step_eval.specs.Nests.{NestedParts, nested_of, nested_writes};
 ghost use Rattle.step_eval.specs.Machines.{left_of, is_awaiting, IsFinished};
 ghost use Rattle.contexts.specs.declared.machine.Step.TheVariants.{Finished};
 ghost use Rattle.hart_work.specs.Tasks.{Goes, HasEntered};
-ghost use Rattle.hart_loop.specs.Sites.{IsAwaitingWrites};
-ghost use Rattle.hart_loop.specs.Places.{Fits};
+ghost use Rattle.lone_hart.specs.Sites.{IsAwaitingWrites};
+ghost use Rattle.hart_tools.specs.Places.{Fits};
 ghost use Rattle.hart_loop.specs.Offers.{opened_by, IsOpened, task_told};
 
 use crate::hart_site::{HartSite, Keeper};
 use crate::in_directory::InDirectory;
-use crate::machines::started;
 use crate::opened::OpenSite;
-use crate::tools::{Grip, Tools};
-use crate::trial::Trial;
 use crate::turns::take_turn;
 use array_eval::Overlay;
 use array_jobs::{Job, Piece};
@@ -23,7 +20,9 @@ use array_tree::Block;
 use contexts::{Running, Step};
 use crossbeam_utils::Backoff;
 use hart_port::{Port, Taken};
+use hart_tools::{Grip, Tools, Trial};
 use hart_work::{Resources, Schedulers, Task};
+use lone_hart::started;
 use sched_api::Next;
 use site_directory::SiteLine;
 use std::alloc::{AllocError, Global};
@@ -134,7 +133,7 @@ impl<'a, 'p, S: InDirectory<'p>> Resources for HartSchedulers<'a, 'p, S> {
     ghost use Rattle.std.specs.Prelude.{◌≡◌, false};
     ghost use Rattle.step_eval.specs.Nests.{nested_of, nested_writes};
     ghost use Rattle.step_eval.specs.Machines.{left_of, is_awaiting, IsFinished};
-    ghost use Rattle.hart_loop.specs.Sites.{IsAwaitingWrites};
+    ghost use Rattle.lone_hart.specs.Sites.{IsAwaitingWrites};
     ghost use Rattle.hart_loop.specs.Offers.{opened_by, IsOpened};
 
     type Job = Job<'p>;

@@ -5,10 +5,10 @@ ghost use Rattle.step_eval.specs.Nests.{nested_of, nested_writes, phases_of};
 ghost use Rattle.hart_loop.specs.Openings.{IsMadeOf, on_shelf, IsSharedPoolOf};
 
 use crate::in_directory::InDirectory;
-use crate::pools::{open_pool, take_from_pool};
-use crate::tools::Tools;
 use array_eval::Overlay;
 use forkjoin_sched::SharedPool;
+use hart_tools::Tools;
+use lone_hart::{open_pool, take_from_pool};
 use loop_team::{SharedTeam, Team};
 use site_directory::{SharedSite, SiteLine};
 use std::alloc::{AllocError, Global};

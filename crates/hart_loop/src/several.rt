@@ -8,23 +8,21 @@ ghost use Rattle.transfer_table.specs.Journal.{IsComplete};
 ghost use Rattle.word_board.specs.PortViews.{port_view, table_name};
 ghost use Rattle.word_board.specs.Seats.{AreSeats};
 ghost use Rattle.word_board.specs.Of.{IsOf};
-ghost use Rattle.hart_loop.specs.Journals.{entries_in};
+ghost use Rattle.lone_hart.specs.Journals.{entries_in};
 ghost use Rattle.deque_rows.specs.Rows.{kin as rows_kin};
 ghost use Rattle.claim_words.specs.Seats.{kin as seat_kin};
-ghost use Rattle.hart_loop.specs.Stocks.{AreTools};
+ghost use Rattle.hart_tools.specs.Stocks.{AreTools};
 ghost use Rattle.hart_loop.specs.Harts.{TopSitesSeenGone, AreBack, AllStart, HaveRun, AreTheSame};
 
-use crate::claims::Claims;
 use crate::hart::{Hart, work};
 use crate::harts::HartSchedulers;
-use crate::outcome::{Journal, Outcome};
-use crate::run::store_after;
-use crate::tools::tools_of;
 use array_jobs::{Job, Piece, body_job};
 use base_sched::Base;
 use deque_rows::laws::settle;
 use deque_rows::{HartRows, rows};
 use disjoint_check::Accepted;
+use hart_tools::{Claims, tools_of};
+use lone_hart::{Journal, Outcome, store_after};
 use loop_team::ClaimSeat;
 use loop_team::laws::claimed;
 use once_cell::race::OnceBox;
@@ -174,10 +172,9 @@ fn run_lent<'x, 'p: 'x, R: Threads + Wait + Sync, F: Fn(u8, u16, u8, u8) + Sync>
     let base = Mutex::new(Base::new(alloc, sites)?);
     let cells = cells(alloc, sites)?;
     let job = body_job(alloc, accepted.program())?;
-    let back = run_on(
+    run_on(
         rt, alloc, pass, tree, board, words, stock, &base, &cells, job,
-    )?;
-    Ok(back)
+    )
 }
 
 // Runs all harts on these cells, the first of them with this job. Its piece, and what the harts gave back.

@@ -8,7 +8,7 @@ use Rattle.array_meaning.specs.Stores.{arrays_of, cells_of, AreSized}
 use Rattle.array_meaning.specs.Work.{final_store}
 use Rattle.array_meaning.proofs.InsideLemmas.{sized_in_range}
 use Rattle.array_eval.specs.ArrayText.{array_text}
-use Rattle.hart_loop.specs.Journals.{entries_in}
+use Rattle.lone_hart.specs.Journals.{entries_in}
 use Rattle.lithe_call.specs.Programs.{table_plan}
 use Rattle.lithe_call.proofs.Runs.{final_cells, told_plan}
 use Rattle.lithe_call.proofs.run.run.Goals as goal

@@ -1,0 +1,4 @@
+pub mod Kins
+pub mod Places
+pub mod Trials
+pub mod Stocks

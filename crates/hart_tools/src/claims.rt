@@ -1,0 +1,119 @@
+//! The claim words of a run, and where a site's rows are.
+ghost use Rattle.std.specs.Prelude.{◌≡◌, ◌≤◌, IfOk, [], length, map, vec_len};
+ghost use Rattle.std.specs.Option.{ForSome};
+ghost use Rattle.claim_words.specs.Seats.{AreAll, kin};
+ghost use Rattle.loop_team.specs.Rows.{RowsFit};
+
+use disjoint_check::Accepted;
+use loop_team::{ClaimSeat, ClaimTable, rows_fit};
+use std::alloc::{AllocError, Global};
+use step_eval::Nested;
+
+// Where the rows of a site are.
+#[derive(Clone, Copy)]
+struct SiteRows {
+    // How deep the site is: 1 if no site is around it. Only levels up to 3 have rows of codes.
+    level: u8,
+    // The claim row of a `team`'s first phase.
+    first: u16,
+}
+
+/// The claim words of a run: one row for each phase of each `team`, in the order of the sites and then of the phases.
+#[derive(Drop)]
+pub struct Claims {
+    pub(crate) table: ClaimTable,
+    sites: Vec<SiteRows>,
+}
+
+impl Claims {
+    /// The claim words of a program, and a seat for each of so many harts.
+    pub fn new(
+        alloc: Global,
+        accepted: &Accepted<'_>,
+        harts: u8,
+    ) -> Result<(Claims, Vec<ClaimSeat>), AllocError>
+        requires { 1 ≤ harts }
+        ensures count { IfOk result (λ t. vec_len t.1 ≡ harts) }
+        ensures all { IfOk result (λ t. AreAll t.0.table (map kin t.1.items)) }
+    {
+        let mut counts = Vec::new(alloc);
+        let sites = site_rows(alloc, accepted, &mut counts)?;
+        let (table, seats) = ClaimTable::new(alloc, counts.as_slice(), harts)?;
+        Ok((Claims { table, sites }, seats))
+    }
+
+    /// The level of a site. A site that isn't one of the program's has level 0, at which there are no rows.
+    pub(crate) fn level(&self, site: u16) -> u8 {
+        level_in(&self.sites, site)
+    }
+
+    /// The claim row of the first phase of a `team`, where its site has rows for just so many phases and members.
+    pub(crate) fn row_of(&self, nested: &Nested<'_>) -> Option<u16>
+        ensures { ForSome result (λ row. RowsFit self.now.table.counts.items row nested.now) }
+    {
+        let rows = rows_of(&self.sites, nested.site)?;
+        if rows_fit(&self.table, rows.first, nested) {
+            Some(rows.first)
+        } else {
+            None
+        }
+    }
+
+    /// The words alone.
+    pub fn into_table(self) -> ClaimTable
+        ensures { result ≡ self.table }
+    {
+        let Claims { table, sites: _ } = self;
+        table
+    }
+}
+
+// The rows of a site, which are at the place before its number.
+fn rows_of(sites: &[SiteRows], site: u16) -> Option<SiteRows> {
+    if site == 0 {
+        return None;
+    }
+    sites.get(usize::from(site) - 1).copied()
+}
+
+// The level of a site, by the rows of all sites up to it.
+fn level_in(sites: &[SiteRows], site: u16) -> u8 {
+    match rows_of(sites, site) {
+        Some(rows) => rows.level,
+        None => 0,
+    }
+}
+
+// The rows of each site, and the members of each claim row.
+fn site_rows(
+    alloc: Global,
+    accepted: &Accepted<'_>,
+    counts: &mut Vec<u8>,
+) -> Result<Vec<SiteRows>, AllocError>
+    requires { length counts.old.items ≤ 65535 }
+    ensures { length counts.new.items ≤ 65535 }
+{
+    let plan = accepted.plan();
+    let mut sites: Vec<SiteRows> = Vec::with_capacity(alloc, usize::from(plan.sites()))?;
+    for place in 0..plan.sites() {
+        let level = level_in(&sites, plan.parent(place + 1)).saturating_add(1);
+        let (members, phases) = accepted.shape(place + 1);
+        let first = counts.len() as u16;
+        add_rows(counts, members, phases)?;
+        sites.push(SiteRows { level, first })?;
+    }
+    Ok(sites)
+}
+
+// Adds a claim row for each phase, as long as there is room.
+fn add_rows(counts: &mut Vec<u8>, members: u8, phases: u8) -> Result<(), AllocError>
+    requires { length counts.old.items ≤ 65535 }
+    ensures { length counts.new.items ≤ 65535 }
+{
+    for _ in 0..phases {
+        if counts.len() < 65_535 {
+            counts.push(members)?;
+        }
+    }
+    Ok(())
+}

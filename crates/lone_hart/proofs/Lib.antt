@@ -1,0 +1,6 @@
+pub mod Accounts
+pub mod Ends
+pub mod Hearings
+pub mod Steps
+pub mod Stores
+pub mod TeamAccounts

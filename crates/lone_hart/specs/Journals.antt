@@ -1,0 +1,9 @@
+-- The entries of a journal.
+use Rattle.std.specs.Prelude.{List}
+use Rattle.transfer_table.specs.declared.entry.Entry.{Entry}
+use Rattle.lone_hart.specs.declared.outcome.Journal.{Journal}
+use Rattle.lone_hart.specs.declared.outcome.Journal.TheVariants.{Listed, Board}
+
+abbrev pub entries_in : Journal → List Entry
+entries_in (Listed entries) = entries
+entries_in (Board entries) = entries

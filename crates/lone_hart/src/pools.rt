@@ -1,0 +1,80 @@
+//! Pools, as the only hart has them.
+ghost use Rattle.std.specs.Prelude.{◌≡◌, ◌≤◌, IfOk, length, suc, map};
+ghost use Rattle.array_tree.specs.Trees.{statement_of};
+ghost use Rattle.array_jobs.specs.Jobs.{JobParts, job_of};
+ghost use Rattle.join_book.specs.Books.{IsFull};
+ghost use Rattle.step_eval.specs.Nests.{nested_of, nested_writes, phases_of, jobs_in};
+ghost use Rattle.forkjoin_sched.specs.declared.work.PoolWork.TheVariants.{Begin};
+ghost use Rattle.hart_work.specs.Tasks.{HasNext, HasAccount};
+ghost use Rattle.lone_hart.specs.Accounts.{AllCameBack, AllButOneCameBack};
+ghost use Rattle.lone_hart.specs.Sites.{IsPoolOf};
+
+use array_eval::Overlay;
+use array_jobs::{Job, Piece};
+use forkjoin_sched::{Pool, PoolWork};
+use hart_work::Task;
+use sched_api::{Next, sched_reenter};
+use std::alloc::{AllocError, Global};
+use step_eval::{Nested, jobs_of};
+
+/// The pool of a `par`.
+pub fn open_pool<'p>(alloc: Global, nested: &Nested<'p>) -> Result<Pool<'p>, AllocError>
+    requires { phases_of (statement_of nested.now.construct) ≡ 1 }
+    ensures of { IfOk result (IsPoolOf nested.now) }
+    ensures account { IfOk result (λ pool. AllCameBack Begin pool.book pool.agenda) }
+{
+    Pool::new(alloc, jobs_of(alloc, nested, 0, &nested.store)?)
+}
+
+/// What the hart does next in the pool: the next job, or nothing where every job came back.
+pub fn next_of_pool<'p>(pool: &mut Pool<'p>) -> Task<Job<'p>>
+    requires { AllCameBack Begin pool.old.book pool.old.agenda }
+    ensures book { pool.new.book ≡ pool.old.book }
+    ensures left { HasNext (length pool.old.agenda.unbegun) result
+        (length pool.new.agenda.unbegun) }
+    ensures account { HasAccount (AllCameBack Begin pool.new.book pool.new.agenda)
+        (AllButOneCameBack Begin pool.new.book pool.new.agenda) result }
+    ensures over { result ≡ Task.Nothing → IsFull pool.new.book }
+{
+    if pool.is_full() {
+        return Task::Nothing;
+    }
+    match sched_reenter(pool, ()) {
+        Next::Run(PoolWork::Begin(job)) => Task::Piece(job),
+        // No context waits, so none is ready.
+        Next::Run(PoolWork::Ready(_)) => unreachable!(),
+        // Each job that was begun came back, so one that wasn't is left.
+        Next::Lend(_) => unreachable!(),
+        Next::Nothing => unreachable!(),
+    }
+}
+
+/// A piece came back.
+pub fn deposit_in_pool<'p>(pool: &mut Pool<'p>, piece: Piece<'p>)
+    requires { AllButOneCameBack Begin pool.old.book pool.old.agenda piece.job }
+    ensures jobs { pool.new.book.jobs ≡ pool.old.book.jobs }
+    ensures agenda { pool.new.agenda ≡ pool.old.agenda }
+    ensures account { AllCameBack Begin pool.new.book pool.new.agenda }
+{
+    let _ = pool.deposit(piece);
+}
+
+/// A piece found no memory.
+pub fn fail_in_pool(pool: &mut Pool, place: u8)
+    requires { (job : JobParts) × AllButOneCameBack Begin pool.old.book pool.old.agenda job
+        × (job.place ≡ place) }
+    ensures jobs { pool.new.book.jobs ≡ pool.old.book.jobs }
+    ensures agenda { pool.new.agenda ≡ pool.old.agenda }
+    ensures account { AllCameBack Begin pool.new.book pool.new.agenda }
+{
+    pool.fail(place);
+}
+
+/// What the `par` of a full pool writes.
+pub fn take_from_pool<'p>(nested: &Nested<'p>, pool: Pool<'p>) -> Result<Overlay, AllocError>
+    requires of { IsPoolOf nested.now pool }
+    requires full { IsFull pool.book }
+    ensures { IfOk result (λ written. written.pairs ≡ nested_writes (nested_of nested.now)) }
+{
+    pool.take_all()
+}

@@ -1,0 +1,93 @@
+//! Runs on one hart.
+ghost use Rattle.std.specs.Prelude.{◌≡◌, ◌≤◌, IfOk, length};
+ghost use Rattle.array_tree.specs.Trees.{ProgramTree, program_of};
+ghost use Rattle.array_meaning.specs.Work.{final_store};
+ghost use Rattle.transfer_table.specs.Journal.{IsComplete};
+ghost use Rattle.array_jobs.specs.Jobs.{job_of};
+ghost use Rattle.array_jobs.specs.Bodies.{body_of};
+ghost use Rattle.array_jobs.specs.PieceParts.{piece_of_job};
+ghost use Rattle.site_steps.specs.Back.{IsSettled, IsBack};
+ghost use Rattle.lone_hart.specs.Journals.{entries_in};
+
+use crate::lone::LoneSchedulers;
+use crate::outcome::{Journal, Outcome};
+use crate::site::LoneSite;
+use array_eval::{Overlay, Store};
+use array_jobs::{Job, Piece, body_job};
+use base_sched::Base;
+use disjoint_check::Accepted;
+use hart_port::PlainPort;
+use hart_work::run_piece;
+use site_steps::{SiteTree, sweep_children};
+use std::alloc::{AllocError, Global};
+
+/// Runs an accepted program on one hart, and returns. The plan must have one hart.
+///
+/// The store is that of the one-thread meaning, and the journal, which is listed, is complete for the plan: every transfer is
+/// legal, and every site came and went. Where memory is wanting anywhere, the whole run answers that.
+pub fn run_alone(alloc: Global, accepted: &Accepted<'_>) -> Result<Outcome, AllocError>
+    requires { accepted.now.plan.harts ≡ 1 }
+    ensures store { IfOk result
+        (λ outcome. outcome.store ≡ final_store (program_of accepted.now.program)) }
+    ensures journal { IfOk result
+        (λ outcome. IsComplete accepted.now.plan (entries_in outcome.journal)) }
+    ensures short { IfOk result (λ outcome. length (entries_in outcome.journal) ≤ 65535) }
+{
+    let plan = accepted.plan();
+    let tree = SiteTree::new(alloc, plan)?;
+    let mut port = PlainPort::new(alloc, plan)?;
+    let piece = run_body(alloc, &tree, &mut port, accepted);
+    sweep_children(&tree, &mut port, ());
+    let store = store_after(piece?)?;
+    Ok(Outcome {
+        store,
+        journal: Journal::Listed(port.finish()),
+    })
+}
+
+// Runs the body of an accepted program, with all sites that it enters, and brings the hart back to the base.
+fn run_body<'p>(
+    alloc: Global,
+    tree: &SiteTree,
+    port: &mut PlainPort,
+    accepted: &Accepted<'p>,
+) -> Result<Piece<'p>, AllocError>
+    requires plan { port.old.view.plan ≡ tree.now }
+    requires inner { IsSettled port.old.view }
+    ensures back { IsBack port.old.view port.new.view }
+    ensures piece { IfOk result
+        (λ piece. job_of piece.job ≡ body_of (program_of accepted.now.program)) }
+{
+    let job = body_job(alloc, accepted.program())?;
+    let mut base = LoneSite::Base(Base::new(alloc, tree.plan().sites())?);
+    run_piece(
+        // There is no runtime, and nothing waits.
+        &(),
+        alloc,
+        tree,
+        // Nobody is told.
+        &|_, _| {},
+        port,
+        (),
+        &mut LoneSchedulers::new(),
+        &mut base,
+        job,
+    )
+}
+
+/// The store after the piece of a program's body.
+pub fn store_after(piece: Piece<'_>) -> Result<Store, AllocError>
+    ensures { IfOk result (λ store. (program : ProgramTree)
+        → job_of piece.entry.job ≡ body_of program → store ≡ final_store program) }
+{
+    store_of(&piece.job, &piece.written)
+}
+
+// The store of a job after what it writes.
+fn store_of(job: &Job<'_>, written: &Overlay) -> Result<Store, AllocError>
+    requires { written.now.pairs ≡ piece_of_job (job_of job.now) }
+    ensures { IfOk result (λ store. (program : ProgramTree) → job_of job.now ≡ body_of program
+        → store ≡ final_store program) }
+{
+    job.store.with(written)
+}

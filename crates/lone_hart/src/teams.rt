@@ -1,0 +1,73 @@
+//! Teams, as the only hart has them.
+ghost use Rattle.std.specs.Prelude.{◌≡◌, ◌≤◌, ◌⊎◌, IfOk, Some};
+ghost use Rattle.array_tree.specs.Trees.{statement_of};
+ghost use Rattle.step_eval.specs.Shapes.{kind_of};
+ghost use Rattle.array_jobs.specs.Jobs.{JobParts};
+ghost use Rattle.loop_team.specs.Teams.{IsOver};
+ghost use Rattle.loop_team.specs.declared.work.TeamWork.TheVariants.{Begin};
+ghost use Rattle.hart_work.specs.Tasks.{HasNext, HasAccount};
+ghost use Rattle.lone_hart.specs.Accounts.{AllButOneCameBack};
+ghost use Rattle.lone_hart.specs.Sites.{IsRunning, team_jobs_left};
+
+use array_jobs::{Job, Piece};
+use hart_work::Task;
+use loop_team::{Team, TeamWork};
+use sched_api::{Next, sched_reenter};
+use std::alloc::{AllocError, Global};
+use step_eval::{Kind, Nested};
+
+/// The team of a `team`.
+pub fn open_team<'p>(alloc: Global, nested: Nested<'p>) -> Result<Team<'p>, AllocError>
+    requires { kind_of (statement_of nested.construct) ≡ Some Kind.Team }
+    ensures nested { IfOk result (λ team. team.nested ≡ nested.entry) }
+    ensures account { IfOk result IsRunning }
+{
+    let team = Team::new(alloc, nested)?;
+    let _ = team.nested();
+    Ok(team)
+}
+
+/// What the hart does next in the team: the next job, or nothing where the team is over.
+pub fn next_of_team<'p>(team: &mut Team<'p>) -> Task<Job<'p>>
+    requires { IsOver team.old ⊎ IsRunning team.old }
+    ensures nested { team.new.nested ≡ team.old.nested }
+    ensures left { HasNext (team_jobs_left team.old) result (team_jobs_left team.new) }
+    ensures account { HasAccount (IsOver team.new ⊎ IsRunning team.new)
+        (AllButOneCameBack Begin team.new.barrier team.new.agenda) result }
+    ensures over { result ≡ Task.Nothing → IsOver team.new }
+{
+    if team.is_over() {
+        return Task::Nothing;
+    }
+    match sched_reenter(team, ()) {
+        Next::Run(TeamWork::Begin(job)) => Task::Piece(job),
+        // No context waits, so none is ready.
+        Next::Run(TeamWork::Ready(_)) => unreachable!(),
+        // The phase that runs waits for a piece, and each job that was begun came back, so one that wasn't is left.
+        Next::Lend(_) => unreachable!(),
+        Next::Nothing => unreachable!(),
+    }
+}
+
+/// A piece came back. Where it was its phase's last one, the next phase is there to be begun.
+pub fn arrive_in_team<'p>(team: &mut Team<'p>, piece: Piece<'p>)
+    requires { AllButOneCameBack Begin team.old.barrier team.old.agenda piece.job }
+    ensures nested { team.new.nested ≡ team.old.nested }
+    ensures left { team_jobs_left team.new ≤ team_jobs_left team.old }
+    ensures account { IsOver team.new ⊎ IsRunning team.new }
+{
+    // What is known of the construct.
+    let _ = team.nested();
+    let _ = team.arrive(piece);
+}
+
+/// A piece found no memory.
+pub fn fail_in_team(team: &mut Team, place: u8)
+    requires { (job : JobParts) × AllButOneCameBack Begin team.old.barrier team.old.agenda job
+        × (job.place ≡ place) }
+    ensures nested { team.new.nested ≡ team.old.nested }
+    ensures left { team_jobs_left team.new ≤ team_jobs_left team.old }
+    ensures over { IsOver team.new }
+{
+    team.fail(place);
+}
