@@ -10,9 +10,13 @@ abbrev pub number_of : Arrays → List ℕ → ℕ
 number_of [] name = 0
 number_of (a ∷ more) name = cond (name_eq a.0 name) 0 (1 + number_of more name)
 
+-- How many slots there are.
+abbrev pub slot_count : ℕ
+slot_count = 256
+
 -- The slot of a name: names with one digest share it, and others may.
 abbrev pub slot_of : List ℕ → ℕ
-slot_of name = digest_of name % 256
+slot_of name = digest_of name % slot_count
 
 -- The place of the first array in a slot; the number of arrays where there is none.
 abbrev pub first_in : ℕ → Arrays → ℕ
@@ -30,9 +34,11 @@ at_slot firsts slot = slice_index_or firsts slot (record { number = 0; base = 0 
 
 -- Each slot has the first of these arrays that is in it, where so many arrays and so many cells come before them.
 pub record AreFirsts (count cells : ℕ) (arrays : Arrays) (firsts : List First) : Type 0 where
-  pub slots : length firsts ≡ 256
-  pub number : (slot : ℕ) → slot < 256 → (at_slot firsts slot).number ≡ count + first_in slot arrays
-  pub base : (slot : ℕ) → slot < 256 → (at_slot firsts slot).base ≡ cells + cells_before slot arrays
+  pub slots : length firsts ≡ slot_count
+  pub number : (slot : ℕ) → slot < slot_count
+      → (at_slot firsts slot).number ≡ count + first_in slot arrays
+  pub base : (slot : ℕ) → slot < slot_count
+      → (at_slot firsts slot).base ≡ cells + cells_before slot arrays
 
 -- What a layout keeps.
 pub record IsLaidOut (arrays : Arrays) (firsts : List First) (cells : ℕ) : Type 0 where

@@ -4,6 +4,10 @@ use Rattle.array_meaning.specs.Pieces.{lay, value_at}
 use Rattle.array_tree.specs.Equal.{name_eq}
 use Rattle.array_meaning.specs.Stores.{Vars, Write}
 
+-- How many numbers there are for the cell of a pair: those of 16 bits.
+abbrev pub cell_numbers : ℕ
+cell_numbers = 65536
+
 -- Pairs of a cell and a value, with rising cells, and for how many there is room.
 pub record Laid : Type 0 where
   pub pairs : List (ℕ × ℤ)

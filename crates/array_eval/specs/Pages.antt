@@ -1,10 +1,14 @@
--- Cells on pages of 64.
+-- Cells on pages.
 use Rattle.std.specs.Int.{div_ceil}
 use Rattle.std.specs.Prelude.{◌≡◌, ℕ, ◌-◌, ◌*◌, ◌<◌, List, [], ◌∷◌, ◌++◌, ℤ, pos, All, length, replicate, take, drop, Bool, true, false, slice_index_or}
 
+-- How many cells a page has.
+abbrev pub cells_on_page : ℕ
+cells_on_page = 64
+
 -- Cells with zeros behind them, to the end of a page.
 abbrev pub padded : List ℤ → List ℤ
-padded cells = cells ++ replicate (64 - length cells) (pos 0)
+padded cells = cells ++ replicate (cells_on_page - length cells) (pos 0)
 
 -- The cells of pages, one page after another.
 abbrev pub cells_on : List (List ℤ) → List ℤ
@@ -13,17 +17,17 @@ cells_on (page ∷ more) = page ++ cells_on more
 
 -- How many pages so many cells take.
 abbrev pub pages_for : ℕ → ℕ
-pages_for count = div_ceil count 64
+pages_for count = div_ceil count cells_on_page
 
 -- So many cells lie on these pages: no page is too many, and zeros end the last one.
 pub record ArePages (count : ℕ) (pages : List (List ℤ)) : Type 0 where
-  pub whole : All (λ page. length page ≡ 64) pages
+  pub whole : All (λ page. length page ≡ cells_on_page) pages
   pub fewest : length pages ≡ pages_for count
-  pub zeros : drop count (cells_on pages) ≡ replicate (64 * length pages - count) (pos 0)
+  pub zeros : drop count (cells_on pages) ≡ replicate (cells_on_page * length pages - count) (pos 0)
 
 -- The cells of the page with this number.
 abbrev pub page_at : ℕ → List ℤ → List ℤ
-page_at number cells = take 64 (drop (64 * number) cells)
+page_at number cells = take cells_on_page (drop (cells_on_page * number) cells)
 
 -- Cells that were changed, and for each page whether one of its cells may have been: those of the other pages are as before.
 pub record AreChanged (changed : List Bool) (before after : List ℤ) : Type 0 where

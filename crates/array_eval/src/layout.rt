@@ -1,13 +1,17 @@
 //! Where the arrays of a program lie.
 ghost use Rattle.std.specs.Prelude.{◌≡◌, ◌≤◌, ◌<◌, ◌+◌, IfOk, length, map, drop, replicate, unsigned_abs};
 ghost use Rattle.array_tree.specs.Trees.{declarations_of, declaration_of};
+ghost use Rattle.array_meaning.specs.Bounds.{most_cells};
 ghost use Rattle.array_meaning.specs.Stores.{arrays_of, AreSized, HaveCells, base_of, length_of, cells_of};
-ghost use Rattle.array_eval.specs.Layouts.{number_of, slot_of, AreFirsts};
+ghost use Rattle.array_eval.specs.Layouts.{slot_count, number_of, slot_of, AreFirsts};
 
 use crate::cells::count_cells;
 use array_tree::{ArrayDecl, Arrays, Name};
 use std::alloc::{AllocError, Global};
 use std::marker::Model;
+
+/// How many slots there are.
+const SLOTS: usize = 256;
 
 /// Where an array lies: its place among the arrays, its first cell, and how many it has.
 #[derive(Clone, Copy, Debug, Drop)]
@@ -78,8 +82,8 @@ impl<'p> Layout<'p> {
         ensures number { result.number ≡ number_of self.now name.now }
         ensures base { result.base ≡ base_of self.now name.now }
         ensures length { result.length ≡ length_of self.now name.now }
-        ensures base_small { result.base ≤ 4096 }
-        ensures length_small { result.length ≤ 4096 }
+        ensures base_small { result.base ≤ most_cells }
+        ensures length_small { result.length ≤ most_cells }
         ensures some { 0 < result.length }
     {
         let first = self.firsts[slot(name)];
@@ -105,7 +109,7 @@ impl<'p> Layout<'p> {
     /// How many cells the arrays have.
     pub fn cells(&self) -> usize
         ensures cells { result ≡ cells_of self.now }
-        ensures small { result ≤ 4096 }
+        ensures small { result ≤ most_cells }
     {
         self.cells
     }
@@ -113,17 +117,17 @@ impl<'p> Layout<'p> {
 
 // A table with this in each slot.
 fn table_of(alloc: Global, first: First) -> Result<Vec<First>, AllocError>
-    ensures { IfOk result (λ firsts. firsts.items ≡ replicate 256 first) }
+    ensures { IfOk result (λ firsts. firsts.items ≡ replicate slot_count first) }
 {
-    vec![in alloc; first; 256]
+    vec![in alloc; first; SLOTS]
 }
 
 // The slot of a name.
 fn slot(name: &Name) -> usize
     ensures slot { result ≡ slot_of name.now }
-    ensures inside { result < 256 }
+    ensures inside { result < slot_count }
 {
-    (name.digest() % 256) as usize
+    (name.digest() % SLOTS as u64) as usize
 }
 
 // The declarations from one on.
@@ -145,15 +149,15 @@ fn cells_in(array: &ArrayDecl) -> usize
 fn place_among(declarations: &[ArrayDecl], name: &Name, first: First) -> Place
     requires each { HaveCells (arrays_of (map declaration_of declarations.now)) }
     requires whole { first.base
-        + cells_of (arrays_of (map declaration_of declarations.now)) ≤ 4096 }
+        + cells_of (arrays_of (map declaration_of declarations.now)) ≤ most_cells }
     ensures number { result.number
         ≡ first.number + number_of (arrays_of (map declaration_of declarations.now)) name.now }
     ensures base { result.base
         ≡ first.base + base_of (arrays_of (map declaration_of declarations.now)) name.now }
     ensures length { result.length
         ≡ length_of (arrays_of (map declaration_of declarations.now)) name.now }
-    ensures base_small { result.base ≤ 4096 }
-    ensures length_small { result.length ≤ 4096 }
+    ensures base_small { result.base ≤ most_cells }
+    ensures length_small { result.length ≤ most_cells }
     ensures some { 0 < result.length }
 {
     let mut number = usize::from(first.number);
@@ -180,9 +184,9 @@ fn place_among(declarations: &[ArrayDecl], name: &Name, first: First) -> Place
 // Puts each array into its slot, the last one first: what comes earlier takes its place.
 fn put_firsts(declarations: &[ArrayDecl], cells: u16, firsts: &mut [First])
     requires cells { cells ≡ cells_of (arrays_of (map declaration_of declarations.now)) }
-    requires count { length declarations.now ≤ 4096 }
+    requires count { length declarations.now ≤ most_cells }
     requires none { firsts.old
-        ≡ replicate 256 (record { number = length declarations.now; base = cells }) }
+        ≡ replicate slot_count (record { number = length declarations.now; base = cells }) }
     ensures { AreFirsts 0 0 (arrays_of (map declaration_of declarations.now)) firsts.new }
 {
     let mut left = declarations.len();

@@ -1,6 +1,7 @@
 //! Stores that know which of their cells were written.
 ghost use Rattle.std.specs.Prelude.{◌≡◌, ◌<◌, ◌≤◌, All, IfOk, [], length};
 ghost use Rattle.array_meaning.specs.Pieces.{lays, last_writes};
+ghost use Rattle.array_eval.specs.Overlays.{cell_numbers};
 ghost use Rattle.array_eval.specs.Traces.{fresh, noted, noted_all, marked, marked_from, marks_in};
 
 use crate::overlay::Overlay;
@@ -93,7 +94,7 @@ impl MarkedStore {
 
     /// The cells that were written, each with its value. There must be at most 65,535 cells.
     pub fn written(&self, alloc: Global) -> Result<Overlay, AllocError>
-        requires { length self.now.cells < 65536 }
+        requires { length self.now.cells < cell_numbers }
         ensures { IfOk result (λ overlay. overlay.pairs ≡ last_writes (marked self.now)) }
     {
         let mut overlay = Overlay::roomy(alloc, count_marks(&self.marks))?;
@@ -106,7 +107,7 @@ impl MarkedStore {
     ///
     /// The overlay must have room for as many pairs as there are cells, and there must be at most 65,535 cells.
     pub fn lay_written(&self, overlay: &mut Overlay)
-        requires small { length self.now.cells < 65536 }
+        requires small { length self.now.cells < cell_numbers }
         requires none { overlay.old.pairs ≡ [] }
         requires room { length self.now.cells ≤ overlay.old.room }
         ensures { overlay.new.pairs ≡ last_writes (marked self.now) }
@@ -118,7 +119,7 @@ impl MarkedStore {
 // How many cells are marked.
 #[tactic(auto, using(crate::proofs::TraceLemmas::marks_small, crate::proofs::TraceLemmas::marks_next))]
 fn count_marks(marks: &[bool]) -> u16
-    requires { length marks.now < 65536 }
+    requires { length marks.now < cell_numbers }
     ensures { result ≡ marks_in marks.now }
 {
     let mut count = 0;
@@ -133,7 +134,7 @@ fn count_marks(marks: &[bool]) -> u16
 // Lays the cells that are marked, each with its value.
 fn lay_marked(cells: &[i64], marks: &[bool], overlay: &mut Overlay)
     requires same { length cells.now ≡ length marks.now }
-    requires small { length cells.now < 65536 }
+    requires small { length cells.now < cell_numbers }
     requires none { overlay.old.pairs ≡ [] }
     requires room { marks_in marks.now ≤ overlay.old.room }
     ensures { overlay.new.pairs ≡ last_writes (marked_from 0 cells.now marks.now) }

@@ -2,7 +2,7 @@
 ghost use Rattle.std.specs.Prelude.{◌≡◌, ◌<◌, ◌≤◌, IfOk, OnOk, OnErr, length, replicate, pos};
 ghost use Rattle.array_meaning.specs.Stores.{at_cell, written};
 ghost use Rattle.array_eval.specs.Equal.{store_eq};
-ghost use Rattle.array_eval.specs.Pages.{padded};
+ghost use Rattle.array_eval.specs.Pages.{cells_on_page, padded};
 
 use std::alloc::{AllocError, Global};
 use std::marker::Model;
@@ -11,30 +11,31 @@ use std::sync::Arc;
 /// How many cells a page has.
 pub(crate) const CELLS: usize = 64;
 
-/// The values of 64 cells. A copy shares them until one of the two is written.
+/// The values of so many cells. A copy shares them until one of the two is written.
 ///
 /// Contracts see a page as the list of its values.
 #[derive(Debug, Drop)]
 pub(crate) struct Page {
-    cells: Arc<[i64; 64]>,
+    cells: Arc<[i64; CELLS]>,
 }
 
 impl Model for Page {
     ghost use Rattle.std.specs.Prelude.{◌≡◌, List, ℤ, length};
     ghost use Rattle.std.specs.Arc.{arc_value};
+    ghost use Rattle.array_eval.specs.Pages.{cells_on_page};
 
     ghost Value = { List ℤ };
 
     ghost view = { λ page. arc_value page.cells };
 
-    ghost invariant = { λ page. length (arc_value page.cells) ≡ 64 };
+    ghost invariant = { λ page. length (arc_value page.cells) ≡ cells_on_page };
 }
 
 impl Page {
-    /// A page of these cells, with zeros behind them. There must be at most 64.
+    /// A page of these cells, with zeros behind them. There must be no more than a page has.
     #[tactic(auto, using(crate::proofs::PageLemmas::zeros_behind))]
     pub(crate) fn new(alloc: Global, cells: &[i64]) -> Result<Page, AllocError>
-        requires { length cells.now ≤ 64 }
+        requires { length cells.now ≤ cells_on_page }
         ensures { IfOk result (λ page. page ≡ padded cells.now) }
     {
         let mut own = [0; CELLS];
@@ -55,7 +56,7 @@ impl Page {
 
     /// What a cell has.
     pub(crate) fn get(&self, cell: usize) -> i64
-        requires { cell < 64 }
+        requires { cell < cells_on_page }
         ensures { result ≡ at_cell self.now cell }
     {
         self.cells[cell]
@@ -64,14 +65,14 @@ impl Page {
     /// The values.
     pub(crate) fn cells(&self) -> &[i64]
         ensures same { result.now ≡ self.now }
-        ensures whole { length result.now ≡ 64 }
+        ensures whole { length result.now ≡ cells_on_page }
     {
         self.cells.as_slice()
     }
 
     /// Writes a cell: in place if nobody shares the page, and else in a copy of its own.
     pub(crate) fn put(&mut self, alloc: Global, cell: usize, value: i64) -> Result<(), AllocError>
-        requires { cell < 64 }
+        requires { cell < cells_on_page }
         ensures written { OnOk result (self.new ≡ written self.old cell value) }
         ensures unchanged { OnErr result (self.new ≡ self.old) }
     {

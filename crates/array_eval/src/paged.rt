@@ -2,7 +2,7 @@
 ghost use Rattle.std.specs.Prelude.{◌≡◌, ◌↔◌, ◌*◌, ◌<◌, ◌≤◌, IsTrue, false, IfOk, OnOk, OnErr, length, replicate, take, drop, pos};
 ghost use Rattle.array_meaning.specs.Stores.{at_cell, written};
 ghost use Rattle.array_eval.specs.Equal.{store_eq};
-ghost use Rattle.array_eval.specs.Pages.{cells_on, padded, pages_for, ArePages, AreChanged, AreChangedPages};
+ghost use Rattle.array_eval.specs.Pages.{cells_on_page, cells_on, page_at, padded, pages_for, ArePages, AreChanged, AreChangedPages};
 
 use crate::page::{CELLS, Page};
 use std::alloc::{AllocError, Global};
@@ -169,9 +169,9 @@ fn lay_out(
 
 // The cells of the page with this number, of which the last may be short.
 fn cells_of_page(cells: &[i64], number: usize) -> &[i64]
-    requires { 64 * number ≤ length cells.now }
-    ensures same { result.now ≡ take 64 (drop (64 * number) cells.now) }
-    ensures few { length result.now ≤ 64 }
+    requires { cells_on_page * number ≤ length cells.now }
+    ensures same { result.now ≡ page_at number cells.now }
+    ensures few { length result.now ≤ cells_on_page }
 {
     let (_, rest) = cells.split_at(CELLS * number);
     let (own, _) = rest.split_at(CELLS.min(rest.len()));
@@ -180,7 +180,7 @@ fn cells_of_page(cells: &[i64], number: usize) -> &[i64]
 
 // A page of these cells: the earlier one, where it isn't marked as changed.
 fn page_of(alloc: Global, cells: &[i64], earlier: &Page, changed: bool) -> Result<Page, AllocError>
-    requires few { length cells.now ≤ 64 }
+    requires few { length cells.now ≤ cells_on_page }
     requires kept { changed ≡ false → earlier.now ≡ padded cells.now }
     ensures { IfOk result (λ page. page ≡ padded cells.now) }
 {

@@ -1,6 +1,7 @@
 -- What a program must be to be run: ten conditions, each a word of its own.
 use Rattle.std.specs.Prelude.{ℕ, ◌≤◌, Bool, true, false, ◌&&◌, List, [], ◌∷◌, Option, Some, None, IsTrue, ℤ, pos, int_le, int_lt}
 use Rattle.array_tree.specs.Trees.{ProgramTree}
+use Rattle.array_meaning.specs.Bounds.{most_depth, most_units, most_sites, most_pieces}
 use Rattle.array_meaning.specs.Stores.{Arrays, arrays_of, length_of}
 use Rattle.array_meaning.specs.Work.{sequence_work}
 use Rattle.array_meaning.specs.Touch.{Visit, walk}
@@ -35,9 +36,9 @@ pub record IsAccepted (program : ProgramTree) : Type 0 where
   pub known_names : IsTrue (has_only_known_names program)
   pub ranges : IsTrue (is_in_range program)
   pub no_site_under_if : IsTrue (has_no_site_under_if program.body false)
-  pub levels : depth_of program.body ≤ 3
-  pub work : units_of program.body ≤ 1048576
-  pub sites : sites_in program.body ≤ 4095
-  pub pieces : pieces_in program.body ≤ 16384
+  pub levels : depth_of program.body ≤ most_depth
+  pub work : units_of program.body ≤ most_units
+  pub sites : sites_in program.body ≤ most_sites
+  pub pieces : pieces_in program.body ≤ most_pieces
   pub indices : IsTrue (has_indices_inside program)
   pub apart : HasApartSites program

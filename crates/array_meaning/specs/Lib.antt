@@ -1,3 +1,4 @@
+pub mod Bounds
 pub mod Values
 pub mod Stores
 pub mod Steps

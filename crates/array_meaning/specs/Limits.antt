@@ -1,6 +1,7 @@
 -- Lengths, bounds and counts inside their limits, and the size of a program.
 use Rattle.std.specs.Prelude.{ℕ, ◌+◌, ◌*◌, max, Bool, true, false, ◌&&◌, List, [], ◌∷◌, length, nat_le, ℤ, pos, int_le, unsigned_abs}
 use Rattle.array_tree.specs.Trees.{Expression, Number, Var, Read, Neg, Binary, Statement, Assign, For, If, Par, Team, Sequence, ended, followed, Sequences, no_more, beside, Declaration, ProgramTree}
+use Rattle.array_meaning.specs.Bounds.{most_arrays, most_cells, most_members, most_phases}
 use Rattle.array_meaning.specs.Stores.{arrays_of, cells_of}
 use Rattle.array_meaning.specs.Work.{span}
 
@@ -11,7 +12,7 @@ is_up_to most n = int_le (pos 1) n && int_le n most
 -- Whether each array has 1 to 4,096 cells.
 abbrev pub have_right_lengths : List Declaration → Bool
 have_right_lengths [] = true
-have_right_lengths (d ∷ more) = is_up_to (pos 4096) d.length && have_right_lengths more
+have_right_lengths (d ∷ more) = is_up_to (pos most_cells) d.length && have_right_lengths more
 
 abbrev pub count_of : Sequences → ℕ
 count_of no_more = 0
@@ -30,10 +31,10 @@ abbrev mutual
   statement_has_right_ranges (If line cond then_block else_block) =
       has_right_ranges then_block && has_right_ranges else_block
   statement_has_right_ranges (Par line branches) =
-      is_up_to (pos 64) (pos (count_of branches)) && have_right_ranges branches
+      is_up_to (pos most_members) (pos (count_of branches)) && have_right_ranges branches
   statement_has_right_ranges (Team line var low high members phases) =
-      (int_le low high && is_up_to (pos 64) members)
-      && (is_up_to (pos 8) (pos (count_of phases)) && have_right_ranges phases)
+      (int_le low high && is_up_to (pos most_members) members)
+      && (is_up_to (pos most_phases) (pos (count_of phases)) && have_right_ranges phases)
 
   pub have_right_ranges : Sequences → Bool
   have_right_ranges no_more = true
@@ -43,7 +44,8 @@ abbrev mutual
 abbrev pub is_in_range : ProgramTree → Bool
 is_in_range program =
     (have_right_lengths program.arrays
-    && (nat_le (length program.arrays) 64 && nat_le (cells_of (arrays_of program.arrays)) 4096))
+    && (nat_le (length program.arrays) most_arrays
+    && nat_le (cells_of (arrays_of program.arrays)) most_cells))
     && has_right_ranges program.body
 
 -- Whether no `par` or `team` stands inside a side of an `if`. Given is whether this part stands inside one.

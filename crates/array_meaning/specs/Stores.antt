@@ -3,6 +3,7 @@ use Rattle.std.specs.Prelude.{ℕ, ◌+◌, ◌<◌, ◌≤◌, Bool, true, fals
 use Rattle.std.specs.Int.{int_rem_euclid}
 use Rattle.array_tree.specs.Equal.{name_eq}
 use Rattle.array_tree.specs.Trees.{Expression, Number, Var, Read, Neg, Binary, Declaration}
+use Rattle.array_meaning.specs.Bounds.{most_cells}
 use Rattle.array_meaning.specs.Values.{wrapping_minus, applied}
 
 -- Each array's name and length, in order of declaration.
@@ -37,7 +38,7 @@ HaveCells (a ∷ more) = (0 < a.1) × HaveCells more
 -- Each array has a cell, and all have at most 4,096.
 pub record AreSized (arrays : Arrays) : Type 0 where
   pub each : HaveCells arrays
-  pub whole : cells_of arrays ≤ 4096
+  pub whole : cells_of arrays ≤ most_cells
 
 -- The value of a variable: of the innermost loop with the name.
 abbrev pub var_of : Vars → List ℕ → ℤ

@@ -9,7 +9,7 @@ use Rattle.array_meaning.specs.Limits.{count_of}
 use Rattle.array_meaning.specs.Plans.{Parents, and_then, repeated, construct, statement_parents, sequence_parents, branches_parents, phases_parents, plan_of, sites_in, statement_sites_in, branches_sites_in}
 use Rattle.transfer_table.specs.Plan.{bad_parent}
 use Rattle.disjoint_check.specs.declared.unroll.Site.{Site}
-use Rattle.disjoint_check.specs.Unrolled.{Rows, parents_in, last_site, parts, row, repeat, with_statement, with_sequence, with_branches, with_phases}
+use Rattle.disjoint_check.specs.Inside.Unrolled.{Rows, parents_in, last_site, parts, row, repeat, with_statement, with_sequence, with_branches, with_phases}
 
 -- unrolling adds so many sites, with these parents
 record Adds (f : Rows → Rows) (b : ℕ → List ℕ) (s : ℕ) : Type 0 where

@@ -9,7 +9,7 @@ use Rattle.transfer_table.specs.Causes.{cause_if, first_cause}
 use Rattle.transfer_table.specs.Plan.{bad_parent, plan_fault_of}
 use Rattle.transfer_table.specs.declared.plan.PlanFault.TheVariants as fault
 use Rattle.site_counts.specs.Capped.{capped}
-use Rattle.disjoint_check.specs.Unrolled.{Rows, parents_in, shape, shapes_in, with_sequence}
+use Rattle.disjoint_check.specs.Inside.Unrolled.{Rows, parents_in, shape, shapes_in, with_sequence}
 use Rattle.disjoint_check.proofs.Parents.{plan_is, plan_length, good_plan}
 
 right_harts : (n : ℕ) → 1 ≤ n → n ≤ 4 → ((n == 0) || nat_lt 4 n) ≡ false

@@ -9,7 +9,7 @@ use Rattle.array_meaning.specs.Work.{span}
 use Rattle.array_meaning.specs.Limits.{is_up_to, count_of, has_right_ranges, statement_has_right_ranges, have_right_ranges, is_in_range}
 use Rattle.disjoint_check.specs.declared.unroll.Site.{Site}
 use Rattle.disjoint_check.specs.Shapes.{Shape, turns_of_shapes, statement_shapes, sequence_shapes, branches_shapes, phases_shapes, shapes_of}
-use Rattle.disjoint_check.specs.Unrolled.{Rows, shape, shapes_in, last_site, parts, row, repeat, with_statement, with_sequence, with_branches, with_phases}
+use Rattle.disjoint_check.specs.Inside.Unrolled.{Rows, shape, shapes_in, last_site, parts, row, repeat, with_statement, with_sequence, with_branches, with_phases}
 
 -- unrolling adds sites of these shapes
 abbrev Shows : (Rows → Rows) → List Shape → Type 0

@@ -4,7 +4,7 @@ use Rattle.array_tree.specs.Trees.{Statement, Assign, For, If, Par, Team, Sequen
 use Rattle.array_meaning.specs.Work.{span}
 use Rattle.array_meaning.specs.Plans.{sites_in, statement_sites_in, branches_sites_in}
 use Rattle.site_counts.specs.Capped.{capped}
-use Rattle.disjoint_check.specs.Unrolled.{Rows, repeat, with_statement, with_sequence}
+use Rattle.disjoint_check.specs.Inside.Unrolled.{Rows, repeat, with_statement, with_sequence}
 
 pub repeat_next : (n i : ℕ) (more : Rows → Rows) (rows : Rows) → i < n → repeat (n - i) more rows ≡ repeat (n - (i + 1)) more (more rows)
 repeat_next n i more rows h = let e : n - i ≡ suc (n - (i + 1)) = omega arith in ap (λ k. repeat k more rows) e

@@ -1,6 +1,7 @@
 -- The first declaration, `for`, `par` or `team` outside a limit, in the order of the text.
 use Rattle.std.specs.Prelude.{ℕ, ◌+◌, ◌-◌, ◌^◌, min, List, [], ◌∷◌, Option, None, ℤ, pos, int_le, nat_le, nat_lt, unsigned_abs}
 use Rattle.array_tree.specs.Trees.{Statement, Assign, For, If, Par, Team, Sequence, ended, followed, Sequences, no_more, beside, Declaration, ProgramTree}
+use Rattle.array_meaning.specs.Bounds.{most_arrays, most_cells, most_members, most_phases}
 use Rattle.array_meaning.specs.Limits.{is_up_to, count_of}
 use Rattle.disjoint_check.specs.Faults.{unless, first_fault}
 use Rattle.disjoint_check.specs.declared.fault.CheckFault.{CheckFault}
@@ -14,9 +15,10 @@ told count = pos (min count (2 ^ 63 - 1))
 -- The limits of a declaration, with so many arrays and so many cells before it.
 abbrev pub declaration_fault : Declaration → ℕ → ℕ → Option CheckFault
 declaration_fault d arrays cells = first_fault
-    (unless (is_up_to (pos 4096) d.length) (BadRange d.line limit.Length d.length)
-    ∷ unless (nat_lt arrays 64) (BadRange d.line limit.Names (pos 65))
-    ∷ unless (nat_le (cells + unsigned_abs d.length) 4096)
+    (unless (is_up_to (pos most_cells) d.length) (BadRange d.line limit.Length d.length)
+    ∷ unless (nat_lt arrays most_arrays)
+    (BadRange d.line limit.Names (pos (most_arrays + 1)))
+    ∷ unless (nat_le (cells + unsigned_abs d.length) most_cells)
     (BadRange d.line limit.Cells (pos (cells + unsigned_abs d.length)))
     ∷ [])
 
@@ -30,8 +32,8 @@ declarations_fault (d ∷ more) arrays cells =
 abbrev pub team_fault : ℕ → ℤ → ℤ → ℤ → ℕ → Option CheckFault
 team_fault line low high members phases = first_fault
     (unless (int_le low high) (BadRange line limit.Bounds high)
-    ∷ unless (is_up_to (pos 64) members) (BadRange line limit.Members members)
-    ∷ unless (is_up_to (pos 8) (pos phases)) (BadRange line limit.Phases (told phases))
+    ∷ unless (is_up_to (pos most_members) members) (BadRange line limit.Members members)
+    ∷ unless (is_up_to (pos most_phases) (pos phases)) (BadRange line limit.Phases (told phases))
     ∷ [])
 
 abbrev mutual
@@ -48,7 +50,7 @@ abbrev mutual
   statement_range_fault (If line cond then_block else_block) =
       first_fault (range_fault_in then_block ∷ range_fault_in else_block ∷ [])
   statement_range_fault (Par line branches) = first_fault
-      (unless (is_up_to (pos 64) (pos (count_of branches)))
+      (unless (is_up_to (pos most_members) (pos (count_of branches)))
       (BadRange line limit.Branches (told (count_of branches)))
       ∷ range_fault_among branches
       ∷ [])

@@ -2,10 +2,9 @@ pub mod Faults
 pub mod FirstNames
 pub mod FirstRanges
 pub mod FirstNesting
-pub mod Around
 pub mod LimitFault
 pub mod Shapes
-pub mod Unrolled
 pub mod AcceptedProgram
 pub mod FaultOf
 pub mod Laws
+pub mod Inside

@@ -2,6 +2,7 @@
 use Rattle.std.specs.Prelude.{ℕ, ◌-◌, ◌^◌, ◌≤◌, IsTrue, min, false, [], ◌∷◌, Option, nat_le}
 use Rattle.std.specs.Option.{option_map}
 use Rattle.array_tree.specs.Trees.{ProgramTree}
+use Rattle.array_meaning.specs.Bounds.{most_depth, most_units, most_sites, most_pieces}
 use Rattle.array_meaning.specs.Names.{has_single_names, has_only_known_names}
 use Rattle.array_meaning.specs.Limits.{is_in_range, has_no_site_under_if, depth_of, units_of, pieces_in}
 use Rattle.array_meaning.specs.Plans.{sites_in}
@@ -24,10 +25,13 @@ limit_fault_of program = first_fault
     ∷ option_map UnknownName (unknown_name program)
     ∷ range_fault program
     ∷ option_map SiteUnderIf (site_under_if_in program.body false)
-    ∷ unless (nat_le (depth_of program.body) 3) (TooDeep (told_depth (depth_of program.body)))
-    ∷ unless (nat_le (units_of program.body) 1048576) (TooMuchWork (capped (units_of program.body)))
-    ∷ unless (nat_le (sites_in program.body) 4095) (TooManySites (capped (sites_in program.body)))
-    ∷ unless (nat_le (pieces_in program.body) 16384)
+    ∷ unless (nat_le (depth_of program.body) most_depth)
+    (TooDeep (told_depth (depth_of program.body)))
+    ∷ unless (nat_le (units_of program.body) most_units)
+    (TooMuchWork (capped (units_of program.body)))
+    ∷ unless (nat_le (sites_in program.body) most_sites)
+    (TooManySites (capped (sites_in program.body)))
+    ∷ unless (nat_le (pieces_in program.body) most_pieces)
     (TooManyPieces (capped (pieces_in program.body)))
     ∷ [])
 
@@ -37,7 +41,7 @@ pub record MeetsLimits (program : ProgramTree) : Type 0 where
   pub known_names : IsTrue (has_only_known_names program)
   pub ranges : IsTrue (is_in_range program)
   pub no_site_under_if : IsTrue (has_no_site_under_if program.body false)
-  pub levels : depth_of program.body ≤ 3
-  pub work : units_of program.body ≤ 1048576
-  pub sites : sites_in program.body ≤ 4095
-  pub pieces : pieces_in program.body ≤ 16384
+  pub levels : depth_of program.body ≤ most_depth
+  pub work : units_of program.body ≤ most_units
+  pub sites : sites_in program.body ≤ most_sites
+  pub pieces : pieces_in program.body ≤ most_pieces

@@ -4,7 +4,7 @@ ghost use Rattle.array_tree.specs.Trees.{program_of};
 ghost use Rattle.array_meaning.specs.Accepted.{IsAccepted};
 ghost use Rattle.array_meaning.specs.Plans.{plan_of};
 ghost use Rattle.transfer_table.specs.Plan.{IsSite, plan_fault_of};
-ghost use Rattle.disjoint_check.specs.Unrolled.{parents_in};
+ghost use Rattle.disjoint_check.specs.Inside.Unrolled.{parents_in};
 
 use crate::fault::CheckFault;
 use crate::unroll::{Site, sites_of};
@@ -26,7 +26,7 @@ pub struct Accepted<'p> {
 impl<'p> Model for Accepted<'p> {
     ghost use Rattle.std.specs.Coded.{codes};
     ghost use Rattle.array_tree.specs.contracts.tree.Program as tree;
-    ghost use Rattle.disjoint_check.specs.Unrolled.{shapes_in};
+    ghost use Rattle.disjoint_check.specs.Inside.Unrolled.{shapes_in};
     ghost use Rattle.disjoint_check.specs.AcceptedProgram.{AcceptedProgram, IsAcceptedProgram};
 
     ghost Value = { AcceptedProgram };
@@ -106,6 +106,7 @@ pub(crate) fn accept<'p>(
     })
 }
 
+// The parents alone, of which the table's plan is made.
 fn parents_of(alloc: Global, sites: &[Site]) -> Result<Vec<u16>, AllocError>
     ensures { IfOk result (λ parents. parents.items ≡ parents_in sites.now) }
 {

@@ -2,7 +2,7 @@
 ghost use Rattle.std.specs.Prelude.{◌≡◌, ◌++◌, map};
 ghost use Rattle.array_tree.specs.Trees.{declaration_of, declarations_of};
 ghost use Rattle.array_meaning.specs.Names.{is_among, names_of};
-ghost use Rattle.disjoint_check.specs.Around.{vars_around};
+ghost use Rattle.disjoint_check.specs.Inside.Around.{vars_around};
 
 use array_tree::{ArrayDecl, Arrays, Name};
 

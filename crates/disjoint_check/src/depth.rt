@@ -18,6 +18,7 @@ pub(crate) fn depth_of_block(block: &Block) -> u32
     depth
 }
 
+// The same of a statement: a construct is one deeper than what stands inside it.
 #[cycle(depth)]
 fn depth_of_statement(statement: &Stmt) -> u32
     ensures { result ≡ told_depth (statement_depth_of (statement_of statement.now)) }
@@ -35,6 +36,7 @@ fn depth_of_statement(statement: &Stmt) -> u32
     }
 }
 
+// The same of branches or phases: the deepest counts.
 #[cycle(depth)]
 fn depth_among(blocks: &Blocks) -> u32
     ensures { result ≡ told_depth (branches_depth_of (sequences_of blocks.now)) }

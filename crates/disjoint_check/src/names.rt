@@ -2,7 +2,7 @@
 ghost use Rattle.std.specs.Prelude.{◌≡◌, ◌++◌, [], map};
 ghost use Rattle.array_tree.specs.Trees.{expression_of, statement_of, sequence_of, sequences_of, declaration_of, declarations_of, program_of};
 ghost use Rattle.array_meaning.specs.Names.{names_of, uses_known_names};
-ghost use Rattle.disjoint_check.specs.Around.{vars_around};
+ghost use Rattle.disjoint_check.specs.Inside.Around.{vars_around};
 ghost use Rattle.disjoint_check.specs.FirstNames.{duplicate_declaration, duplicate_in, statement_duplicate, duplicate_among, duplicate_name, unknown_in, statement_unknown, unknown_among, unknown_name};
 
 use crate::around::{Loops, is_declared, is_taken};
@@ -30,6 +30,7 @@ fn duplicate_declaration(declarations: &[ArrayDecl]) -> Option<u32>
     None
 }
 
+// The first loop of a block whose variable has the name of an array or of a loop around it.
 #[cycle(duplicate)]
 fn duplicate_in_block<'s>(arrays: &Arrays, block: &'s Block, loops: &'s Loops<'s>) -> Option<u32>
     ensures { result ≡ duplicate_in (sequence_of block.now)
@@ -43,6 +44,7 @@ fn duplicate_in_block<'s>(arrays: &Arrays, block: &'s Block, loops: &'s Loops<'s
     None
 }
 
+// The same of a statement.
 #[cycle(duplicate)]
 fn duplicate_in_statement<'s>(
     arrays: &Arrays,
@@ -90,6 +92,7 @@ fn duplicate_in_statement<'s>(
     }
 }
 
+// The same of branches or phases.
 #[cycle(duplicate)]
 fn duplicate_among<'s>(arrays: &Arrays, blocks: &'s Blocks, loops: &'s Loops<'s>) -> Option<u32>
     ensures { result ≡ duplicate_among (sequences_of blocks.now)
@@ -111,6 +114,7 @@ pub(crate) fn unknown_name(program: &Program) -> Option<u32>
     unknown_in_block(&program.arrays, &program.body, &Loops::Outermost)
 }
 
+// The first statement of a block that uses a name that nothing around it declares.
 #[cycle(unknown)]
 fn unknown_in_block<'s>(arrays: &Arrays, block: &'s Block, loops: &'s Loops<'s>) -> Option<u32>
     ensures { result ≡ unknown_in (sequence_of block.now) (names_of (declarations_of arrays.now))
@@ -124,6 +128,7 @@ fn unknown_in_block<'s>(arrays: &Arrays, block: &'s Block, loops: &'s Loops<'s>)
     None
 }
 
+// The same of a statement.
 #[cycle(unknown)]
 fn unknown_in_statement<'s>(
     arrays: &Arrays,
@@ -173,6 +178,7 @@ fn unknown_in_statement<'s>(
     }
 }
 
+// The same of branches or phases.
 #[cycle(unknown)]
 fn unknown_among<'s>(arrays: &Arrays, blocks: &'s Blocks, loops: &'s Loops<'s>) -> Option<u32>
     ensures { result ≡ unknown_among (sequences_of blocks.now)

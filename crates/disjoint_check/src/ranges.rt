@@ -1,11 +1,24 @@
 //! Lengths, bounds and counts outside their limits.
 ghost use Rattle.std.specs.Prelude.{◌≡◌, ◌≤◌, map};
 ghost use Rattle.array_tree.specs.Trees.{statement_of, sequence_of, sequences_of, declaration_of, program_of};
+ghost use Rattle.array_meaning.specs.Bounds.{most_cells};
 ghost use Rattle.disjoint_check.specs.FirstRanges.{declaration_fault, declarations_fault, team_fault, range_fault_in, statement_range_fault, range_fault_among, range_fault, told};
 
 use crate::fault::{CheckFault, Limit};
 use array_tree::{ArrayDecl, Block, Blocks, Program, Stmt};
 use site_counts::count_of;
+
+/// The greatest number of arrays.
+const MOST_ARRAYS: usize = 64;
+
+/// The greatest number of cells of an array, and of all arrays together.
+const MOST_CELLS: i64 = 4096;
+
+/// The greatest number of branches of a `par`, and of members of a `team`.
+const MOST_MEMBERS: usize = 64;
+
+/// The greatest number of phases of a `team`.
+const MOST_PHASES: usize = 8;
 
 /// The first declaration, `for`, `par` or `team` outside a limit.
 pub(crate) fn range_fault(program: &Program) -> Option<CheckFault>
@@ -17,6 +30,7 @@ pub(crate) fn range_fault(program: &Program) -> Option<CheckFault>
     range_fault_in_block(&program.body)
 }
 
+// The first declaration outside a limit, with the arrays and the cells before it counted.
 fn declarations_fault(declarations: &[ArrayDecl]) -> Option<CheckFault>
     ensures { result ≡ declarations_fault (map declaration_of declarations.now) 0 0 }
 {
@@ -32,24 +46,25 @@ fn declarations_fault(declarations: &[ArrayDecl]) -> Option<CheckFault>
 
 // The limits of a declaration, with so many arrays and so many cells before it.
 fn declaration_fault(array: &ArrayDecl, arrays: usize, cells: u32) -> Option<CheckFault>
-    requires { cells ≤ 4096 }
+    requires { cells ≤ most_cells }
     ensures { result ≡ declaration_fault (declaration_of array.now) arrays cells }
 {
     let line = array.line;
     let length = array.length;
-    if length < 1 || length > 4096 {
+    if length < 1 || length > MOST_CELLS {
         return Some(bad_range(line, Limit::Length, length));
     }
-    if arrays >= 64 {
-        return Some(bad_range(line, Limit::Names, 65));
+    if arrays >= MOST_ARRAYS {
+        return Some(bad_range(line, Limit::Names, MOST_ARRAYS as i64 + 1));
     }
     let sum = i64::from(cells) + length;
-    if sum > 4096 {
+    if sum > MOST_CELLS {
         return Some(bad_range(line, Limit::Cells, sum));
     }
     None
 }
 
+// The first statement of a block outside a limit. A construct comes before what stands inside it.
 #[cycle(ranges)]
 fn range_fault_in_block(block: &Block) -> Option<CheckFault>
     ensures { result ≡ range_fault_in (sequence_of block.now) }
@@ -62,6 +77,7 @@ fn range_fault_in_block(block: &Block) -> Option<CheckFault>
     None
 }
 
+// The same of a statement.
 #[cycle(ranges)]
 fn range_fault_in_statement(statement: &Stmt) -> Option<CheckFault>
     ensures { result ≡ statement_range_fault (statement_of statement.now) }
@@ -92,7 +108,7 @@ fn range_fault_in_statement(statement: &Stmt) -> Option<CheckFault>
         }
         Stmt::Par { line, branches } => {
             let count = count_of(branches);
-            if count < 1 || count > 64 {
+            if count < 1 || count > MOST_MEMBERS {
                 return Some(bad_range(*line, Limit::Branches, told(count)));
             }
             range_fault_among(branches)
@@ -113,6 +129,7 @@ fn range_fault_in_statement(statement: &Stmt) -> Option<CheckFault>
     }
 }
 
+// The same of branches or phases.
 #[cycle(ranges)]
 fn range_fault_among(blocks: &Blocks) -> Option<CheckFault>
     ensures { result ≡ range_fault_among (sequences_of blocks.now) }
@@ -132,15 +149,16 @@ fn team_fault(line: u32, low: i64, high: i64, members: i64, phases: usize) -> Op
     if low > high {
         return Some(bad_range(line, Limit::Bounds, high));
     }
-    if members < 1 || members > 64 {
+    if members < 1 || members > MOST_MEMBERS as i64 {
         return Some(bad_range(line, Limit::Members, members));
     }
-    if phases < 1 || phases > 8 {
+    if phases < 1 || phases > MOST_PHASES {
         return Some(bad_range(line, Limit::Phases, told(phases)));
     }
     None
 }
 
+// The fault of a number outside its limit, so that each test above is one line.
 fn bad_range(line: u32, what: Limit, found: i64) -> CheckFault
     ensures { result ≡ CheckFault.BadRange line what found }
 {

@@ -19,6 +19,7 @@ pub(crate) fn site_under_if_in_block(block: &Block, inside: bool) -> Option<u32>
     None
 }
 
+// The same of a statement.
 #[cycle(under_if)]
 fn site_under_if_in_statement(statement: &Stmt, inside: bool) -> Option<u32>
     ensures { result ≡ statement_site_under_if (statement_of statement.now) inside }
@@ -51,6 +52,7 @@ fn site_under_if_in_statement(statement: &Stmt, inside: bool) -> Option<u32>
     }
 }
 
+// The same of branches or phases.
 #[cycle(under_if)]
 fn site_under_if_among(blocks: &Blocks, inside: bool) -> Option<u32>
     ensures { result ≡ site_under_if_among (sequences_of blocks.now) inside }

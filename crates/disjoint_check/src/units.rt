@@ -20,6 +20,7 @@ pub(crate) fn units_of_block(block: &Block) -> u64
     units
 }
 
+// The units of a statement, with one for the statement itself.
 #[cycle(units)]
 fn units_of_statement(statement: &Stmt) -> u64
     ensures { result ≡ capped (statement_units_of (statement_of statement.now)) }
@@ -58,6 +59,7 @@ fn units_of_statement(statement: &Stmt) -> u64
     }
 }
 
+// The units of branches, with one for each that is begun.
 #[cycle(units)]
 fn units_of_branches(branches: &Blocks) -> u64
     ensures { result ≡ capped (branches_units_of (sequences_of branches.now)) }
@@ -69,6 +71,7 @@ fn units_of_branches(branches: &Blocks) -> u64
     units
 }
 
+// The units of phases, with one in each phase for each member that is begun.
 #[cycle(units)]
 fn units_of_phases(phases: &Blocks, members: u64, iterations: u64) -> u64
     ensures { result ≡ capped (phases_units_of (sequences_of phases.now) members iterations) }
@@ -89,6 +92,7 @@ fn units_of_turns(turns: u64, units: u64) -> u64
     turns.saturating_mul(units.saturating_add(1))
 }
 
+// The units of an expression: its nodes.
 fn units_of_expr(expr: &Expr) -> u64
     ensures { result ≡ capped (expression_units_of (expression_of expr.now)) }
 {

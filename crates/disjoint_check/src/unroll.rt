@@ -1,7 +1,7 @@
 //! The sites of a program, by unrolling its loops, whose bounds are literals.
 ghost use Rattle.std.specs.Prelude.{◌≡◌, [], IfOk, length, unsigned_abs};
 ghost use Rattle.array_tree.specs.Trees.{statement_of, sequence_of, sequences_of, program_of};
-ghost use Rattle.disjoint_check.specs.Unrolled.{with_statement, with_sequence, with_branches, with_phases, repeat, last_site, parts};
+ghost use Rattle.disjoint_check.specs.Inside.Unrolled.{with_statement, with_sequence, with_branches, with_phases, repeat, last_site, parts};
 
 use array_eval::span;
 use array_tree::{Block, Blocks, Program, Stmt};
@@ -26,6 +26,7 @@ pub(crate) fn sites_of(alloc: Global, program: &Program) -> Result<Vec<Site>, Al
     Ok(sites)
 }
 
+// Adds the sites of a block behind those that were entered before, given the construct around it.
 #[cycle(unroll)]
 fn unroll_block(block: &Block, around: u16, sites: &mut Vec<Site>) -> Result<(), AllocError>
     ensures { IfOk result (λ _. sites.new.items
@@ -37,6 +38,7 @@ fn unroll_block(block: &Block, around: u16, sites: &mut Vec<Site>) -> Result<(),
     Ok(())
 }
 
+// The same of a statement: a construct comes before those inside it.
 #[cycle(unroll)]
 fn unroll_statement(statement: &Stmt, around: u16, sites: &mut Vec<Site>) -> Result<(), AllocError>
     ensures { IfOk result (λ _. sites.new.items
@@ -83,6 +85,7 @@ fn unroll_statement(statement: &Stmt, around: u16, sites: &mut Vec<Site>) -> Res
     }
 }
 
+// The same of the branches of a `par`.
 #[cycle(unroll)]
 fn unroll_branches(branches: &Blocks, around: u16, sites: &mut Vec<Site>) -> Result<(), AllocError>
     ensures { IfOk result (λ _. sites.new.items
@@ -94,6 +97,7 @@ fn unroll_branches(branches: &Blocks, around: u16, sites: &mut Vec<Site>) -> Res
     Ok(())
 }
 
+// The same of the phases of a `team`, each over all its iterations.
 #[cycle(unroll)]
 fn unroll_phases(
     phases: &Blocks,

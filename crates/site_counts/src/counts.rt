@@ -70,6 +70,7 @@ pub fn sites_in_statement(statement: &Stmt) -> u64
     }
 }
 
+// How many sites branches or phases enter, each once.
 #[cycle(sites)]
 fn sites_among(blocks: &Blocks) -> u64
     ensures { result ≡ capped (branches_sites_in (sequences_of blocks.now)) }
@@ -93,6 +94,7 @@ pub fn pieces_in_block(block: &Block) -> u64
     pieces
 }
 
+// The same of a statement: a construct has its own pieces, and those of the sites inside it.
 #[cycle(pieces)]
 fn pieces_in_statement(statement: &Stmt) -> u64
     ensures { result ≡ capped (statement_pieces_in (statement_of statement.now)) }
@@ -128,6 +130,7 @@ fn pieces_in_statement(statement: &Stmt) -> u64
     }
 }
 
+// The same of branches or phases, each once.
 #[cycle(pieces)]
 fn pieces_among(blocks: &Blocks) -> u64
     ensures { result ≡ capped (branches_pieces_in (sequences_of blocks.now)) }

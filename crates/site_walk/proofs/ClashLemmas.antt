@@ -9,10 +9,10 @@ use Rattle.array_meaning.specs.Overlap.{covers}
 use Rattle.array_meaning.specs.Accepted.{is_inside}
 use Rattle.site_walk.specs.declared.touched.Touched.{Touched}
 use Rattle.site_walk.specs.declared.table.Table.{Table}
-use Rattle.site_walk.specs.Touched.{joined, clashes, touched_at, untouched}
+use Rattle.site_walk.specs.Inside.Touched.{joined, clashes, touched_at, untouched}
 use Rattle.array_eval.specs.Layouts.{number_of}
-use Rattle.site_walk.specs.Numbers.{array_at}
-use Rattle.site_walk.specs.Marks.{with_static, with_dynamic, with_touch, added, done_at, HasPlaces}
+use Rattle.site_walk.specs.Inside.Numbers.{array_at}
+use Rattle.site_walk.specs.Inside.Marks.{with_static, with_dynamic, with_touch, added, done_at, HasPlaces}
 use Rattle.site_walk.proofs.TouchedLemmas.{joined_assoc, joined_turned, joined_again, clashes_part}
 use Rattle.site_walk.proofs.NumberLemmas.{array_there, covers_number, inside_number}
 

@@ -6,7 +6,7 @@ use Rattle.array_meaning.specs.Steps.{Steps, Set, Choose, Done, followed_by}
 use Rattle.array_meaning.specs.Touch.{Visit, walk, reads_in, visit}
 use Rattle.array_meaning.proofs.FrameLemmas.{walk_followed_by}
 use Rattle.site_walk.specs.declared.table.Table.{Table}
-use Rattle.site_walk.specs.Marks.{with_touch, with_visits, with_piece, touch_of}
+use Rattle.site_walk.specs.Inside.Marks.{with_touch, with_visits, with_piece, touch_of}
 
 pub visits_append : (arrays : Arrays) (piece : ℕ) (xs ys : List Visit) (t : Table) →
     with_visits arrays piece (xs ++ ys) t ≡ with_visits arrays piece ys (with_visits arrays piece xs t)

@@ -9,7 +9,7 @@ use Rattle.array_meaning.specs.Stores.{Arrays, base_of, length_of, cells_of, cel
 use Rattle.array_meaning.specs.Overlap.{covers}
 use Rattle.array_meaning.specs.Accepted.{is_inside}
 use Rattle.array_eval.specs.Layouts.{number_of}
-use Rattle.site_walk.specs.Numbers.{array_at}
+use Rattle.site_walk.specs.Inside.Numbers.{array_at}
 
 -- ---- the first array, or a later one
 

@@ -11,7 +11,8 @@ use Rattle.site_walk.specs.declared.fault.WalkFault.{WalkFault}
 use Rattle.array_meaning.specs.Accepted.{is_inside, are_inside}
 use Rattle.site_walk.specs.declared.fault.WalkFault.TheVariants.{OutOfRange}
 use Rattle.std.specs.Option.{option_or}
-use Rattle.site_walk.specs.Outside.{index_fault, first_outside, or_outside}
+use Rattle.site_walk.specs.Outside.{index_fault, first_outside}
+use Rattle.site_walk.specs.Inside.Kept.{or_outside}
 
 pub first_append : (arrays : Arrays) (xs ys : List Visit) → first_outside arrays (xs ++ ys) ≡ option_or (first_outside arrays xs) (first_outside arrays ys)
 first_append arrays [] ys = refl

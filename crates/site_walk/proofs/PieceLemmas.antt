@@ -11,9 +11,9 @@ use Rattle.site_walk.specs.declared.touched.Pieces.{Pieces}
 use Rattle.site_walk.specs.declared.touched.Pieces.TheVariants.{Nobody, One, Several}
 use Rattle.site_walk.specs.declared.touched.Touched.{Touched}
 use Rattle.site_walk.specs.declared.table.Table.{Table}
-use Rattle.site_walk.specs.Touched.{joined_pieces, joined, clashes, are_several, touched_at, untouched}
-use Rattle.site_walk.specs.Numbers.{array_at}
-use Rattle.site_walk.specs.Marks.{with_touch, with_visits, with_piece, with_pieces, touch_of, done_at, HasPlaces, cleared}
+use Rattle.site_walk.specs.Inside.Touched.{joined_pieces, joined, clashes, are_several, touched_at, untouched}
+use Rattle.site_walk.specs.Inside.Numbers.{array_at}
+use Rattle.site_walk.specs.Inside.Marks.{with_touch, with_visits, with_piece, with_pieces, touch_of, done_at, HasPlaces, cleared}
 use Rattle.site_walk.proofs.TouchedLemmas.{joined_assoc, one_piece_twice, older_test}
 use Rattle.site_walk.proofs.NumberLemmas.{array_there}
 use Rattle.site_walk.proofs.ClashLemmas.{touch_if, done_with_touch, places_stay, IsClear, clear_stays}

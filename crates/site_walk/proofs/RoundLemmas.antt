@@ -7,8 +7,8 @@ use Rattle.std.proofs.lemmas.List.Elements.{All-head, All-tail}
 use Rattle.std.proofs.lemmas.Bool.Decides.{nat_tests}
 use Rattle.site_walk.specs.declared.layer.Mark.{Mark}
 use Rattle.site_walk.specs.declared.touched.Touched.{Touched}
-use Rattle.site_walk.specs.Touched.{untouched}
-use Rattle.site_walk.specs.Rounds.{done_in, IsUpTo}
+use Rattle.site_walk.specs.Inside.Touched.{untouched}
+use Rattle.site_walk.specs.Inside.Rounds.{done_in, IsUpTo}
 
 same_number : (n : ℕ) → nat_eq n n ≡ true
 same_number n = grind (arith, nat_tests)

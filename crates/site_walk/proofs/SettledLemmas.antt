@@ -13,7 +13,8 @@ use Rattle.array_meaning.proofs.OverlapLemmas.{clear_of_apart}
 use Rattle.array_meaning.proofs.PlanLemmas.{sequence_sites_length}
 use Rattle.site_counts.specs.Capped.{capped}
 use Rattle.site_walk.specs.declared.fault.WalkFault.{WalkFault}
-use Rattle.site_walk.specs.FirstOverlap.{cell_fault, rounds_fault, first_overlap, or_overlap}
+use Rattle.site_walk.specs.FirstOverlap.{cell_fault, rounds_fault, first_overlap}
+use Rattle.site_walk.specs.Inside.Kept.{or_overlap}
 use Rattle.array_meaning.proofs.LastLemmas.{or_none}
 use Rattle.site_walk.proofs.PieceLemmas.{first_none}
 

@@ -15,8 +15,9 @@ use Rattle.site_walk.specs.declared.fault.WalkFault.{WalkFault}
 use Rattle.site_walk.specs.declared.fault.WalkFault.TheVariants.{Overlap}
 use Rattle.site_walk.specs.declared.table.Table.{Table}
 use Rattle.std.specs.Option.{option_or}
-use Rattle.site_walk.specs.FirstOverlap.{cell_fault, rounds_fault, first_overlap, or_overlap}
-use Rattle.site_walk.specs.Marks.{with_piece, with_pieces}
+use Rattle.site_walk.specs.FirstOverlap.{cell_fault, rounds_fault, first_overlap}
+use Rattle.site_walk.specs.Inside.Kept.{or_overlap}
+use Rattle.site_walk.specs.Inside.Marks.{with_piece, with_pieces}
 use Rattle.array_meaning.proofs.LastLemmas.{or_assoc, or_none}
 
 overlap_append : (arrays : Arrays) (xs ys : List Site) → first_overlap arrays (xs ++ ys) ≡ option_or (first_overlap arrays xs) (first_overlap arrays ys)

@@ -5,7 +5,7 @@ use Rattle.std.proofs.lemmas.Bool.Decides.{nat_tests}
 use Rattle.site_walk.specs.declared.touched.Pieces.{Pieces}
 use Rattle.site_walk.specs.declared.touched.Pieces.TheVariants.{Nobody, One, Several}
 use Rattle.site_walk.specs.declared.touched.Touched.{Touched}
-use Rattle.site_walk.specs.Touched.{joined_pieces, joined, clashes, are_several}
+use Rattle.site_walk.specs.Inside.Touched.{joined_pieces, joined, clashes, are_several}
 
 -- ---- pieces
 

@@ -28,10 +28,6 @@ first_overlap arrays [] = None
 first_overlap arrays (site ∷ more) =
     option_or (rounds_fault arrays site.line site.rounds) (first_overlap arrays more)
 
--- What was found, or else the first overlap of sites.
-abbrev pub or_overlap : Arrays → List Site → Option WalkFault → Option WalkFault
-or_overlap arrays sites found = option_or found (first_overlap arrays sites)
-
 -- The first overlap of a program's sites, in the order in which it enters them: by the construct's line and, in a
 -- `team` in its first phase with one, the least cell.
 abbrev pub overlap_of : ProgramTree → Option WalkFault

@@ -1,7 +1,4 @@
-pub mod Numbers
 pub mod Outside
-pub mod Touched
-pub mod Rounds
-pub mod Marks
 pub mod FirstOverlap
 pub mod Laws
+pub mod Inside

@@ -3,7 +3,6 @@ use Rattle.std.specs.Prelude.{ℕ, List, [], ◌∷◌, Option, Some, None, ℤ,
 use Rattle.std.specs.Option.{option_or}
 use Rattle.array_tree.specs.Trees.{ProgramTree}
 use Rattle.array_meaning.specs.Stores.{Arrays, arrays_of, length_of}
-use Rattle.array_meaning.specs.Steps.{Steps}
 use Rattle.array_meaning.specs.Work.{sequence_work}
 use Rattle.array_meaning.specs.Touch.{Visit, walk}
 use Rattle.array_meaning.specs.Accepted.{is_inside}
@@ -21,10 +20,6 @@ abbrev pub first_outside : Arrays → List Visit → Option WalkFault
 first_outside arrays [] = None
 first_outside arrays (v ∷ more) =
     option_or (index_fault v.line (length_of arrays v.array) v.index) (first_outside arrays more)
-
--- What was found, or else the first fault of an index in the walk through steps.
-abbrev pub or_outside : Arrays → Steps → Option WalkFault → Option WalkFault
-or_outside arrays steps found = option_or found (first_outside arrays (walk arrays steps))
 
 -- The first static index of a program outside its array, by the line of the assignment or `if` in whose own
 -- expressions it stands.

@@ -7,7 +7,8 @@ ghost use Rattle.array_meaning.specs.Work.{statement_work, sequence_work, branch
 ghost use Rattle.array_meaning.specs.Touch.{reads_in, visit, walk};
 ghost use Rattle.array_eval.specs.Views.{vars_of};
 ghost use Rattle.std.specs.Option.{option_or};
-ghost use Rattle.site_walk.specs.Outside.{index_fault, first_outside, or_outside};
+ghost use Rattle.site_walk.specs.Outside.{index_fault, first_outside};
+ghost use Rattle.site_walk.specs.Inside.Kept.{or_outside};
 
 use crate::fault::WalkFault;
 use array_eval::{Layout, Scope, evaluate, is_dynamic};

@@ -1,6 +1,6 @@
 //! Lists of what was done, which are cleared at once.
 ghost use Rattle.std.specs.Prelude.{◌≡◌, IfOk, length, replicate, slice_set};
-ghost use Rattle.site_walk.specs.Touched.{joined, touched_at, untouched};
+ghost use Rattle.site_walk.specs.Inside.Touched.{joined, touched_at, untouched};
 
 use crate::touched::{Touched, UNTOUCHED};
 use std::alloc::{AllocError, Global};
@@ -31,7 +31,7 @@ impl Model for Layer {
 
     ghost Value = { List Touched };
 
-    ghost use Rattle.site_walk.specs.Rounds.{done_in, IsUpTo};
+    ghost use Rattle.site_walk.specs.Inside.Rounds.{done_in, IsUpTo};
 
     ghost view = { λ layer. map (done_in layer.round) layer.marks.items };
 

@@ -4,7 +4,7 @@ ghost use Rattle.array_tree.specs.Trees.{expression_of, statement_of, sequence_o
 ghost use Rattle.array_meaning.specs.Work.{statement_work, sequence_work, branches_work, phases_work, loop};
 ghost use Rattle.array_meaning.specs.Touch.{reads_in, visit};
 ghost use Rattle.array_eval.specs.Views.{vars_of};
-ghost use Rattle.site_walk.specs.Marks.{with_touch, with_visits, with_piece, touch_of};
+ghost use Rattle.site_walk.specs.Inside.Marks.{with_touch, with_visits, with_piece, touch_of};
 
 use crate::table::Table;
 use crate::touched::{Pieces, Touched};

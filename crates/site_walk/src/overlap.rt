@@ -6,8 +6,9 @@ ghost use Rattle.array_meaning.specs.Members.{team_works};
 ghost use Rattle.array_meaning.specs.Sites.{branch_works, phase_rounds, statement_sites, sequence_sites, branches_sites, phases_sites, loop_sites};
 ghost use Rattle.array_eval.specs.Views.{vars_of};
 ghost use Rattle.std.specs.Option.{option_or};
-ghost use Rattle.site_walk.specs.FirstOverlap.{rounds_fault, or_overlap};
-ghost use Rattle.site_walk.specs.Marks.{HasPlaces};
+ghost use Rattle.site_walk.specs.FirstOverlap.{rounds_fault};
+ghost use Rattle.site_walk.specs.Inside.Kept.{or_overlap};
+ghost use Rattle.site_walk.specs.Inside.Marks.{HasPlaces};
 
 use crate::fault::WalkFault;
 use crate::round::{overlap_of_branches, overlap_of_members};

@@ -2,7 +2,7 @@
 ghost use Rattle.std.specs.Prelude.{◌≡◌};
 ghost use Rattle.array_tree.specs.Trees.{declarations_of};
 ghost use Rattle.array_meaning.specs.Stores.{arrays_of};
-ghost use Rattle.site_walk.specs.Numbers.{array_at};
+ghost use Rattle.site_walk.specs.Inside.Numbers.{array_at};
 
 use array_eval::Layout;
 use array_tree::Arrays;

@@ -1,14 +1,15 @@
 //! The pieces of one round, and the least cell on which two of them overlap.
 ghost use Rattle.std.specs.Prelude.{◌≡◌, ◌<◌, ◌+◌, cond, Some, None, IfSome};
 ghost use Rattle.array_tree.specs.Trees.{sequence_of, sequences_of};
+ghost use Rattle.array_meaning.specs.Bounds.{most_cells};
 ghost use Rattle.array_meaning.specs.Stores.{cells_of};
 ghost use Rattle.array_meaning.specs.Work.{sequence_work};
 ghost use Rattle.array_meaning.specs.Members.{team_works};
 ghost use Rattle.array_meaning.specs.Overlap.{first_from, overlap};
 ghost use Rattle.array_meaning.specs.Sites.{branch_works};
 ghost use Rattle.array_eval.specs.Views.{vars_of};
-ghost use Rattle.site_walk.specs.Touched.{clashes};
-ghost use Rattle.site_walk.specs.Marks.{with_pieces, done_at, HasPlaces};
+ghost use Rattle.site_walk.specs.Inside.Touched.{clashes};
+ghost use Rattle.site_walk.specs.Inside.Marks.{with_pieces, done_at, HasPlaces};
 
 use crate::mark::{mark_block, mark_loop};
 use crate::places::number_at;
@@ -32,7 +33,7 @@ fn clashes_on(layout: &Layout, table: &Table, cell: usize) -> bool
 fn least_clash(layout: &Layout, table: &Table) -> Option<usize>
     ensures least { result ≡ first_from (λ cell. clashes (done_at layout.now table.now cell)) 0
         (cells_of layout.now) }
-    ensures small { IfSome result (λ cell. cell < 4096) }
+    ensures small { IfSome result (λ cell. cell < most_cells) }
 {
     for cell in 0..layout.cells() {
         if clashes_on(layout, table, cell) {
@@ -47,7 +48,7 @@ fn least_overlap(layout: &Layout, table: &Table) -> Option<usize>
     ensures least { result ≡ cond table.now.suspect
         (first_from (λ cell. clashes (done_at layout.now table.now cell)) 0
         (cells_of layout.now)) None }
-    ensures small { IfSome result (λ cell. cell < 4096) }
+    ensures small { IfSome result (λ cell. cell < most_cells) }
 {
     if table.suspect {
         least_clash(layout, table)
@@ -79,7 +80,7 @@ pub(crate) fn overlap_of_branches<'s>(
     ensures places { HasPlaces layout.now table.new }
     ensures found { result ≡ overlap layout.now (cells_of layout.now)
         (branch_works (sequences_of branches.now) (vars_of scope.now)) }
-    ensures small { IfSome result (λ cell. cell < 4096) }
+    ensures small { IfSome result (λ cell. cell < most_cells) }
 {
     if branches.blocks.len() < 2 {
         return None;
@@ -143,7 +144,7 @@ pub(crate) fn overlap_of_members<'s>(
     ensures found { result ≡ overlap layout.now (cells_of layout.now)
         (team_works var.now low high members (sequence_work (sequence_of phase.now))
         (vars_of scope.now)) }
-    ensures small { IfSome result (λ cell. cell < 4096) }
+    ensures small { IfSome result (λ cell. cell < most_cells) }
 {
     if members < 2 {
         return None;

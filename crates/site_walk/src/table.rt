@@ -1,7 +1,7 @@
 //! What the pieces of a round do, cell by cell and array by array.
 ghost use Rattle.std.specs.Prelude.{◌≡◌, IfOk, length};
 ghost use Rattle.array_meaning.specs.Stores.{cells_of};
-ghost use Rattle.site_walk.specs.Marks.{with_static, with_dynamic, nothing_done, cleared};
+ghost use Rattle.site_walk.specs.Inside.Marks.{with_static, with_dynamic, nothing_done, cleared};
 
 use crate::layer::Layer;
 use crate::touched::Touched;
@@ -51,7 +51,7 @@ impl Table {
     }
 
     /// Adds what is done to a cell by a static index of an array, which may be outside the array.
-    #[tactic(auto, unfolding(crate::specs::Marks::with_static))]
+    #[tactic(auto, unfolding(crate::specs::Inside::Marks::with_static))]
     pub(crate) fn touch_cell(&mut self, number: usize, cell: usize, inside: bool, touch: Touched)
         ensures { self.new ≡ with_static number cell inside touch self.old }
     {
@@ -66,7 +66,7 @@ impl Table {
     }
 
     /// Adds what is done to all cells of an array by a dynamic index.
-    #[tactic(auto, unfolding(crate::specs::Marks::with_dynamic))]
+    #[tactic(auto, unfolding(crate::specs::Inside::Marks::with_dynamic))]
     pub(crate) fn touch_array(&mut self, number: usize, touch: Touched)
         ensures { self.new ≡ with_dynamic number touch self.old }
     {

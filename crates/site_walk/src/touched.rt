@@ -1,6 +1,6 @@
 //! What pieces do to something.
 ghost use Rattle.std.specs.Prelude.{◌≡◌};
-ghost use Rattle.site_walk.specs.Touched.{joined_pieces, joined, clashes};
+ghost use Rattle.site_walk.specs.Inside.Touched.{joined_pieces, joined, clashes};
 
 /// Which pieces of a round touched something.
 #[derive(Clone, Copy, PartialEq, Eq, Debug, Drop)]

@@ -1,6 +1,7 @@
 //! Which cells an index leads to.
 ghost use Rattle.std.specs.Prelude.{◌≤◌, IfSome};
 ghost use Rattle.array_tree.specs.Trees.{expression_of};
+ghost use Rattle.array_meaning.specs.Bounds.{most_cells};
 ghost use Rattle.touch_bounds.specs.Ranges.{bounds_of};
 ghost use Rattle.touch_bounds.specs.Touches.{AreCellsWithin, IsReachOf};
 
@@ -13,8 +14,8 @@ use array_tree::{Expr, Name};
 
 // The cells of an array at the numbers of an interval, where all are inside it.
 fn cells_within(place: Place, within: Interval) -> Option<Stretch>
-    requires base { place.base ≤ 4096 }
-    requires length { place.length ≤ 4096 }
+    requires base { place.base ≤ most_cells }
+    requires length { place.length ≤ most_cells }
     ensures { IfSome result (λ cells. AreCellsWithin place.base place.length within cells) }
 {
     let inside = 0 <= within.least

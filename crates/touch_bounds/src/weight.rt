@@ -3,6 +3,9 @@
 use array_eval::span;
 use array_tree::{Block, Blocks, Stmt};
 
+/// The greatest number of members of a `team`.
+const MOST_MEMBERS: u64 = 64;
+
 // How many statements stand in a text, and how many run, loops included. The greatest number stands for all above it.
 #[derive(Clone, Copy, Drop)]
 struct Weight {
@@ -67,11 +70,14 @@ pub fn phase_pays(phase: &Block, iterations: u64, members: u64) -> bool {
 }
 
 /// Whether it pays to look at the text of a loop's body once, for all its turns. Each phase's text may be looked at for each
-/// of 64 members, and each two of 64 pieces be compared.
+/// of as many members as there may be, and each two of as many pieces be compared.
 pub fn loop_pays(body: &Block, turns: u64) -> bool {
-    weigh_block(body).times(turns).pays(64, 64)
+    weigh_block(body)
+        .times(turns)
+        .pays(MOST_MEMBERS, MOST_MEMBERS)
 }
 
+// What a block weighs: all that stands in it, in all turns of the loops inside.
 #[cycle(weigh)]
 fn weigh_block(block: &Block) -> Weight {
     let mut weight = Weight::none();
@@ -81,6 +87,7 @@ fn weigh_block(block: &Block) -> Weight {
     weight
 }
 
+// The same of branches or phases.
 #[cycle(weigh)]
 fn weigh_blocks(blocks: &Blocks) -> Weight {
     let mut weight = Weight::none();
@@ -90,6 +97,7 @@ fn weigh_blocks(blocks: &Blocks) -> Weight {
     weight
 }
 
+// The same of a statement. Both sides of an `if` count, since the walk goes through both.
 #[cycle(weigh)]
 fn weigh_statement(statement: &Stmt) -> Weight {
     match statement {

@@ -2,7 +2,7 @@ use Rattle.std.proofs.Common.{◌≡◌, [], length, ap, sym, ◌∙◌}
 use Rattle.array_tree.specs.Trees.{program_of}
 use Rattle.array_meaning.specs.Plans.{plan_of}
 use Rattle.transfer_table.specs.Plan.{plan_fault_of}
-use Rattle.disjoint_check.specs.Unrolled.{parents_in, shapes_in, with_sequence}
+use Rattle.disjoint_check.specs.Inside.Unrolled.{parents_in, shapes_in, with_sequence}
 use Rattle.disjoint_check.proofs.Parents.{plan_is}
 use Rattle.disjoint_check.proofs.ShapeLaws.{shapes_are}
 use Rattle.disjoint_check.proofs.PlanLaws.{plan_right, rows_length, uncapped}

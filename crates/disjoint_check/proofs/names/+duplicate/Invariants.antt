@@ -1,7 +1,7 @@
 use Rattle.std.proofs.Common.{◌≡◌, ◌++◌, drop, map}
 use Rattle.array_tree.specs.Trees.{statement_of, sequence_of, sequences_of, sequence, sequences, declarations_of}
 use Rattle.array_meaning.specs.Names.{names_of}
-use Rattle.disjoint_check.specs.Around.{vars_around}
+use Rattle.disjoint_check.specs.Inside.Around.{vars_around}
 use Rattle.disjoint_check.specs.FirstNames.{duplicate_in, duplicate_among}
 use Rattle.disjoint_check.proofs.names.+duplicate.Given as goal
 

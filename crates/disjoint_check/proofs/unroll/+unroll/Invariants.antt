@@ -1,6 +1,6 @@
 use Rattle.std.proofs.Common.{◌≡◌, ◌-◌, drop, map}
 use Rattle.array_tree.specs.Trees.{statement_of, sequence_of, sequences_of, sequence, sequences}
-use Rattle.disjoint_check.specs.Unrolled.{with_sequence, with_branches, with_phases, repeat}
+use Rattle.disjoint_check.specs.Inside.Unrolled.{with_sequence, with_branches, with_phases, repeat}
 use Rattle.disjoint_check.proofs.unroll.+unroll.Given as goal
 
 abbrev pub invariant-unroll_block-loop-statement : goal.invariant-unroll_block-loop-statement

@@ -5,7 +5,8 @@ use Rattle.std.proofs.lemmas.Int.{to_z-of_z, ints}
 use Rattle.array_tree.specs.Trees.{expression_of, statement_of, sequence_of, sequence, sequences}
 use Rattle.array_meaning.specs.Stores.{length_of}
 use Rattle.std.specs.Option.{option_or}
-use Rattle.site_walk.specs.Outside.{index_fault, first_outside, or_outside}
+use Rattle.site_walk.specs.Outside.{index_fault, first_outside}
+use Rattle.site_walk.specs.Inside.Kept.{or_outside}
 use Rattle.array_meaning.specs.Work.{statement_work, sequence_work, branches_work, phases_work, loop}
 use Rattle.site_walk.proofs.OutsideLemmas.{outside_followed_by, outside_set, outside_choose}
 use Rattle.array_meaning.proofs.ThreadLemmas.{statements_left, branches_left, phases_left, turns_left}

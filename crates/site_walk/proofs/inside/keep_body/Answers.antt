@@ -3,7 +3,7 @@ use Rattle.array_tree.specs.Trees.{statement_of, sequence}
 use Rattle.array_meaning.specs.Work.{statement_work, sequence_work}
 use Rattle.array_meaning.proofs.ThreadLemmas.{statements_left}
 use Rattle.site_walk.specs.declared.fault.WalkFault.{WalkFault}
-use Rattle.site_walk.specs.Outside.{or_outside}
+use Rattle.site_walk.specs.Inside.Kept.{or_outside}
 use Rattle.site_walk.proofs.OutsideLemmas.{outside_followed_by}
 use Rattle.site_walk.proofs.inside.keep_body.Goals as goal
 

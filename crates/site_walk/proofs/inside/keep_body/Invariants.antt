@@ -1,7 +1,7 @@
 use Rattle.std.proofs.Common.{◌≡◌, [], drop, map}
 use Rattle.array_tree.specs.Trees.{statement_of, sequence_of, sequence}
 use Rattle.array_meaning.specs.Work.{sequence_work}
-use Rattle.site_walk.specs.Outside.{or_outside}
+use Rattle.site_walk.specs.Inside.Kept.{or_outside}
 use Rattle.site_walk.proofs.inside.keep_body.Given as goal
 
 -- what is left to look through from here gives what all gives from the start

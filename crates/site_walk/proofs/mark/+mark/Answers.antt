@@ -3,7 +3,7 @@ use Rattle.std.proofs.Common.{true, arith, ◌+ℤ◌, ◌<ℤ◌, pos, to_z, of
 use mir.Val.{SFits}
 use Rattle.std.proofs.lemmas.Int.{to_z-of_z, ints}
 use Rattle.array_tree.specs.Trees.{expression_of, statement_of, sequence_of, sequence, sequences}
-use Rattle.site_walk.specs.Marks.{with_touch, with_visits, with_piece, touch_of}
+use Rattle.site_walk.specs.Inside.Marks.{with_touch, with_visits, with_piece, touch_of}
 use Rattle.array_meaning.specs.Work.{statement_work, sequence_work, branches_work, phases_work, loop}
 use Rattle.site_walk.proofs.MarkLemmas.{piece_followed_by, piece_set, piece_choose}
 use Rattle.array_meaning.proofs.ThreadLemmas.{statements_left, branches_left, phases_left, turns_left}

@@ -1,6 +1,6 @@
 use Rattle.std.proofs.Common.{◌≡◌, drop, map}
 use Rattle.array_tree.specs.Trees.{statement_of, sequence_of, sequences_of, sequence, sequences}
-use Rattle.site_walk.specs.Marks.{with_piece}
+use Rattle.site_walk.specs.Inside.Marks.{with_piece}
 use Rattle.array_meaning.specs.Work.{sequence_work, branches_work, phases_work, loop}
 use Rattle.array_eval.specs.Views.{vars_of}
 use Rattle.site_walk.proofs.mark.+mark.Given as goal

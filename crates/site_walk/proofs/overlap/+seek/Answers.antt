@@ -4,7 +4,8 @@ use Rattle.std.proofs.lemmas.Int.{to_z-of_z, ints}
 use Rattle.array_tree.specs.Trees.{statement_of, sequence_of, sequences_of, sequence, sequences}
 use Rattle.array_meaning.specs.Sites.{AreSitesApart, branch_works, statement_sites, sequence_sites, branches_sites, phases_sites, loop_sites}
 use Rattle.array_eval.specs.Views.{vars_of}
-use Rattle.site_walk.specs.FirstOverlap.{rounds_fault, first_overlap, or_overlap}
+use Rattle.site_walk.specs.FirstOverlap.{rounds_fault, first_overlap}
+use Rattle.site_walk.specs.Inside.Kept.{or_overlap}
 use Rattle.array_meaning.proofs.LastLemmas.{or_assoc}
 use Rattle.touch_bounds.proofs.TreeLemmas.{statement-if, statement-par}
 use Rattle.site_walk.proofs.SiteLemmas.{or_overlap_append, statement_next, branch_next, phase_next, turn_next}

@@ -2,8 +2,8 @@ use Rattle.std.proofs.Common.{◌≡◌, drop, map}
 use Rattle.array_tree.specs.Trees.{statement_of, sequence_of, sequences_of, sequence, sequences}
 use Rattle.array_meaning.specs.Sites.{sequence_sites, branches_sites, phases_sites, loop_sites}
 use Rattle.array_eval.specs.Views.{vars_of}
-use Rattle.site_walk.specs.FirstOverlap.{or_overlap}
-use Rattle.site_walk.specs.Marks.{HasPlaces}
+use Rattle.site_walk.specs.Inside.Kept.{or_overlap}
+use Rattle.site_walk.specs.Inside.Marks.{HasPlaces}
 use Rattle.site_walk.proofs.overlap.+seek.Given as goal
 
 -- what is left to look through from here gives what all gives from the start

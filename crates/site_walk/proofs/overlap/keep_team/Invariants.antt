@@ -4,7 +4,7 @@ use Rattle.array_meaning.specs.Sites.{phase_rounds}
 use Rattle.array_eval.specs.Views.{vars_of}
 use Rattle.std.specs.Option.{option_or}
 use Rattle.site_walk.specs.FirstOverlap.{rounds_fault}
-use Rattle.site_walk.specs.Marks.{HasPlaces}
+use Rattle.site_walk.specs.Inside.Marks.{HasPlaces}
 use Rattle.site_walk.proofs.overlap.keep_team.Given as goal
 
 abbrev pub invariant-loop-phase : goal.invariant-loop-phase

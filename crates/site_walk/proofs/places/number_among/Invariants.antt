@@ -1,7 +1,7 @@
 use Rattle.std.proofs.Common.{◌≡◌, ◌+◌, drop, map}
 use Rattle.array_tree.specs.Trees.{declarations_of, declaration_of}
 use Rattle.array_meaning.specs.Stores.{arrays_of}
-use Rattle.site_walk.specs.Numbers.{array_at}
+use Rattle.site_walk.specs.Inside.Numbers.{array_at}
 use Rattle.site_walk.proofs.places.number_among.Given as goal
 
 abbrev pub invariant-loop-number : goal.invariant-loop-number

@@ -4,7 +4,7 @@ use Rattle.array_tree.specs.Trees.{sequence_of}
 use Rattle.array_meaning.specs.Work.{sequence_work, loop}
 use Rattle.array_meaning.specs.Members.{start_of, member_works}
 use Rattle.array_eval.specs.Views.{vars_of}
-use Rattle.site_walk.specs.Marks.{with_piece, with_pieces}
+use Rattle.site_walk.specs.Inside.Marks.{with_piece, with_pieces}
 use Rattle.site_walk.proofs.SiteLemmas.{member_next}
 use Rattle.site_walk.proofs.round.mark_members.Goals as goal
 

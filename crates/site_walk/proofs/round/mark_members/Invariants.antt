@@ -3,7 +3,7 @@ use Rattle.array_tree.specs.Trees.{sequence_of}
 use Rattle.array_meaning.specs.Work.{sequence_work}
 use Rattle.array_meaning.specs.Members.{member_works}
 use Rattle.array_eval.specs.Views.{vars_of}
-use Rattle.site_walk.specs.Marks.{with_pieces}
+use Rattle.site_walk.specs.Inside.Marks.{with_pieces}
 use Rattle.site_walk.proofs.round.mark_members.Given as goal
 
 abbrev pub invariant-loop-member : goal.invariant-loop-member

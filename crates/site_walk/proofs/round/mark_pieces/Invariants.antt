@@ -2,7 +2,7 @@ use Rattle.std.proofs.Common.{◌≡◌, drop, map}
 use Rattle.array_tree.specs.Trees.{sequence_of, sequences, sequences_of}
 use Rattle.array_meaning.specs.Sites.{branch_works}
 use Rattle.array_eval.specs.Views.{vars_of}
-use Rattle.site_walk.specs.Marks.{with_pieces}
+use Rattle.site_walk.specs.Inside.Marks.{with_pieces}
 use Rattle.site_walk.proofs.round.mark_pieces.Given as goal
 
 abbrev pub invariant-loop-piece : goal.invariant-loop-piece

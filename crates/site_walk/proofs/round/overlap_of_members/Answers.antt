@@ -6,8 +6,8 @@ use Rattle.array_meaning.specs.Stores.{cells_of}
 use Rattle.array_meaning.specs.Overlap.{first_from, overlap}
 use Rattle.array_meaning.specs.Members.{team_works}
 use Rattle.array_eval.specs.Views.{vars_of}
-use Rattle.site_walk.specs.Touched.{clashes}
-use Rattle.site_walk.specs.Marks.{with_pieces, done_at, HasPlaces, cleared}
+use Rattle.site_walk.specs.Inside.Touched.{clashes}
+use Rattle.site_walk.specs.Inside.Marks.{with_pieces, done_at, HasPlaces, cleared}
 use Rattle.site_walk.proofs.PieceLemmas.{least_overlap, pieces_keep_places, cleared_places}
 use Rattle.site_walk.proofs.AloneLemmas.{members_alone}
 use Rattle.site_walk.proofs.SettledLemmas.{apart_overlap}

@@ -1,8 +1,8 @@
 use Rattle.std.proofs.Common.{◌≡◌, length, map, replicate, ap, ◌∙◌, arith}
 use Rattle.std.specs.Prelude.{vec_len}
 use Rattle.std.proofs.lemmas.List.{length-map}
-use Rattle.site_walk.specs.Touched.{untouched}
-use Rattle.site_walk.specs.Rounds.{done_in}
+use Rattle.site_walk.specs.Inside.Touched.{untouched}
+use Rattle.site_walk.specs.Inside.Rounds.{done_in}
 use Rattle.site_walk.proofs.RoundLemmas.{none_in_round}
 use Rattle.site_walk.proofs.layer.Layer.clear.Goals as goal
 

@@ -1,4 +1,5 @@
 -- What pieces of a round do to a cell.
+-- Only the private contracts and the proofs of this crate need these.
 use Rattle.std.specs.Prelude.{ℕ, cond, Bool, true, false, ◌&&◌, ◌||◌, nat_eq, List, slice_index_or}
 use Rattle.site_walk.specs.declared.touched.Pieces.{Pieces}
 use Rattle.site_walk.specs.declared.touched.Pieces.TheVariants.{Nobody, One, Several}

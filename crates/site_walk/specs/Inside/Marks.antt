@@ -1,4 +1,5 @@
 -- What is marked as the pieces of a round are walked through.
+-- Only the private contracts and the proofs of this crate need these.
 use Rattle.std.specs.Prelude.{◌≡◌, ℕ, ◌+◌, cond, Bool, false, not, ◌||◌, List, [], ◌∷◌, length, replicate, Option, Some, None, ℤ, slice_set}
 use Rattle.array_meaning.specs.Stores.{Arrays, length_of, cell_of, cells_of}
 use Rattle.array_meaning.specs.Steps.{Steps}
@@ -7,9 +8,9 @@ use Rattle.array_meaning.specs.Accepted.{is_inside}
 use Rattle.site_walk.specs.declared.touched.Pieces.TheVariants.{One}
 use Rattle.site_walk.specs.declared.touched.Touched.{Touched}
 use Rattle.site_walk.specs.declared.table.Table.{Table}
-use Rattle.site_walk.specs.Touched.{joined, clashes, touched_at, untouched}
+use Rattle.site_walk.specs.Inside.Touched.{joined, clashes, touched_at, untouched}
 use Rattle.array_eval.specs.Layouts.{number_of}
-use Rattle.site_walk.specs.Numbers.{array_at}
+use Rattle.site_walk.specs.Inside.Numbers.{array_at}
 
 -- Nothing done to so many cells and so many arrays.
 abbrev pub nothing_done : ℕ → ℕ → Table

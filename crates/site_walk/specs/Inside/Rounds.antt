@@ -1,8 +1,9 @@
 -- What a mark says in a round.
+-- Only the private contracts and the proofs of this crate need these.
 use Rattle.std.specs.Prelude.{ℕ, ◌≤◌, cond, nat_eq}
 use Rattle.site_walk.specs.declared.layer.Mark.{Mark}
 use Rattle.site_walk.specs.declared.touched.Touched.{Touched}
-use Rattle.site_walk.specs.Touched.{untouched}
+use Rattle.site_walk.specs.Inside.Touched.{untouched}
 
 -- What a mark says was done in a round.
 abbrev pub done_in : ℕ → Mark → Touched

@@ -1,4 +1,5 @@
 -- The sites of a program one after another, each with its parent and its shape: what unrolling adds to a list.
+-- Only the private contracts and the proofs of this crate need these.
 use Rattle.std.specs.Prelude.{ℕ, zero, suc, min, List, [], ◌∷◌, ◌++◌, length, map, unsigned_abs}
 use Rattle.array_tree.specs.Trees.{Statement, Assign, For, If, Par, Team, Sequence, ended, followed, Sequences, no_more, beside}
 use Rattle.array_meaning.specs.Work.{span}

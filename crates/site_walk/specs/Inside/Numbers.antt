@@ -1,4 +1,5 @@
 -- The array that a cell belongs to.
+-- Only the private contracts and the proofs of this crate need these.
 use Rattle.std.specs.Prelude.{ℕ, ◌+◌, ◌-◌, cond, nat_lt, [], ◌∷◌}
 use Rattle.array_meaning.specs.Stores.{Arrays}
 
