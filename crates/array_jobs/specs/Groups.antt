@@ -1,5 +1,6 @@
 -- Groups of jobs: the pieces of one phase of a construct.
 use Rattle.std.specs.Prelude.{◌≡◌, ℕ, ◌<◌, ◌≤◌, List, length, slice_get, Some}
+use Rattle.array_meaning.specs.Bounds.{most_members}
 use Rattle.array_meaning.specs.Pieces.{IsMember}
 use Rattle.array_jobs.specs.Jobs.{JobTree}
 
@@ -9,10 +10,11 @@ pub record AreAlike (a b : JobTree) : Type 0 where
   pub site : a.site ≡ b.site
   pub phase : a.phase ≡ b.phase
 
--- The jobs are a group: 1 to 64, over the same arrays, of one site and of one phase, where the one at place i has place i.
+-- The jobs are a group: at least 1, over the same arrays, of one site and of one phase, where the one at place i has
+-- place i.
 pub record IsGroup (jobs : List JobTree) : Type 0 where
   pub some : 0 < length jobs
-  pub few : length jobs ≤ 64
+  pub few : length jobs ≤ most_members
   pub alike : (i j : ℕ) (a b : JobTree) → slice_get jobs i ≡ Some a → slice_get jobs j ≡ Some b
       → AreAlike a b
   pub places : (i : ℕ) (job : JobTree) → slice_get jobs i ≡ Some job → job.place ≡ i

@@ -2,6 +2,7 @@
 use Rattle.std.specs.Prelude.{◌≡◌, ℕ, ◌+◌, ◌<◌, ◌≤◌, false, IsTrue, List, [], ◌++◌, length, map}
 use Rattle.array_tree.specs.declared.tree.Arrays.{Arrays}
 use Rattle.array_tree.specs.Trees.{Declaration, ProgramTree, declarations_of}
+use Rattle.array_meaning.specs.Bounds.{most_members, most_phases, most_sites}
 use Rattle.array_meaning.specs.Stores.{Vars, Store, arrays_of, cells_of}
 use Rattle.array_meaning.specs.Touch.{walk}
 use Rattle.array_meaning.specs.Sites.{sequence_sites, AreSitesApart}
@@ -69,6 +70,6 @@ pub record IsFit (job : JobTree) : Type 0 where
   pub apart : AreSitesApart (arrays_of job.arrays)
       (sequence_sites (statements_of job.work) job.vars)
   pub cells : length job.store ≡ cells_of (arrays_of job.arrays)
-  pub phases : job.phase < 8
-  pub places : job.place < 64
-  pub sites : job.first + sites_of job.work ≤ 4096
+  pub phases : job.phase < most_phases
+  pub places : job.place < most_members
+  pub sites : job.first + sites_of job.work ≤ most_sites + 1
