@@ -189,6 +189,7 @@ fn open_places(alloc: Global, jobs: &[Job]) -> Result<Vec<Place>, AllocError>
 {
     let mut places = Vec::with_capacity(alloc, jobs.len())?;
     for job in jobs {
+        // A look at a field tells what the type of a job keeps.
         let _place = job.place;
         places.push(Place::Open)?;
     }
