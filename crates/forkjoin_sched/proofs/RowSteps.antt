@@ -12,7 +12,7 @@ use Rattle.deque_rows.specs.declared.hart.HartRows.{HartRows}
 use Rattle.deque_rows.specs.declared.stolen.Stolen.{Stolen}
 use Rattle.deque_rows.specs.declared.stolen.Stolen.TheVariants.{Code, Empty}
 use Rattle.deque_rows.specs.Account.{idle, after_push, after_steal, HeldAtMost, Rose}
-use Rattle.deque_rows.specs.Rows.{IsLevel, kin, home_logs, pass_logs, bares, home_log, pass_log, bare, place}
+use Rattle.deque_rows.specs.Rows.{IsLevel, Kin, kin, home_logs, pass_logs, bares, home_log, pass_log, bare, place}
 use Rattle.deque_rows.specs.Calls.{FoundBare, Pushes, PopGives, StealGives}
 use Rattle.forkjoin_sched.specs.Hands.{Keeps, IsFoundBare, HasTaken, TakesCode, TakesMore, PushesCodes, IsFalling, code_at}
 
@@ -111,10 +111,13 @@ takes_then a b c home level h k = record {
   steals = k.steals ∙ ap (λ l. l ++ k.stolen) h.steals ∙ append_assoc (pass_log a home level).stolen h.stolen k.stolen;
 }
 
-pub taken_then : (a b c : HartRows) (home level code : ℕ) → TakesMore home level a b → HasTaken home level code b c → HasTaken home level code a c
-taken_then a b c home level code h (inl k) =
-    inl (h.popped ++ k.0, k.1 ∙ ap (λ l. (l ++ k.0) ++ code ∷ []) h.pops ∙ ap (λ l. l ++ code ∷ []) (append_assoc (home_log a level).popped h.popped k.0))
-taken_then a b c home level code h (inr k) =
+pub taken_then : (a b c : HartRows) (home level code : ℕ) → Keeps a b → TakesMore home level a b → HasTaken home level code b c → HasTaken home level code a c
+taken_then a b c home level code kept h (inl k) = inl (
+  k.0 ∙ ap (λ (x : Kin). x.hart) kept.kin,
+  h.popped ++ k.1,
+  k.2 ∙ ap (λ l. (l ++ k.1) ++ code ∷ []) h.pops ∙ ap (λ l. l ++ code ∷ []) (append_assoc (home_log a level).popped h.popped k.1),
+)
+taken_then a b c home level code kept h (inr k) =
     inr (h.stolen ++ k.0, k.1 ∙ ap (λ l. (l ++ k.0) ++ code ∷ []) h.steals ∙ ap (λ l. l ++ code ∷ []) (append_assoc (pass_log a home level).stolen h.stolen k.0))
 
 none_more : (l : List ℕ) → l ≡ l ++ []
@@ -138,9 +141,9 @@ more_by_pop old new home level None is gives = record {
   steals = ap (λ l. (get_or l (place home level) idle).stolen) gives.3 ∙ none_more (pass_log old home level).stolen;
 }
 
-pub taken_if : (old new : HartRows) (level : ℕ) (result : Option ℕ) → IsLevel level → PopGives old level result new → IfSome result (λ code. (home : ℕ) → HasTaken home level code old new)
+pub taken_if : (old new : HartRows) (level : ℕ) (result : Option ℕ) → IsLevel level → PopGives old level result new → IfSome result (λ code. (home : ℕ) → home ≡ old.hart → HasTaken home level code old new)
 taken_if old new level (Some code) is gives =
-    λ home. inl ([], popped_to old new level code is gives ∙ ap (λ l. l ++ code ∷ []) (none_more (home_log old level).popped))
+    λ home own. inl (own, [], popped_to old new level code is gives ∙ ap (λ l. l ++ code ∷ []) (none_more (home_log old level).popped))
 taken_if old new level None is gives = tt
 
 -- a steal
@@ -183,7 +186,7 @@ bare_on a b c home level kept bare = (rose_on (bare_of a) (bare_of b) (bare_of c
 
 -- what comes of a code after other steps
 pub takes_on : (a b c : HartRows) (home level : ℕ) (result : Option ℕ) → Keeps a b → TakesMore home level a b → TakesCode home level b result c → TakesCode home level a result c
-takes_on a b c home level (Some code) kept more takes = taken_then a b c home level code more takes
+takes_on a b c home level (Some code) kept more takes = taken_then a b c home level code kept more takes
 takes_on a b c home level None kept more takes = bare_on a b c home level kept takes
 
 -- the steps of a home that offers

@@ -69,10 +69,10 @@ pub record TakesMore (home level : ℕ) (before after : HartRows) : Type 0 where
   pub pops : (home_log after level).popped ≡ (home_log before level).popped ++ popped
   pub steals : (pass_log after home level).stolen ≡ (pass_log before home level).stolen ++ stolen
 
--- The last code that was taken from the row since, by a pop or by a steal, is this one.
+-- The last code that was taken from the home's row since is this one: popped, where the hart is the home, or stolen.
 abbrev pub HasTaken : ℕ → ℕ → ℕ → HartRows → HartRows → Type 0
 HasTaken home level code before after =
-    ((earlier : List ℕ) × ((home_log after level).popped
+    ((home ≡ before.hart) × (earlier : List ℕ) × ((home_log after level).popped
     ≡ ((home_log before level).popped ++ earlier) ++ code ∷ []))
     ⊎ ((earlier : List ℕ) × ((pass_log after home level).stolen
     ≡ ((pass_log before home level).stolen ++ earlier) ++ code ∷ []))

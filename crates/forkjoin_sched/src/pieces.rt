@@ -53,7 +53,8 @@ fn pop_code(rows: &mut HartRows, level: u8) -> Option<u32>
     ensures harts { rows.new.harts ≡ rows.old.harts }
     ensures more { (home : ℕ) → TakesMore home level rows.old rows.new }
     ensures taken { IfSome result
-        (λ code. (home : ℕ) → HasTaken home level code rows.old rows.new) }
+        (λ code. (home : ℕ) → home ≡ rows.old.hart
+        → HasTaken home level code rows.old rows.new) }
 {
     rows.pop(level)
 }
