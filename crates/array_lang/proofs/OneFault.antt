@@ -8,7 +8,7 @@ use Rattle.array_lang.specs.Grammar.{SpellsProgram, Begins, StopsAt}
 use Rattle.array_lang.specs.Spelled.{Spells, HasFault, in_cutting, in_tokens, no_memory, HasTokenFault, IsUnexpected, IsTooNested, IsAfter, place_of, cutting_fault}
 use Rattle.array_lang.specs.declared.fault.SyntaxFault.{SyntaxFault}
 use Rattle.array_lang.specs.declared.fault.SyntaxFault.TheVariants.{Unexpected, Memory, TooNested}
-use Rattle.array_lang.specs.declared.bounds.Reach.TheVariants.{Outside}
+use Rattle.array_lang.specs.declared.nesting.Reach.TheVariants.{Outside}
 use Rattle.std.proofs.Math.Seq.{take-append_seam}
 use Rattle.array_lang.proofs.Places.{scan_places}
 use Rattle.array_lang.proofs.Whole.{scan_prefix, none_cut}

@@ -13,8 +13,8 @@ use Rattle.array_lang.specs.Parsing.Machine.{parse_of}
 use Rattle.array_lang.specs.Nesting.{later, first_over, first_beyond}
 use Rattle.array_lang.specs.Parsing.Reading.{IsWhole}
 use Rattle.array_lang.specs.Spelled.{IsRead, Spells, IsUnexpected, IsTooNested, HasFault, HasTokenFault, in_cutting, in_tokens, no_memory, cutting_fault, place_of, IsAfter}
-use Rattle.array_lang.specs.declared.bounds.Reach.{Reach}
-use Rattle.array_lang.specs.declared.bounds.Reach.TheVariants.{Outside}
+use Rattle.array_lang.specs.declared.nesting.Reach.{Reach}
+use Rattle.array_lang.specs.declared.nesting.Reach.TheVariants.{Outside}
 use Rattle.array_lang.specs.declared.fault.SyntaxFault.{SyntaxFault}
 use Rattle.array_lang.specs.declared.fault.SyntaxFault.TheVariants.{Memory, Unexpected, TooNested}
 use Rattle.array_lang.proofs.Complete.{complete}

@@ -6,10 +6,10 @@
 //! after token, and so finds the first one that can't come.
 #![tactic(auto)]
 
-mod bounds;
 mod expressions;
 mod fault;
 mod laws;
+mod nesting;
 mod operator;
 mod program;
 mod ranges;

@@ -7,8 +7,8 @@ ghost use Rattle.array_lang.specs.Parsing.Scan.{first_nested};
 ghost use Rattle.array_lang.specs.Spelled.{Spells, HasFault, HasTokenFault, IsRead, place_of};
 ghost use Rattle.array_lang.specs.Parsing.Reading.{IsWhole, IsReading};
 
-use crate::bounds::nested_at;
 use crate::fault::SyntaxFault;
+use crate::nesting::nested_at;
 use crate::program::program;
 use crate::stop::Stop;
 use array_tokens::{Token, tokens};
@@ -74,7 +74,7 @@ fn first_fault(alloc: Global, tokens: &[Token<'_>], index: usize) -> SyntaxFault
 }
 
 // Why the parser stops within the tokens.
-fn stop<'t>(alloc: Global, tokens: &'t [Token<'t>]) -> Result<(), Stop<'t>>
+fn stop<'a, 't>(alloc: Global, tokens: &'a [Token<'t>]) -> Result<(), Stop<'a, 't>>
     ensures { IsReading (spots tokens.now) result }
 {
     program(alloc, tokens)?;

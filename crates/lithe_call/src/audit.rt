@@ -1,7 +1,7 @@
 //! From bytes to the verdict on the output that stands behind their program.
 ghost use Rattle.std.specs.Prelude.{◌≡◌, ◌≤◌, ◌++◌, ◌∷◌, [], codes, length, IfOk, IfErr, Result, Ok, Err};
 ghost use Rattle.command_words.specs.declared.command.Command.TheVariants.{Audit};
-ghost use Rattle.lithe_call.specs.Auditing.{AreFound, ended, status_by};
+ghost use Rattle.lithe_call.specs.Auditing.{AreFound, status_of_ending, status_by};
 ghost use Rattle.lithe_call.specs.Output.{IsAuditOf};
 ghost use Rattle.lithe_call.specs.Faults.{IsNoOutput, HaveNoVerdict};
 ghost use Rattle.lithe_call.specs.Lines.{TellsText};
@@ -24,7 +24,7 @@ pub fn audited(alloc: Global, harts: u8, bytes: &[u8]) -> Result<Answer, Fault>
     requires some_hart { 1 ≤ harts }
     requires few_harts { harts ≤ 4 }
     ensures output { IfOk result
-        (λ answer. IsAuditOf harts bytes.now (ended answer.ending) answer.text.items) }
+        (λ answer. IsAuditOf harts bytes.now (status_of_ending answer.ending) answer.text.items) }
     ensures fault { IfErr result (IsNoOutput (Audit harts) bytes.now) }
 {
     let Some((first, second)) = parts_of(bytes) else {
@@ -41,7 +41,7 @@ pub fn audited(alloc: Global, harts: u8, bytes: &[u8]) -> Result<Answer, Fault>
 
 // What the line of a verdict tells.
 fn ending(verdict: Verdict) -> Ending
-    ensures { ended result ≡ status_by verdict }
+    ensures { status_of_ending result ≡ status_by verdict }
 {
     match verdict {
         Verdict::Legal(_) => Ending::Written,

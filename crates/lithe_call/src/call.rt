@@ -8,7 +8,7 @@ ghost use Rattle.lithe_call.specs.Telling.{Tells};
 ghost use Rattle.command_words.specs.Form.{form_of};
 ghost use Rattle.lithe_call.specs.Command.{harts_in, size_in, runs_programs};
 ghost use Rattle.lithe_call.specs.Inputs.{limit_of, AreInput, ReadsAll, GivesTooMuch, FailsToRead};
-ghost use Rattle.lithe_call.specs.Auditing.{ended};
+ghost use Rattle.lithe_call.specs.Auditing.{status_of_ending};
 ghost use Rattle.lithe_call.specs.Output.{IsOutputOf, IsRunOf, EndsWith};
 ghost use Rattle.lithe_call.specs.Faults.{IsFault, IsNoOutput, IsNoRun};
 ghost use Rattle.lithe_call.specs.FaultOf.{status_of, line_of};
@@ -97,7 +97,7 @@ pub fn lithe<R: Threads + Wait + Sync, A: Source, B: Sink, E: Sink, G: Gate>(
             if !write_all(out, &answer.text) {
                 tell(err, Status::WriteFault)
             } else {
-                ended(answer.ending)
+                status_of_ending(answer.ending)
             }
         }
     }
@@ -122,8 +122,8 @@ pub fn no_memory_for_words<E: Sink>(err: &mut E) -> Status
 }
 
 // The status of an answer that was written.
-fn ended(ending: Ending) -> Status
-    ensures { result ≡ ended ending }
+fn status_of_ending(ending: Ending) -> Status
+    ensures { result ≡ status_of_ending ending }
 {
     match ending {
         Ending::Written => Status::Done,
@@ -160,7 +160,7 @@ fn output_of<R: Threads + Wait + Sync, G: Gate, A: Source>(
     source: &mut A,
 ) -> Result<Answer, Fault>
     ensures output { IfOk result (λ answer. IsOutputFor (map string_bytes words.now)
-        (A.left source.old) (A.left source.new) (ended answer.ending) answer.text.items) }
+        (A.left source.old) (A.left source.new) (status_of_ending answer.ending) answer.text.items) }
     ensures fault { IfErr result (λ fault. IsFault (map string_bytes words.now) fault
         (A.left source.old) (A.left source.new) (A.faults source.old) (A.faults source.new)) }
     ensures stays { form_of (map string_bytes words.now) ≡ None → source.new ≡ source.old }
@@ -207,7 +207,7 @@ fn run_of<R: Threads + Wait + Sync, G: Gate>(
     requires some_hart { 1 ≤ harts_in command }
     requires few_harts { harts_in command ≤ 4 }
     ensures output { IfOk result (λ answer. IsRunOf command bytes.now answer.text.items) }
-    ensures done { IfOk result (λ answer. ended answer.ending ≡ Status.Done) }
+    ensures done { IfOk result (λ answer. status_of_ending answer.ending ≡ Status.Done) }
     ensures fault { IfErr result (IsNoRun bytes.now) }
 {
     Ok(Answer {
@@ -230,7 +230,7 @@ fn answer_to<R: Threads + Wait + Sync, G: Gate>(
     requires some_size { 1 ≤ size_in command }
     requires small_size { size_in command ≤ 40 }
     ensures output { IfOk result
-        (λ answer. IsOutputOf command bytes.now (ended answer.ending) answer.text.items) }
+        (λ answer. IsOutputOf command bytes.now (status_of_ending answer.ending) answer.text.items) }
     ensures fault { IfErr result (IsNoOutput command bytes.now) }
 {
     match command {

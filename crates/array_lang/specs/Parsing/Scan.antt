@@ -5,8 +5,8 @@ use Rattle.array_tokens.specs.Lexemes.{Lexeme, name, word, sign, Spot}
 use Rattle.array_tokens.specs.declared.token.Word.TheVariants as words
 use Rattle.array_tokens.specs.declared.token.Sign.TheVariants as signs
 use Rattle.array_lang.specs.Nesting.{most_marks, most_open, marks_after, first_over}
-use Rattle.array_lang.specs.declared.bounds.Reach.{Reach}
-use Rattle.array_lang.specs.declared.bounds.Reach.TheVariants.{Outside, Target, Inside}
+use Rattle.array_lang.specs.declared.nesting.Reach.{Reach}
+use Rattle.array_lang.specs.declared.nesting.Reach.TheVariants.{Outside, Target, Inside}
 
 abbrev pub marks_of : Reach → ℕ
 marks_of (Inside m) = m
