@@ -1,4 +1,4 @@
--- In tokens that spell a program, the scan finds the first token that passes a bound where the grammar does.
+-- In tokens that spell a program, the scan finds the first token that passes a limit where the grammar does.
 use Rattle.std.proofs.Common.{◌≡◌, ℕ, ℤ, ◌+◌, ◌≤◌, Bool, true, false, ◌&&◌, nat_le, List, [], ◌∷◌, ◌++◌, Option, None, refl, sym, ap, ◌∙◌, arith}
 use Rattle.std.specs.Prelude.{if◌then◌else◌}
 use Rattle.array_lang.proofs.Marks.{no_true, AreInner, no_token, one_token, inner_tokens, expression_inner, inner_between, marks_behind, few_after, whole_marks, whole_few}
@@ -57,7 +57,7 @@ moves r r' depth depth' t ts e f =
     ap (λ q. first_over (is_over (depth_after depth t.lexeme) q) (nested_at q (depth_after depth t.lexeme) ts)) e
     ∙ ap (λ n. first_over (is_over n r') (nested_at r' n ts)) f
 
--- a token that passes no bound
+-- a token that passes no limit
 plain : (r r' : Reach) (depth depth' : ℕ) (t : Spot) (ts : List Spot) → reach_after r t.lexeme ≡ r' → depth_after depth t.lexeme ≡ depth' → is_over depth' r' ≡ false → nested_at r depth (t ∷ ts) ≡ later (nested_at r' depth' ts)
 plain r r' depth depth' t ts e f h = moves r r' depth depth' t ts e f ∙ ap (λ b. first_over b (nested_at r' depth' ts)) h
 
@@ -188,7 +188,7 @@ declarations_lead : {s t : List Spot} {ds : List Declaration} (d : SpellsDeclara
 declarations_lead no_declaration = refl
 declarations_lead (next_declaration declaration e) = ap (λ o. later (later (later (later (later (later o)))))) (declarations_lead e)
 
--- the scan finds the first token that passes a bound
+-- the scan finds the first token that passes a limit
 pub scan_places : (tokens : List Spot) (p : ProgramTree) (d : SpellsProgram tokens p) → first_nested tokens ≡ first_beyond d
 scan_places tokens p d =
     declarations_lead d.declares

@@ -1,4 +1,4 @@
--- A step of the scan for tokens that pass a bound.
+-- A step of the scan for tokens that pass a limit.
 use Rattle.std.proofs.Common.{◌≡◌, ℕ, ◌+◌, ◌<◌, List, ◌∷◌, Option, Some, None, length, drop, refl, sym, ap, ◌∙◌, arith, Bool, false, suc, add-one, get_or}
 use Rattle.std.proofs.Math.Seq.{drop-cons}
 use Rattle.array_tokens.specs.Lexemes.{spots, lexeme_of}

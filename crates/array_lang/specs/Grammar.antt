@@ -172,7 +172,7 @@ pub data SpellsDeclarations : List Spot → List Spot → List Declaration → T
   next_declaration : {s t u : List Spot} {d : Declaration} {ds : List Declaration}
       → SpellsDeclaration s t d → SpellsDeclarations t u ds → SpellsDeclarations s u (d ∷ ds)
 
--- The tokens spell the program, but for the bounds on nesting.
+-- The tokens spell the program, but for the limits on nesting.
 -- program = { decl } { stmt }
 pub record SpellsProgram (tokens : List Spot) (p : ProgramTree) : Type 0 where
   pub body : List Spot

@@ -1,4 +1,4 @@
-//! The bounds on open braces and on the marks of one outermost expression.
+//! The limits on open braces and on the marks of one outermost expression.
 
 ghost use Rattle.std.specs.Prelude.{◌≡◌, ◌<◌, ◌≤◌, length, IfSome};
 ghost use Rattle.array_tokens.specs.Lexemes.{spots, lexeme_of};
@@ -77,7 +77,7 @@ fn is_over(depth: u32, reach: Reach) -> bool
     depth > MOST_OPEN || reach.marks() > MOST_MARKS
 }
 
-/// The place in the list of the first token that passes a bound.
+/// The place in the list of the first token that passes a limit.
 pub fn nested_at(tokens: &[Token<'_>]) -> Option<usize>
     ensures at { result ≡ first_nested (spots tokens.now) }
     ensures within { IfSome result (λ index. index < length tokens.now) }

@@ -67,7 +67,7 @@ declarations_good no_declaration h = (tt, h)
 declarations_good (next_declaration declaration e) h =
     let p = declarations_good e h.1.1.1.1.1.1 in ((h.1.0, h.1.1.1.0, p.0), p.1)
 
--- The tokens spell the program up to line numbers, within the bounds.
+-- The tokens spell the program up to line numbers, within the limits.
 record IsProgram (p : ProgramTree) (tokens : List Spot) : Type 0 where
   tree : ProgramTree
   d : SpellsProgram tokens tree

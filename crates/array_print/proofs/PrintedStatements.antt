@@ -1,4 +1,4 @@
--- What is printed of statements spells them up to line numbers, within the bounds on nesting.
+-- What is printed of statements spells them up to line numbers, within the limits on nesting.
 use Rattle.std.proofs.Common.{◌≡◌, ℕ, ℤ, pos, negsuc, ◌+◌, ◌<◌, List, [], ◌∷◌, ◌++◌, Bool, true, false, not, ◌&&◌, nat_le, refl, ap, ◌∙◌, arith}
 use Rattle.std.specs.Prelude.{codes, negsuc}
 use Rattle.std.specs.Fmt.{signed_decimal}
@@ -17,7 +17,7 @@ use Rattle.array_print.specs.Writable.{IsName, IsNumber, IsBound, IsPrintable, I
 use Rattle.array_print.proofs.Pieces.{cuts_name, cuts_word, cuts_number, cuts_bound, cuts_open_index, cuts_close_index, cuts_open_block, cuts_close_block, cuts_semicolon, cuts_range, cuts_before, cuts_after_space, cuts_spaced}
 use Rattle.array_print.proofs.PrintedExpressions.{IsExpression, expression_cuts}
 
--- The tokens spell the statement up to line numbers, within the bounds, inside this many open braces.
+-- The tokens spell the statement up to line numbers, within the limits, inside this many open braces.
 pub record IsStatement (depth : ℕ) (c : Statement) (s t : List Spot) : Type 0 where
   pub tree : Statement
   pub d : SpellsStatement s t tree

@@ -47,7 +47,7 @@ IsPrintable (Read b x) = IsName b × IsPrintable x
 IsPrintable (Neg x) = IsPrintable x
 IsPrintable (Binary op x y) = IsPrintable x × IsPrintable y
 
--- an outermost expression that texts spell within the bound on marks
+-- an outermost expression that texts spell within the limit on marks
 abbrev pub IsWhole : Expression → Type 0
 IsWhole x = IsPrintable x × (marks_of x ≤ most_marks)
 
