@@ -1,6 +1,7 @@
 //! The top call: from the words and the input to the output and the status.
 ghost use Rattle.std.specs.Prelude.{◌≡◌, ◌≢◌, ◌⊎◌, ◌≤◌, true, length, ℕ, List, map, string_bytes, vec_len, Some, None, IfOk, IfErr, IsErrOf};
 ghost use Rattle.outside_io.specs.Outside.{Rose};
+ghost use Rattle.array_meaning.specs.Bounds.{most_bytes};
 ghost use Rattle.command_words.specs.declared.command.Command.{Command};
 ghost use Rattle.command_words.specs.declared.command.Command.TheVariants.{Make};
 ghost use Rattle.lithe_call.specs.declared.status.Status.{Status};
@@ -202,7 +203,7 @@ fn run_of<R: Threads + Wait + Sync, G: Gate>(
     command: Command,
     bytes: &[u8],
 ) -> Result<Answer, Fault>
-    requires short { length bytes.now ≤ 65536 }
+    requires short { length bytes.now ≤ most_bytes }
     requires runs { runs_programs command ≡ true }
     requires some_hart { 1 ≤ harts_in command }
     requires few_harts { harts_in command ≤ 4 }
