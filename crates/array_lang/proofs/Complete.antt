@@ -1,5 +1,5 @@
 -- What is spelled is read.
-use Rattle.std.proofs.Common.{◌≡◌, ◌≢◌, ℕ, ℤ, suc, ◌≤◌, Bool, true, false, List, [], ◌∷◌, ◌++◌, Option, Some, None, Ok, refl, sym, ap, ◌∙◌, subst, arith, append_assoc, append-nil}
+use Rattle.std.proofs.Common.{◌≡◌, ◌≢◌, ℕ, ℤ, pos, suc, ◌≤◌, Bool, true, false, List, [], ◌∷◌, ◌++◌, Option, Some, None, Ok, refl, sym, ap, ◌∙◌, subst, arith, append_assoc, append-nil}
 use Rattle.array_tokens.specs.Lexemes.{Lexeme, word, sign, Spot}
 use Rattle.array_tokens.specs.declared.token.Word.{Word}
 use Rattle.array_tokens.specs.declared.token.Word.TheVariants as words
@@ -232,11 +232,11 @@ mutual
       ∙ side_closes q n right v
   statement_runs (parallel {t} {ps} {n = k} d) h n =
       first_branch_runs d n k ∙ ap (λ q. run statement (with_done n (Par k q)) t) (sequences-sides ps)
-  statement_runs (teamed {u} {b} {low} {high} {members} {ps} {n = k} d e) h n =
-      let c : Crew = record { line = k; var = b; low = low; high = high; members = members } in
+  statement_runs (teamed {u} {b} {low} {high} {ps} {members} {n = k} d e) h n =
+      let c : Crew = record { line = k; var = b; low = low; high = high; members = pos members } in
       range_runs d n teaming k
       ∙ phases_run e h n c []
-      ∙ ap (λ q. run statement (with_done n (Team k b low high members q)) u) (sequences-sides ps)
+      ∙ ap (λ q. run statement (with_done n (Team k b low high (pos members) q)) u) (sequences-sides ps)
 
   first_branch_runs : {s t : List Spot} {ps : Sequences} → SpellsBranches s t ps → (n : Nest) (k : ℕ) → run (par_open k) n s ≡ run statement (with_done n (Par k (sequences (sides ps)))) t
   first_branch_runs (last_branch {t} {p} {a = a0} {n = k0} (block e)) n k =

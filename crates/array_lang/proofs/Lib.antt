@@ -1,4 +1,4 @@
-pub mod Bounded
+pub mod ScanStep
 pub mod Complete
 pub mod Sound
 pub mod Stops

@@ -1,4 +1,4 @@
--- Which tokens of an expression pass the bound on marks.
+-- Which tokens of an expression pass the limit on marks.
 use Rattle.std.proofs.Common.{◌≡◌, ℕ, ℤ, ◌+◌, ◌≤◌, Bool, true, false, not, ◌&&◌, nat_le, List, [], ◌∷◌, ◌++◌, take, length-append, Option, Some, None, refl, sym, ap, ◌∙◌, arith}
 use Rattle.std.specs.Prelude.{if◌then◌else◌, is_some}
 use Rattle.std.proofs.lemmas.Bool.Decides.{nat_tests}
@@ -12,7 +12,7 @@ use Rattle.array_lang.specs.Grammar.{operator_of, spot, SpellsExpression, lone_s
 use Rattle.array_lang.specs.Nesting.{is_mark, marks_after, marks_beyond, between, expression_beyond, bound_beyond, range_beyond, declarations_beyond, later, first_true}
 use Rattle.array_lang.specs.Parsing.Scan.{reach_after, depth_after}
 use Rattle.array_lang.specs.declared.operator.Strength.{Strength}
-use Rattle.array_lang.specs.declared.bounds.Reach.TheVariants.{Inside}
+use Rattle.array_lang.specs.declared.nesting.Reach.TheVariants.{Inside}
 
 -- none of these is true
 abbrev pub no_true : List Bool → Bool

@@ -8,7 +8,7 @@ use Rattle.array_lang.specs.Grammar.{SpellsProgram, Begins, StopsAt}
 use Rattle.array_lang.specs.Spelled.{Spells, HasFault, in_cutting, in_tokens, no_memory, HasTokenFault, IsUnexpected, IsTooNested, IsAfter, place_of, cutting_fault}
 use Rattle.array_lang.specs.declared.fault.SyntaxFault.{SyntaxFault}
 use Rattle.array_lang.specs.declared.fault.SyntaxFault.TheVariants.{Unexpected, Memory, TooNested}
-use Rattle.array_lang.specs.declared.bounds.Reach.TheVariants.{Outside}
+use Rattle.array_lang.specs.declared.nesting.Reach.TheVariants.{Outside}
 use Rattle.std.proofs.Math.Seq.{take-append_seam}
 use Rattle.array_lang.proofs.Places.{scan_places}
 use Rattle.array_lang.proofs.Whole.{scan_prefix, none_cut}
@@ -59,7 +59,7 @@ one_stop tokens rest rest' s s' = which (compared s.front rest s'.front rest' (s
     which (second m e f) = let none = none_beyond tokens rest rest' m s f (subst Begins e s'.begins) in f ∙ ap (λ l. l ++ rest') none
     which (first m e f) = let none = none_beyond tokens rest' rest m s' f (subst Begins e s.begins) in sym (f ∙ ap (λ l. l ++ rest) none)
 
--- the first token that passes a bound doesn't depend on what follows it
+-- the first token that passes a limit doesn't depend on what follows it
 nested_of : (tokens : List Spot) (end at : ℕ) (n : IsTooNested tokens end at) → first_nested tokens ≡ Some n.index
 nested_of tokens end at n =
     let front = take (n.index + 1) tokens in
@@ -71,7 +71,7 @@ nested_of tokens end at n =
     = ap (λ k. take k (front ++ n.begins.0)) (sym (long ∙ add-one n.index)) ∙ take-append_seam front n.begins.0 in
     ap first_nested (sym (take-append-drop (n.index + 1) tokens) ∙ ap (λ l. l ++ drop (n.index + 1) tokens) (sym seam)) ∙ kept
 
--- where a bound is passed, reading goes at least so far
+-- where a limit is passed, reading goes at least so far
 none_both : (tokens : List Spot) (end at at' : ℕ) → IsUnexpected tokens end at → IsTooNested tokens end at' → ⊥
 none_both tokens end at at' u n = which (compared (take (n.index + 1) tokens) (drop (n.index + 1) tokens) u.stops.front u.rest
     (take-append-drop (n.index + 1) tokens ∙ u.stops.all))

@@ -1,5 +1,5 @@
--- In tokens that spell a program, the scan finds the first token that passes a bound where the grammar does.
-use Rattle.std.proofs.Common.{◌≡◌, ℕ, ℤ, pos, ◌+◌, ◌≤◌, Bool, true, false, ◌&&◌, nat_le, List, [], ◌∷◌, ◌++◌, Option, None, refl, sym, ap, ◌∙◌, arith}
+-- In tokens that spell a program, the scan finds the first token that passes a limit where the grammar does.
+use Rattle.std.proofs.Common.{◌≡◌, ℕ, ℤ, ◌+◌, ◌≤◌, Bool, true, false, ◌&&◌, nat_le, List, [], ◌∷◌, ◌++◌, Option, None, refl, sym, ap, ◌∙◌, arith}
 use Rattle.std.specs.Prelude.{if◌then◌else◌}
 use Rattle.array_lang.proofs.Marks.{no_true, AreInner, no_token, one_token, inner_tokens, expression_inner, inner_between, marks_behind, few_after, whole_marks, whole_few}
 use Rattle.std.proofs.lemmas.Bool.Decides.{nat_tests}
@@ -10,8 +10,8 @@ use Rattle.array_tree.specs.Trees.{Expression, Statement, Sequence, Sequences, D
 use Rattle.array_lang.specs.Parsing.Scan.{reach_after, depth_after, is_over, nested_at, first_nested}
 use Rattle.array_lang.specs.Grammar.{spot, SpellsExpression, SpellsBound, plain_bound, negative_bound, SpellsRange, range, SpellsStatement, assigned, looped, chosen, chosen_else, parallel, teamed, SpellsBranches, last_branch, next_branch, SpellsPhases, last_phase, next_phase, SpellsBlock, block, SpellsSequence, no_statement, next_statement, declaration, SpellsDeclarations, no_declaration, next_declaration, SpellsProgram}
 use Rattle.array_lang.specs.Nesting.{is_mark, marks_after, marks_beyond, expression_beyond, bound_beyond, range_beyond, statement_beyond, branches_beyond, phases_beyond, block_beyond, sequence_beyond, declarations_beyond, program_beyond, later, first_over, first_true, first_beyond}
-use Rattle.array_lang.specs.declared.bounds.Reach.{Reach}
-use Rattle.array_lang.specs.declared.bounds.Reach.TheVariants.{Outside, Target, Inside}
+use Rattle.array_lang.specs.declared.nesting.Reach.{Reach}
+use Rattle.array_lang.specs.declared.nesting.Reach.TheVariants.{Outside, Target, Inside}
 
 -- the first place of these, or else the place among what comes after them
 abbrev lead : List Bool → Option ℕ → Option ℕ
@@ -57,7 +57,7 @@ moves r r' depth depth' t ts e f =
     ap (λ q. first_over (is_over (depth_after depth t.lexeme) q) (nested_at q (depth_after depth t.lexeme) ts)) e
     ∙ ap (λ n. first_over (is_over n r') (nested_at r' n ts)) f
 
--- a token that passes no bound
+-- a token that passes no limit
 plain : (r r' : Reach) (depth depth' : ℕ) (t : Spot) (ts : List Spot) → reach_after r t.lexeme ≡ r' → depth_after depth t.lexeme ≡ depth' → is_over depth' r' ≡ false → nested_at r depth (t ∷ ts) ≡ later (nested_at r' depth' ts)
 plain r r' depth depth' t ts e f h = moves r r' depth depth' t ts e f ∙ ap (λ b. first_over b (nested_at r' depth' ts)) h
 
@@ -97,9 +97,9 @@ equals_leads m depth a n a1 n1 ts h k =
 
 bound_leads : {s t : List Spot} {v : ℤ} (d : SpellsBound s t v) (depth : ℕ) → depth ≤ 32 → nested_at Outside depth s ≡ lead (bound_beyond d) (nested_at Outside depth t)
 bound_leads (plain_bound {t} {v} {a} {n}) depth h = passed depth (spot (number v) a n) t refl refl h
-bound_leads (negative_bound {t} {k} {a} {n} {a1} {n1}) depth h =
-    passed depth (spot (sign signs.Minus) a n) (spot (number (pos k)) a1 n1 ∷ t) refl refl h
-    ∙ ap later (passed depth (spot (number (pos k)) a1 n1) t refl refl h)
+bound_leads (negative_bound {t} {v} {a} {n} {a1} {n1}) depth h =
+    passed depth (spot (sign signs.Minus) a n) (spot (number v) a1 n1 ∷ t) refl refl h
+    ∙ ap later (passed depth (spot (number v) a1 n1) t refl refl h)
 
 range_leads : {s t : List Spot} {b : List ℕ} {low high : ℤ} (d : SpellsRange s t b low high) (depth : ℕ) → depth ≤ 32 → nested_at Outside depth s ≡ lead (range_beyond d) (nested_at Outside depth t)
 range_leads (range {s} {t} {u} {b} {a} {n} {a1} {n1} {a2} {n2} d e) depth h =
@@ -188,7 +188,7 @@ declarations_lead : {s t : List Spot} {ds : List Declaration} (d : SpellsDeclara
 declarations_lead no_declaration = refl
 declarations_lead (next_declaration declaration e) = ap (λ o. later (later (later (later (later (later o)))))) (declarations_lead e)
 
--- the scan finds the first token that passes a bound
+-- the scan finds the first token that passes a limit
 pub scan_places : (tokens : List Spot) (p : ProgramTree) (d : SpellsProgram tokens p) → first_nested tokens ≡ first_beyond d
 scan_places tokens p d =
     declarations_lead d.declares

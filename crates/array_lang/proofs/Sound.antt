@@ -99,10 +99,10 @@ data ArrayAt : List Spot → List Spot → Position → Type 0 where
   after_name : {t : List Spot} {b : List ℕ} {a n a1 n1 : ℕ} → ArrayAt (spot (word words.Array) a n ∷ spot (name b) a1 n1 ∷ t) t (array_open n b)
   after_open : {t : List Spot} {b : List ℕ} {a n a1 n1 a2 n2 : ℕ} →
       ArrayAt (spot (word words.Array) a n ∷ spot (name b) a1 n1 ∷ spot (sign signs.OpenIndex) a2 n2 ∷ t) t (array_length n b)
-  after_length : {t : List Spot} {b : List ℕ} {v : ℤ} {a n a1 n1 a2 n2 a3 n3 : ℕ} →
-      ArrayAt (spot (word words.Array) a n ∷ spot (name b) a1 n1 ∷ spot (sign signs.OpenIndex) a2 n2 ∷ spot (number v) a3 n3 ∷ t) t (array_close n b v)
-  after_close : {t : List Spot} {b : List ℕ} {v : ℤ} {a n a1 n1 a2 n2 a3 n3 a4 n4 : ℕ} →
-      ArrayAt (spot (word words.Array) a n ∷ spot (name b) a1 n1 ∷ spot (sign signs.OpenIndex) a2 n2 ∷ spot (number v) a3 n3 ∷ spot (sign signs.CloseIndex) a4 n4 ∷ t) t (array_end n b v)
+  after_length : {t : List Spot} {b : List ℕ} {v a n a1 n1 a2 n2 a3 n3 : ℕ} →
+      ArrayAt (spot (word words.Array) a n ∷ spot (name b) a1 n1 ∷ spot (sign signs.OpenIndex) a2 n2 ∷ spot (number v) a3 n3 ∷ t) t (array_close n b (pos v))
+  after_close : {t : List Spot} {b : List ℕ} {v a n a1 n1 a2 n2 a3 n3 a4 n4 : ℕ} →
+      ArrayAt (spot (word words.Array) a n ∷ spot (name b) a1 n1 ∷ spot (sign signs.OpenIndex) a2 n2 ∷ spot (number v) a3 n3 ∷ spot (sign signs.CloseIndex) a4 n4 ∷ t) t (array_end n b (pos v))
 
 more_declarations : {s t u : List Spot} {d : Declaration} {ds : List Declaration} → SpellsDeclarations s t ds → SpellsDeclaration t u d → SpellsDeclarations s u (ds ++ d ∷ [])
 more_declarations no_declaration e = next_declaration e no_declaration
@@ -136,9 +136,9 @@ all_phases (one_phase f g) e = next_phase f (all_phases g e)
 
 -- from s, where a team begins, up to t, where its phases do
 data CrewAt : List Spot → List Spot → Crew → Type 0 where
-  crew_at : {s t : List Spot} {b : List ℕ} {low high members : ℤ} {a n a1 n1 a2 n2 : ℕ} →
+  crew_at : {s t : List Spot} {b : List ℕ} {low high : ℤ} {members a n a1 n1 a2 n2 : ℕ} →
       SpellsRange s (spot (word words.By) a1 n1 ∷ spot (number members) a2 n2 ∷ t) b low high →
-      CrewAt (spot (word words.Team) a n ∷ s) t (record { line = n; var = b; low = low; high = high; members = members })
+      CrewAt (spot (word words.Team) a n ∷ s) t (record { line = n; var = b; low = low; high = high; members = pos members })
 
 whole_team : {s r t : List Spot} {c : Crew} (ps : List Sequence) → CrewAt s r c → SpellsPhases r t (sequences ps) → SpellsStatement s t (team_of c ps)
 whole_team ps (crew_at d) e = teamed d e
@@ -260,7 +260,7 @@ step_header_at y a k m (in_next e) = tt
 step_header_at (sign signs.Minus) a k m (bound_next e) = at_header m (number_next e)
 step_header_at (number v) a k m (bound_next e) = at_header m (bounded_at e plain_bound)
 step_header_at y a k m (bound_next e) = tt
-step_header_at (number (pos v)) a k m (number_next e) = at_header m (bounded_at e negative_bound)
+step_header_at (number v) a k m (number_next e) = at_header m (bounded_at e negative_bound)
 step_header_at y a k m (number_next e) = tt
 step_header_at (sign signs.Range) a k m (dots_next e f) = at_header m (bound_next (high_at e f))
 step_header_at y a k m (dots_next e f) = tt

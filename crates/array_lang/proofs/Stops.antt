@@ -1,5 +1,5 @@
 -- Where reading stops: some program begins with what was read, and none goes on.
-use Rattle.std.proofs.Common.{◌≡◌, ◌≢◌, ℕ, ℤ, pos, ◌≤◌, List, [], ◌∷◌, ◌++◌, Option, Some, None, Ok, Err, refl, sym, ap, ◌∙◌, subst, arith, append_assoc, append-nil}
+use Rattle.std.proofs.Common.{◌≡◌, ◌≢◌, ℕ, ℤ, ◌≤◌, List, [], ◌∷◌, ◌++◌, Option, Some, None, Ok, Err, refl, sym, ap, ◌∙◌, subst, arith, append_assoc, append-nil}
 use Rattle.array_tokens.specs.Lexemes.{name, number, word, sign, Spot}
 use Rattle.array_tokens.specs.declared.token.Word.{Word}
 use Rattle.array_tokens.specs.declared.token.Word.TheVariants as words
@@ -19,7 +19,7 @@ abbrev keyword : Word → Spot
 keyword w = spot (word w) 0 0
 
 abbrev zero_spot : Spot
-zero_spot = spot (number (pos 0)) 0 0
+zero_spot = spot (number 0) 0 0
 
 -- tokens that end what is open
 abbrev after_side : Branch → List Spot → List Spot

@@ -13,8 +13,8 @@ use Rattle.array_lang.specs.Parsing.Machine.{parse_of}
 use Rattle.array_lang.specs.Nesting.{later, first_over, first_beyond}
 use Rattle.array_lang.specs.Parsing.Reading.{IsWhole}
 use Rattle.array_lang.specs.Spelled.{IsRead, Spells, IsUnexpected, IsTooNested, HasFault, HasTokenFault, in_cutting, in_tokens, no_memory, cutting_fault, place_of, IsAfter}
-use Rattle.array_lang.specs.declared.bounds.Reach.{Reach}
-use Rattle.array_lang.specs.declared.bounds.Reach.TheVariants.{Outside}
+use Rattle.array_lang.specs.declared.nesting.Reach.{Reach}
+use Rattle.array_lang.specs.declared.nesting.Reach.TheVariants.{Outside}
 use Rattle.array_lang.specs.declared.fault.SyntaxFault.{SyntaxFault}
 use Rattle.array_lang.specs.declared.fault.SyntaxFault.TheVariants.{Memory, Unexpected, TooNested}
 use Rattle.array_lang.proofs.Complete.{complete}
@@ -54,7 +54,7 @@ none_parsed tokens rest q h d = let k = sym h ∙ complete d in cc
 pub none_cut : (text : List ℕ) (fault : TokenFault) (q : ProgramTree) → tokens_of text ≡ Err fault → Spells text q → ⊥
 none_cut text fault q e s = let k = sym e ∙ s.cut in cc
 
--- a bound that is passed within some tokens is passed there whatever follows them
+-- a limit that is passed within some tokens is passed there whatever follows them
 first_prefix : (b : Bool) (o o' : Option ℕ) (k : ℕ) → first_over b o ≡ Some k → ((j : ℕ) → suc j ≡ k → o ≡ Some j → o' ≡ Some j) → first_over b o' ≡ Some k
 first_prefix true o o' k e h = e
 first_prefix false None o' k e h = cc
@@ -96,13 +96,13 @@ beyond tokens index b n =
     ∙ ap (λ k. first_nested (take k tokens ++ b.0)) (add-one index)
     ∙ scan_prefix Outside 0 tokens index b.0 n
 
--- no bound is passed, and reading stops
+-- no limit is passed, and reading stops
 pub unexpected : (tokens rest : List Spot) (end at : ℕ) → first_nested tokens ≡ None → parse_of tokens ≡ Err rest → at ≡ place_of end rest → IsUnexpected tokens end at
 unexpected tokens rest end at n h p =
     let s = stops tokens rest h in
     record { rest = rest; stops = s; place = p; within = after_beyond tokens s.front rest s.begins s.all (rw n tt) }
 
--- a bound is passed, and reading stops before
+-- a limit is passed, and reading stops before
 pub unexpected_before : (tokens front more rest : List Spot) (t : Spot) (end index : ℕ) → tokens ≡ front ++ more → length front ≡ index + 1 → first_nested tokens ≡ Some index → parse_of front ≡ Err (t ∷ rest) → IsUnexpected tokens end t.at
 unexpected_before tokens front more rest t end index all long n h =
     let s = stops front (t ∷ rest) h in
@@ -125,7 +125,7 @@ place_inside index [] end at h p = absurd (omega arith)
 place_inside zero (t ∷ tokens) end at h p = p
 place_inside (suc index) (t ∷ tokens) end at h p = place_inside index tokens end at (omega arith) p
 
--- a bound is passed at this token, and reading doesn't stop before
+-- a limit is passed at this token, and reading doesn't stop before
 pub too_nested : (tokens : List Spot) (end at index : ℕ) → index < length tokens → first_nested tokens ≡ Some index → Begins (take (index + 1) tokens) → at ≡ place_of 0 (drop index tokens) → IsTooNested tokens end at
 too_nested tokens end at index within n b p =
     record { index = index; inside = within; begins = b; beyond = beyond tokens index b n; place = place_inside index tokens end at within p }

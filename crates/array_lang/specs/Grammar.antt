@@ -64,8 +64,8 @@ mutual
     negated : {s t : List Spot} {x : Expression} {a n : ℕ} → SpellsFactor s t x
         → SpellsFactor (spot (sign signs.Minus) a n ∷ s) t (Neg x)
     -- NUMBER
-    numbered : {t : List Spot} {v : ℤ} {a n : ℕ}
-        → SpellsFactor (spot (number v) a n ∷ t) t (Number v)
+    numbered : {t : List Spot} {v a n : ℕ}
+        → SpellsFactor (spot (number v) a n ∷ t) t (Number (pos v))
     -- NAME
     named : {t : List Spot} {b : List ℕ} {a n : ℕ} → SpellsFactor (spot (name b) a n ∷ t) t (Var b)
     -- NAME "[" expr "]"
@@ -80,11 +80,10 @@ mutual
 -- bound = [ "-" ] NUMBER
 pub data SpellsBound : List Spot → List Spot → ℤ → Type 0 where
   -- NUMBER
-  plain_bound : {t : List Spot} {v : ℤ} {a n : ℕ} → SpellsBound (spot (number v) a n ∷ t) t v
+  plain_bound : {t : List Spot} {v a n : ℕ} → SpellsBound (spot (number v) a n ∷ t) t (pos v)
   -- "-" NUMBER
-  negative_bound : {t : List Spot} {k a n a1 n1 : ℕ}
-      → SpellsBound (spot (sign signs.Minus) a n ∷ spot (number (pos k)) a1 n1 ∷ t) t
-      (neg_ℤ (pos k))
+  negative_bound : {t : List Spot} {v a n a1 n1 : ℕ}
+      → SpellsBound (spot (sign signs.Minus) a n ∷ spot (number v) a1 n1 ∷ t) t (neg_ℤ (pos v))
 
 -- range = NAME "in" bound ".." bound
 pub data SpellsRange : List Spot → List Spot → List ℕ → ℤ → ℤ → Type 0 where
@@ -119,11 +118,11 @@ mutual
         SpellsBranches s t ps → SpellsStatement (spot (word words.Par) a n
         ∷ spot (sign signs.OpenBlock) a1 n1 ∷ s) t (Par n ps)
     -- team = "team" range "by" NUMBER block { "barrier" block }
-    teamed : {s t u : List Spot} {b : List ℕ} {low high members : ℤ} {ps : Sequences}
-        {a n a1 n1 a2 n2 : ℕ} →
+    teamed : {s t u : List Spot} {b : List ℕ} {low high : ℤ} {ps : Sequences}
+        {members a n a1 n1 a2 n2 : ℕ} →
         SpellsRange s (spot (word words.By) a1 n1 ∷ spot (number members) a2 n2 ∷ t) b low high
         → SpellsPhases t u ps →
-        SpellsStatement (spot (word words.Team) a n ∷ s) u (Team n b low high members ps)
+        SpellsStatement (spot (word words.Team) a n ∷ s) u (Team n b low high (pos members) ps)
 
   -- block { block } "}"
   pub data SpellsBranches : List Spot → List Spot → Sequences → Type 0 where
@@ -160,11 +159,11 @@ mutual
 
 -- decl = "array" NAME "[" NUMBER "]" ";"
 pub data SpellsDeclaration : List Spot → List Spot → Declaration → Type 0 where
-  declaration : {t : List Spot} {b : List ℕ} {v : ℤ} {a n a1 n1 a2 n2 a3 n3 a4 n4 a5 n5 : ℕ} →
+  declaration : {t : List Spot} {b : List ℕ} {v a n a1 n1 a2 n2 a3 n3 a4 n4 a5 n5 : ℕ} →
       SpellsDeclaration (spot (word words.Array) a n ∷ spot (name b) a1 n1
       ∷ spot (sign signs.OpenIndex) a2 n2 ∷ spot (number v) a3 n3
       ∷ spot (sign signs.CloseIndex) a4 n4 ∷ spot (sign signs.Semicolon) a5 n5 ∷ t)
-      t (record { line = n; name = b; length = v })
+      t (record { line = n; name = b; length = pos v })
 
 -- { decl }
 pub data SpellsDeclarations : List Spot → List Spot → List Declaration → Type 0 where
@@ -173,7 +172,7 @@ pub data SpellsDeclarations : List Spot → List Spot → List Declaration → T
   next_declaration : {s t u : List Spot} {d : Declaration} {ds : List Declaration}
       → SpellsDeclaration s t d → SpellsDeclarations t u ds → SpellsDeclarations s u (d ∷ ds)
 
--- The tokens spell the program, but for the bounds on nesting.
+-- The tokens spell the program, but for the limits on nesting.
 -- program = { decl } { stmt }
 pub record SpellsProgram (tokens : List Spot) (p : ProgramTree) : Type 0 where
   pub body : List Spot

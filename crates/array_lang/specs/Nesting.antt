@@ -1,4 +1,4 @@
--- The bounds on nesting, by the tokens that pass one: an outermost expression has at most 64 marks, and at most 32 braces
+-- The limits on nesting, by the tokens that pass one: an outermost expression has at most 64 marks, and at most 32 braces
 -- are open at once.
 use Rattle.std.specs.Prelude.{ℕ, ℤ, ◌+◌, ◌-◌, Bool, true, false, ◌&&◌, nat_le, if◌then◌else◌, List, [], ◌∷◌, ◌++◌, length, take, Option, None, Some, is_some}
 use Rattle.array_tokens.specs.Lexemes.{Lexeme, sign, Spot}
@@ -87,7 +87,7 @@ declarations_beyond no_declaration = []
 declarations_beyond (next_declaration d e) =
     false ∷ false ∷ false ∷ false ∷ false ∷ false ∷ declarations_beyond e
 
--- for each token of a program, whether it passes a bound
+-- for each token of a program, whether it passes a limit
 abbrev pub program_beyond : {tokens : List Spot} {p : ProgramTree}
     → SpellsProgram tokens p → List Bool
 program_beyond d = declarations_beyond d.declares ++ sequence_beyond 0 d.does
@@ -105,6 +105,6 @@ abbrev pub first_true : List Bool → Option ℕ
 first_true [] = None
 first_true (b ∷ bs) = first_over b (first_true bs)
 
--- the place in the list of the first token of a program that passes a bound
+-- the place in the list of the first token of a program that passes a limit
 abbrev pub first_beyond : {tokens : List Spot} {p : ProgramTree} → SpellsProgram tokens p → Option ℕ
 first_beyond d = first_true (program_beyond d)

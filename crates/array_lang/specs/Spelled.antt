@@ -10,7 +10,7 @@ use Rattle.array_lang.specs.Nesting.{first_beyond}
 use Rattle.array_lang.specs.declared.fault.SyntaxFault.{SyntaxFault}
 use Rattle.array_lang.specs.declared.fault.SyntaxFault.TheVariants.{NotAscii, BadToken, Unexpected, NumberTooLarge, Memory, TooNested}
 
--- The text spells the program: it is cut into tokens that spell it, none of which passes a bound on nesting.
+-- The text spells the program: it is cut into tokens that spell it, none of which passes a limit on nesting.
 pub record Spells (text : List ℕ) (p : ProgramTree) : Type 0 where
   pub tokens : List Spot
   pub cut : tokens_of text ≡ Ok tokens
@@ -28,7 +28,7 @@ IsAfter n None = Unit {0}
 IsAfter n (Some k) = n ≤ k
 
 -- The first token with which no program goes on is at this place. In a program that begins with the tokens before it,
--- none of these passes a bound.
+-- none of these passes a limit.
 pub record IsUnexpected (tokens : List Spot) (end at : ℕ) : Type 0 where
   pub rest : List Spot
   pub stops : StopsAt tokens rest
@@ -36,7 +36,7 @@ pub record IsUnexpected (tokens : List Spot) (end at : ℕ) : Type 0 where
   pub within : IsAfter (length stops.front) (first_beyond stops.begins.2)
 
 -- The token at this place in the list stands at this place of the text. In a program that begins with the tokens up to
--- and including it, it is the first that passes a bound.
+-- and including it, it is the first that passes a limit.
 pub record IsTooNested (tokens : List Spot) (end at : ℕ) : Type 0 where
   pub index : ℕ
   pub inside : index < length tokens

@@ -12,27 +12,27 @@ use array_tree::{Expr, Name, Op};
 use std::alloc::Global;
 
 // The operator of this strength at the front, and the tokens after it.
-fn operator<'t>(tokens: &'t [Token<'t>], strength: Strength) -> Option<(Op, &'t [Token<'t>])>
+fn operator<'a, 't>(tokens: &'a [Token<'t>], strength: Strength) -> Option<(Op, &'a [Token<'t>])>
     ensures { IsOperator (spots tokens.now) strength result }
 {
     let [first, rest @ ..] = tokens else {
         return None;
     };
-    match operator_of(first.kind) {
+    match operator_of(&first.kind) {
         Some((found, op)) if found == strength => Some((op, rest)),
         _ => None,
     }
 }
 
 #[cycle(expr)]
-fn factor<'t>(alloc: Global, tokens: &'t [Token<'t>]) -> Parsed<'t, Expr>
+fn factor<'a, 't>(alloc: Global, tokens: &'a [Token<'t>]) -> Parsed<'a, 't, Expr>
     ensures { IsFactor (spots tokens.now) result }
 {
     let Some((first, rest)) = tokens.split_first() else {
         return Err(Stop::Unexpected(tokens));
     };
-    match first.kind {
-        Kind::Number(value) => Ok((Expr::Number(value), rest)),
+    match &first.kind {
+        Kind::Number(literal) => Ok((Expr::Number(literal.value()), rest)),
         Kind::Name(name) => after_name(alloc, name, rest),
         Kind::Sign(Sign::Minus) => {
             let (operand, rest) = factor(alloc, rest)?;
@@ -49,7 +49,11 @@ fn factor<'t>(alloc: Global, tokens: &'t [Token<'t>]) -> Parsed<'t, Expr>
 
 // The rest of a factor that begins with this name: its index, where one follows.
 #[cycle(expr)]
-fn after_name<'t>(alloc: Global, name: &'t [u8], tokens: &'t [Token<'t>]) -> Parsed<'t, Expr>
+fn after_name<'a, 't>(
+    alloc: Global,
+    name: &'t [u8],
+    tokens: &'a [Token<'t>],
+) -> Parsed<'a, 't, Expr>
     ensures { IsAfterName name.now (spots tokens.now) result }
 {
     match expect(tokens, Sign::OpenIndex) {
@@ -66,7 +70,7 @@ fn after_name<'t>(alloc: Global, name: &'t [u8], tokens: &'t [Token<'t>]) -> Par
 }
 
 #[cycle(expr)]
-fn term<'t>(alloc: Global, tokens: &'t [Token<'t>]) -> Parsed<'t, Expr>
+fn term<'a, 't>(alloc: Global, tokens: &'a [Token<'t>]) -> Parsed<'a, 't, Expr>
     ensures { IsTerm (spots tokens.now) result }
 {
     let (mut left, mut rest) = factor(alloc, tokens)?;
@@ -79,7 +83,7 @@ fn term<'t>(alloc: Global, tokens: &'t [Token<'t>]) -> Parsed<'t, Expr>
 }
 
 #[cycle(expr)]
-fn sum<'t>(alloc: Global, tokens: &'t [Token<'t>]) -> Parsed<'t, Expr>
+fn sum<'a, 't>(alloc: Global, tokens: &'a [Token<'t>]) -> Parsed<'a, 't, Expr>
     ensures { IsSum (spots tokens.now) result }
 {
     let (mut left, mut rest) = term(alloc, tokens)?;
@@ -93,7 +97,7 @@ fn sum<'t>(alloc: Global, tokens: &'t [Token<'t>]) -> Parsed<'t, Expr>
 
 /// The expression at the front. Comparisons don't chain.
 #[cycle(expr)]
-pub fn expr<'t>(alloc: Global, tokens: &'t [Token<'t>]) -> Parsed<'t, Expr>
+pub fn expr<'a, 't>(alloc: Global, tokens: &'a [Token<'t>]) -> Parsed<'a, 't, Expr>
     ensures { IsExpr (spots tokens.now) result }
 {
     let (left, rest) = sum(alloc, tokens)?;

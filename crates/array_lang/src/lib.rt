@@ -1,15 +1,15 @@
 //! The array language: which texts spell a program, which program it is, and the first fault of the others.
 //!
 //! What a text spells is said in `specs/Spelled.antt`: its tokens by `array_tokens`, the tree by the rules of
-//! `specs/Grammar.antt`, and the bounds on nesting by `specs/Nesting.antt`. The parser descends through the tokens
+//! `specs/Grammar.antt`, and the limits on nesting by `specs/Nesting.antt`. The parser descends through the tokens
 //! once. `specs/Parsing` is how it is proved: each of its functions says which way it takes a machine that reads token
 //! after token, and so finds the first one that can't come.
 #![tactic(auto)]
 
-mod bounds;
 mod expressions;
 mod fault;
 mod laws;
+mod nesting;
 mod operator;
 mod program;
 mod ranges;

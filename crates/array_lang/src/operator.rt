@@ -16,8 +16,8 @@ pub enum Strength {
 }
 
 /// The operator that a token is, and its strength.
-pub fn operator_of(kind: Kind<'_>) -> Option<(Strength, Op)>
-    ensures { result ≡ operator_of (lexeme_of kind.entry) }
+pub fn operator_of(kind: &Kind<'_>) -> Option<(Strength, Op)>
+    ensures { result ≡ operator_of (lexeme_of kind.now) }
 {
     match kind {
         Kind::Sign(Sign::Less) => Some((Strength::Comparison, Op::Less)),

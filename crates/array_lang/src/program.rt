@@ -12,7 +12,7 @@ use array_tree::{ArrayDecl, Arrays, Block, Name, Program};
 use std::alloc::Global;
 
 // The line of the word `array` at the front, and the tokens after it.
-fn array_word<'t>(tokens: &'t [Token<'t>]) -> Option<(u32, &'t [Token<'t>])>
+fn array_word<'a, 't>(tokens: &'a [Token<'t>]) -> Option<(u32, &'a [Token<'t>])>
     ensures { IsArray (spots tokens.now) result }
 {
     let [first, rest @ ..] = tokens else {
@@ -25,7 +25,7 @@ fn array_word<'t>(tokens: &'t [Token<'t>]) -> Option<(u32, &'t [Token<'t>])>
 }
 
 // The length of an array, up to the end of its declaration.
-fn array_length<'t>(tokens: &'t [Token<'t>]) -> Parsed<'t, i64>
+fn array_length<'a, 't>(tokens: &'a [Token<'t>]) -> Parsed<'a, 't, i64>
     ensures { IsLength (spots tokens.now) result }
 {
     let rest = expect(tokens, Sign::OpenIndex)?;
@@ -36,7 +36,11 @@ fn array_length<'t>(tokens: &'t [Token<'t>]) -> Parsed<'t, i64>
 }
 
 // The rest of a declaration.
-fn declaration<'t>(alloc: Global, line: u32, tokens: &'t [Token<'t>]) -> Parsed<'t, ArrayDecl>
+fn declaration<'a, 't>(
+    alloc: Global,
+    line: u32,
+    tokens: &'a [Token<'t>],
+) -> Parsed<'a, 't, ArrayDecl>
     ensures { IsDeclaration line (spots tokens.now) result }
 {
     let (name, rest) = expect_name(tokens)?;
@@ -45,7 +49,7 @@ fn declaration<'t>(alloc: Global, line: u32, tokens: &'t [Token<'t>]) -> Parsed<
     Ok((ArrayDecl { line, name, length }, rest))
 }
 
-fn declarations<'t>(alloc: Global, tokens: &'t [Token<'t>]) -> Parsed<'t, Vec<ArrayDecl>>
+fn declarations<'a, 't>(alloc: Global, tokens: &'a [Token<'t>]) -> Parsed<'a, 't, Vec<ArrayDecl>>
     ensures { IsDeclarations (spots tokens.now) result }
 {
     let (mut found, mut rest) = no_declarations(alloc, tokens);
@@ -58,7 +62,10 @@ fn declarations<'t>(alloc: Global, tokens: &'t [Token<'t>]) -> Parsed<'t, Vec<Ar
 }
 
 // No declarations yet, and all tokens.
-fn no_declarations<'t>(alloc: Global, tokens: &'t [Token<'t>]) -> (Vec<ArrayDecl>, &'t [Token<'t>])
+fn no_declarations<'a, 't>(
+    alloc: Global,
+    tokens: &'a [Token<'t>],
+) -> (Vec<ArrayDecl>, &'a [Token<'t>])
     ensures found { result.0.items ≡ [] }
     ensures rest { result.1.now ≡ tokens.now }
 {
@@ -66,7 +73,7 @@ fn no_declarations<'t>(alloc: Global, tokens: &'t [Token<'t>]) -> (Vec<ArrayDecl
 }
 
 // The statements to the end of the tokens.
-fn body<'t>(alloc: Global, tokens: &'t [Token<'t>]) -> Result<Block, Stop<'t>>
+fn body<'a, 't>(alloc: Global, tokens: &'a [Token<'t>]) -> Result<Block, Stop<'a, 't>>
     ensures { IsBody (spots tokens.now) result }
 {
     let (statements, rest) = statements(alloc, tokens)?;
@@ -79,7 +86,7 @@ fn body<'t>(alloc: Global, tokens: &'t [Token<'t>]) -> Result<Block, Stop<'t>>
 
 /// The program that the tokens spell.
 #[tactic(auto, using(crate::proofs::Complete::settle_declaring))]
-pub fn program<'t>(alloc: Global, tokens: &'t [Token<'t>]) -> Result<Program, Stop<'t>>
+pub fn program<'a, 't>(alloc: Global, tokens: &'a [Token<'t>]) -> Result<Program, Stop<'a, 't>>
     ensures { IsProgram (spots tokens.now) result }
 {
     let (declarations, rest) = declarations(alloc, tokens)?;

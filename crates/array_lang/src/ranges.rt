@@ -5,7 +5,7 @@ ghost use Rattle.array_tokens.specs.Lexemes.{spots};
 ghost use Rattle.array_lang.specs.Parsing.FirstToken.{IsNegated};
 ghost use Rattle.array_lang.specs.Parsing.Reading.{IsBound, IsRange, IsHead};
 
-use crate::stop::{Parsed, Stop, expect, expect_name, expect_number, expect_word};
+use crate::stop::{Parsed, expect, expect_name, expect_number, expect_word};
 use array_tokens::{Sign, Token, Word};
 
 /// A variable and its bounds: from `low` to before `high`.
@@ -23,18 +23,15 @@ pub struct TeamHead<'t> {
     pub members: i64,
 }
 
-// The number at the front, negated. No text has a token with a negative number.
-fn negated<'t>(tokens: &'t [Token<'t>]) -> Parsed<'t, i64>
+// The number at the front, negated.
+fn negated<'a, 't>(tokens: &'a [Token<'t>]) -> Parsed<'a, 't, i64>
     ensures { IsNegated (spots tokens.now) result }
 {
     let (value, rest) = expect_number(tokens)?;
-    if value < 0 {
-        return Err(Stop::Unexpected(tokens));
-    }
     Ok((-value, rest))
 }
 
-fn bound<'t>(tokens: &'t [Token<'t>]) -> Parsed<'t, i64>
+fn bound<'a, 't>(tokens: &'a [Token<'t>]) -> Parsed<'a, 't, i64>
     ensures { IsBound (spots tokens.now) result }
 {
     match expect(tokens, Sign::Minus) {
@@ -44,7 +41,7 @@ fn bound<'t>(tokens: &'t [Token<'t>]) -> Parsed<'t, i64>
 }
 
 /// A range, up to its upper bound.
-pub fn range<'t>(tokens: &'t [Token<'t>]) -> Parsed<'t, LoopRange<'t>>
+pub fn range<'a, 't>(tokens: &'a [Token<'t>]) -> Parsed<'a, 't, LoopRange<'t>>
     ensures { IsRange (spots tokens.now) result }
 {
     let (var, rest) = expect_name(tokens)?;
@@ -56,7 +53,7 @@ pub fn range<'t>(tokens: &'t [Token<'t>]) -> Parsed<'t, LoopRange<'t>>
 }
 
 /// The head of a `team`, up to the number of members.
-pub fn team_head<'t>(tokens: &'t [Token<'t>]) -> Parsed<'t, TeamHead<'t>>
+pub fn team_head<'a, 't>(tokens: &'a [Token<'t>]) -> Parsed<'a, 't, TeamHead<'t>>
     ensures { IsHead (spots tokens.now) result }
 {
     let (range, rest) = range(tokens)?;

@@ -7,8 +7,8 @@ ghost use Rattle.array_lang.specs.Parsing.Scan.{first_nested};
 ghost use Rattle.array_lang.specs.Spelled.{Spells, HasFault, HasTokenFault, IsRead, place_of};
 ghost use Rattle.array_lang.specs.Parsing.Reading.{IsWhole, IsReading};
 
-use crate::bounds::nested_at;
 use crate::fault::SyntaxFault;
+use crate::nesting::nested_at;
 use crate::program::program;
 use crate::stop::Stop;
 use array_tokens::{Token, tokens};
@@ -18,7 +18,7 @@ use std::alloc::Global;
 /// The program that the text spells, or the text's first fault.
 ///
 /// A fault of cutting the text into tokens comes before every fault of the grammar. Of an unexpected token and one
-/// that passes a bound on nesting, the one with the smaller place is told, and Unexpected at the same place.
+/// that passes a limit on nesting, the one with the smaller place is told, and Unexpected at the same place.
 pub fn parse(alloc: Global, text: &[u8]) -> Result<Program, SyntaxFault>
     requires { length text.now < 2 ^ 32 }
     // What is read is spelled.
@@ -37,7 +37,7 @@ pub fn parse(alloc: Global, text: &[u8]) -> Result<Program, SyntaxFault>
     }
 }
 
-// The program of tokens that pass no bound; the text ends at `end`.
+// The program of tokens that pass no limit; the text ends at `end`.
 fn whole(alloc: Global, tokens: &[Token<'_>], end: u32) -> Result<Program, SyntaxFault>
     requires { first_nested (spots tokens.now) ≡ None }
     ensures { IsWhole (spots tokens.now) end result }
@@ -51,7 +51,7 @@ fn whole(alloc: Global, tokens: &[Token<'_>], end: u32) -> Result<Program, Synta
     }
 }
 
-// The first fault of tokens of which this one passes a bound. Only the tokens up to it are read, which also bounds
+// The first fault of tokens of which this one passes a limit. Only the tokens up to it are read, which also bounds
 // how deep the parser goes.
 fn first_fault(alloc: Global, tokens: &[Token<'_>], index: usize) -> SyntaxFault
     requires over { first_nested (spots tokens.now) ≡ Some index }
@@ -74,7 +74,7 @@ fn first_fault(alloc: Global, tokens: &[Token<'_>], index: usize) -> SyntaxFault
 }
 
 // Why the parser stops within the tokens.
-fn stop<'t>(alloc: Global, tokens: &'t [Token<'t>]) -> Result<(), Stop<'t>>
+fn stop<'a, 't>(alloc: Global, tokens: &'a [Token<'t>]) -> Result<(), Stop<'a, 't>>
     ensures { IsReading (spots tokens.now) result }
 {
     program(alloc, tokens)?;

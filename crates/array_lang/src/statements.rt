@@ -12,7 +12,7 @@ use array_tree::{Block, Blocks, Expr, Name, Stmt};
 use std::alloc::Global;
 
 // The index of a target, up to the sign of the assignment.
-fn target<'t>(alloc: Global, tokens: &'t [Token<'t>]) -> Parsed<'t, Expr>
+fn target<'a, 't>(alloc: Global, tokens: &'a [Token<'t>]) -> Parsed<'a, 't, Expr>
     ensures { IsTarget (spots tokens.now) result }
 {
     let rest = expect(tokens, Sign::OpenIndex)?;
@@ -23,7 +23,7 @@ fn target<'t>(alloc: Global, tokens: &'t [Token<'t>]) -> Parsed<'t, Expr>
 }
 
 // The value of an assignment, up to its end.
-fn value<'t>(alloc: Global, tokens: &'t [Token<'t>]) -> Parsed<'t, Expr>
+fn value<'a, 't>(alloc: Global, tokens: &'a [Token<'t>]) -> Parsed<'a, 't, Expr>
     ensures { IsValue (spots tokens.now) result }
 {
     let (value, rest) = expr(alloc, tokens)?;
@@ -32,12 +32,12 @@ fn value<'t>(alloc: Global, tokens: &'t [Token<'t>]) -> Parsed<'t, Expr>
 }
 
 // The rest of an assignment to this array.
-fn assignment<'t>(
+fn assignment<'a, 't>(
     alloc: Global,
     line: u32,
     name: &'t [u8],
-    tokens: &'t [Token<'t>],
-) -> Parsed<'t, Stmt>
+    tokens: &'a [Token<'t>],
+) -> Parsed<'a, 't, Stmt>
     ensures { IsAssign line name.now (spots tokens.now) result }
 {
     let (index, rest) = target(alloc, tokens)?;
@@ -56,7 +56,7 @@ fn assignment<'t>(
 
 // The rest of a `for`.
 #[cycle(statements)]
-fn for_loop<'t>(alloc: Global, line: u32, tokens: &'t [Token<'t>]) -> Parsed<'t, Stmt>
+fn for_loop<'a, 't>(alloc: Global, line: u32, tokens: &'a [Token<'t>]) -> Parsed<'a, 't, Stmt>
     ensures { IsLoop line (spots tokens.now) result }
 {
     let (range, rest) = range(tokens)?;
@@ -77,7 +77,7 @@ fn for_loop<'t>(alloc: Global, line: u32, tokens: &'t [Token<'t>]) -> Parsed<'t,
 
 // The rest of an `if`.
 #[cycle(statements)]
-fn choice<'t>(alloc: Global, line: u32, tokens: &'t [Token<'t>]) -> Parsed<'t, Stmt>
+fn choice<'a, 't>(alloc: Global, line: u32, tokens: &'a [Token<'t>]) -> Parsed<'a, 't, Stmt>
     ensures { IsChoice line (spots tokens.now) result }
 {
     let (cond, rest) = expr(alloc, tokens)?;
@@ -98,7 +98,7 @@ fn choice<'t>(alloc: Global, line: u32, tokens: &'t [Token<'t>]) -> Parsed<'t, S
 // The second block of an `if`, empty where there is none.
 #[tactic(auto, using(crate::proofs::Complete::settle_closed))]
 #[cycle(statements)]
-fn else_block<'t>(alloc: Global, tokens: &'t [Token<'t>]) -> Parsed<'t, Block>
+fn else_block<'a, 't>(alloc: Global, tokens: &'a [Token<'t>]) -> Parsed<'a, 't, Block>
     ensures { IsElseBlock (spots tokens.now) result }
 {
     match expect_word(tokens, Word::Else) {
@@ -117,7 +117,7 @@ fn else_block<'t>(alloc: Global, tokens: &'t [Token<'t>]) -> Parsed<'t, Block>
 
 // The rest of a `par`.
 #[cycle(statements)]
-fn par<'t>(alloc: Global, line: u32, tokens: &'t [Token<'t>]) -> Parsed<'t, Stmt>
+fn par<'a, 't>(alloc: Global, line: u32, tokens: &'a [Token<'t>]) -> Parsed<'a, 't, Stmt>
     ensures { IsPar line (spots tokens.now) result }
 {
     let rest = expect(tokens, Sign::OpenBlock)?;
@@ -137,7 +137,7 @@ fn par<'t>(alloc: Global, line: u32, tokens: &'t [Token<'t>]) -> Parsed<'t, Stmt
 
 // The rest of a `team`.
 #[cycle(statements)]
-fn team<'t>(alloc: Global, line: u32, tokens: &'t [Token<'t>]) -> Parsed<'t, Stmt>
+fn team<'a, 't>(alloc: Global, line: u32, tokens: &'a [Token<'t>]) -> Parsed<'a, 't, Stmt>
     ensures { IsTeam line (spots tokens.now) result }
 {
     let (head, rest) = team_head(tokens)?;
@@ -159,7 +159,7 @@ fn team<'t>(alloc: Global, line: u32, tokens: &'t [Token<'t>]) -> Parsed<'t, Stm
 // The phases of a `team`.
 #[tactic(auto, using(crate::proofs::Complete::settle_phase))]
 #[cycle(statements)]
-fn phases<'t>(alloc: Global, tokens: &'t [Token<'t>]) -> Parsed<'t, Vec<Block>>
+fn phases<'a, 't>(alloc: Global, tokens: &'a [Token<'t>]) -> Parsed<'a, 't, Vec<Block>>
     ensures { IsPhases (spots tokens.now) result }
 {
     let rest = expect(tokens, Sign::OpenBlock)?;
@@ -177,7 +177,7 @@ fn phases<'t>(alloc: Global, tokens: &'t [Token<'t>]) -> Parsed<'t, Vec<Block>>
 
 // A block whose `{` is read.
 #[cycle(statements)]
-fn block<'t>(alloc: Global, tokens: &'t [Token<'t>]) -> Parsed<'t, Block>
+fn block<'a, 't>(alloc: Global, tokens: &'a [Token<'t>]) -> Parsed<'a, 't, Block>
     ensures { IsBlock (spots tokens.now) result }
 {
     let (statements, rest) = statements(alloc, tokens)?;
@@ -187,7 +187,7 @@ fn block<'t>(alloc: Global, tokens: &'t [Token<'t>]) -> Parsed<'t, Block>
 
 // The statement that begins here, if one does.
 #[cycle(statements)]
-fn statement<'t>(alloc: Global, tokens: &'t [Token<'t>]) -> Option<Parsed<'t, Stmt>>
+fn statement<'a, 't>(alloc: Global, tokens: &'a [Token<'t>]) -> Option<Parsed<'a, 't, Stmt>>
     ensures { IsStatement (spots tokens.now) result }
 {
     let (first, rest) = tokens.split_first()?;
@@ -203,7 +203,7 @@ fn statement<'t>(alloc: Global, tokens: &'t [Token<'t>]) -> Option<Parsed<'t, St
 
 /// The statements one after another at the front.
 #[cycle(statements)]
-pub fn statements<'t>(alloc: Global, tokens: &'t [Token<'t>]) -> Parsed<'t, Vec<Stmt>>
+pub fn statements<'a, 't>(alloc: Global, tokens: &'a [Token<'t>]) -> Parsed<'a, 't, Vec<Stmt>>
     ensures { IsStatements (spots tokens.now) result }
 {
     let (mut found, mut rest) = no_statements(alloc, tokens);
@@ -216,7 +216,7 @@ pub fn statements<'t>(alloc: Global, tokens: &'t [Token<'t>]) -> Parsed<'t, Vec<
 }
 
 // No statements yet, and all tokens.
-fn no_statements<'t>(alloc: Global, tokens: &'t [Token<'t>]) -> (Vec<Stmt>, &'t [Token<'t>])
+fn no_statements<'a, 't>(alloc: Global, tokens: &'a [Token<'t>]) -> (Vec<Stmt>, &'a [Token<'t>])
     ensures found { result.0.items ≡ [] }
     ensures rest { result.1.now ≡ tokens.now }
 {

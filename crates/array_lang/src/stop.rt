@@ -9,12 +9,12 @@ use std::alloc::{AllocError, AllocFailed};
 
 /// Why the parser stopped, and at an unexpected token the tokens from it on.
 #[derive(Clone, Copy)]
-pub enum Stop<'t> {
+pub enum Stop<'a, 't> {
     Memory,
-    Unexpected(&'t [Token<'t>]),
+    Unexpected(&'a [Token<'t>]),
 }
 
-impl From<AllocError> for Stop<'_> {
+impl From<AllocError> for Stop<'_, '_> {
     ghost use Rattle.std.specs.Prelude.{◌≡◌};
     ghost use Rattle.array_lang.specs.declared.stop.Stop.TheVariants.{Memory};
 
@@ -25,7 +25,7 @@ impl From<AllocError> for Stop<'_> {
     }
 }
 
-impl<T: Drop> From<AllocFailed<T>> for Stop<'_> {
+impl<T: Drop> From<AllocFailed<T>> for Stop<'_, '_> {
     ghost use Rattle.std.specs.Prelude.{◌≡◌};
     ghost use Rattle.array_lang.specs.declared.stop.Stop.TheVariants.{Memory};
 
@@ -37,10 +37,10 @@ impl<T: Drop> From<AllocFailed<T>> for Stop<'_> {
 }
 
 /// A tree and the tokens after it.
-pub type Parsed<'t, T> = Result<(T, &'t [Token<'t>]), Stop<'t>>;
+pub type Parsed<'a, 't, T> = Result<(T, &'a [Token<'t>]), Stop<'a, 't>>;
 
 /// The tokens after this sign.
-pub fn expect<'t>(tokens: &'t [Token<'t>], sign: Sign) -> Result<&'t [Token<'t>], Stop<'t>>
+pub fn expect<'a, 't>(tokens: &'a [Token<'t>], sign: Sign) -> Result<&'a [Token<'t>], Stop<'a, 't>>
     ensures { IsRestAfter (spots tokens.now) sign result }
 {
     if let [first, rest @ ..] = tokens {
@@ -54,7 +54,10 @@ pub fn expect<'t>(tokens: &'t [Token<'t>], sign: Sign) -> Result<&'t [Token<'t>]
 }
 
 /// The tokens after this word.
-pub fn expect_word<'t>(tokens: &'t [Token<'t>], word: Word) -> Result<&'t [Token<'t>], Stop<'t>>
+pub fn expect_word<'a, 't>(
+    tokens: &'a [Token<'t>],
+    word: Word,
+) -> Result<&'a [Token<'t>], Stop<'a, 't>>
     ensures { IsRestAfterWord (spots tokens.now) word result }
 {
     if let [first, rest @ ..] = tokens {
@@ -68,7 +71,7 @@ pub fn expect_word<'t>(tokens: &'t [Token<'t>], word: Word) -> Result<&'t [Token
 }
 
 /// The name at the front.
-pub fn expect_name<'t>(tokens: &'t [Token<'t>]) -> Parsed<'t, &'t [u8]>
+pub fn expect_name<'a, 't>(tokens: &'a [Token<'t>]) -> Parsed<'a, 't, &'t [u8]>
     ensures { IsName (spots tokens.now) result }
 {
     if let [first, rest @ ..] = tokens {
@@ -80,14 +83,14 @@ pub fn expect_name<'t>(tokens: &'t [Token<'t>]) -> Parsed<'t, &'t [u8]>
 }
 
 /// The number at the front.
-pub fn expect_number<'t>(tokens: &'t [Token<'t>]) -> Parsed<'t, i64>
+pub fn expect_number<'a, 't>(tokens: &'a [Token<'t>]) -> Parsed<'a, 't, i64>
     ensures { IsNumber (spots tokens.now) result }
 {
     let Some((first, rest)) = tokens.split_first() else {
         return Err(Stop::Unexpected(tokens));
     };
-    match first.kind {
-        Kind::Number(value) => Ok((value, rest)),
+    match &first.kind {
+        Kind::Number(literal) => Ok((literal.value(), rest)),
         _ => Err(Stop::Unexpected(tokens)),
     }
 }

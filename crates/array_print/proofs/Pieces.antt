@@ -6,7 +6,9 @@ use Rattle.std.proofs.Math.Seq.{take-append_seam}
 use Rattle.std.proofs.lemmas.Bool.Decides.{nat_tests}
 use Rattle.std.proofs.lemmas.Str.Parse.{IsNumeralModel, IsDigitsTest, numerals_by_fold}
 use Rattle.std.proofs.lemmas.Fmt.{digits_decimal, digits_value-decimal, decimal_is_IsNumeral}
-use Rattle.array_tokens.specs.Lexemes.{Lexeme, name, number, word, sign, Spot, piece, front_of, is_ascii, is_name_byte, is_letter, is_digit, is_blank, word_of, named, name_front, number_front, decimal as spelled_value}
+use Rattle.std.specs.Str.{byte}
+use Rattle.array_tokens.specs.Literals.{greatest_literal}
+use Rattle.array_tokens.specs.Lexemes.{Lexeme, name, number, word, sign, Spot, piece, front_of, is_ascii, is_name_byte, is_letter, is_digit, is_blank, word_of, named, name_front, number_front, number_of_digits as spelled_value}
 use Rattle.array_tokens.specs.declared.token.Word.{Word}
 use Rattle.array_tokens.specs.declared.token.Sign.{Sign}
 use Rattle.array_tokens.specs.declared.token.Sign.TheVariants as signs
@@ -30,7 +32,7 @@ prefix_name [] [] a h = refl
 prefix_name [] (r ∷ rest) a h = rw h refl
 prefix_name (b ∷ bs) rest a h = rw a.0 (ap (λ n. 1 + n) (prefix_name bs rest a.1 h) ∙ one-add (length bs))
 
-letter_no_blank : (b : ℕ) → is_letter b ≡ true → (is_blank b ≡ false) × ((b == 35) ≡ false)
+letter_no_blank : (b : ℕ) → is_letter b ≡ true → (is_blank b ≡ false) × ((b == byte "#") ≡ false)
 letter_no_blank b h = (grind (arith, nat_tests), grind (arith, nat_tests))
 
 -- a name or a word
@@ -140,40 +142,40 @@ prefix_digits [] [] a h = refl
 prefix_digits [] (r ∷ rest) a h = rw (no_digit r h) refl
 prefix_digits (b ∷ bs) rest a h = rw a.0 (ap (λ n. 1 + n) (prefix_digits bs rest a.1 h) ∙ one-add (length bs))
 
-digit_alone : (b : ℕ) → is_digit b ≡ true → (is_blank b ≡ false) × ((b == 35) ≡ false) × (is_letter b ≡ false)
+digit_alone : (b : ℕ) → is_digit b ≡ true → (is_blank b ≡ false) × ((b == byte "#") ≡ false) × (is_letter b ≡ false)
 digit_alone b h = (grind (arith, nat_tests), grind (arith, nat_tests), grind (arith, nat_tests))
 
-small_front : (ds : List ℕ) → nat_le (spelled_value ds) 9223372036854775807 ≡ true → number_front ds ≡ piece (number (pos (spelled_value ds)))
+small_front : (ds : List ℕ) → nat_le (spelled_value ds) greatest_literal ≡ true → number_front ds ≡ piece (number (spelled_value ds))
 small_front ds h = rw h refl
 
-front_number : (b : ℕ) (bs rest : List ℕ) → AreDigits (b ∷ bs) → nat_le (spelled_value (b ∷ bs)) 9223372036854775807 ≡ true → NoName rest → (piece (number (pos (spelled_value (b ∷ bs)))), suc (length bs)) ≡ front_of b (b ∷ (bs ++ rest))
+front_number : (b : ℕ) (bs rest : List ℕ) → AreDigits (b ∷ bs) → nat_le (spelled_value (b ∷ bs)) greatest_literal ≡ true → NoName rest → (piece (number (spelled_value (b ∷ bs))), suc (length bs)) ≡ front_of b (b ∷ (bs ++ rest))
 front_number b bs rest a small h =
     let tail : prefix_len is_digit (bs ++ rest) ≡ length bs = prefix_digits bs rest a.1 h in
     let alone = digit_alone b a.0 in
     let text : take (suc (length bs)) (b ∷ (bs ++ rest)) ≡ b ∷ bs = ap (λ l. b ∷ l) (take-append_seam bs rest) in
     sym (rw (alone.0, alone.1, alone.2, a.0, tail, one-add) (ap (λ l. (number_front l, suc (length bs))) text ∙ ap (λ f. (f, suc (length bs))) (small_front (b ∷ bs) small)))
 
-digits_cut : (ds : List ℕ) → 0 < length ds → AreDigits ds → nat_le (spelled_value ds) 9223372036854775807 ≡ true → CutsInto ds (One (number (pos (spelled_value ds)))) NoName
+digits_cut : (ds : List ℕ) → 0 < length ds → AreDigits ds → nat_le (spelled_value ds) greatest_literal ≡ true → CutsInto ds (One (number (spelled_value ds))) NoName
 digits_cut [] h a small = absurd (omega arith)
-digits_cut (b ∷ bs) h a small = cuts_one b bs (number (pos (spelled_value (b ∷ bs)))) (digits_ascii (b ∷ bs) a) (λ rest s. front_number b bs rest a small s)
+digits_cut (b ∷ bs) h a small = cuts_one b bs (number (spelled_value (b ∷ bs))) (digits_ascii (b ∷ bs) a) (λ rest s. front_number b bs rest a small s)
 
-pub cuts_number : (n : ℕ) → n ≤ 9223372036854775807 → CutsInto (decimal n) (One (number (pos n))) NoName
+pub cuts_number : (n : ℕ) → n ≤ greatest_literal → CutsInto (decimal n) (One (number n)) NoName
 cuts_number n small =
     let fits : n < 2 ^ 64 = omega arith in
     let v : spelled_value (decimal n) ≡ n = digits_value-decimal own n fits in
-    let le : nat_le n 9223372036854775807 ≡ true = grind (arith, nat_tests) in
-    subst (λ m. CutsInto (decimal n) (One (number (pos m))) NoName) v
-    (digits_cut (decimal n) (decimal_is_IsNumeral n fits).0.0 (digits_decimal own n fits) (ap (λ m. nat_le m 9223372036854775807) v ∙ le))
+    let le : nat_le n greatest_literal ≡ true = grind (arith, nat_tests) in
+    subst (λ m. CutsInto (decimal n) (One (number m)) NoName) v
+    (digits_cut (decimal n) (decimal_is_IsNumeral n fits).0.0 (digits_decimal own n fits) (ap (λ m. nat_le m greatest_literal) v ∙ le))
 
 -- the bound of a loop
 abbrev Bound : ℤ → List Spot → List Spot → Type 0
 Bound v s t = SpellsBound s t v
 
-bound_plain : (n : ℕ) (s t : List Spot) → One (number (pos n)) s t → Bound (pos n) s t
+bound_plain : (n : ℕ) (s t : List Spot) → One (number n) s t → Bound (pos n) s t
 bound_plain n s t one = plain_bound
 
-bound_negative : (n : ℕ) (s t : List Spot) → Then (One (sign signs.Minus)) (One (number (pos (suc n)))) s t → Bound (negsuc n) s t
-bound_negative n s t (joined one one) = negative_bound {k = suc n}
+bound_negative : (n : ℕ) (s t : List Spot) → Then (One (sign signs.Minus)) (One (number (suc n))) s t → Bound (negsuc n) s t
+bound_negative n s t (joined one one) = negative_bound {v = suc n}
 
 pub cuts_bound : (v : ℤ) → IsBound v → CutsInto (signed_decimal v) (λ s t. SpellsBound s t v) NoName
 cuts_bound (pos n) h = cuts_as (cuts_number n h) (bound_plain n)

@@ -1,5 +1,5 @@
 -- What is printed of an expression spells it, with no mark that its tree doesn't need.
-use Rattle.std.proofs.Common.{◌≡◌, ℕ, ℤ, pos, negsuc, ◌+◌, ◌≤◌, List, [], ◌∷◌, ◌++◌, Bool, true, false, nat_lt, nat_le, Some, refl, arith}
+use Rattle.std.proofs.Common.{◌≡◌, ℕ, pos, negsuc, ◌+◌, ◌≤◌, List, [], ◌∷◌, ◌++◌, Bool, true, false, nat_lt, nat_le, Some, refl, arith}
 use Rattle.std.proofs.lemmas.Bool.Decides.{nat_tests}
 use Rattle.array_tokens.specs.Lexemes.{Lexeme, name, number, sign, Spot}
 use Rattle.array_tokens.specs.declared.token.Sign.TheVariants as signs
@@ -188,7 +188,7 @@ binary_level ops.Mul x y i j (joined (joined p one) q) = multiplied_level i j re
 binary_level ops.Div x y i j (joined (joined p one) q) = multiplied_level i j refl p q
 binary_level ops.Rem x y i j (joined (joined p one) q) = multiplied_level i j refl p q
 
-number_level : {v : ℤ} {s t : List Spot} → One (number v) s t → Level (Number v) 0 5 s t
+number_level : {v : ℕ} {s t : List Spot} → One (number v) s t → Level (Number (pos v)) 0 5 s t
 number_level one = as_factor numbered (omega arith)
 
 name_level : {b : List ℕ} {s t : List Spot} → One (name b) s t → Level (Var b) 0 5 s t

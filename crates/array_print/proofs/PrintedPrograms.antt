@@ -1,7 +1,7 @@
 -- The printed text of a program that some text spells spells it up to line numbers.
-use Rattle.std.proofs.Common.{◌≡◌, ℕ, List, [], ◌∷◌, ◌++◌, None, map, refl, ap, ◌∙◌}
+use Rattle.std.proofs.Common.{◌≡◌, ℕ, ℤ, pos, negsuc, List, [], ◌∷◌, ◌++◌, None, map, refl, ap, ◌∙◌}
 use Rattle.std.specs.Prelude.{codes, flat_map}
-use Rattle.array_tokens.specs.Lexemes.{name, number, word, sign, Spot}
+use Rattle.array_tokens.specs.Lexemes.{name, word, sign, Spot}
 use Rattle.array_tokens.specs.declared.token.Word.TheVariants as words
 use Rattle.array_tokens.specs.declared.token.Sign.TheVariants as signs
 use Rattle.array_tree.specs.Trees.{Sequence, Declaration, ProgramTree}
@@ -14,7 +14,7 @@ use Rattle.array_print.specs.Spellings.{lineless_sequence, lineless_declaration,
 use Rattle.array_print.proofs.Cuts.{One, one, Nothing, nothing, Then, joined, Anything, CutsInto, cuts_both, cuts_as, cuts_none, cuts_space, cuts_newline, Whole, cuts_whole}
 use Rattle.array_print.specs.Writable.{IsName, IsNumber, CanFollow, AreDeclarable, IsWritable}
 use Rattle.array_print.proofs.Pieces.{cuts_name, cuts_word, cuts_open_index, cuts_close_index, cuts_semicolon, cuts_before}
-use Rattle.array_print.proofs.PrintedStatements.{IsSequence, sequence_cuts, member_cuts}
+use Rattle.array_print.proofs.PrintedStatements.{IsSequence, IsLiteral, sequence_cuts, member_cuts}
 use Rattle.array_print.proofs.SpelledTokens.{AreGood, tokens_good}
 use Rattle.array_print.proofs.SpelledTrees.{sequence_stands}
 
@@ -34,17 +34,18 @@ cuts_array = cuts_before cuts_space (λ rest. refl) (cuts_word 97 (114 ∷ 114 �
 cuts_length_end : CutsInto (codes "];\n") (Then (One (sign signs.CloseIndex)) (One (sign signs.Semicolon))) Anything
 cuts_length_end = cuts_both cuts_close_index (cuts_before cuts_newline (λ rest. tt) cuts_semicolon) (λ rest h. tt)
 
-declaration_is : (array : Declaration) {s t : List Spot} →
-    Then (Then (Then (Then (One (word words.Array)) (One (name array.name))) (One (sign signs.OpenIndex))) (One (number array.length))) (Then (One (sign signs.CloseIndex)) (One (sign signs.Semicolon))) s t →
-    IsDeclaration array s t
-declaration_is array (joined (joined (joined (joined (one {n = n}) one) one) one) (joined one one)) =
-    record { tree = record { line = n; name = array.name; length = array.length }; d = declaration; same = refl }
+declaration_is : (line : ℕ) (b : List ℕ) (v : ℤ) {s t : List Spot} →
+    Then (Then (Then (Then (One (word words.Array)) (One (name b))) (One (sign signs.OpenIndex))) (IsLiteral v)) (Then (One (sign signs.CloseIndex)) (One (sign signs.Semicolon))) s t →
+    IsDeclaration (record { line = line; name = b; length = v }) s t
+declaration_is line b (negsuc v) (joined (joined h l) ends) = absurd l
+declaration_is line b (pos v) (joined (joined (joined (joined (one {n = n}) one) one) one) (joined one one)) =
+    record { tree = record { line = n; name = b; length = pos v }; d = declaration; same = refl }
 
 declaration_cuts : (array : Declaration) → IsName array.name → IsNumber array.length → CutsInto (declaration_text array) (IsDeclaration array) Anything
 declaration_cuts array n l =
     cuts_as
     (cuts_both (cuts_both (cuts_both (cuts_both cuts_array (cuts_name array.name n) (λ rest h. tt)) cuts_open_index (λ rest h. refl)) (member_cuts array.length l) (λ rest h. tt)) cuts_length_end (λ rest h. refl))
-    (λ s t d. declaration_is array d)
+    (λ s t d. declaration_is array.line array.name array.length d)
 
 no_declarations : {s t : List Spot} → Nothing s t → AreDeclarations [] s t
 no_declarations nothing = record { trees = []; d = no_declaration; same = refl }
@@ -66,7 +67,7 @@ declarations_good no_declaration h = (tt, h)
 declarations_good (next_declaration declaration e) h =
     let p = declarations_good e h.1.1.1.1.1.1 in ((h.1.0, h.1.1.1.0, p.0), p.1)
 
--- The tokens spell the program up to line numbers, within the bounds.
+-- The tokens spell the program up to line numbers, within the limits.
 record IsProgram (p : ProgramTree) (tokens : List Spot) : Type 0 where
   tree : ProgramTree
   d : SpellsProgram tokens tree

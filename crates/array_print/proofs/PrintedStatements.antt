@@ -1,5 +1,5 @@
--- What is printed of statements spells them up to line numbers, within the bounds on nesting.
-use Rattle.std.proofs.Common.{◌≡◌, ℕ, ℤ, pos, ◌+◌, ◌<◌, List, [], ◌∷◌, ◌++◌, Bool, true, false, not, ◌&&◌, nat_le, refl, ap, ◌∙◌, arith}
+-- What is printed of statements spells them up to line numbers, within the limits on nesting.
+use Rattle.std.proofs.Common.{◌≡◌, ℕ, ℤ, pos, negsuc, ◌+◌, ◌<◌, List, [], ◌∷◌, ◌++◌, Bool, true, false, not, ◌&&◌, nat_le, refl, ap, ◌∙◌, arith}
 use Rattle.std.specs.Prelude.{codes, negsuc}
 use Rattle.std.specs.Fmt.{signed_decimal}
 use Rattle.std.proofs.lemmas.Bool.Decides.{nat_tests}
@@ -17,7 +17,7 @@ use Rattle.array_print.specs.Writable.{IsName, IsNumber, IsBound, IsPrintable, I
 use Rattle.array_print.proofs.Pieces.{cuts_name, cuts_word, cuts_number, cuts_bound, cuts_open_index, cuts_close_index, cuts_open_block, cuts_close_block, cuts_semicolon, cuts_range, cuts_before, cuts_after_space, cuts_spaced}
 use Rattle.array_print.proofs.PrintedExpressions.{IsExpression, expression_cuts}
 
--- The tokens spell the statement up to line numbers, within the bounds, inside this many open braces.
+-- The tokens spell the statement up to line numbers, within the limits, inside this many open braces.
 pub record IsStatement (depth : ℕ) (c : Statement) (s t : List Spot) : Type 0 where
   pub tree : Statement
   pub d : SpellsStatement s t tree
@@ -222,17 +222,23 @@ parallel_is {depth} (beside p ps) some h (joined (joined (joined (joined nothing
     let r = branches_of p ps b rest in
     record { tree = Par n r.trees; d = parallel r.d; same = ap (Par 0) r.same; fits = and_true (below depth h) r.fits }
 
-teamed_is : {depth line : ℕ} {b : List ℕ} {low high members : ℤ} {ps : Sequences} {s t : List Spot} →
-    Then (Then (Then (Then Nothing (One (word words.Team))) (Then (Then (λ s t. SpellsRange s t b low high) (One (word words.By))) (One (number members)))) (IsPhases depth ps)) Nothing s t →
-    IsStatement depth (Team line b low high members ps) s t
-teamed_is {depth} {b} {low} {high} {members} (joined (joined (joined (joined nothing (one {n = n})) (joined (joined r one) one)) q) nothing) =
-    record { tree = Team n b low high members q.trees; d = teamed r q.d; same = ap (Team 0 b low high members) q.same; fits = no_true-both (range_beyond r) (false ∷ false ∷ phases_beyond depth q.d) (range_clear r) q.fits }
+-- the token of a number
+abbrev pub IsLiteral : ℤ → List Spot → List Spot → Type 0
+IsLiteral (pos n) s t = One (number n) s t
+IsLiteral (negsuc n) s t = ⊥
 
-pub member_cuts : (v : ℤ) → IsNumber v → CutsInto (signed_decimal v) (One (number v)) NoName
+teamed_is : {depth line : ℕ} {b : List ℕ} {low high members : ℤ} {ps : Sequences} {s t : List Spot} →
+    Then (Then (Then (Then Nothing (One (word words.Team))) (Then (Then (λ s t. SpellsRange s t b low high) (One (word words.By))) (IsLiteral members))) (IsPhases depth ps)) Nothing s t →
+    IsStatement depth (Team line b low high members ps) s t
+teamed_is {depth} {b} {low} {high} {members = negsuc m} (joined (joined (joined (joined nothing one) (joined (joined r one) l)) q) nothing) = absurd l
+teamed_is {depth} {b} {low} {high} {members = pos m} (joined (joined (joined (joined nothing (one {n = n})) (joined (joined r one) one)) q) nothing) =
+    record { tree = Team n b low high (pos m) q.trees; d = teamed r q.d; same = ap (Team 0 b low high (pos m)) q.same; fits = no_true-both (range_beyond r) (false ∷ false ∷ phases_beyond depth q.d) (range_clear r) q.fits }
+
+pub member_cuts : (v : ℤ) → IsNumber v → CutsInto (signed_decimal v) (IsLiteral v) NoName
 member_cuts (pos n) h = cuts_number n h
 member_cuts (negsuc n) h = absurd h
 
-dealt_cuts : (b : List ℕ) (low high members : ℤ) → IsName b → IsBound low → IsBound high → IsNumber members → CutsInto (dealt_text b low high members) (Then (Then (λ s t. SpellsRange s t b low high) (One (word words.By))) (One (number members))) NoName
+dealt_cuts : (b : List ℕ) (low high members : ℤ) → IsName b → IsBound low → IsBound high → IsNumber members → CutsInto (dealt_text b low high members) (Then (Then (λ s t. SpellsRange s t b low high) (One (word words.By))) (IsLiteral members)) NoName
 dealt_cuts b low high members n l h k = cuts_both (cuts_both (range_cuts b low high n l h) cuts_by (λ rest s. refl)) (member_cuts members k) (λ rest s. tt)
 
 phases_no_name : (ps : Sequences) (margin rest : List ℕ) → IsSome ps → NoName (phases_text false margin ps ++ rest)

@@ -1,17 +1,19 @@
 -- The names and numbers among the tokens of a text.
-use Rattle.std.proofs.Common.{◌≡◌, ℕ, zero, suc, pos, ◌+◌, ◌-◌, ◌==◌, List, [], ◌∷◌, take, Bool, true, false, cond, nat_le, Option, None, Some, Result, Ok, Err, refl, sym, ap, ◌∙◌, subst, arith}
+use Rattle.std.proofs.Common.{◌≡◌, ◌≤◌, ℕ, zero, suc, ◌+◌, ◌-◌, ◌==◌, List, [], ◌∷◌, take, Bool, true, false, cond, nat_le, Option, None, Some, Result, Ok, Err, refl, sym, ap, ◌∙◌, subst, arith}
 use Rattle.std.specs.List.{prefix_len, take_while}
 use Rattle.std.proofs.lemmas.Bool.Decides.{nat_tests}
-use Rattle.array_tokens.specs.Lexemes.{Lexeme, name, number, word, sign, Spot, Front, gap, piece, no_token, too_large, is_blank, is_digit, is_letter, is_name_byte, is_in_line, decimal, word_of, named, sign_one, sign_two, longest, sign_front, name_front, number_front, front_of, line_after, then_cut, cut, cut_ascii, tokens_of}
+use Rattle.std.specs.Str.{byte}
+use Rattle.array_tokens.specs.Literals.{greatest_literal}
+use Rattle.array_tokens.specs.Lexemes.{Lexeme, name, number, word, sign, Spot, Front, gap, piece, no_token, too_large, is_blank, is_digit, is_letter, is_name_byte, is_in_line, number_of_digits, word_of, named, sign_of, longest, sign_front, name_front, number_front, front_of, line_after, then_cut, cut, cut_ascii, tokens_of}
 use Rattle.array_tokens.specs.declared.token.Word.{Word}
 use Rattle.array_tokens.specs.declared.token.Sign.{Sign}
 use Rattle.array_tokens.specs.declared.fault.TokenFault.{TokenFault}
-use Rattle.array_print.specs.Writable.{AreNameBytes, IsName, IsNumber}
+use Rattle.array_print.specs.Writable.{AreNameBytes, IsName}
 
--- A name is one that texts spell, and so is a number.
+-- A name is one that texts spell, and a number is no greater than they spell.
 abbrev pub IsGood : Lexeme → Type 0
 IsGood (name b) = IsName b
-IsGood (number v) = IsNumber v
+IsGood (number v) = v ≤ greatest_literal
 IsGood (word w) = Unit {0}
 IsGood (sign s) = Unit {0}
 
@@ -56,7 +58,7 @@ name_good b bs letter =
 
 number_good : (ds : List ℕ) → FrontIsGood (number_front ds)
 number_good ds =
-    either FrontIsGood (nat_le (decimal ds) 9223372036854775807) (piece (number (pos (decimal ds)))) too_large (λ h. grind (arith, nat_tests)) (λ h. tt)
+    either FrontIsGood (nat_le (number_of_digits ds) greatest_literal) (piece (number (number_of_digits ds))) too_large (λ h. grind (arith, nat_tests)) (λ h. tt)
 
 longest_good : (two one : Option Sign) → FrontIsGood (longest two one).0
 longest_good (Some s) one = tt
@@ -65,8 +67,8 @@ longest_good None None = tt
 
 sign_good : (bs : List ℕ) → FrontIsGood (sign_front bs).0
 sign_good [] = tt
-sign_good (b ∷ []) = longest_good None (sign_one b)
-sign_good (b ∷ c ∷ rest) = longest_good (sign_two b c) (sign_one b)
+sign_good (b ∷ []) = longest_good None (sign_of (b ∷ []))
+sign_good (b ∷ c ∷ rest) = longest_good (sign_of (b ∷ c ∷ [])) (sign_of (b ∷ []))
 
 abbrev StandsGood : Front × ℕ → Type 0
 StandsGood f = FrontIsGood f.0
@@ -74,7 +76,7 @@ StandsGood f = FrontIsGood f.0
 front_good : (b : ℕ) (bs : List ℕ) → FrontIsGood (front_of b (b ∷ bs)).0
 front_good b bs =
     either StandsGood (is_blank b) (gap, 1) _ (λ h. tt) (λ h.
-    either StandsGood (b == 35) (gap, prefix_len is_in_line (b ∷ bs)) _ (λ h. tt) (λ h.
+    either StandsGood (b == byte "#") (gap, prefix_len is_in_line (b ∷ bs)) _ (λ h. tt) (λ h.
     either StandsGood (is_letter b) (name_front (take_while is_name_byte (b ∷ bs)), prefix_len is_name_byte (b ∷ bs)) _ (λ h. name_good b bs h) (λ h.
     either StandsGood (is_digit b) (number_front (take_while is_digit (b ∷ bs)), prefix_len is_digit (b ∷ bs)) (sign_front (b ∷ bs)) (λ h. number_good (take_while is_digit (b ∷ bs))) (λ h. sign_good (b ∷ bs)))))
 

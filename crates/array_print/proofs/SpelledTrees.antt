@@ -1,18 +1,19 @@
--- A tree that tokens spell within the bounds is one whose printed text does.
-use Rattle.std.proofs.Common.{◌≡◌, ℕ, zero, suc, ℤ, pos, negsuc, ◌+◌, ◌<◌, ◌≤◌, List, [], ◌∷◌, ◌++◌, Bool, true, false, not, ◌&&◌, nat_lt, nat_le, Option, None, Some, refl, subst, arith}
+-- A tree that tokens spell within the limits is one whose printed text does.
+use Rattle.std.proofs.Common.{◌≡◌, ℕ, zero, suc, ℤ, pos, ◌+◌, ◌<◌, ◌≤◌, List, [], ◌∷◌, ◌++◌, Bool, true, false, not, ◌&&◌, nat_lt, nat_le, Option, None, Some, refl, subst, arith}
 use Rattle.std.proofs.lemmas.Bool.Decides.{nat_tests}
 use Rattle.std.specs.Prelude.{neg_ℤ}
 use Rattle.array_tokens.specs.Lexemes.{Lexeme, sign, Spot}
 use Rattle.array_tokens.specs.declared.token.Sign.TheVariants as signs
 use Rattle.array_tree.specs.Trees.{Expression, Statement, Sequence, Sequences}
 use Rattle.array_tree.specs.declared.tree.Op.{Op}
+use Rattle.array_tokens.specs.Literals.{greatest_literal}
 use Rattle.array_lang.specs.Grammar.{operator_of, SpellsExpression, lone_sum, compared, SpellsSum, lone_term, added, SpellsTerm, lone_factor, multiplied, SpellsFactor, negated, numbered, named, indexed, grouped, SpellsBound, plain_bound, negative_bound, SpellsRange, range, SpellsStatement, assigned, looped, chosen, chosen_else, parallel, teamed, SpellsBranches, last_branch, next_branch, SpellsPhases, last_phase, next_phase, SpellsBlock, block, SpellsSequence, no_statement, next_statement}
 use Rattle.array_lang.specs.Nesting.{expression_beyond, range_beyond, statement_beyond, branches_beyond, phases_beyond, block_beyond, sequence_beyond}
 use Rattle.array_lang.proofs.Marks.{no_true, no_true-append, mark_count, operator_counts, clear_few}
 use Rattle.array_lang.specs.declared.operator.Strength.{Strength}
 use Rattle.array_lang.specs.declared.operator.Strength.TheVariants.{Comparison as comparison, Addition as addition, Product as product}
 use Rattle.array_print.specs.Texts.{op_strength, strength_of, groups_left, groups_right}
-use Rattle.array_print.specs.Writable.{IsName, IsNumber, IsBound, IsPrintable, IsWhole, IsSome, CanStand, CanFollow, CanBranch, parens, marks_of}
+use Rattle.array_print.specs.Writable.{IsName, IsBound, IsPrintable, IsWhole, IsSome, CanStand, CanFollow, CanBranch, parens, marks_of}
 use Rattle.array_print.proofs.SpelledTokens.{AreGood}
 
 -- what holds of names and numbers
@@ -116,17 +117,13 @@ whole_of {x} d h clear =
 
 -- bounds of loops
 
-number_bound : (v : ℤ) → IsNumber v → IsBound v
-number_bound (pos n) h = h
-number_bound (negsuc n) h = absurd h
-
-negative_is : (k : ℕ) → k ≤ 9223372036854775807 → IsBound (neg_ℤ (pos k))
+negative_is : (k : ℕ) → k ≤ greatest_literal → IsBound (neg_ℤ (pos k))
 negative_is zero h = omega arith
 negative_is (suc n) h = h
 
 bound_good : {s t : List Spot} {v : ℤ} → SpellsBound s t v → AreGood s → IsBound v × AreGood t
-bound_good (plain_bound {v}) h = (number_bound v h.0, h.1)
-bound_good (negative_bound {k}) h = (negative_is k h.1.0, h.1.1)
+bound_good plain_bound h = h
+bound_good (negative_bound {v}) h = (negative_is v h.1.0, h.1.1)
 
 range_good : {s t : List Spot} {b : List ℕ} {low high : ℤ} → SpellsRange s t b low high → AreGood s → (IsName b × IsBound low × IsBound high) × AreGood t
 range_good (range d e) h = let p = bound_good d h.1.1 in let q = bound_good e p.1.1 in ((h.0, p.0, q.0), q.1)

@@ -1,5 +1,6 @@
 -- Programs as texts have them: names, numbers, blocks and nesting are such as some text spells.
 use Rattle.std.specs.Prelude.{◌≡◌, ◌≤◌, ◌<◌, ◌+◌, ℕ, suc, ℤ, pos, negsuc, Bool, true, false, None, List, [], ◌∷◌}
+use Rattle.array_tokens.specs.Literals.{greatest_literal}
 use Rattle.array_tokens.specs.Lexemes.{is_letter, is_name_byte, word_of}
 use Rattle.array_tree.specs.Trees.{Expression, Number, Var, Read, Neg, Binary, Statement, Assign, For, If, Par, Team, Sequence, ended, followed, Sequences, no_more, beside, Declaration, ProgramTree}
 use Rattle.array_lang.specs.Nesting.{most_marks, most_open}
@@ -16,13 +17,13 @@ IsName (b ∷ bs) = (is_letter b ≡ true) × AreNameBytes bs × (word_of (b ∷
 
 -- a number, which has no sign
 abbrev pub IsNumber : ℤ → Type 0
-IsNumber (pos n) = n ≤ 9223372036854775807
+IsNumber (pos n) = n ≤ greatest_literal
 IsNumber (negsuc n) = ⊥
 
 -- the bound of a loop, positive or negative
 abbrev pub IsBound : ℤ → Type 0
-IsBound (pos n) = n ≤ 9223372036854775807
-IsBound (negsuc n) = suc n ≤ 9223372036854775807
+IsBound (pos n) = n ≤ greatest_literal
+IsBound (negsuc n) = suc n ≤ greatest_literal
 
 -- a pair of parentheses is one mark
 abbrev pub parens : Bool → ℕ
@@ -46,7 +47,7 @@ IsPrintable (Read b x) = IsName b × IsPrintable x
 IsPrintable (Neg x) = IsPrintable x
 IsPrintable (Binary op x y) = IsPrintable x × IsPrintable y
 
--- an outermost expression that texts spell within the bound on marks
+-- an outermost expression that texts spell within the limit on marks
 abbrev pub IsWhole : Expression → Type 0
 IsWhole x = IsPrintable x × (marks_of x ≤ most_marks)
 

@@ -2,15 +2,17 @@
 use Rattle.std.proofs.Common.{◌≡◌, ℕ, zero, suc, ◌+◌, ◌-◌, ◌*◌, ◌<◌, ◌≤◌, ◌==◌, List, [], ◌∷◌, ◌++◌, length, take, drop, Result, Ok, Err, refl, sym, ap, ◌∙◌, arith, add-zero, count_by, fold, false, append_assoc, get_or, nat_le, ◌^◌}
 use Rattle.std.proofs.Math.Seq.{drop-cons}
 use Rattle.std.proofs.lemmas.List.Sums.{prefix_len-le-length}
-use Rattle.array_tokens.specs.Lexemes.{decimal}
+use Rattle.array_tokens.specs.Lexemes.{number_of_digits}
 use Rattle.std.proofs.lemmas.Bool.Decides.{nat_tests}
 use Rattle.std.specs.Prelude.{slice_index}
+use Rattle.std.specs.Str.{byte}
+use Rattle.array_tokens.specs.Literals.{greatest_literal}
 use Rattle.std.proofs.lemmas.Grind.{common_steps}
 use Rattle.array_tokens.specs.Lexemes.{Spot, Front, front_of, line_after, with_tokens, then_cut, cut}
 use Rattle.array_tokens.specs.declared.fault.TokenFault.{TokenFault}
 
 abbrev pub newlines : List ℕ → ℕ
-newlines bytes = count_by (λ b. b == 10) bytes
+newlines bytes = count_by (λ b. b == byte "\n") bytes
 
 line_more : (line b : ℕ) (rest : List ℕ) → line_after line b + newlines rest ≡ line + newlines (b ∷ rest)
 line_more line b rest = grind (arith, common_steps)
@@ -46,17 +48,17 @@ with_tokens-none (Ok ts) = refl
 with_tokens-none (Err e) = refl
 
 abbrev pub digit_step : ℕ → ℕ → ℕ
-digit_step v d = v * 10 + (d - 48)
+digit_step v d = v * 10 + (d - byte "0")
 
-pub decimal_grows : (digits : List ℕ) (v : ℕ) → v ≤ fold digit_step v digits
-decimal_grows [] v = omega arith
-decimal_grows (d ∷ digits) v = omega (arith, decimal_grows digits (digit_step v d))
+pub digits_grow : (digits : List ℕ) (v : ℕ) → v ≤ fold digit_step v digits
+digits_grow [] v = omega arith
+digits_grow (d ∷ digits) v = omega (arith, digits_grow digits (digit_step v d))
 
 -- digits whose value so far is too large
-pub too_large_from : (digits : List ℕ) (i v : ℕ) → i < length digits → fold digit_step v (drop i digits) ≡ decimal digits → 2 ^ 64 ≤ v * 10 + (get_or digits i 0 - 48) → nat_le (decimal digits) 9223372036854775807 ≡ false
+pub too_large_from : (digits : List ℕ) (i v : ℕ) → i < length digits → fold digit_step v (drop i digits) ≡ number_of_digits digits → 2 ^ 64 ≤ v * 10 + (get_or digits i 0 - byte "0") → nat_le (number_of_digits digits) greatest_literal ≡ false
 too_large_from digits i v within goes_on large =
-    let grown : v * 10 + (get_or digits i 0 - 48) ≤ fold digit_step v (drop i digits) =
-    rw (drop-cons digits i 0) (decimal_grows (drop (suc i) digits) (digit_step v (get_or digits i 0))) in
+    let grown : v * 10 + (get_or digits i 0 - byte "0") ≤ fold digit_step v (drop i digits) =
+    rw (drop-cons digits i 0) (digits_grow (drop (suc i) digits) (digit_step v (get_or digits i 0))) in
     grind (arith, common_steps, nat_tests)
 
 pub ruleset prefixes = (prefix_len-le-length)

@@ -1,8 +1,8 @@
--- what the lexer calls a front
+-- the fronts that the code finds
 use Rattle.std.specs.Prelude.{ℕ}
 use Rattle.array_tokens.specs.Lexemes.{Front, gap, piece, no_token, too_large, lexeme_of}
-use Rattle.array_tokens.specs.declared.lexer.Front.{Front as Found}
-use Rattle.array_tokens.specs.declared.lexer.Front.TheVariants.{Gap, Piece, NoToken, TooLarge}
+use Rattle.array_tokens.specs.declared.lexer.Found.{Found}
+use Rattle.array_tokens.specs.declared.lexer.Found.TheVariants.{Gap, Piece, NoToken, TooLarge}
 
 abbrev pub seen : Found → Front
 seen Gap = gap

@@ -1,8 +1,8 @@
 -- How bytes are cut into tokens, the longest token first.
-use Rattle.std.specs.Prelude.{ℕ, ℤ, pos, suc, zero, ◌+◌, ◌-◌, ◌*◌, ◌==◌, nat_lt, nat_le, Bool, ◌||◌, ◌&&◌, not, List, [], ◌∷◌, ◌++◌, map, Option, Some, None, Result, Ok, Err, if◌then◌else◌, take_while, codes, fold, position, ◌≡◌}
-use Rattle.std.specs.Cmp.Lexicographic.{pointwise}
+use Rattle.std.specs.Prelude.{ℕ, suc, zero, ◌+◌, ◌-◌, ◌*◌, ◌==◌, nat_lt, nat_le, Bool, ◌||◌, ◌&&◌, not, List, [], ◌∷◌, ◌++◌, map, Option, Some, None, Result, Ok, Err, if◌then◌else◌, take_while, codes, bytes_eq, fold, position, ◌≡◌}
 use Rattle.std.specs.List.{prefix_len}
-use Rattle.std.specs.Prelude.{nat_eq}
+use Rattle.std.specs.Str.{byte}
+use Rattle.array_tokens.specs.Literals.{greatest_literal}
 use Rattle.array_tokens.specs.declared.token.Word.{Word}
 use Rattle.array_tokens.specs.declared.token.Word.TheVariants.{Array, Par, Team, Barrier, For, In, By, If, Else}
 use Rattle.array_tokens.specs.declared.token.Sign.{Sign}
@@ -16,7 +16,7 @@ use Rattle.array_tokens.specs.declared.fault.TokenFault.TheVariants.{NotAscii, B
 -- a token without its place
 pub data Lexeme : Type 0 where
   name : (bytes : List ℕ) → Lexeme
-  number : (value : ℤ) → Lexeme
+  number : (value : ℕ) → Lexeme
   word : (w : Word) → Lexeme
   sign : (s : Sign) → Lexeme
 
@@ -28,7 +28,7 @@ pub record Spot : Type 0 where
 
 abbrev pub lexeme_of : Kind → Lexeme
 lexeme_of (kinds.Name bytes) = name bytes.now
-lexeme_of (kinds.Number value) = number value
+lexeme_of (kinds.Number literal) = number literal
 lexeme_of (kinds.Word w) = word w
 lexeme_of (kinds.Sign s) = sign s
 
@@ -46,61 +46,61 @@ pub data Front : Type 0 where
   too_large : Front
 
 abbrev pub is_blank : ℕ → Bool
-is_blank b = b == 32 || b == 9 || b == 10 || b == 13
+is_blank b = b == byte " " || b == byte "\t" || b == byte "\n" || b == byte "\r"
+
+-- whether a byte is from one to another
+abbrev pub is_from : ℕ → ℕ → ℕ → Bool
+is_from first last b = nat_le first b && nat_le b last
 
 abbrev pub is_digit : ℕ → Bool
-is_digit b = nat_le 48 b && nat_le b 57
+is_digit b = is_from (byte "0") (byte "9") b
 
 abbrev pub is_letter : ℕ → Bool
-is_letter b = (nat_le 65 b && nat_le b 90) || (nat_le 97 b && nat_le b 122) || b == 95
+is_letter b = is_from (byte "A") (byte "Z") b || is_from (byte "a") (byte "z") b || b == byte "_"
 
 abbrev pub is_name_byte : ℕ → Bool
 is_name_byte b = is_letter b || is_digit b
 
 abbrev pub is_in_line : ℕ → Bool
-is_in_line b = not (b == 10)
+is_in_line b = not (b == byte "\n")
 
-abbrev pub decimal : List ℕ → ℕ
-decimal digits = fold (λ v d. v * 10 + (d - 48)) 0 digits
+-- the number that digits spell, the highest first
+abbrev pub number_of_digits : List ℕ → ℕ
+number_of_digits digits = fold (λ v d. v * 10 + (d - byte "0")) 0 digits
 
+-- what stands beside this text in a table
+abbrev pub entry_of : {X : Type 0} → List (List ℕ × X) → List ℕ → Option X
+entry_of [] text = None
+entry_of (entry ∷ rest) text = if bytes_eq text entry.0 then Some entry.1 else entry_of rest text
+
+abbrev pub words : List (List ℕ × Word)
+words =
+    (codes "array", Array) ∷ (codes "par", Par) ∷ (codes "team", Team)
+    ∷ (codes "barrier", Barrier) ∷ (codes "for", For) ∷ (codes "in", In)
+    ∷ (codes "by", By) ∷ (codes "if", If) ∷ (codes "else", Else) ∷ []
+
+-- the word with this text
 abbrev pub word_of : List ℕ → Option Word
-word_of bytes =
-    if pointwise nat_eq bytes (codes "array") then Some Array
-    else if pointwise nat_eq bytes (codes "par") then Some Par
-    else if pointwise nat_eq bytes (codes "team") then Some Team
-    else if pointwise nat_eq bytes (codes "barrier") then Some Barrier
-    else if pointwise nat_eq bytes (codes "for") then Some For
-    else if pointwise nat_eq bytes (codes "in") then Some In
-    else if pointwise nat_eq bytes (codes "by") then Some By
-    else if pointwise nat_eq bytes (codes "if") then Some If
-    else if pointwise nat_eq bytes (codes "else") then Some Else
-    else None
+word_of text = entry_of words text
 
 abbrev pub named : List ℕ → Option Word → Lexeme
 named bytes (Some w) = word w
 named bytes None = name bytes
 
--- the signs of one byte and of two
-abbrev pub sign_one : ℕ → Option Sign
-sign_one b =
-    if b == 91 then Some OpenIndex else if b == 93 then Some CloseIndex
-    else if b == 123 then Some OpenBlock else if b == 125 then Some CloseBlock
-    else if b == 40 then Some OpenGroup else if b == 41 then Some CloseGroup
-    else if b == 59 then Some Semicolon else if b == 61 then Some Assign
-    else if b == 43 then Some Plus else if b == 45 then Some Minus
-    else if b == 42 then Some Star else if b == 60 then Some Less
-    else if b == 62 then Some Greater else if b == 47 then Some Slash
-    else if b == 37 then Some Percent else None
+abbrev pub signs : List (List ℕ × Sign)
+signs =
+    (codes "[", OpenIndex) ∷ (codes "]", CloseIndex) ∷ (codes "{", OpenBlock)
+    ∷ (codes "}", CloseBlock) ∷ (codes "(", OpenGroup) ∷ (codes ")", CloseGroup)
+    ∷ (codes ";", Semicolon) ∷ (codes "=", Assign) ∷ (codes "+", Plus) ∷ (codes "-", Minus)
+    ∷ (codes "*", Star) ∷ (codes "/", Slash) ∷ (codes "%", Percent) ∷ (codes "<", Less)
+    ∷ (codes ">", Greater) ∷ (codes "<=", LessEq) ∷ (codes ">=", GreaterEq)
+    ∷ (codes "==", Equal) ∷ (codes "!=", NotEqual) ∷ (codes "..", Range) ∷ []
 
-abbrev pub sign_two : ℕ → ℕ → Option Sign
-sign_two b c =
-    if b == 60 && c == 61 then Some LessEq
-    else if b == 62 && c == 61 then Some GreaterEq
-    else if b == 61 && c == 61 then Some Equal
-    else if b == 33 && c == 61 then Some NotEqual
-    else if b == 46 && c == 46 then Some Range else None
+-- the sign with this text
+abbrev pub sign_of : List ℕ → Option Sign
+sign_of text = entry_of signs text
 
--- the longest sign, and its length
+-- The longer of two signs, that of two bytes and that of one, and its length.
 abbrev pub longest : Option Sign → Option Sign → Front × ℕ
 longest (Some s) one = (piece (sign s), 2)
 longest None (Some s) = (piece (sign s), 1)
@@ -108,21 +108,21 @@ longest None None = (no_token, 1)
 
 abbrev pub sign_front : List ℕ → Front × ℕ
 sign_front [] = (no_token, 1)
-sign_front (b ∷ []) = longest None (sign_one b)
-sign_front (b ∷ c ∷ rest) = longest (sign_two b c) (sign_one b)
+sign_front (b ∷ []) = longest None (sign_of (b ∷ []))
+sign_front (b ∷ c ∷ rest) = longest (sign_of (b ∷ c ∷ [])) (sign_of (b ∷ []))
 
 abbrev pub name_front : List ℕ → Front
 name_front bytes = piece (named bytes (word_of bytes))
 
 abbrev pub number_front : List ℕ → Front
-number_front digits = if nat_le (decimal digits) 9223372036854775807
-    then piece (number (pos (decimal digits))) else too_large
+number_front digits = if nat_le (number_of_digits digits) greatest_literal
+    then piece (number (number_of_digits digits)) else too_large
 
 -- what stands at the front of bytes that begin with the byte, the longest token first, and how many bytes it takes
 abbrev pub front_of : ℕ → List ℕ → Front × ℕ
 front_of first bytes =
     if is_blank first then (gap, 1)
-    else if first == 35 then (gap, prefix_len is_in_line bytes)
+    else if first == byte "#" then (gap, prefix_len is_in_line bytes)
     else if is_letter first then
     (name_front (take_while is_name_byte bytes), prefix_len is_name_byte bytes)
     else if is_digit first then
@@ -130,7 +130,7 @@ front_of first bytes =
     else sign_front bytes
 
 abbrev pub line_after : ℕ → ℕ → ℕ
-line_after line b = if b == 10 then line + 1 else line
+line_after line b = if b == byte "\n" then line + 1 else line
 
 -- tokens, and then those of the rest, or its fault
 abbrev pub with_tokens : List Spot → Result (List Spot) TokenFault → Result (List Spot) TokenFault

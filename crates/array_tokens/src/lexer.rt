@@ -1,17 +1,19 @@
 //! Bytes to tokens.
 
-ghost use Rattle.std.specs.Prelude.{◌≡◌, ℕ, pos, ◌<◌, ◌≤◌, ◌^◌, ◌==◌, nat_le, if◌then◌else◌, map, length, slice_index, position, not, IfSome, count_by, Result, OnOk, IfErr, List, Option, Some, None};
-ghost use Rattle.array_tokens.specs.Lexemes.{is_ascii, is_name_byte, is_blank, is_digit, is_letter, is_in_line, word_of, sign_one, sign_two, decimal, front_of, sign_front, Spot, with_tokens, then_cut, Fails, cut, spots, tokens_of, lexeme_of, named, Gives};
+ghost use Rattle.std.specs.Prelude.{◌≡◌, ℕ, ◌<◌, ◌≤◌, ◌^◌, ◌==◌, nat_le, if◌then◌else◌, map, length, slice_index, position, not, IfSome, IfOk, count_by, Result, OnOk, IfErr, List, [], ◌∷◌, Option, Some, None};
+ghost use Rattle.array_tokens.specs.Lexemes.{is_ascii, is_name_byte, is_blank, is_digit, is_letter, is_in_line, word_of, sign_of, number_of_digits, front_of, sign_front, Spot, with_tokens, then_cut, Fails, cut, spots, tokens_of, lexeme_of, named, Gives};
+ghost use Rattle.array_tokens.specs.Literals.{greatest_literal};
 ghost use Rattle.std.specs.List.{prefix_len};
-ghost use Rattle.array_tokens.specs.Fronts.{seen, fronts};
+ghost use Rattle.std.specs.Str.{byte};
+ghost use Rattle.array_tokens.specs.Fronts.{fronts};
 
 use crate::fault::TokenFault;
-use crate::token::{Kind, Sign, Token, Word};
+use crate::token::{Kind, Literal, Sign, Token, Word};
 use std::alloc::Global;
 
 /// What stands at the front of a text.
 #[derive(Clone, Copy)]
-enum Front<'t> {
+enum Found<'t> {
     Gap,
     Piece(Kind<'t>),
     NoToken,
@@ -46,8 +48,7 @@ fn cut(alloc: Global, text: &[u8]) -> Result<Vec<Token<'_>>, TokenFault>
     let mut at = 0;
     let mut line = 1;
     while !rest.is_empty() {
-        let (front, length) = next_front(rest);
-        add_front(&mut found, front, at, line)?;
+        let length = add_front(&mut found, rest, at, line)?;
         let (piece, after) = rest.split_at(length);
         line += newlines(piece);
         at += length;
@@ -56,44 +57,51 @@ fn cut(alloc: Global, text: &[u8]) -> Result<Vec<Token<'_>>, TokenFault>
     Ok(found)
 }
 
-// Adds the token of a front.
+// Adds the token at the front of the bytes, if one stands there, and gives how many bytes the front takes.
 fn add_front<'t>(
     found: &mut Vec<Token<'t>>,
-    front: Front<'t>,
+    bytes: &'t [u8],
     at: usize,
     line: usize,
-) -> Result<(), TokenFault>
+) -> Result<usize, TokenFault>
+    requires some { 0 < length bytes.now }
     requires place { at < 2 ^ 32 }
     requires line { line < 2 ^ 32 }
     ensures ok { OnOk result ((rest : Result (List Spot) TokenFault) →
         with_tokens (spots found.new.items) rest
-        ≡ with_tokens (spots found.old.items) (then_cut (seen front.entry) at line rest)) }
+        ≡ with_tokens (spots found.old.items)
+        (then_cut (front_of (slice_index bytes.now 0) bytes.now).0 at line rest)) }
+    ensures length { IfOk result (λ length.
+        length ≡ (front_of (slice_index bytes.now 0) bytes.now).1) }
+    ensures some { IfOk result (λ length. 0 < length) }
+    ensures within { IfOk result (λ taken. taken ≤ length bytes.now) }
     ensures err { IfErr result (λ fault. (rest : Result (List Spot) TokenFault) →
         Fails fault (with_tokens (spots found.old.items)
-        (then_cut (seen front.entry) at line rest))) }
+        (then_cut (front_of (slice_index bytes.now 0) bytes.now).0 at line rest))) }
 {
+    let (front, length) = next_front(bytes);
     let at = at as u32;
     let line = line as u32;
     match front {
-        Front::Gap => Ok(()),
-        Front::Piece(kind) => match found.push(Token { kind, at, line }) {
-            Ok(()) => Ok(()),
+        Found::Gap => Ok(length),
+        Found::Piece(kind) => match found.push(Token { kind, at, line }) {
+            Ok(()) => Ok(length),
             Err(_) => Err(TokenFault::Memory),
         },
-        Front::NoToken => Err(TokenFault::BadToken { at }),
-        Front::TooLarge => Err(TokenFault::NumberTooLarge { at }),
+        Found::NoToken => Err(TokenFault::BadToken { at }),
+        Found::TooLarge => Err(TokenFault::NumberTooLarge { at }),
     }
 }
 
 fn newlines(bytes: &[u8]) -> usize
-    ensures count { result ≡ count_by (λ b. b == 10) bytes.now }
+    ensures count { result ≡ count_by (λ b. b == byte "\n") bytes.now }
     ensures bound { result ≤ length bytes.now }
 {
     bytes.iter().filter(|byte| **byte == b'\n').count()
 }
 
 // What stands at the front, and how many bytes it takes.
-fn next_front(bytes: &[u8]) -> (Front<'_>, usize)
+fn next_front(bytes: &[u8]) -> (Found<'_>, usize)
     requires { 0 < length bytes.now }
     ensures front { fronts result ≡ front_of (slice_index bytes.now 0) bytes.now }
     ensures some { 0 < result.1 }
@@ -101,24 +109,24 @@ fn next_front(bytes: &[u8]) -> (Front<'_>, usize)
 {
     let first = bytes[0];
     if is_blank(first) {
-        (Front::Gap, 1)
+        (Found::Gap, 1)
     } else if first == b'#' {
-        (Front::Gap, comment_length(bytes))
+        (Found::Gap, comment_length(bytes))
     } else if is_letter(first) {
         let length = name_length(bytes);
-        (Front::Piece(name_kind(&bytes[..length])), length)
+        (Found::Piece(name_kind(&bytes[..length])), length)
     } else if first.is_ascii_digit() {
         let length = digits_length(bytes);
         match number(&bytes[..length]) {
-            Some(value) => (Front::Piece(Kind::Number(value)), length),
-            None => (Front::TooLarge, length),
+            Some(literal) => (Found::Piece(Kind::Number(literal)), length),
+            None => (Found::TooLarge, length),
         }
     } else {
         sign_front(bytes)
     }
 }
 
-fn sign_front(bytes: &[u8]) -> (Front<'_>, usize)
+fn sign_front(bytes: &[u8]) -> (Found<'_>, usize)
     requires { 0 < length bytes.now }
     ensures front { fronts result ≡ sign_front bytes.now }
     ensures some { 0 < result.1 }
@@ -126,12 +134,12 @@ fn sign_front(bytes: &[u8]) -> (Front<'_>, usize)
 {
     if bytes.len() > 1 {
         if let Some(sign) = sign_two(bytes[0], bytes[1]) {
-            return (Front::Piece(Kind::Sign(sign)), 2);
+            return (Found::Piece(Kind::Sign(sign)), 2);
         }
     }
     match sign_one(bytes[0]) {
-        Some(sign) => (Front::Piece(Kind::Sign(sign)), 1),
-        None => (Front::NoToken, 1),
+        Some(sign) => (Found::Piece(Kind::Sign(sign)), 1),
+        None => (Found::NoToken, 1),
     }
 }
 
@@ -145,9 +153,9 @@ fn name_kind(bytes: &[u8]) -> Kind<'_>
 }
 
 // The value of digits, if it isn't too large.
-fn number(digits: &[u8]) -> Option<i64>
-    ensures { result ≡ (if nat_le (decimal digits.now) 9223372036854775807
-        then Some (pos (decimal digits.now)) else None) }
+fn number(digits: &[u8]) -> Option<Literal>
+    ensures { result ≡ (if nat_le (number_of_digits digits.now) greatest_literal
+        then Some (number_of_digits digits.now) else None) }
 {
     let mut value = 0u64;
     for digit in digits {
@@ -155,11 +163,7 @@ fn number(digits: &[u8]) -> Option<i64>
             .checked_mul(10)?
             .checked_add((*digit).saturating_sub(b'0') as u64)?;
     }
-    if value <= i64::MAX as u64 {
-        Some(value as i64)
-    } else {
-        None
-    }
+    Literal::new(value)
 }
 
 fn is_letter(byte: u8) -> bool
@@ -186,7 +190,7 @@ fn digits_length(bytes: &[u8]) -> usize
 }
 
 fn sign_two(first: u8, second: u8) -> Option<Sign>
-    ensures { result ≡ sign_two first second }
+    ensures { result ≡ sign_of (first ∷ second ∷ []) }
 {
     match (first, second) {
         (b'<', b'=') => Some(Sign::LessEq),
@@ -243,7 +247,7 @@ fn word_of(bytes: &[u8]) -> Option<Word>
 }
 
 fn sign_one(byte: u8) -> Option<Sign>
-    ensures { result ≡ sign_one byte }
+    ensures { result ≡ sign_of (byte ∷ []) }
 {
     match byte {
         b'[' => Some(Sign::OpenIndex),

@@ -7,4 +7,4 @@ mod token;
 
 pub use fault::TokenFault;
 pub use lexer::tokens;
-pub use token::{Kind, Sign, Token, Word};
+pub use token::{Kind, Literal, Sign, Token, Word};

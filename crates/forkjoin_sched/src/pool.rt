@@ -70,7 +70,7 @@ impl<'p> Model for Pool<'p> {
     ghost use Rattle.array_tree.specs.contracts.tree.Arrays as arrays_type;
     ghost use Rattle.array_tree.specs.contracts.tree.Block as block_type;
     ghost use Rattle.step_eval.specs.contracts.stage.Stage as stage_type;
-    ghost use Rattle.step_eval.specs.Codes.{coded_sequence};
+    ghost use Rattle.step_eval.specs.Inside.Codes.{coded_sequence};
     ghost use Rattle.lithe_mutex.specs.Mutex.{Free};
     ghost use Rattle.forkjoin_sched.specs.Pools.{PoolParts, free_book};
 

@@ -2,7 +2,7 @@
 use Rattle.std.specs.Prelude.{◌≡◌, ℕ, ◌<◌, List, [], ◌∷◌, length, map, slice_get, slice_set, replicate, Some}
 use Rattle.array_meaning.specs.Stores.{Write}
 use Rattle.array_meaning.specs.Pieces.{merged}
-use Rattle.array_eval.specs.Overlays.{Laid}
+use Rattle.array_eval.specs.Overlays.{cell_numbers, Laid}
 use Rattle.array_eval.specs.Traces.{Trace, marked}
 use Rattle.array_jobs.specs.Jobs.{JobParts, job_of, IsFit}
 use Rattle.array_jobs.specs.Groups.{IsGroup}
@@ -76,7 +76,7 @@ HaveCells book cells = (i : ℕ) (job : JobParts) → slice_get book.jobs i ≡ 
 -- A store of the jobs' cells, of which none is marked.
 pub record IsBlank (book : BookParts) (store : Trace) : Type 0 where
   pub cells : HaveCells book (length store.cells)
-  pub few : length store.cells < 65536
+  pub few : length store.cells < cell_numbers
   pub marks : length store.marks ≡ length store.cells
   pub unmarked : marked store ≡ []
 

@@ -16,7 +16,7 @@ fn are_the_longest(found: &[Token<'_>]) -> bool {
         [name, first, number, range, second, word, last] => {
             matches!(name.kind, Kind::Name(name) if name == b"forx".as_slice())
                 && is_sign_at(first, Sign::LessEq, 4, 1)
-                && matches!(number.kind, Kind::Number(7))
+                && is_number(&number.kind, 7)
                 && is_sign_at(range, Sign::Range, 9, 1)
                 && is_sign_at(second, Sign::Less, 12, 2)
                 && matches!(word.kind, Kind::Word(Word::Par))
@@ -42,7 +42,14 @@ fn tells_the_first_fault(rt: HostRuntime) -> Result<(), Fail> {
 // Whether this is the largest number alone.
 fn is_largest(found: &[Token<'_>]) -> bool {
     match found {
-        [number] => matches!(number.kind, Kind::Number(i64::MAX)),
+        [number] => is_number(&number.kind, i64::MAX),
+        _ => false,
+    }
+}
+
+fn is_number(kind: &Kind<'_>, value: i64) -> bool {
+    match kind {
+        Kind::Number(literal) => literal.value() == value,
         _ => false,
     }
 }

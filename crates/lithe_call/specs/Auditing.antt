@@ -43,6 +43,6 @@ status_by (verdict.Differs line) = status.Illegal
 status_by (verdict.Illegal fault) = status.Illegal
 
 -- the status of an answer, by what it tells
-abbrev pub ended : Ending → Status
-ended ending.Written = status.Done
-ended ending.Illegal = status.Illegal
+abbrev pub status_of_ending : Ending → Status
+status_of_ending ending.Written = status.Done
+status_of_ending ending.Illegal = status.Illegal

@@ -4,6 +4,7 @@ use Rattle.array_tree.specs.Trees.{ProgramTree}
 use Rattle.array_lang.specs.Spelled.{Spells, HasFault}
 use Rattle.array_lang.specs.declared.fault.SyntaxFault.{SyntaxFault}
 use Rattle.array_lang.specs.declared.fault.SyntaxFault.TheVariants as syntax
+use Rattle.array_meaning.specs.Bounds.{most_bytes}
 use Rattle.array_meaning.specs.Accepted.{IsAccepted}
 use Rattle.disjoint_check.specs.FaultOf.{check_fault_of}
 use Rattle.disjoint_check.specs.declared.fault.CheckFault.{CheckFault}
@@ -11,7 +12,7 @@ use Rattle.disjoint_check.specs.declared.fault.CheckFault.TheVariants as check
 use Rattle.error_text.specs.SyntaxText.{syntax_text}
 use Rattle.error_text.specs.RefusalText.{refusal_text}
 use Rattle.lithe_call.specs.Inputs.{ReadsAll, GivesTooMuch, FailsToRead}
-use Rattle.lithe_call.specs.Programs.{program_limit, made_text, SpellAccepted}
+use Rattle.lithe_call.specs.Programs.{made_text, SpellAccepted}
 use Rattle.lithe_call.specs.Auditing.{HasParts, found_in}
 use Rattle.command_words.specs.Form.{form_of}
 use Rattle.command_words.specs.declared.command.Command.{Command}
@@ -25,7 +26,7 @@ use Rattle.lithe_call.specs.declared.fault.Fault.TheVariants as fault
 
 -- bytes within the limit spell no program, and the line tells their first fault, which isn't want of memory
 pub record SpellNothing (bytes line : List ℕ) : Type 0 where
-  pub short : length bytes ≤ program_limit
+  pub short : length bytes ≤ most_bytes
   pub nothing : (program : ProgramTree) → Spells bytes program → ⊥
   pub fault : SyntaxFault
   pub first : HasFault bytes fault
@@ -34,7 +35,7 @@ pub record SpellNothing (bytes line : List ℕ) : Type 0 where
 
 -- bytes within the limit spell a program that isn't accepted, and the line tells the first condition that it fails
 pub record SpellRefused (bytes line : List ℕ) : Type 0 where
-  pub short : length bytes ≤ program_limit
+  pub short : length bytes ≤ most_bytes
   pub program : ProgramTree
   pub spelled : Spells bytes program
   pub refused : IsAccepted program → ⊥
@@ -80,7 +81,7 @@ IsRefused (Make seed size harts) bytes line = SpellRefused (made_text seed size)
 abbrev pub IsLong : Command → List ℕ → Type 0
 IsLong (Run harts) bytes = ⊥
 IsLong Solo bytes = ⊥
-IsLong (Audit harts) bytes = HasParts (λ first second. program_limit < length first) bytes
+IsLong (Audit harts) bytes = HasParts (λ first second. most_bytes < length first) bytes
 IsLong (Make seed size harts) bytes = ⊥
 
 -- The cause of a fault of the command, by what the source had left before and has left after, and by its count of faults

@@ -1,16 +1,17 @@
 -- What commands read.
 use Rattle.std.specs.Prelude.{◌≡◌, ℕ, List, Option, Some}
+use Rattle.array_meaning.specs.Bounds.{most_bytes}
 use Rattle.outside_io.specs.Outside.{Rose}
+use Rattle.run_audit.specs.Parts.{most_audited}
 use Rattle.lithe_call.specs.Telling.{GivesAll, GivesMore}
-use Rattle.lithe_call.specs.Programs.{program_limit}
 use Rattle.command_words.specs.declared.command.Command.{Command}
 use Rattle.command_words.specs.declared.command.Command.TheVariants.{Run, Solo, Audit, Make}
 
 -- the greatest length of a command's input, in bytes; `make` reads none
 abbrev pub limit_of : Command → ℕ
-limit_of (Run harts) = program_limit
-limit_of Solo = program_limit
-limit_of (Audit harts) = 4194304
+limit_of (Run harts) = most_bytes
+limit_of Solo = most_bytes
+limit_of (Audit harts) = most_audited
 limit_of (Make seed size harts) = 0
 
 -- the command read these bytes, which were all that the source had left; `make` reads nothing
@@ -22,9 +23,9 @@ ReadsAll (Make seed size harts) left bytes left' = left' ≡ left
 
 -- the source gave more than the command's input may have
 abbrev pub GivesTooMuch : Command → Option (List ℕ) → Option (List ℕ) → Type 0
-GivesTooMuch (Run harts) left left' = GivesMore left program_limit left'
-GivesTooMuch Solo left left' = GivesMore left program_limit left'
-GivesTooMuch (Audit harts) left left' = GivesMore left 4194304 left'
+GivesTooMuch (Run harts) left left' = GivesMore left most_bytes left'
+GivesTooMuch Solo left left' = GivesMore left most_bytes left'
+GivesTooMuch (Audit harts) left left' = GivesMore left most_audited left'
 GivesTooMuch (Make seed size harts) left left' = ⊥
 
 -- these bytes are the command's input, as the source told beforehand; for `make` any will do

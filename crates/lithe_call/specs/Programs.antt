@@ -4,6 +4,7 @@ use Rattle.transfer_table.specs.Plan.{Plan}
 use Rattle.array_tree.specs.Trees.{ProgramTree}
 use Rattle.array_lang.specs.Spelled.{Spells}
 use Rattle.array_print.specs.Texts.{printed}
+use Rattle.array_meaning.specs.Bounds.{most_bytes}
 use Rattle.array_meaning.specs.Plans.{plan_of}
 use Rattle.array_meaning.specs.Accepted.{IsAccepted}
 use Rattle.program_maker.specs.Made.{made_program}
@@ -16,12 +17,8 @@ table_plan program harts = record { harts = harts; parents = plan_of program }
 abbrev pub made_text : ℕ → ℕ → List ℕ
 made_text seed size = printed (made_program seed size)
 
--- the greatest length of a program, in bytes
-abbrev pub program_limit : ℕ
-program_limit = 65536
-
 -- these bytes spell an accepted program
 pub record SpellAccepted (bytes : List ℕ) (program : ProgramTree) : Type 0 where
-  pub short : length bytes ≤ program_limit
+  pub short : length bytes ≤ most_bytes
   pub spelled : Spells bytes program
   pub accepted : IsAccepted program

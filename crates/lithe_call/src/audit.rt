@@ -1,12 +1,15 @@
 //! From bytes to the verdict on the output that stands behind their program.
 ghost use Rattle.std.specs.Prelude.{◌≡◌, ◌≤◌, ◌++◌, ◌∷◌, [], codes, length, IfOk, IfErr, Result, Ok, Err};
+ghost use Rattle.array_meaning.specs.Bounds.{most_bytes};
 ghost use Rattle.command_words.specs.declared.command.Command.TheVariants.{Audit};
-ghost use Rattle.lithe_call.specs.Auditing.{AreFound, ended, status_by};
+ghost use Rattle.run_audit.specs.Parts.{most_audited};
+ghost use Rattle.lithe_call.specs.Auditing.{AreFound, status_of_ending, status_by};
 ghost use Rattle.lithe_call.specs.Output.{IsAuditOf};
 ghost use Rattle.lithe_call.specs.Faults.{IsNoOutput, HaveNoVerdict};
 ghost use Rattle.lithe_call.specs.Lines.{TellsText};
 
 use crate::answer::{Answer, Ending};
+use crate::command::MOST_BYTES;
 use crate::fault::Fault;
 use crate::run::{refusal, syntax_fault};
 use array_lang::parse;
@@ -15,22 +18,19 @@ use journal_text::TextFault;
 use run_audit::{Verdict, audit, parts_of, text_fault_line, verdict_line};
 use std::alloc::Global;
 
-/// The greatest length of a program, in bytes.
-const LIMIT: usize = 65_536;
-
 /// The line of the verdict on the output that stands behind a program, or why there is none.
 pub fn audited(alloc: Global, harts: u8, bytes: &[u8]) -> Result<Answer, Fault>
-    requires short { length bytes.now ≤ 4194304 }
+    requires short { length bytes.now ≤ most_audited }
     requires some_hart { 1 ≤ harts }
     requires few_harts { harts ≤ 4 }
     ensures output { IfOk result
-        (λ answer. IsAuditOf harts bytes.now (ended answer.ending) answer.text.items) }
+        (λ answer. IsAuditOf harts bytes.now (status_of_ending answer.ending) answer.text.items) }
     ensures fault { IfErr result (IsNoOutput (Audit harts) bytes.now) }
 {
     let Some((first, second)) = parts_of(bytes) else {
         return Err(Fault::Syntax(b"syntax: no line %%\n".to_vec(alloc)?));
     };
-    if first.len() > LIMIT {
+    if first.len() > MOST_BYTES {
         return Err(Fault::TooLong);
     }
     let verdict = verdict(alloc, harts, first, second)?;
@@ -41,7 +41,7 @@ pub fn audited(alloc: Global, harts: u8, bytes: &[u8]) -> Result<Answer, Fault>
 
 // What the line of a verdict tells.
 fn ending(verdict: Verdict) -> Ending
-    ensures { ended result ≡ status_by verdict }
+    ensures { status_of_ending result ≡ status_by verdict }
 {
     match verdict {
         Verdict::Legal(_) => Ending::Written,
@@ -51,8 +51,8 @@ fn ending(verdict: Verdict) -> Ending
 
 // The verdict on the second part by the program of the first.
 fn verdict(alloc: Global, harts: u8, first: &[u8], second: &[u8]) -> Result<Verdict, Fault>
-    requires short { length first.now ≤ 65536 }
-    requires short_output { length second.now ≤ 4194304 }
+    requires short { length first.now ≤ most_bytes }
+    requires short_output { length second.now ≤ most_audited }
     requires some_hart { 1 ≤ harts }
     requires few_harts { harts ≤ 4 }
     ensures found { IfOk result (λ verdict. AreFound harts verdict first.now second.now) }

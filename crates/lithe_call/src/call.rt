@@ -1,6 +1,7 @@
 //! The top call: from the words and the input to the output and the status.
 ghost use Rattle.std.specs.Prelude.{◌≡◌, ◌≢◌, ◌⊎◌, ◌≤◌, true, length, ℕ, List, map, string_bytes, vec_len, Some, None, IfOk, IfErr, IsErrOf};
 ghost use Rattle.outside_io.specs.Outside.{Rose};
+ghost use Rattle.array_meaning.specs.Bounds.{most_bytes};
 ghost use Rattle.command_words.specs.declared.command.Command.{Command};
 ghost use Rattle.command_words.specs.declared.command.Command.TheVariants.{Make};
 ghost use Rattle.lithe_call.specs.declared.status.Status.{Status};
@@ -8,7 +9,7 @@ ghost use Rattle.lithe_call.specs.Telling.{Tells};
 ghost use Rattle.command_words.specs.Form.{form_of};
 ghost use Rattle.lithe_call.specs.Command.{harts_in, size_in, runs_programs};
 ghost use Rattle.lithe_call.specs.Inputs.{limit_of, AreInput, ReadsAll, GivesTooMuch, FailsToRead};
-ghost use Rattle.lithe_call.specs.Auditing.{ended};
+ghost use Rattle.lithe_call.specs.Auditing.{status_of_ending};
 ghost use Rattle.lithe_call.specs.Output.{IsOutputOf, IsRunOf, EndsWith};
 ghost use Rattle.lithe_call.specs.Faults.{IsFault, IsNoOutput, IsNoRun};
 ghost use Rattle.lithe_call.specs.FaultOf.{status_of, line_of};
@@ -97,7 +98,7 @@ pub fn lithe<R: Threads + Wait + Sync, A: Source, B: Sink, E: Sink, G: Gate>(
             if !write_all(out, &answer.text) {
                 tell(err, Status::WriteFault)
             } else {
-                ended(answer.ending)
+                status_of_ending(answer.ending)
             }
         }
     }
@@ -122,8 +123,8 @@ pub fn no_memory_for_words<E: Sink>(err: &mut E) -> Status
 }
 
 // The status of an answer that was written.
-fn ended(ending: Ending) -> Status
-    ensures { result ≡ ended ending }
+fn status_of_ending(ending: Ending) -> Status
+    ensures { result ≡ status_of_ending ending }
 {
     match ending {
         Ending::Written => Status::Done,
@@ -160,7 +161,7 @@ fn output_of<R: Threads + Wait + Sync, G: Gate, A: Source>(
     source: &mut A,
 ) -> Result<Answer, Fault>
     ensures output { IfOk result (λ answer. IsOutputFor (map string_bytes words.now)
-        (A.left source.old) (A.left source.new) (ended answer.ending) answer.text.items) }
+        (A.left source.old) (A.left source.new) (status_of_ending answer.ending) answer.text.items) }
     ensures fault { IfErr result (λ fault. IsFault (map string_bytes words.now) fault
         (A.left source.old) (A.left source.new) (A.faults source.old) (A.faults source.new)) }
     ensures stays { form_of (map string_bytes words.now) ≡ None → source.new ≡ source.old }
@@ -202,12 +203,12 @@ fn run_of<R: Threads + Wait + Sync, G: Gate>(
     command: Command,
     bytes: &[u8],
 ) -> Result<Answer, Fault>
-    requires short { length bytes.now ≤ 65536 }
+    requires short { length bytes.now ≤ most_bytes }
     requires runs { runs_programs command ≡ true }
     requires some_hart { 1 ≤ harts_in command }
     requires few_harts { harts_in command ≤ 4 }
     ensures output { IfOk result (λ answer. IsRunOf command bytes.now answer.text.items) }
-    ensures done { IfOk result (λ answer. ended answer.ending ≡ Status.Done) }
+    ensures done { IfOk result (λ answer. status_of_ending answer.ending ≡ Status.Done) }
     ensures fault { IfErr result (IsNoRun bytes.now) }
 {
     Ok(Answer {
@@ -230,7 +231,7 @@ fn answer_to<R: Threads + Wait + Sync, G: Gate>(
     requires some_size { 1 ≤ size_in command }
     requires small_size { size_in command ≤ 40 }
     ensures output { IfOk result
-        (λ answer. IsOutputOf command bytes.now (ended answer.ending) answer.text.items) }
+        (λ answer. IsOutputOf command bytes.now (status_of_ending answer.ending) answer.text.items) }
     ensures fault { IfErr result (IsNoOutput command bytes.now) }
 {
     match command {

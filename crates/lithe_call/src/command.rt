@@ -1,6 +1,7 @@
 //! The command that the words ask for.
 ghost use Rattle.std.specs.Prelude.{◌≡◌, ◌≤◌, Some, IfOk, IfErr, map, string_bytes};
 ghost use Rattle.command_words.specs.Form.{form_of};
+ghost use Rattle.run_audit.specs.Parts.{most_audited};
 ghost use Rattle.lithe_call.specs.Command.{harts_in, size_in};
 ghost use Rattle.lithe_call.specs.Inputs.{limit_of};
 ghost use Rattle.lithe_call.specs.Faults.{IsNoCommand};
@@ -8,6 +9,12 @@ ghost use Rattle.lithe_call.specs.Faults.{IsNoCommand};
 use crate::fault::Fault;
 use command_words::{Command, command_of};
 use std::alloc::Global;
+
+/// The greatest length of a program, in bytes.
+pub(crate) const MOST_BYTES: usize = 65_536;
+
+/// The greatest length of the input of an audit, in bytes: a program and an output.
+const MOST_AUDITED: usize = 4_194_304;
 
 /// The command that the words give, if they are a form. Else they are none, or memory ran out while they were read.
 pub fn asked_command(alloc: Global, words: &[String]) -> Result<Command, Fault>
@@ -38,11 +45,11 @@ pub fn harts(command: Command) -> u8
 /// The greatest length of the command's input, in bytes. `make` reads none.
 pub fn limit(command: Command) -> usize
     ensures same { result ≡ limit_of command }
-    ensures few { result ≤ 4194304 }
+    ensures few { result ≤ most_audited }
 {
     match command {
-        Command::Run(_) | Command::Solo => 65_536,
-        Command::Audit(_) => 4_194_304,
+        Command::Run(_) | Command::Solo => MOST_BYTES,
+        Command::Audit(_) => MOST_AUDITED,
         Command::Make { .. } => 0,
     }
 }

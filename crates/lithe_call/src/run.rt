@@ -8,6 +8,7 @@ ghost use Rattle.lithe_call.specs.Output.{IsOutput, IsRunOf, IsRunOutput, IsSumm
 ghost use Rattle.lithe_call.specs.Command.{runs_programs, harts_in};
 ghost use Rattle.lithe_call.specs.Faults.{IsNoRun};
 ghost use Rattle.lithe_call.specs.Lines.{TellsSyntax, TellsRefusal};
+ghost use Rattle.array_meaning.specs.Bounds.{most_bytes};
 ghost use Rattle.array_meaning.specs.Work.{final_store};
 ghost use Rattle.array_eval.specs.ArrayText.{array_text};
 ghost use Rattle.transfer_table.specs.Journal.{IsComplete};
@@ -38,7 +39,7 @@ pub fn answer<R: Threads + Wait + Sync, G: Gate>(
     command: Command,
     bytes: &[u8],
 ) -> Result<Vec<u8>, Fault>
-    requires short { length bytes.now ≤ 65536 }
+    requires short { length bytes.now ≤ most_bytes }
     requires runs { runs_programs command ≡ true }
     requires some_hart { 1 ≤ harts_in command }
     requires few_harts { harts_in command ≤ 4 }

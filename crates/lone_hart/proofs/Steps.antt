@@ -6,7 +6,7 @@ use Rattle.contexts.specs.declared.machine.Step.{Step}
 use Rattle.contexts.specs.declared.machine.Step.TheVariants as step
 use Rattle.step_eval.specs.Rest.{WorkAt}
 use Rattle.step_eval.specs.Nests.{NestedParts, nested_of, nested_writes}
-use Rattle.step_eval.specs.Machines.{Progress, rest_writes, is_awaiting, left_of, construct_of, handed_out, nest_in, next_nest, HasMoved, Advances, awaited_by}
+use Rattle.step_eval.specs.Machines.{Progress, rest_writes, is_awaiting, left_of, construct_of, handed_out, nest_in, next_nest, HasMoved, Advances, AreAwaitedBy}
 use Rattle.step_eval.specs.declared.stage.Stage.{Stage}
 use Rattle.step_eval.specs.declared.stage.Stage.TheVariants.{Awaiting}
 use Rattle.lone_hart.specs.Sites.{IsAwaitingWrites}
@@ -31,8 +31,8 @@ pub goes_of : (before after : Progress) (s : Step NestedParts) → Advances befo
 goes_of before after step.More adv work = (work.2, work.1, moved_job before.rest before after adv.2)
 goes_of before after (step.Nest n) adv work =
     let ws : List (ℕ × ℤ) = nested_writes (nested_of n) in
-    let here : awaited_by (next_nest before) ws = subst (λ (o : Option _). awaited_by o ws) (sym adv.1) refl in
-    let there : awaited_by (next_nest (record before { stage = Awaiting })) ws = subst (λ (o : Option _). awaited_by o ws) (sym (same_nest before Awaiting before.rest)) here in
-    (work.1, (ap (λ (m : Progress). m.stage) adv.2, subst (λ (m : Progress). awaited_by (next_nest m) ws) (sym adv.2) there), ap (λ (m : Progress). m.job) adv.2)
+    let here : AreAwaitedBy (next_nest before) ws = subst (λ (o : Option _). AreAwaitedBy o ws) (sym adv.1) refl in
+    let there : AreAwaitedBy (next_nest (record before { stage = Awaiting })) ws = subst (λ (o : Option _). AreAwaitedBy o ws) (sym (same_nest before Awaiting before.rest)) here in
+    (work.1, (ap (λ (m : Progress). m.stage) adv.2, subst (λ (m : Progress). AreAwaitedBy (next_nest m) ws) (sym adv.2) there), ap (λ (m : Progress). m.job) adv.2)
 goes_of before after step.Finished adv work = ap (λ (m : Progress). m.job) adv.2
 goes_of before after step.NoMemory adv work = tt

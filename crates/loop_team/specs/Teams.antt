@@ -14,7 +14,7 @@ use Rattle.sched_api.specs.Wishes.{wishes_after}
 use Rattle.sched_api.specs.declared.hearing.Told.{Told}
 use Rattle.sched_api.specs.declared.scheduler.Next.{Next}
 use Rattle.work_agenda.specs.Agenda.{AgendaParts, TakesNext, PutsReady, GivesReady, GivesUnbegun}
-use Rattle.step_eval.specs.Computed.{HasReached}
+use Rattle.step_eval.specs.Inside.Computed.{HasReached}
 use Rattle.step_eval.specs.Nests.{NestedParts, nested_of, phases_of, jobs_in, IsFitNest}
 use Rattle.step_eval.specs.Phases.{phase_writes, store_before}
 use Rattle.step_eval.specs.Shapes.{members_of}

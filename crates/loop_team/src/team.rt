@@ -6,7 +6,7 @@ ghost use Rattle.sched_api.specs.Wishes.{with_wishes, without_child};
 ghost use Rattle.array_tree.specs.Trees.{statement_of};
 ghost use Rattle.join_book.specs.Books.{Open, IsMarked, IsFull};
 ghost use Rattle.step_eval.specs.declared.shape.Kind.TheVariants as kind;
-ghost use Rattle.step_eval.specs.Computed.{HasReached};
+ghost use Rattle.step_eval.specs.Inside.Computed.{HasReached};
 ghost use Rattle.step_eval.specs.Nests.{nested_of, phases_of, nested_writes, IsFitNest};
 ghost use Rattle.step_eval.specs.Shapes.{kind_of};
 ghost use Rattle.loop_team.specs.declared.work.TeamWork.TheVariants.{Begin};
@@ -77,7 +77,7 @@ impl<'p> Model for Team<'p> {
     ghost use Rattle.array_tree.specs.contracts.tree.Block as block_type;
     ghost use Rattle.array_tree.specs.contracts.tree.Stmt as stmt_type;
     ghost use Rattle.step_eval.specs.contracts.stage.Stage as stage_type;
-    ghost use Rattle.step_eval.specs.Codes.{coded_sequence};
+    ghost use Rattle.step_eval.specs.Inside.Codes.{coded_sequence};
     ghost use Rattle.loop_team.specs.Teams.{TeamParts, IsKept};
 
     ghost Value = { TeamParts };

@@ -3,6 +3,7 @@ use Rattle.std.proofs.Common.{◌≡◌, ◌≤◌, ◌+◌, ℕ, ℤ, suc, pos,
 use Rattle.std.specs.Prelude.{flat_map}
 use Rattle.std.specs.Fmt.{decimal, signed_decimal}
 use Rattle.std.proofs.lemmas.Fmt.{length-decimal-le}
+use Rattle.array_tokens.specs.Literals.{greatest_literal}
 use Rattle.array_tree.specs.declared.tree.Op.{Op}
 use Rattle.array_tree.specs.declared.tree.Op.TheVariants as ops
 use Rattle.array_tree.specs.Trees.{Expression, Number, Var, Read, Neg, Binary, Statement, Assign, For, If, Par, Team, Sequence, ended, followed, Sequences, no_more, beside, Declaration, ProgramTree}
@@ -25,7 +26,7 @@ five : (a b c d e : List ℕ) → length (a ++ b ++ c ++ d ++ e) ≡ length a + 
 five a b c d e = length-append (a ++ b ++ c ++ d) e ∙ ap (λ (n : ℕ). n + length e) (four a b c d)
 
 -- ---- expressions
-digits_short : (n : ℕ) → n ≤ 9223372036854775807 → length (decimal n) ≤ 19
+digits_short : (n : ℕ) → n ≤ greatest_literal → length (decimal n) ≤ 19
 digits_short n h = length-decimal-le 19 n (omega arith) (omega (arith, h)) (omega (arith, h))
 
 bound_short : (v : ℤ) → IsBound v → length (signed_decimal v) ≤ 20

@@ -2,6 +2,7 @@
 use Rattle.std.proofs.Common.{◌≤◌, ◌<◌, ◌+◌, ◌-◌, ◌*◌, ◌/◌, ◌%◌, ◌^◌, ℕ, codes, refl, arith}
 use Rattle.std.proofs.Math.Nat.{div-lt_iff_lt-mul, mod-lt}
 use Rattle.std.proofs.lemmas.Nat.{mul-le}
+use Rattle.array_tokens.specs.Literals.{greatest_literal}
 use Rattle.array_tree.specs.Trees.{Expression, Read, Statement, Assign}
 use Rattle.array_print.specs.Spellings.{SpellsButLines}
 use Rattle.array_print.specs.Texts.{printed}
@@ -29,7 +30,7 @@ s_name = (refl, tt, refl)
 
 -- a number as texts have them
 abbrev IsShort : ℕ → Type 0
-IsShort n = n ≤ 9223372036854775807
+IsShort n = n ≤ greatest_literal
 
 short : (n : ℕ) → n ≤ 1600 → IsShort n
 short n h = omega (arith, h)

@@ -1,5 +1,6 @@
 //! The program as text.
 ghost use Rattle.std.specs.Prelude.{◌≡◌, ◌≤◌, IfOk, length};
+ghost use Rattle.array_meaning.specs.Bounds.{most_bytes};
 ghost use Rattle.array_print.specs.Texts.{printed};
 ghost use Rattle.program_maker.specs.Made.{made_program};
 
@@ -13,7 +14,7 @@ pub fn made_text(alloc: Global, seed: u64, size: u8) -> Result<Vec<u8>, AllocErr
     requires some { 1 ≤ size }
     requires few { size ≤ 40 }
     ensures printed { IfOk result (λ text. text.items ≡ printed (made_program seed size)) }
-    ensures short { IfOk result (λ text. length text.items ≤ 65536) }
+    ensures short { IfOk result (λ text. length text.items ≤ most_bytes) }
 {
     let program = generate(alloc, seed, size)?;
     print(alloc, &program)

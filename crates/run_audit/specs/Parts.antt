@@ -4,6 +4,10 @@ use Rattle.std.specs.List.{join_with_byte}
 use Rattle.std.specs.Option.{option_map}
 use Rattle.journal_text.specs.Reading.{lines_of, is_word}
 
+-- the greatest length of the input, in bytes
+abbrev pub most_audited : ℕ
+most_audited = 4194304
+
 abbrev pub with_front : List ℕ → List ℕ × List ℕ → List ℕ × List ℕ
 with_front front parts = (front ++ parts.0, parts.1)
 

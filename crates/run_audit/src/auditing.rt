@@ -7,6 +7,7 @@ ghost use Rattle.journal_text.specs.Reading.{lines_of};
 ghost use Rattle.journal_text.specs.Seen.{Reads};
 ghost use Rattle.run_audit.specs.Audit.{compared, earliest, verdict_of, told_behind, audited, audit_of};
 ghost use Rattle.run_audit.specs.Found.{compared_seen, IsWithin};
+ghost use Rattle.run_audit.specs.Parts.{most_audited};
 
 use crate::verdict::Verdict;
 use array_eval::{run_one, write_arrays};
@@ -19,7 +20,7 @@ use transfer_table::{Entries, Plan, first_fault};
 ///
 /// The array lines are compared first, as bytes, and then the journal is checked.
 pub fn audit(alloc: Global, accepted: &Accepted<'_>, output: &[u8]) -> Result<Verdict, TextFault>
-    requires { length output.now ≤ 4194304 }
+    requires { length output.now ≤ most_audited }
     ensures { Reads (λ verdict. verdict) (audit_of accepted.now.plan
         (array_text (program_of accepted.now.program)
         (final_store (program_of accepted.now.program))) output.now) result }
@@ -45,7 +46,7 @@ fn audit_against(
     wanted: &[u8],
     output: &[u8],
 ) -> Result<Verdict, TextFault>
-    requires { length output.now ≤ 4194304 }
+    requires { length output.now ≤ most_audited }
     ensures { Reads (λ verdict. verdict) (audit_of plan.now wanted.now output.now) result }
 {
     let found = compared(wanted, output)?;
@@ -62,7 +63,7 @@ pub struct ArrayLines<'t> {
 
 // Compares the array lines.
 fn compared<'t>(wanted: &[u8], output: &'t [u8]) -> Result<ArrayLines<'t>, TextFault>
-    requires { length output.now ≤ 4194304 }
+    requires { length output.now ≤ most_audited }
     ensures first { MatchResult result
         (λ found. compared 0 (lines_of wanted.now) (lines_of output.now) ≡ Ok (compared_seen found))
         (λ fault. compared 0 (lines_of wanted.now) (lines_of output.now) ≡ Err fault) }
@@ -97,7 +98,7 @@ fn first_difference(differs: Option<u32>, line: u32, wanted: &[u8], found: &[u8]
 
 // The verdict on compared lines and the journal behind them.
 fn audited(alloc: Global, plan: &Plan, found: &ArrayLines<'_>) -> Result<Verdict, TextFault>
-    requires { found.now.lines + length found.now.rest.now ≤ 4194304 }
+    requires { found.now.lines + length found.now.rest.now ≤ most_audited }
     ensures { Reads (λ verdict. verdict) (audited plan.now (compared_seen found.now)) result }
 {
     match read_entries(alloc, plan, found.rest) {
@@ -108,8 +109,8 @@ fn audited(alloc: Global, plan: &Plan, found: &ArrayLines<'_>) -> Result<Verdict
 
 // The fault as the output's lines are counted.
 fn told_behind(fault: TextFault, lines: u32) -> TextFault
-    requires few { lines ≤ 4194304 }
-    requires within { IsWithin 4194305 fault }
+    requires few { lines ≤ most_audited }
+    requires within { IsWithin (most_audited + 1) fault }
     ensures { result ≡ told_behind lines fault }
 {
     match fault {

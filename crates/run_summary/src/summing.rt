@@ -1,6 +1,7 @@
 //! What a run comes to, in four lines.
 ghost use Rattle.std.specs.Prelude.{◌≡◌, ◌≤◌, IfOk, length, count_by};
 ghost use Rattle.array_tree.specs.Trees.{declarations_of};
+ghost use Rattle.array_meaning.specs.Bounds.{most_cells};
 ghost use Rattle.array_meaning.specs.Values.{wrapping_sum};
 ghost use Rattle.array_meaning.specs.Stores.{arrays_of, AreSized, cells_of};
 ghost use Rattle.transfer_table.specs.Entry.{is_register};
@@ -41,7 +42,7 @@ pub fn write_summary(
 // The sum of so many cells, which are all.
 fn sum(store: &Store, cells: usize) -> i64
     requires whole { cells ≡ length store.now }
-    requires few { cells ≤ 4096 }
+    requires few { cells ≤ most_cells }
     ensures { result ≡ sum_of store.now }
 {
     let mut sum = 0i64;

@@ -90,8 +90,7 @@ pub trait Scheduler {
         ensures hears { hears self.old (blocked_told) self.new }
         ensures site { site_of self.new ≡ site_of self.old };
 
-    /// A context waits no longer, and is put last on the ready list. Where the list fills its room,
-    /// the context is handed back.
+    /// A context waits no longer. It is taken, as `takes` says, or that very context is handed back.
     fn unblock(&mut self, hold: Self::Hold, c: Self::Ctx) -> Result<(), Self::Ctx>
         ensures back { IfErr result (λ back. back ≡ c) }
         ensures takes { takes self.old c result self.new }

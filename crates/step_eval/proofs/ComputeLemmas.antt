@@ -17,7 +17,7 @@ use Rattle.array_jobs.specs.PieceParts.{piece_of_job}
 use Rattle.array_jobs.proofs.FitLemmas.{inside, sized}
 use Rattle.step_eval.specs.Nests.{NestedTree, phases_of, piece_trees, earlier_sites, numbered, jobs_in, AreFitJobs, IsFitNest, nested_writes}
 use Rattle.step_eval.specs.Phases.{phase_writes, store_before, writes_before}
-use Rattle.step_eval.specs.Computed.{writes_of_jobs, HasReached}
+use Rattle.step_eval.specs.Inside.Computed.{writes_of_jobs, HasReached}
 use Rattle.step_eval.proofs.WriteLemmas.{rising_marked, last_writes_rising}
 use Rattle.step_eval.proofs.PieceLemmas.{fit_other_store, some_piece}
 use Rattle.step_eval.proofs.ShapeLemmas.{some_phases}

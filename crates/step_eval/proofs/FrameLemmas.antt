@@ -18,7 +18,7 @@ use Rattle.array_jobs.specs.Works.{branch_of}
 use Rattle.step_eval.specs.Rest.{at}
 use Rattle.step_eval.specs.Moves.{moved}
 use Rattle.step_eval.specs.Machines.{construct_of, next_construct}
-use Rattle.step_eval.specs.Frames.{IsMore, IsStackedWith, statements_from, works_in, works_with, IsPast, IsBehind, vars_in}
+use Rattle.step_eval.specs.Inside.Frames.{IsMore, IsStackedWith, statements_from, works_in, works_with, IsPast, IsBehind, vars_in}
 
 -- a construct leaves the statements behind it
 past_first : (arrays : Arrays) (store : Store) (first : Statement) (rest : Sequence) (vars : Vars) → IsSome (construct_of (branch_of (followed first rest))) →

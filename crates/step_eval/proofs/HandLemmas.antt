@@ -16,7 +16,7 @@ use Rattle.step_eval.specs.Rest.{WorkAt, at}
 use Rattle.step_eval.specs.Moves.{begun_writes, begun_sites}
 use Rattle.step_eval.specs.Nests.{is_construct, IsFitNest}
 use Rattle.step_eval.specs.Machines.{Progress, IsRight, construct_of, next_construct, handed_out, nest_in}
-use Rattle.step_eval.specs.Frames.{frames_in, works_in, works_of, vars_in, statements_from}
+use Rattle.step_eval.specs.Inside.Frames.{frames_in, works_in, works_of, vars_in, statements_from}
 use Rattle.step_eval.proofs.NestLemmas.{fit_nest}
 
 -- The construct is the first of the statements.

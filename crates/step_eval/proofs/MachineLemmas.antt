@@ -23,9 +23,9 @@ use Rattle.step_eval.specs.declared.frames.Frames.{Frames}
 use Rattle.step_eval.specs.Rest.{WorkAt, at, rest_steps}
 use Rattle.step_eval.specs.Moves.{moved, moved_writes, moved_sites, rest_left}
 use Rattle.step_eval.specs.Nests.{NestedParts, NestedTree, nested_of}
-use Rattle.step_eval.specs.Machines.{Progress, IsRight, IsKept, construct_of, next_construct, nest_in, handed_out, rest_writes, to_do, HasMoved, Advances, AreAwaited, awaited_by}
-use Rattle.step_eval.specs.Frames.{frames_in, works_of, vars_in, IsMore, IsStacked, AreAll, HasPassed, IsPast, IsConstruct}
-use Rattle.step_eval.specs.Inside.{IsWhole, IsSound, while_going, Advanced, stage_by, sites_seen}
+use Rattle.step_eval.specs.Machines.{Progress, IsRight, IsKept, construct_of, next_construct, nest_in, handed_out, rest_writes, to_do, HasMoved, Advances, AreAwaited, AreAwaitedBy}
+use Rattle.step_eval.specs.Inside.Frames.{frames_in, works_of, vars_in, IsMore, IsStacked, AreAll, HasPassed, IsPast, IsConstruct}
+use Rattle.step_eval.specs.Inside.Parts.{IsWhole, IsSound, while_going, Advanced, stage_by, sites_seen}
 use Rattle.step_eval.proofs.LeftLemmas.{left_moved, left_passed, left_positive}
 use Rattle.step_eval.proofs.MoveLemmas.{right_fresh, right_moved, rest_moved}
 use Rattle.step_eval.proofs.HandLemmas.{at_construct, is_handed_out, no_construct, supply_writes, supply_sites}
@@ -177,7 +177,7 @@ supplied job before after store room next construct written sound found passed s
     let right : IsRight (job_of job) (w ∷ here.more) store next = subst (λ works. IsRight (job_of job) works store next) here.is sound.kept.0 in
     let nest = is_handed_out machine fs vars construct found in
     let is : written ≡ moved_writes arrays store.cells w.work w.vars
-    = subst (λ found. awaited_by found written) nest awaited ∙ sym (supply_writes arrays store.cells construct vars here.kind) in
+    = subst (λ found. AreAwaitedBy found written) nest awaited ∙ sym (supply_writes arrays store.cells construct vars here.kind) in
     let sites = supply_sites construct here.kind in
     let next_is : next + moved_sites w.work ≡ next + statement_sites_in construct = ap (λ n. next + n) sites in
     let rest : works_of after job.vars ≡ moved arrays store.cells w.work w.vars ++ here.more

@@ -1,11 +1,8 @@
-pub mod Codes
 pub mod Rest
 pub mod Moves
 pub mod Nests
 pub mod Shapes
 pub mod Phases
-pub mod Computed
 pub mod NestEqual
 pub mod Machines
-pub mod Frames
 pub mod Inside

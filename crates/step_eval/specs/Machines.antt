@@ -145,13 +145,13 @@ Advances before (step.Nest nested) after =
 Advances before step.Finished after = (before.stage ≡ Going) × (before.rest ≡ []) × (after ≡ before)
 Advances before step.NoMemory after = after.stage ≡ Failed
 
-abbrev pub awaited_by : Option NestedTree → List Write → Type 0
-awaited_by None written = ⊥
-awaited_by (Some nested) written = written ≡ nested_writes nested
+abbrev pub AreAwaitedBy : Option NestedTree → List Write → Type 0
+AreAwaitedBy None written = ⊥
+AreAwaitedBy (Some nested) written = written ≡ nested_writes nested
 
 -- These are what the awaited construct writes.
 abbrev pub AreAwaited : Progress → List Write → Type 0
-AreAwaited machine written = awaited_by (next_nest machine) written
+AreAwaited machine written = AreAwaitedBy (next_nest machine) written
 
 -- The last step of a machine was Finished: it goes on, and nothing is left.
 pub record IsFinished (machine : Progress) : Type 0 where

@@ -4,7 +4,7 @@ ghost use Rattle.array_tree.specs.Trees.{statement_of};
 ghost use Rattle.array_eval.specs.Traces.{noted_all};
 ghost use Rattle.array_jobs.specs.Jobs.{job_of};
 ghost use Rattle.step_eval.specs.Nests.{nested_of, nested_writes, phases_of, IsFitNest};
-ghost use Rattle.step_eval.specs.Computed.{HasReached, writes_of_jobs};
+ghost use Rattle.step_eval.specs.Inside.Computed.{HasReached, writes_of_jobs};
 
 use crate::jobs::jobs_of;
 use crate::nested::Nested;

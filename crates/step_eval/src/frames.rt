@@ -7,7 +7,7 @@ ghost use Rattle.step_eval.specs.declared.frames.Frame.TheVariants.{Statements, 
 ghost use Rattle.step_eval.specs.Moves.{begun, begun_writes};
 ghost use Rattle.step_eval.specs.Nests.{is_construct};
 ghost use Rattle.step_eval.specs.Machines.{construct_of, next_construct};
-ghost use Rattle.step_eval.specs.Frames.{statements_from, works_in, works_of, works_with, vars_in, IsMore, IsStacked, IsStackedWith, IsEnded, AreAll, HasBegun, HaveMoved, Went, HasTurned, HasPassed, IsBehind, IsConstruct, IsConstructAt};
+ghost use Rattle.step_eval.specs.Inside.Frames.{statements_from, works_in, works_of, works_with, vars_in, IsMore, IsStacked, IsStackedWith, IsEnded, AreAll, HasBegun, HaveMoved, Went, HasTurned, HasPassed, IsBehind, IsConstruct, IsConstructAt};
 
 use array_eval::{Layout, LoopVar, MarkedStore, Scope, Vars, evaluate, run_assign};
 use array_jobs::Work;

@@ -5,8 +5,8 @@ ghost use Rattle.array_tree.specs.Trees.{statement_of};
 ghost use Rattle.array_jobs.specs.Jobs.{job_of};
 ghost use Rattle.step_eval.specs.declared.stage.Stage.TheVariants.{Awaiting, Failed};
 ghost use Rattle.step_eval.specs.Machines.{Progress, IsRight, fresh_machine, is_awaiting, to_do, left_of, Advances, HasMoved, AreAwaited, IsFinished};
-ghost use Rattle.step_eval.specs.Frames.{works_of, IsStacked, IsMore};
-ghost use Rattle.step_eval.specs.Inside.{while_going, Advanced, IsLayoutOf, IsHandedOut, IsConstructNext, stage_by, sites_seen};
+ghost use Rattle.step_eval.specs.Inside.Frames.{works_of, IsStacked, IsMore};
+ghost use Rattle.step_eval.specs.Inside.Parts.{while_going, Advanced, IsLayoutOf, IsHandedOut, IsConstructNext, stage_by, sites_seen};
 
 use crate::frames::Frames;
 use crate::nested::Nested;
@@ -42,10 +42,10 @@ impl<'p> Model for StepMachine<'p> {
     ghost use Rattle.array_tree.specs.contracts.tree.Arrays as arrays_type;
     ghost use Rattle.array_tree.specs.contracts.tree.Block as block_type;
     ghost use Rattle.step_eval.specs.contracts.stage.Stage as stage_type;
-    ghost use Rattle.step_eval.specs.Codes.{coded_sequence};
+    ghost use Rattle.step_eval.specs.Inside.Codes.{coded_sequence};
     ghost use Rattle.step_eval.specs.Machines.{Progress};
-    ghost use Rattle.step_eval.specs.Frames.{works_of};
-    ghost use Rattle.step_eval.specs.Inside.{IsSound, IsLayoutOf};
+    ghost use Rattle.step_eval.specs.Inside.Frames.{works_of};
+    ghost use Rattle.step_eval.specs.Inside.Parts.{IsSound, IsLayoutOf};
 
     ghost Value = { Progress };
 

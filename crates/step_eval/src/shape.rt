@@ -1,6 +1,7 @@
 //! The shapes of constructs that are handed out.
 ghost use Rattle.std.specs.Prelude.{◌≡◌, ◌<◌, ◌≤◌, IsTrue, Some};
 ghost use Rattle.array_tree.specs.Trees.{statement_of};
+ghost use Rattle.array_meaning.specs.Bounds.{most_members, most_phases};
 ghost use Rattle.array_meaning.specs.Limits.{statement_has_right_ranges};
 ghost use Rattle.step_eval.specs.Nests.{is_construct, phases_of};
 ghost use Rattle.step_eval.specs.Shapes.{kind_of, members_of};
@@ -29,7 +30,7 @@ impl<'p> Nested<'p> {
     pub fn phases(&self) -> u8
         ensures same { result ≡ phases_of (statement_of self.now.construct) }
         ensures some { 0 < result }
-        ensures few { result ≤ 8 }
+        ensures few { result ≤ most_phases }
     {
         phases_of(self.construct)
     }
@@ -38,7 +39,7 @@ impl<'p> Nested<'p> {
     pub fn members(&self) -> u8
         ensures same { result ≡ members_of (statement_of self.now.construct) }
         ensures some { 0 < result }
-        ensures few { result ≤ 64 }
+        ensures few { result ≤ most_members }
     {
         members_of(self.construct)
     }

@@ -1,18 +1,16 @@
 -- Sites one after another of which the pieces are apart.
-use Rattle.std.proofs.Common.{◌≡◌, ℕ, zero, suc, ◌+◌, ◌<◌, ◌≤◌, List, [], ◌∷◌, ◌++◌, map, length, drop, get_or, drop-cons, add-one, ℤ, pos, ◌+ℤ◌, ◌<ℤ◌, ◌≤ℤ◌, refl, sym, subst, arith}
+use Rattle.std.proofs.Common.{ℕ, zero, suc, ◌+◌, ◌<◌, List, [], ◌∷◌, ◌++◌, map, length, drop, get_or, drop-cons, add-one, ℤ, pos, ◌+ℤ◌, ◌<ℤ◌, ◌≤ℤ◌, refl, sym, subst, arith}
 use Rattle.std.proofs.lemmas.Int.{ints}
-use Rattle.std.proofs.lemmas.List.{drop_all}
 use Rattle.array_tree.specs.declared.tree.Stmt.{Stmt}
 use Rattle.array_tree.specs.declared.tree.Block.{Block}
 use Rattle.array_tree.specs.Trees.{statement_of, sequence_of, sequence, sequences}
 use Rattle.array_meaning.specs.Stores.{Arrays, Vars}
-use Rattle.array_meaning.specs.Work.{span, sequence_work}
-use Rattle.array_meaning.specs.Members.{team_works}
-use Rattle.array_meaning.specs.Sites.{Site, AreSitesApart, phase_rounds, turn_sites, loop_sites, statement_sites, sequence_sites, branches_sites, phases_sites}
+use Rattle.array_meaning.specs.Work.{span}
+use Rattle.array_meaning.specs.Sites.{Site, AreSitesApart, turn_sites, loop_sites, statement_sites, sequence_sites, branches_sites, phases_sites}
 use Rattle.touch_bounds.specs.declared.interval.Interval.{Interval}
 use Rattle.touch_bounds.specs.Intervals.{LiesIn}
-use Rattle.touch_bounds.specs.Ranges.{Bounds, AreWithin}
-use Rattle.touch_bounds.specs.Pieces.{IsRoundApart, AreAllRoundsApart, AreAllSitesApart}
+use Rattle.touch_bounds.specs.Ranges.{Bounds}
+use Rattle.touch_bounds.specs.Pieces.{AreAllSitesApart}
 use Rattle.touch_bounds.proofs.WorkLemmas.{span_reaches}
 
 pub apart_append : (arrays : Arrays) (xs ys : List Site) → AreSitesApart arrays xs → AreSitesApart arrays ys → AreSitesApart arrays (xs ++ ys)

@@ -75,24 +75,24 @@ abbrev pub is_number : Option Lexeme → Bool
 is_number (Some (number v)) = true
 is_number l = false
 
+-- The tokens s begin with a number, and t follows it; the value is made of that number.
+pub record StartsWithNumber (value_of : ℕ → ℤ) (s : List Spot) (value : ℤ)
+    (t : List Spot) : Type 0 where
+  pub literal : ℕ
+  pub starts : StartsWith (number literal) s t
+  pub is : value ≡ value_of literal
+
+abbrev pub IsNumberBy : (ℕ → ℤ) → List Spot → Parsed ℤ → Type 0
+IsNumberBy value_of s (Ok r) = StartsWithNumber value_of s r.0 (spots r.1.now)
+IsNumberBy value_of s (Err e) = IsRefused (is_number (head_of s) ≡ false) s e
+
 -- the number at the front, and the tokens after it
 abbrev pub IsNumber : List Spot → Parsed ℤ → Type 0
-IsNumber s (Ok r) = StartsWith (number r.0) s (spots r.1.now)
-IsNumber s (Err e) = IsRefused (is_number (head_of s) ≡ false) s e
-
-abbrev pub is_natural : Option Lexeme → Bool
-is_natural (Some (number (pos k))) = true
-is_natural l = false
-
-pub record StartsWithNatural (s : List Spot) (v : ℤ) (t : List Spot) : Type 0 where
-  pub size : ℕ
-  pub starts : StartsWith (number (pos size)) s t
-  pub negated : v ≡ neg_ℤ (pos size)
+IsNumber s r = IsNumberBy pos s r
 
 -- the number at the front, negated
 abbrev pub IsNegated : List Spot → Parsed ℤ → Type 0
-IsNegated s (Ok r) = StartsWithNatural s r.0 (spots r.1.now)
-IsNegated s (Err e) = IsRefused (is_natural (head_of s) ≡ false) s e
+IsNegated s r = IsNumberBy (λ v. neg_ℤ (pos v)) s r
 
 pub record StartsWithOperator (s : List Spot) (strength : Strength) (op : Op)
     (t : List Spot) : Type 0 where

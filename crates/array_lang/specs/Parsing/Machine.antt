@@ -196,7 +196,7 @@ step_after n x l outers top t =
     goes_on n l.compare l.sum (term_value l (operand_value x)) outers top t (operator_of t)
 
 abbrev pub step_operand : Nest → Level → List Outer → Top → Lexeme → Option State
-step_operand n l outers top (number v) = Some (state (after (bare (Number v)) l outers top) n)
+step_operand n l outers top (number v) = Some (state (after (bare (Number (pos v))) l outers top) n)
 step_operand n l outers top (name b) = Some (state (after (called b) l outers top) n)
 step_operand n l outers top (sign signs.Minus) =
     Some (state (operand (record {
@@ -240,7 +240,7 @@ abbrev pub step_header : Position → Nest → Lexeme → Option State
 step_header (array_name line) n (name b) = Some (state (header (array_open line b)) n)
 step_header (array_open line b) n (sign signs.OpenIndex) =
     Some (state (header (array_length line b)) n)
-step_header (array_length line b) n (number v) = Some (state (header (array_close line b v)) n)
+step_header (array_length line b) n (number v) = Some (state (header (array_close line b (pos v))) n)
 step_header (array_close line b v) n (sign signs.CloseIndex) =
     Some (state (header (array_end line b v)) n)
 step_header (array_end line b v) n (sign signs.Semicolon) =
@@ -249,9 +249,8 @@ step_header (range_name r line) n (name b) = Some (state (header (range_in r lin
 step_header (range_in r line b) n (word words.In) =
     Some (state (header (bound (low_of r line b))) n)
 step_header (bound s) n (sign signs.Minus) = Some (state (header (bound_number s)) n)
-step_header (bound s) n (number v) = Some (state (header (bounded s v)) n)
-step_header (bound_number s) n (number (pos k)) =
-    Some (state (header (bounded s (neg_ℤ (pos k)))) n)
+step_header (bound s) n (number v) = Some (state (header (bounded s (pos v))) n)
+step_header (bound_number s) n (number v) = Some (state (header (bounded s (neg_ℤ (pos v)))) n)
 step_header (range_dots r line b low) n (sign signs.Range) =
     Some (state (header (bound (high_of r line b low))) n)
 step_header (range_over looping line b low high) n (sign signs.OpenBlock) =
@@ -264,7 +263,7 @@ step_header (team_members line b low high) n (number v) =
       var = b;
       low = low;
       high = high;
-      members = v;
+      members = pos v;
     }) []) n)
 step_header at n t = None
 

@@ -306,7 +306,7 @@ abbrev pub IsProgram : List Spot → Result Program Stop → Type 0
 IsProgram s (Ok p) = parse_of s ≡ Ok (program_of p)
 IsProgram s (Err e) = Stops e (λ rest. parse_of s ≡ Err rest)
 
--- what is read of tokens that pass no bound
+-- what is read of tokens that pass no limit
 abbrev pub IsWhole : List Spot → ℕ → Result Program SyntaxFault → Type 0
 IsWhole tokens end (Ok program) = parse_of tokens ≡ Ok (program_of program)
 IsWhole tokens end (Err fault) =

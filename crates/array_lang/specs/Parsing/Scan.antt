@@ -1,12 +1,12 @@
--- The parser's own scan for tokens that pass a bound on nesting, over the tokens alone. It is proved to find what the
+-- The parser's own scan for tokens that pass a limit on nesting, over the tokens alone. It is proved to find what the
 -- grammar says (`Nesting`).
 use Rattle.std.specs.Prelude.{ℕ, ◌+◌, ◌-◌, ◌||◌, nat_lt, List, [], ◌∷◌, Bool, Option, None}
 use Rattle.array_tokens.specs.Lexemes.{Lexeme, name, word, sign, Spot}
 use Rattle.array_tokens.specs.declared.token.Word.TheVariants as words
 use Rattle.array_tokens.specs.declared.token.Sign.TheVariants as signs
 use Rattle.array_lang.specs.Nesting.{most_marks, most_open, marks_after, first_over}
-use Rattle.array_lang.specs.declared.bounds.Reach.{Reach}
-use Rattle.array_lang.specs.declared.bounds.Reach.TheVariants.{Outside, Target, Inside}
+use Rattle.array_lang.specs.declared.nesting.Reach.{Reach}
+use Rattle.array_lang.specs.declared.nesting.Reach.TheVariants.{Outside, Target, Inside}
 
 abbrev pub marks_of : Reach → ℕ
 marks_of (Inside m) = m
@@ -32,7 +32,7 @@ depth_after depth l = depth
 abbrev pub is_over : ℕ → Reach → Bool
 is_over depth r = nat_lt most_open depth || nat_lt most_marks (marks_of r)
 
--- the place in the list of the first token that passes a bound
+-- the place in the list of the first token that passes a limit
 abbrev pub nested_at : Reach → ℕ → List Spot → Option ℕ
 nested_at r depth [] = None
 nested_at r depth (t ∷ ts) =

@@ -1,4 +1,5 @@
 -- Codes of trees and of works, by which proofs tell them apart.
+-- Only proofs need these, here and in the crates above.
 use Rattle.std.specs.Prelude.{ℕ, List}
 use Rattle.std.proofs.Common.{◌≡◌, ap, refl}
 use base.Stored.{Gv, gnil, gnum, gcons, Coded, coded_ℕ, coded_ℤ, coded_list}

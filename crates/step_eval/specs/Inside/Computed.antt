@@ -1,4 +1,5 @@
 -- What a hart has that computes a construct itself, phase after phase.
+-- Only private contracts and proofs need these, here and in the crates above.
 use Rattle.std.specs.Prelude.{◌≡◌, ℕ, List, [], ◌∷◌, ◌++◌, length}
 use Rattle.array_meaning.specs.Stores.{Write}
 use Rattle.array_eval.specs.Traces.{Trace, marked}

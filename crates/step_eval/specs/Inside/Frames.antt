@@ -1,4 +1,5 @@
 -- The works that are read off a machine's frames.
+-- Only the private contracts and the proofs of this crate need these.
 use Rattle.std.specs.Prelude.{◌≡◌, ℕ, suc, ◌+◌, List, [], ◌∷◌, ◌++◌, Bool, true, false, Option, Some, None, map, drop, reverse, length, ℤ}
 use Rattle.std.specs.Borrow.{Bor}
 use Rattle.array_tree.specs.declared.tree.Block.{Block}

@@ -1,4 +1,5 @@
 -- What a machine keeps inside, and what its parts do.
+-- Only the private contracts and the proofs of this crate need these.
 use Rattle.std.specs.Prelude.{◌≡◌, ℕ, ◌≤◌, List, [], Option, Some, None, length}
 use Rattle.std.specs.Borrow.{Bor}
 use Rattle.contexts.specs.declared.machine.Step.{Step}
@@ -17,7 +18,7 @@ use Rattle.step_eval.specs.declared.frames.Frames.{Frames}
 use Rattle.step_eval.specs.Rest.{WorkAt}
 use Rattle.step_eval.specs.Nests.{NestedParts, nested_of}
 use Rattle.step_eval.specs.Machines.{Progress, IsKept, next_construct, next_nest}
-use Rattle.step_eval.specs.Frames.{works_of, IsStacked, HaveMoved}
+use Rattle.step_eval.specs.Inside.Frames.{works_of, IsStacked, HaveMoved}
 
 -- What the parts of a machine keep that isn't failed: each loop that has begun has its variable, and there is room for
 -- a pair for each cell.

@@ -2,7 +2,7 @@ use Rattle.std.proofs.Common.{◌∙◌, ℕ, List, refl, sym, subst, map, strin
 use Rattle.lithe_call.specs.declared.status.Status.{Status}
 use Rattle.lithe_call.specs.Served.{TellsStatus}
 use Rattle.lithe_call.specs.Telling.{AppendsPrefix}
-use Rattle.lithe_call.specs.Auditing.{ended}
+use Rattle.lithe_call.specs.Auditing.{status_of_ending}
 use Rattle.lithe_call.proofs.Causes.{fault_told}
 use Rattle.lithe_call.proofs.Endings.{only_memory, one_ending, too_long_told, read_fault_told}
 use Rattle.lithe_call.proofs.call.lithe.Goals as goal
@@ -39,7 +39,7 @@ returns-in-Err-clause-read_fault g c = λ is.
 
 pub returns-then-not-write_all-clause-prefix : goal.returns-then-not-write_all-clause-prefix
 returns-then-not-write_all-clause-prefix g c = λ _. record {
-  status = ended c.in-Ok.answer.ending;
+  status = status_of_ending c.in-Ok.answer.ending;
   text = c.in-Ok.answer.text.items;
   output = c.in-Ok.ensures.output;
   written = subst (λ (text : List ℕ). AppendsPrefix (g.B.Sink.taken c.args.out.now) text (g.B.Sink.taken c.write_all.new.out)) c.deref.ensures.value (c.if-not-write_all.ensures.prefix refl);
@@ -47,4 +47,4 @@ returns-then-not-write_all-clause-prefix g c = λ _. record {
 
 pub returns-clause-complete : goal.returns-clause-complete
 returns-clause-complete g c = λ command form bytes told status ends calm quiet.
-    inl (c.ended.ensures ∙ one_ending (map string_bytes c.args.words.now) (g.A.Source.left c.args.source.now) (g.A.Source.left c.output_of.new.source) _ _ c.in-Ok.ensures.output command form bytes told status ends)
+    inl (c.status_of_ending.ensures ∙ one_ending (map string_bytes c.args.words.now) (g.A.Source.left c.args.source.now) (g.A.Source.left c.output_of.new.source) _ _ c.in-Ok.ensures.output command form bytes told status ends)

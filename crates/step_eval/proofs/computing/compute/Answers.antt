@@ -3,7 +3,7 @@ use Rattle.std.proofs.lemmas.Result.{IfOk-weaker}
 use Rattle.array_tree.specs.Trees.{statement_of}
 use Rattle.array_eval.specs.Traces.{fresh}
 use Rattle.step_eval.specs.Nests.{NestedParts, nested_of, phases_of, IsFitNest}
-use Rattle.step_eval.specs.Computed.{HasReached}
+use Rattle.step_eval.specs.Inside.Computed.{HasReached}
 use Rattle.step_eval.proofs.ComputeLemmas.{reached_none, reached_all, small_store}
 use Rattle.step_eval.proofs.computing.compute.Goals as goal
 

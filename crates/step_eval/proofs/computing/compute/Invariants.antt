@@ -1,5 +1,5 @@
 use Rattle.step_eval.specs.Nests.{nested_of}
-use Rattle.step_eval.specs.Computed.{HasReached}
+use Rattle.step_eval.specs.Inside.Computed.{HasReached}
 use Rattle.step_eval.proofs.computing.compute.Given as goal
 
 -- the phases before this one are done

@@ -1,7 +1,7 @@
 use Rattle.std.proofs.Common.{◌≡◌, drop, map}
 use Rattle.array_eval.specs.Traces.{noted_all}
 use Rattle.array_jobs.specs.Jobs.{job_of}
-use Rattle.step_eval.specs.Computed.{writes_of_jobs}
+use Rattle.step_eval.specs.Inside.Computed.{writes_of_jobs}
 use Rattle.step_eval.proofs.computing.merge_pieces.Given as goal
 
 -- what is left to merge comes to what all is

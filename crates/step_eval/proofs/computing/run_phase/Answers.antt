@@ -3,7 +3,7 @@ use Rattle.std.proofs.lemmas.Result.{on_ok_weaker}
 use Rattle.array_eval.specs.Traces.{noted_all}
 use Rattle.array_jobs.specs.Jobs.{job_of}
 use Rattle.step_eval.specs.Nests.{nested_of, jobs_in}
-use Rattle.step_eval.specs.Computed.{writes_of_jobs, HasReached}
+use Rattle.step_eval.specs.Inside.Computed.{writes_of_jobs, HasReached}
 use Rattle.step_eval.proofs.ComputeLemmas.{reached_next}
 use Rattle.step_eval.proofs.computing.run_phase.Goals as goal
 

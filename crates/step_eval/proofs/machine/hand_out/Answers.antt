@@ -1,7 +1,7 @@
 use Rattle.std.proofs.Common.{ap, ◌∙◌}
 use Rattle.array_tree.specs.Trees.{statement_of, declarations_of}
-use Rattle.step_eval.specs.Frames.{frames_in, works_of, vars_in}
-use Rattle.step_eval.specs.Inside.{while_going}
+use Rattle.step_eval.specs.Inside.Frames.{frames_in, works_of, vars_in}
+use Rattle.step_eval.specs.Inside.Parts.{while_going}
 use Rattle.step_eval.proofs.HandLemmas.{fit_handed_out, is_handed_out}
 use Rattle.step_eval.proofs.machine.hand_out.Goals as goal
 

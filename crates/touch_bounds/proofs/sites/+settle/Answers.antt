@@ -1,7 +1,7 @@
 use Rattle.std.proofs.Common.{◌++◌, to_z, of_z, w64, subst, arith, ◌<ℤ◌, ◌≤ℤ◌, ℤ, pos, ◌-ℤ◌}
 use Rattle.std.specs.Prelude.{FitsSigned}
 use Rattle.std.proofs.lemmas.Bool.{OnTrue_at, OnTrue_from}
-use Rattle.std.proofs.lemmas.Int.{ints, to_z-of_z}
+use Rattle.std.proofs.lemmas.Int.{ints}
 use Rattle.array_tree.specs.Trees.{statement_of, sequence_of}
 use Rattle.array_meaning.specs.Sites.{loop_sites, statement_sites, sequence_sites}
 use Rattle.touch_bounds.specs.Intervals.{LiesIn}

@@ -1,6 +1,6 @@
 use Rattle.std.proofs.Common.{sym, ap, ◌∙◌, subst}
 use Rattle.array_eval.specs.Traces.{fresh}
-use Rattle.step_eval.specs.Computed.{HasReached}
+use Rattle.step_eval.specs.Inside.Computed.{HasReached}
 use Rattle.step_eval.specs.Nests.{NestedParts, nested_of, IsFitNest}
 use Rattle.step_eval.proofs.ComputeLemmas.{reached_none}
 use Rattle.loop_team.specs.Teams.{IsPhase}

@@ -1,5 +1,5 @@
 use Rattle.std.proofs.Common.{◌≡◌, length, reverse, sym, subst}
-use Rattle.step_eval.specs.Frames.{on_top, works_in, vars_in, loops_in, IsMore, IsStackedWith}
+use Rattle.step_eval.specs.Inside.Frames.{on_top, works_in, vars_in, loops_in, IsMore, IsStackedWith}
 use Rattle.step_eval.proofs.FrameLemmas.{more_on_top, always_err}
 use Rattle.step_eval.proofs.frames.Frames.go_on.Goals as goal
 

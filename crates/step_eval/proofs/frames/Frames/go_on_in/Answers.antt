@@ -3,7 +3,7 @@ use mir.Val.{SFits}
 use Rattle.std.proofs.lemmas.Int.{to_z-of_z}
 use Rattle.std.proofs.lemmas.Result.{on_ok_weaker}
 use Rattle.step_eval.specs.declared.frames.Frame.TheVariants.{Turns}
-use Rattle.step_eval.specs.Frames.{works_of, works_with, HaveMoved}
+use Rattle.step_eval.specs.Inside.Frames.{works_of, works_with, HaveMoved}
 use Rattle.step_eval.proofs.frames.Frames.go_on_in.Goals as goal
 
 pub returns-in-Turns-clause-moved : goal.returns-in-Turns-clause-moved

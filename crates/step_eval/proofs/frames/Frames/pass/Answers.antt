@@ -1,7 +1,7 @@
 use Rattle.std.proofs.Common.{[], reverse, subst}
 use Rattle.std.specs.Prelude.{IsSome}
 use Rattle.step_eval.specs.Machines.{next_construct}
-use Rattle.step_eval.specs.Frames.{on_top, works_in, vars_in}
+use Rattle.step_eval.specs.Inside.Frames.{on_top, works_in, vars_in}
 use Rattle.step_eval.proofs.FrameLemmas.{passed_on_top}
 use Rattle.step_eval.proofs.frames.Frames.pass.Goals as goal
 

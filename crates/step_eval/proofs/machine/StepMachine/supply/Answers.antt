@@ -2,8 +2,8 @@ use Rattle.std.proofs.Common.{◌≡◌, ◌+◌, sym, ap, subst, ◌∙◌}
 use Rattle.array_eval.specs.Traces.{noted_all}
 use Rattle.step_eval.specs.declared.stage.Stage.TheVariants.{Going, Awaiting}
 use Rattle.step_eval.specs.Machines.{Progress, AreAwaited, HasMoved, left_of}
-use Rattle.step_eval.specs.Frames.{works_of}
-use Rattle.step_eval.specs.Inside.{IsSound}
+use Rattle.step_eval.specs.Inside.Frames.{works_of}
+use Rattle.step_eval.specs.Inside.Parts.{IsSound}
 use Rattle.step_eval.proofs.MachineLemmas.{IsSupplied, supply_done}
 use Rattle.step_eval.proofs.machine.StepMachine.supply.Goals as goal
 

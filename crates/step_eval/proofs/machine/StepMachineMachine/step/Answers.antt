@@ -1,8 +1,8 @@
 use Rattle.std.proofs.Common.{◌≡◌, sym, ap, subst, ◌∙◌}
 use Rattle.std.proofs.lemmas.Bool.{false≢true}
 use Rattle.step_eval.specs.Machines.{is_awaiting}
-use Rattle.step_eval.specs.Frames.{works_of}
-use Rattle.step_eval.specs.Inside.{IsSound, while_going}
+use Rattle.step_eval.specs.Inside.Frames.{works_of}
+use Rattle.step_eval.specs.Inside.Parts.{IsSound, while_going}
 use Rattle.step_eval.proofs.MachineLemmas.{advances, steps, sound_advanced}
 use Rattle.step_eval.proofs.machine.StepMachineMachine.step.Goals as goal
 

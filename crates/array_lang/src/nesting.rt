@@ -1,4 +1,4 @@
-//! The bounds on open braces and on the marks of one outermost expression.
+//! The limits on open braces and on the marks of one outermost expression.
 
 ghost use Rattle.std.specs.Prelude.{◌≡◌, ◌<◌, ◌≤◌, length, IfSome};
 ghost use Rattle.array_tokens.specs.Lexemes.{spots, lexeme_of};
@@ -23,8 +23,8 @@ pub enum Reach {
     Inside(u32),
 }
 
-fn is_mark(kind: Kind<'_>) -> bool
-    ensures { result ≡ is_mark (lexeme_of kind.entry) }
+fn is_mark(kind: &Kind<'_>) -> bool
+    ensures { result ≡ is_mark (lexeme_of kind.now) }
 {
     match kind {
         Kind::Sign(Sign::OpenGroup | Sign::OpenIndex) => true,
@@ -43,9 +43,9 @@ impl Reach {
     }
 
     // Where the token after this one stands.
-    fn after(self, kind: Kind<'_>) -> Reach
+    fn after(self, kind: &Kind<'_>) -> Reach
         requires { marks_of self ≤ most_marks }
-        ensures { result ≡ reach_after self (lexeme_of kind.entry) }
+        ensures { result ≡ reach_after self (lexeme_of kind.now) }
     {
         match kind {
             Kind::Word(Word::If) | Kind::Sign(Sign::Assign) => Reach::Inside(0),
@@ -60,9 +60,9 @@ impl Reach {
     }
 }
 
-fn depth_after(depth: u32, kind: Kind<'_>) -> u32
+fn depth_after(depth: u32, kind: &Kind<'_>) -> u32
     requires { depth ≤ most_open }
-    ensures { result ≡ depth_after depth (lexeme_of kind.entry) }
+    ensures { result ≡ depth_after depth (lexeme_of kind.now) }
 {
     match kind {
         Kind::Sign(Sign::OpenBlock) => depth + 1,
@@ -77,7 +77,7 @@ fn is_over(depth: u32, reach: Reach) -> bool
     depth > MOST_OPEN || reach.marks() > MOST_MARKS
 }
 
-/// The place in the list of the first token that passes a bound.
+/// The place in the list of the first token that passes a limit.
 pub fn nested_at(tokens: &[Token<'_>]) -> Option<usize>
     ensures at { result ≡ first_nested (spots tokens.now) }
     ensures within { IfSome result (λ index. index < length tokens.now) }
@@ -85,8 +85,8 @@ pub fn nested_at(tokens: &[Token<'_>]) -> Option<usize>
     let mut reach = Reach::Outside;
     let mut depth = 0;
     for (index, token) in tokens.iter().enumerate() {
-        depth = depth_after(depth, token.kind);
-        reach = reach.after(token.kind);
+        depth = depth_after(depth, &token.kind);
+        reach = reach.after(&token.kind);
         if is_over(depth, reach) {
             return Some(index);
         }

@@ -1,10 +1,10 @@
 use Rattle.std.proofs.Common.{◌≡◌, ◌≤◌, drop}
 use Rattle.array_tokens.specs.Lexemes.{spots}
 use Rattle.array_lang.specs.Parsing.Scan.{nested_at, marks_of}
-use Rattle.array_lang.proofs.Bounded.{further}
+use Rattle.array_lang.proofs.ScanStep.{further}
 use Rattle.array_lang.specs.Nesting.{most_marks, most_open}
-use Rattle.array_lang.specs.declared.bounds.Reach.TheVariants.{Outside}
-use Rattle.array_lang.proofs.bounds.nested_at.Given as goal
+use Rattle.array_lang.specs.declared.nesting.Reach.TheVariants.{Outside}
+use Rattle.array_lang.proofs.nesting.nested_at.Given as goal
 
 abbrev pub invariant-loop-index : goal.invariant-loop-index
 invariant-loop-index l = record {
