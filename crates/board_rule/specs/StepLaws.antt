@@ -1,5 +1,5 @@
--- What each of the sixteen kinds of step does to the rule and to the journal. In each, id is a seat that was not joined away
--- and v its view.
+-- What each of the sixteen kinds of step does to the rule and to the journal, and that seats are made and joined by it. In
+-- each, id is a seat that was not joined away and v its view.
 use Rattle.std.specs.Prelude.{◌≡◌, ◌≢◌, ℕ, ◌+◌, ◌-◌, ◌*◌, ◌%◌, ◌^◌, ◌<◌, ◌==◌, [], ◌∷◌, ◌++◌, slice_index, slice_set, bit_or, Some}
 use mathlib.Core.Option.{some}
 use lib.ListN.{get_elem?}

@@ -38,8 +38,8 @@ use word_board::{HartSeat, WordBoard, WordPort};
 
 /// Runs an accepted program on the harts of its plan, at least two, each on a thread. It waits until all of them are back.
 ///
-/// The store is that of the one-thread meaning, and the journal, which the board's end gives, is complete for the plan: every
-/// transfer is legal, and every site came and went. Where memory is wanting anywhere, the whole run answers that. A hart that
+/// The store is that of the one-thread meaning, and the journal is complete for the plan: every transfer is legal,
+/// and every site came and went. Where memory is wanting anywhere, the whole run answers that. A hart that
 /// has taken a piece passes the gate before its first step.
 pub fn run_harts<R: Threads + Wait + Sync, G: Gate>(
     rt: &R,

@@ -1,4 +1,4 @@
--- What a shared mutex answers, as far as it is known without what the lock holds: nothing that was passed is lost.
+-- What a shared mutex answers, as far as it is known without what the lock holds: what it gives back is what was passed.
 use Rattle.std.specs.Prelude.{◌≡◌}
 use Rattle.lithe_mutex.specs.declared.state.Acquired.{Acquired}
 use Rattle.lithe_mutex.specs.declared.state.Acquired.TheVariants.{Got, Kept}

@@ -1,4 +1,4 @@
-//! The calls that move a hart. Each makes the port's transfer and the callback that belongs to it.
+//! The six calls. Five make the port's transfer and the callback that belongs to it; `sched_reenter` only asks.
 ghost use Rattle.std.specs.Prelude.{◌≡◌, ◌<◌, false};
 ghost use Rattle.transfer_table.specs.Plan.{IsSite, parent as parent_of};
 ghost use Rattle.hart_port.specs.Count.{RoseIfErr};
