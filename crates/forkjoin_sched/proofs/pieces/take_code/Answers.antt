@@ -1,11 +1,11 @@
-use Rattle.std.proofs.Common.{sym, subst}
+use Rattle.std.proofs.Common.{◌∙◌, sym, subst}
 use Rattle.forkjoin_sched.specs.Hands.{TakesMore, TakesCode}
 use Rattle.forkjoin_sched.proofs.RowSteps.{takes_then, takes_on}
 use Rattle.forkjoin_sched.proofs.pieces.take_code.Goals.{then-hart-home+in_default, else-hart-home}
 use Rattle.forkjoin_sched.proofs.pieces.take_code.Goals as goal
 
 pub returns-in-Some-clause-takes : goal.returns-in-Some-clause-takes
-returns-in-Some-clause-takes g c = c.in-Some.ensures.taken c.args.home
+returns-in-Some-clause-takes g c = c.in-Some.ensures.taken c.args.home (sym c.if-hart-home.true ∙ c.hart.ensures)
 
 pub returns-clause-more : goal.returns-clause-more
 returns-clause-more g c = elim c.if-hart-home.branch [
