@@ -54,6 +54,7 @@ impl<'b, 'p> PoolPlace<'b, 'p> {
         if hand.site() == child {
             trial_of(sched_enter(port, hold, &mut hand, rt))
         } else {
+            // A look at the owner tells what every port keeps.
             let _ = port.owner();
             Trial::NotWanted
         }

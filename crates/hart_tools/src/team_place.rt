@@ -55,6 +55,7 @@ impl<'t, 'b, 'p> TeamPlace<'t, 'b, 'p> {
         if hand.site() == child {
             trial_of(sched_enter(port, hold, &mut hand, rt))
         } else {
+            // A look at the owner tells what every port keeps.
             let _ = port.owner();
             Trial::NotWanted
         }

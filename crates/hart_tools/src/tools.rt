@@ -344,6 +344,7 @@ impl<'t> Tools<'t> {
             Grip::Pool(place) => place.try_enter(rt, &mut self.rows, port, hold, child),
             Grip::Team(place) => place.try_enter(rt, &mut self.seat, port, hold, child),
             _ => {
+                // A look at the owner tells what every port keeps.
                 let _ = port.owner();
                 Trial::NotWanted
             }

@@ -23,6 +23,7 @@ pub fn open_team<'p>(alloc: Global, nested: Nested<'p>) -> Result<Team<'p>, Allo
     ensures account { IfOk result IsRunning }
 {
     let team = Team::new(alloc, nested)?;
+    // What is known of the construct.
     let _ = team.nested();
     Ok(team)
 }
