@@ -1,4 +1,5 @@
 use Rattle.std.proofs.Common.{◌≡◌, ◌∙◌, ap}
+use Rattle.std.proofs.lemmas.Result.{IfOk-weaker}
 use Rattle.array_tree.specs.Trees.{program_of}
 use Rattle.array_jobs.specs.Jobs.{job_of}
 use Rattle.array_jobs.specs.Bodies.{body_of}
@@ -6,4 +7,6 @@ use Rattle.hart_loop.proofs.several.run_lent.Goals as goal
 
 pub returns-clause-piece : goal.returns-clause-piece
 returns-clause-piece g c =
-    ap job_of c.in_ok-back.ensures.piece ∙ c.in_ok-job.ensures ∙ ap (λ p. body_of (program_of p)) c.program.ensures.same
+    IfOk-weaker c.run_on.result _ _
+    (λ back is. ap job_of is ∙ c.in_ok-job.ensures ∙ ap (λ p. body_of (program_of p)) c.program.ensures.same)
+    c.run_on.ensures.piece
