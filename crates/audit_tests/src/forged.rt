@@ -1,4 +1,4 @@
-//! Forged journals, one for each refusal of the table, and one that isn't finished.
+//! Forged journals, one for each refusal of the table, one that isn't finished, and some that skip a site that is meant.
 use crate::told::{BRANCHES, NESTED, told};
 use std::test::Fail;
 
@@ -134,6 +134,42 @@ fn leaving_is_refused(rt: HostRuntime) -> Result<(), Fail> {
     assert_eq!(rt;
         line.as_slice(),
         b"illegal: entry 2, s1 is unfinished\n".as_slice()
+    );
+    Ok(())
+}
+
+#[test]
+fn skipped_sites_are_told(rt: HostRuntime) -> Result<(), Fail> {
+    let alloc = rt.alloc();
+    let line = told(
+        alloc,
+        2,
+        BRANCHES,
+        b"a = 1 2 0 0\ntransfers 1\n0 h0 skip s1\n",
+    )?;
+    assert_eq!(rt;
+        line.as_slice(),
+        b"illegal: entry 1, s1 is skipped\n".as_slice()
+    );
+    let line = told(
+        alloc,
+        2,
+        NESTED,
+        b"a = 5 6 0 9\ntransfers 1\n0 h1 skip s1\n",
+    )?;
+    assert_eq!(rt;
+        line.as_slice(),
+        b"illegal: entry 1, s1 is skipped\n".as_slice()
+    );
+    let line = told(
+        alloc,
+        2,
+        NESTED,
+        b"a = 5 6 0 9\ntransfers 3\n0 h0 register s1 under s0\n1 h0 skip s2\n2 h0 unregister s1\n",
+    )?;
+    assert_eq!(rt;
+        line.as_slice(),
+        b"illegal: entry 3, s2 is skipped\n".as_slice()
     );
     Ok(())
 }

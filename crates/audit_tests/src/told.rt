@@ -25,7 +25,8 @@ pub fn told(alloc: Global, harts: u8, program: &str, output: &[u8]) -> Result<Ve
     if output.len() > 4_194_304 {
         return Err(Fail::new("a longer output than any input's"));
     }
-    match audit(alloc, &accepted, output) {
+    let all = vec![in alloc; true; accepted.plan().sites() as usize]?;
+    match audit(alloc, &accepted, &all, output) {
         Ok(verdict) => Ok(verdict_line(alloc, verdict)?),
         Err(TextFault::Memory) => Err(Fail::new("no memory")),
         Err(fault) => Ok(text_fault_line(alloc, fault)?),

@@ -2,11 +2,10 @@
 use Rattle.std.proofs.Common.{◌≡◌, ℕ, suc, ◌+◌, ◌-◌, ◌*◌, ◌^◌, ◌<◌, ◌≤◌, List, [], ◌∷◌, length, get_or, drop, sym, ap, subst, ◌∙◌, arith, ⊎_elim}
 use Rattle.std.proofs.Math.Seq.{drop-cons}
 use Rattle.std.proofs.lemmas.List.{length-drop, get_or-drop}
-use Rattle.std.proofs.lemmas.Nat.{mul-le}
 use Rattle.transfer_table.specs.Plan.{IsHart, site_count}
 use Rattle.transfer_table.specs.Table.{owner}
 use Rattle.transfer_table.proofs.Positions.{legal_position}
-use Rattle.transfer_table.proofs.Bounds.{legal_length, legal_owner}
+use Rattle.transfer_table.proofs.Bounds.{few_entries, legal_owner}
 use Rattle.hart_port.specs.Words.{owner_digits}
 use Rattle.hart_port.specs.Ledger.{LedgerState, IsLedger}
 
@@ -38,8 +37,4 @@ digits_before os h low high = let n : suc (h - 1) ≡ h = omega arith in
 
 -- a journal is short
 pub entries_few : (l : LedgerState) → IsLedger l → length l.entries < 65536
-entries_few l is = let long = legal_length l.plan is.plan l.entries l.state is.reached in let sites = is.plan.few_sites in let harts = is.plan.few_harts in
-    let some_hart = is.plan.some_hart in few (site_count l.plan) l.plan.harts (length l.entries) sites some_hart harts long
-  where
-    few : (s n k : ℕ) → s ≤ 4095 → 1 ≤ n → n ≤ 4 → k ≤ s * (3 * n - 1) → k < 65536
-    few s n k sites low high long = let most : s * (3 * n - 1) ≤ 4095 * 11 = mul-le s (3 * n - 1) 4095 11 sites (omega arith) in omega arith
+entries_few l is = let few = few_entries l.plan is.plan l.entries l.state is.reached in omega (arith, few)

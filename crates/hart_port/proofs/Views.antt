@@ -1,19 +1,19 @@
 -- What the port's invariant says of the view that contracts have of it.
-use Rattle.std.proofs.Common.{◌≡◌, ℕ, ◌+◌, ◌<◌, ◌≤◌, Bool, true, false, ◌&&◌, List, ◌++◌, ◌∷◌, [], length, refl, sym, ap, ◌∙◌, arith, Option, Some, None, zero, suc}
+use Rattle.std.proofs.Common.{◌≡◌, ℕ, ◌+◌, ◌<◌, ◌≤◌, Bool, true, false, ◌&&◌, List, ◌++◌, ◌∷◌, [], length, refl, sym, ap, subst, ◌∙◌, arith, Option, Some, None, zero, suc}
 use Rattle.std.proofs.lemmas.Bool.Decides.{nat_tests}
 use Rattle.transfer_table.specs.Plan.{Plan, IsHart, IsSite, parent, site_count}
 use Rattle.transfer_table.specs.Table.{first_state, owner, row, is_home, lives_with}
 use Rattle.transfer_table.specs.Allowed.{IsAllowed}
-use Rattle.transfer_table.specs.declared.entry.Entry.TheVariants.{Register, Yield, Unregister}
+use Rattle.transfer_table.specs.declared.entry.Entry.TheVariants.{Register, Yield, Unregister, Skip}
 use Rattle.transfer_table.proofs.Positions.{legal_position}
 use Rattle.transfer_table.proofs.Lists.{replicate_at}
 use Rattle.transfer_table.proofs.Effects.{owner-effect_same}
-use Rattle.transfer_table.proofs.Stages.{live_home}
-use Rattle.hart_port.specs.PortView.{PortView, IsPortView, is_in, without, homes_of, MayUnregister, registered, unregistered}
+use Rattle.transfer_table.proofs.Stages.{live_home, gone_lasts}
+use Rattle.hart_port.specs.PortView.{PortView, IsPortView, is_in, without, homes_of, MayUnregister, registered, skipped, unregistered}
 use Rattle.hart_port.specs.Ledger.{LedgerState, IsLedger, first_ledger, no_site, with_entry}
 use Rattle.hart_port.specs.Plain.{IsPlain, first_view, view_of}
 use Rattle.hart_port.proofs.Ledgers.{owner_inside}
-use Rattle.hart_port.proofs.Homes.{length-homes_of, is_in-homes_of, homes_of-register, homes_of-unregister, homes_of-first}
+use Rattle.hart_port.proofs.Homes.{length-homes_of, is_in-homes_of, homes_of-register, homes_of-skip, homes_of-unregister, homes_of-first}
 
 pub first : (p : Plan) → p.harts ≡ 1 → IsHart p 0
 first p one = omega arith
@@ -73,6 +73,21 @@ pub view-register : (l : LedgerState) (closed empty gone : List Bool) (s : ℕ) 
 view-register l closed empty gone s is a = let there = owner-effect_same l.plan l.state (Register 0 s) (legal_position l.plan is.plan l.entries l.state is.reached) a in
     let home = homes_of-register l.plan l.state 0 s a.1.0 in
     (λ i. record (view_of (with_entry l (Register 0 s)) (without closed s) (without empty s) gone) { owner = there i; homes = home i })
+
+pub view-skip : (l : LedgerState) (closed empty gone : List Bool) (s : ℕ) → IsLedger l → IsAllowed l.plan l.state (Skip 0 s) → view_of (with_entry l (Skip 0 s)) closed empty gone ≡ skipped (view_of l closed empty gone) s
+view-skip l closed empty gone s is a = let home = homes_of-skip l.plan is.plan l.entries l.state is.reached 0 0 s a in
+    (λ i. record (view_of (with_entry l (Skip 0 s)) closed empty gone) { homes = home i })
+
+-- the port stays one after a skip
+pub plain-skip : (l after : LedgerState) (closed empty gone : List Bool) (s : ℕ) → IsPlain l closed empty gone → IsAllowed l.plan l.state (Skip 0 s) → after ≡ with_entry l (Skip 0 s) → IsLedger after → IsPlain after closed empty gone
+plain-skip l after closed empty gone s is a same kept = subst (λ (x : LedgerState). IsPlain x closed empty gone) (sym same) record {
+  ledger = subst IsLedger same kept;
+  one = is.one;
+  closed_size = is.closed_size;
+  empty_size = is.empty_size;
+  gone_size = is.gone_size;
+  seen_gone = λ c site seen. gone_lasts l.plan l.state (Skip 0 s) (legal_position l.plan is.ledger.plan l.entries l.state is.ledger.reached) a c site (is.seen_gone c site seen);
+}
 
 pub view-unregister : (l : LedgerState) (closed empty gone : List Bool) (s : ℕ) → IsLedger l → IsAllowed l.plan l.state (Unregister 0 s) → s ≡ owner l.state 0
     → view_of (with_entry l (Unregister 0 s)) (without closed s) (without empty s) gone ≡ unregistered (view_of l closed empty gone)

@@ -1,6 +1,6 @@
 -- A table that keeps its journal.
-use Rattle.std.specs.Prelude.{◌≡◌, ℕ, ◌+◌, ◌-◌, ◌*◌, ◌≤◌, Bool, false, List, [], ◌∷◌, ◌++◌, length, replicate, Result, Ok, Err}
-use Rattle.transfer_table.specs.Plan.{Plan, IsPlan, site_count}
+use Rattle.std.specs.Prelude.{◌≡◌, ℕ, ◌+◌, ◌≤◌, Bool, false, List, [], ◌∷◌, ◌++◌, length, replicate, Result, Ok, Err}
+use Rattle.transfer_table.specs.Plan.{Plan, IsPlan, room, site_count}
 use Rattle.transfer_table.specs.Table.{TableState, admit_of, effect_of, first_state}
 use Rattle.transfer_table.specs.Journal.{Reaches}
 use Rattle.transfer_table.specs.declared.entry.Entry.{Entry}
@@ -24,7 +24,7 @@ pub record IsLedger (l : LedgerState) : Type 0 where
 -- a ledger with room for all entries that its plan allows
 pub record IsRoomy (l : LedgerState) (capacity : ℕ) : Type 0 where
   pub ledger : IsLedger l
-  pub room : site_count l.plan * (3 * l.plan.harts - 1) ≤ capacity
+  pub enough : room l.plan ≤ capacity
 
 -- no site is in the set
 abbrev pub no_site : Plan → List Bool

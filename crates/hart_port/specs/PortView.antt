@@ -3,9 +3,9 @@ use Rattle.std.specs.Prelude.{◌≡◌, ◌≢◌, ℕ, ◌+◌, ◌-◌, ◌�
 use Rattle.transfer_table.specs.Plan.{Plan, IsPlan, IsHart, IsSite, parent, site_count}
 use Rattle.transfer_table.specs.Table.{TableState, is_live, is_home, owner}
 use Rattle.transfer_table.specs.Journal.{Reaches}
-use Rattle.transfer_table.specs.Entry.{registers, requested}
+use Rattle.transfer_table.specs.Entry.{registers, unregisters, requested, skips_over}
 use Rattle.transfer_table.specs.declared.entry.Entry.{Entry}
-use Rattle.transfer_table.specs.declared.entry.Entry.TheVariants.{Register, Request, Enter, Yield, Unregister}
+use Rattle.transfer_table.specs.declared.entry.Entry.TheVariants.{Register, Request, Enter, Yield, Unregister, Skip}
 use Rattle.transfer_table.specs.declared.entry.Row.{Row}
 use Rattle.hart_port.specs.Words.{is_claimed, is_wanted, flight_of, owner_field}
 use Rattle.hart_port.specs.declared.port.Taken.{Taken}
@@ -85,6 +85,10 @@ registered v s = record v {
   empty = without v.empty s;
 }
 
+-- the hart has made Skip of the site, and is where it was
+abbrev pub skipped : PortView → ℕ → PortView
+skipped v s = record v { mine = v.mine ++ Skip v.hart s ∷ [] }
+
 -- the hart has made Request of the site
 abbrev pub requested_by : PortView → ℕ → ℕ → PortView
 requested_by v s k = record v { mine = v.mine ++ Request v.hart s k ∷ [] }
@@ -123,13 +127,27 @@ unregistered v = record v {
   empty = without v.empty v.owner;
 }
 
+-- the hart has made Register of the site, or Skip of it or of a site around it
+abbrev pub HasClaimed : PortView → ℕ → Type 0
+HasClaimed v s = 1 ≤ registers s v.mine + skips_over v.plan s v.mine
+
+-- the hart has made Unregister of the site, or Skip of it or of a site around it
+abbrev pub HasEnded : PortView → ℕ → Type 0
+HasEnded v s = 1 ≤ unregisters s v.mine + skips_over v.plan s v.mine
+
 -- Of a register: the hart made Register of a site of which it had made no Register and no Request, or the site was claimed,
 -- by the hart itself where no other one shares the table.
 abbrev pub Registers : PortView → ℕ → Result (Unit {0}) Taken → PortView → Type 0
 Registers v s (Ok done) after =
     (after ≡ registered v s) × (registers s v.mine ≡ 0) × (requested s v.mine ≡ 0)
 Registers v s (Err taken) after =
-    (after ≡ v) × (is_claimed taken.shown ≡ true) × (v.alone ≡ true → 1 ≤ registers s v.mine)
+    (after ≡ v) × (is_claimed taken.shown ≡ true) × (v.alone ≡ true → HasClaimed v s)
+
+-- Of a skip: the hart made Skip of the site, or the site was claimed, by the hart itself where no other one shares the table.
+abbrev pub Skips : PortView → ℕ → Result (Unit {0}) Taken → PortView → Type 0
+Skips v s (Ok done) after = after ≡ skipped v s
+Skips v s (Err taken) after =
+    (after ≡ v) × (is_claimed taken.shown ≡ true) × (v.alone ≡ true → HasClaimed v s)
 
 -- Of a try to enter: the hart made Enter of the site, or the word read wants no hart, or the word was another one at the
 -- exchange.

@@ -122,12 +122,12 @@ fn put_in<R: Wait>(hold: &R, lock: &Mutex<Ledger>, entry: Entry, may: bool)
     unreachable!()
 }
 
-// The same for the Register of a site, unless the site's word is claimed.
+// The same for the Register or the Skip of a site, unless the site's word is claimed.
 fn claim<R: Wait>(
     hold: &R,
     lock: &Mutex<Ledger>,
-    hart: u8,
     site: u16,
+    entry: Entry,
     may: bool,
 ) -> Result<(), Taken>
     ensures ok { OnOk result (IsTrue may) }
@@ -139,7 +139,7 @@ fn claim<R: Wait>(
         if is_claimed(shown) {
             return Err(Taken { shown });
         }
-        if may && ledger.admit(Entry::Register { hart, site }).is_ok() {
+        if may && ledger.admit(entry).is_ok() {
             return Ok(());
         }
     }
@@ -167,9 +167,23 @@ fn go_in<R: Wait>(hold: &R, lock: &Mutex<Ledger>, hart: u8, site: u16, may: bool
 impl<'a, R: Threads + Wait + Sync + 'a> Port for LockedPort<'a, R> {
     type Hold = &'a R;
 
+    ghost use Rattle.std.specs.Prelude.{◌≢◌, ℕ};
+    ghost use Rattle.hart_port.specs.declared.port.Entered.TheVariants.{Moved};
+    ghost use Rattle.hart_port.specs.declared.port.Seen.TheVariants.{Flying};
+
     ghost seen = { λ p. p.view };
 
     ghost refused = { λ p. p.refused };
+
+    ghost register_gives = { λ _ _ _ _. Unit {0} };
+
+    ghost skip_gives = { λ _ _ _ _. Unit {0} };
+
+    ghost enter_gives = { λ _ _ answer _. (read found : ℕ) → answer ≢ Moved read found };
+
+    ghost gone_gives = { λ _ _ _ _. Unit {0} };
+
+    ghost empty_gives = { λ _ answer _. (shown : ℕ) → answer ≢ Flying shown };
 
     fn hart(&self) -> u8 {
         self.hart
@@ -188,17 +202,29 @@ impl<'a, R: Threads + Wait + Sync + 'a> Port for LockedPort<'a, R> {
 
     fn register(&mut self, hold: &'a R, site: u16) -> Result<(), Taken> {
         let may = has_room(&self.mine) && !self.claimed[site as usize];
-        if let Err(taken) = claim(hold, self.lock, self.hart, site, may) {
+        let hart = self.hart;
+        let entry = Entry::Register { hart, site };
+        if let Err(taken) = claim(hold, self.lock, site, entry, may) {
             raise(&mut self.refused);
             return Err(taken);
         }
-        let hart = self.hart;
-        self.mine.push_reserved(Entry::Register { hart, site });
+        self.mine.push_reserved(entry);
         self.owner = site;
         self.claimed[site as usize] = true;
         self.homes[site as usize] = true;
         self.closed[site as usize] = false;
         self.empty[site as usize] = false;
+        Ok(())
+    }
+
+    fn skip(&mut self, hold: &'a R, site: u16) -> Result<(), Taken> {
+        let hart = self.hart;
+        let entry = Entry::Skip { hart, site };
+        if let Err(taken) = claim(hold, self.lock, site, entry, has_room(&self.mine)) {
+            raise(&mut self.refused);
+            return Err(taken);
+        }
+        self.mine.push_reserved(entry);
         Ok(())
     }
 

@@ -2,10 +2,9 @@
 ghost use Rattle.std.specs.Prelude.{◌≡◌, ◌≢◌, ◌<◌, ◌≤◌, true, false, ◌↔◌, IsTrue, IsErr, IfOk, IfErr};
 ghost use Rattle.transfer_table.specs.Plan.{IsSite, parent};
 ghost use Rattle.transfer_table.specs.Table.{first_state, row};
-ghost use Rattle.transfer_table.specs.Entry.{unregisters};
 ghost use Rattle.transfer_table.specs.Allowed.{IsAllowed};
 ghost use Rattle.hart_port.specs.Count.{RoseIfErr, RoseUnlessInside};
-ghost use Rattle.hart_port.specs.PortView.{IsPortView, is_in, with_site, Registers, MayRequest, requested_by, Enters, yielded, closes, sees_gone, Sees, MayUnregister, unregistered};
+ghost use Rattle.hart_port.specs.PortView.{IsPortView, is_in, with_site, Registers, Skips, HasEnded, MayRequest, requested_by, Enters, yielded, closes, sees_gone, Sees, MayUnregister, unregistered};
 ghost use Rattle.hart_port.specs.Ledger.{IsLedger, no_site, with_entry};
 ghost use Rattle.hart_port.specs.Plain.{first_view, shown_word, IsReached};
 
@@ -105,9 +104,26 @@ fn put_in(ledger: &mut Ledger, entry: Entry)
 impl Port for PlainPort {
     type Hold = ();
 
+    ghost use Rattle.std.specs.Prelude.{◌≡◌, ◌↔◌, IsTrue, IfErr};
+    ghost use Rattle.transfer_table.specs.Table.{row};
+    ghost use Rattle.transfer_table.specs.declared.entry.Stage.TheVariants.{Gone};
+    ghost use Rattle.hart_port.specs.Plain.{shown_word};
+    ghost use Rattle.hart_port.specs.declared.port.Entered.TheVariants.{NotWanted};
+    ghost use Rattle.hart_port.specs.declared.port.Seen.TheVariants.{Empty};
+
     ghost seen = { λ p. p.view };
 
     ghost refused = { λ p. p.refused };
+
+    ghost register_gives = { λ p site answer _. IfErr answer (λ taken. taken.shown ≡ shown_word p site) };
+
+    ghost skip_gives = { λ p site answer _. IfErr answer (λ taken. taken.shown ≡ shown_word p site) };
+
+    ghost enter_gives = { λ p site answer _. answer ≡ NotWanted (shown_word p site) };
+
+    ghost gone_gives = { λ p site is_gone _. IsTrue is_gone ↔ ((row p.state site).stage ≡ Gone) };
+
+    ghost empty_gives = { λ _ answer _. answer ≡ Empty };
 
     fn hart(&self) -> u8 {
         // A look at a field tells what the type keeps: that the hart is 0.
@@ -150,6 +166,27 @@ impl Port for PlainPort {
         put_in(&mut self.ledger, Entry::Register { hart: 0, site });
         self.closed[site as usize] = false;
         self.empty[site as usize] = false;
+        Ok(())
+    }
+
+    /// Makes Skip of the site, exactly where it is new.
+    fn skip(&mut self, _hold: (), site: u16) -> Result<(), Taken>
+        requires known { IsSite self.old.view.plan site }
+        requires child { self.old.view.owner ≡ parent self.old.view.plan site }
+        ensures does { Skips self.old.view site result self.new.view }
+        ensures count { RoseIfErr result self.old.refused self.new.refused }
+        ensures kept { IsPortView self.new.view }
+        ensures taken { IsErr result ↔ ((row self.old.state site).stage ≢ Stage.New) }
+        ensures shown { IfErr result (λ taken. taken.shown ≡ shown_word self.old site) }
+        ensures closing { self.new.closing ≡ self.old.closing }
+        ensures reached { IsReached self.new }
+    {
+        if !matches!(self.ledger.stage(site), Stage::New) {
+            let shown = self.ledger.site_word(site);
+            raise(&mut self.refused);
+            return Err(Taken { shown });
+        }
+        put_in(&mut self.ledger, Entry::Skip { hart: 0, site });
         Ok(())
     }
 
@@ -220,8 +257,7 @@ impl Port for PlainPort {
         requires { IsSite self.old.view.plan site }
         ensures gone { result ≡ true → self.new.view ≡ sees_gone self.old.view site }
         ensures not_yet { result ≡ false → self.new.view ≡ self.old.view }
-        ensures alone { self.old.view.alone ≡ true → 1 ≤ unregisters site self.old.view.mine
-            → result ≡ true }
+        ensures alone { self.old.view.alone ≡ true → HasEnded self.old.view site → result ≡ true }
         ensures count { self.new.refused ≡ self.old.refused }
         ensures kept { IsPortView self.new.view }
         ensures exact { IsTrue result ↔ ((row self.old.state site).stage ≡ Stage.Gone) }

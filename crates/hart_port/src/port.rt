@@ -1,9 +1,11 @@
 //! What one hart may do at the table.
-ghost use Rattle.std.specs.Prelude.{◌≡◌, ◌<◌, ◌≤◌, ℕ, true, false};
+ghost use Rattle.std.specs.Prelude.{◌≡◌, ◌<◌, ℕ, Bool, Result, true, false};
 ghost use Rattle.transfer_table.specs.Plan.{IsSite, parent};
-ghost use Rattle.transfer_table.specs.Entry.{unregisters};
+ghost use Rattle.hart_port.specs.declared.port.Taken.{Taken};
+ghost use Rattle.hart_port.specs.declared.port.Entered.{Entered};
+ghost use Rattle.hart_port.specs.declared.port.Seen.{Seen};
 ghost use Rattle.hart_port.specs.Count.{RoseIfErr, RoseUnlessInside};
-ghost use Rattle.hart_port.specs.PortView.{PortView, IsPortView, is_in, Registers, MayRequest, requested_by, Enters, yielded, closes, sees_gone, Sees, MayUnregister, unregistered};
+ghost use Rattle.hart_port.specs.PortView.{PortView, IsPortView, is_in, Registers, Skips, HasEnded, MayRequest, requested_by, Enters, yielded, closes, sees_gone, Sees, MayUnregister, unregistered};
 
 /// A site was claimed before. The site word that the call read is shown.
 #[derive(Clone, Copy, Debug, PartialEq, Eq)]
@@ -45,6 +47,23 @@ pub trait Port {
     /// How often a call was refused, up to the last value of `u64`.
     ghost refused: { Self → ℕ };
 
+    /// Of a port, the site of a register, the answer, and the port afterwards: what the words behind the port had to do with it. So
+    /// a call over the port tells the words that the port was shown, and no others. This and the next four are exact where one hart
+    /// owns what is behind the port; of what stands behind a lock they tell nothing.
+    ghost register_gives: { Self → ℕ → Result (Unit {0}) Taken → Self → Type 0 };
+
+    /// The same of a skip.
+    ghost skip_gives: { Self → ℕ → Result (Unit {0}) Taken → Self → Type 0 };
+
+    /// The same of a try to enter.
+    ghost enter_gives: { Self → ℕ → Entered → Self → Type 0 };
+
+    /// The same of a look whether a site is gone.
+    ghost gone_gives: { Self → ℕ → Bool → Self → Type 0 };
+
+    /// The same of a look whether the owner is empty.
+    ghost empty_gives: { Self → Seen → Self → Type 0 };
+
     /// The hart's number.
     fn hart(&self) -> u8
         ensures same { result ≡ (seen self.now).hart }
@@ -65,6 +84,16 @@ pub trait Port {
         requires known { IsSite (seen self.old).plan site }
         requires child { (seen self.old).owner ≡ parent (seen self.old).plan site }
         ensures does { Registers (seen self.old) site result (seen self.new) }
+        ensures gives { register_gives self.old site result self.new }
+        ensures count { RoseIfErr result (refused self.old) (refused self.new) }
+        ensures kept { IsPortView (seen self.new) };
+
+    /// Makes Skip of the site, a child of the owner. The hart stays in the owner.
+    fn skip(&mut self, hold: Self::Hold, site: u16) -> Result<(), Taken>
+        requires known { IsSite (seen self.old).plan site }
+        requires child { (seen self.old).owner ≡ parent (seen self.old).plan site }
+        ensures does { Skips (seen self.old) site result (seen self.new) }
+        ensures gives { skip_gives self.old site result self.new }
         ensures count { RoseIfErr result (refused self.old) (refused self.new) }
         ensures kept { IsPortView (seen self.new) };
 
@@ -81,6 +110,7 @@ pub trait Port {
         requires known { IsSite (seen self.old).plan site }
         requires child { (seen self.old).owner ≡ parent (seen self.old).plan site }
         ensures does { Enters (seen self.old) site result (seen self.new) }
+        ensures gives { enter_gives self.old site result self.new }
         ensures count { RoseUnlessInside result (refused self.old) (refused self.new) }
         ensures kept { IsPortView (seen self.new) };
 
@@ -101,13 +131,14 @@ pub trait Port {
         ensures kept { IsPortView (seen self.new) };
 
     /// Whether the site is gone: whether the site word that the call read is closed. A hart that shares
-    /// the table with no other one sees each site gone that it unregistered.
+    /// the table with no other one sees each site gone that it unregistered or skipped.
     fn see_gone(&mut self, hold: Self::Hold, site: u16) -> bool
         requires { IsSite (seen self.old).plan site }
         ensures gone { result ≡ true → seen self.new ≡ sees_gone (seen self.old) site }
         ensures not_yet { result ≡ false → seen self.new ≡ seen self.old }
-        ensures alone { (seen self.old).alone ≡ true → 1 ≤ unregisters site (seen self.old).mine
+        ensures alone { (seen self.old).alone ≡ true → HasEnded (seen self.old) site
             → result ≡ true }
+        ensures gives { gone_gives self.old site result self.new }
         ensures count { refused self.new ≡ refused self.old }
         ensures kept { IsPortView (seen self.new) };
 
@@ -116,6 +147,7 @@ pub trait Port {
         requires home { is_in (seen self.old).homes (seen self.old).owner ≡ true }
         requires closed { is_in (seen self.old).closed (seen self.old).owner ≡ true }
         ensures does { Sees (seen self.old) result (seen self.new) }
+        ensures gives { empty_gives self.old result self.new }
         ensures count { refused self.new ≡ refused self.old }
         ensures kept { IsPortView (seen self.new) };
 

@@ -1,8 +1,8 @@
 //! The procedure of a hart at a site.
 ghost use Rattle.std.specs.Prelude.{◌≡◌, ◌≤◌, ◌<◌, ◌+◌, ◌-◌, IfOk, OnOk, true, false};
 ghost use Rattle.transfer_table.specs.Plan.{IsSite, parent};
-ghost use Rattle.transfer_table.specs.Entry.{requested, unregisters};
-ghost use Rattle.hart_port.specs.PortView.{IsPortView, is_in};
+ghost use Rattle.transfer_table.specs.Entry.{requested};
+ghost use Rattle.hart_port.specs.PortView.{IsPortView, HasEnded, is_in};
 ghost use Rattle.site_steps.specs.Back.{IsSettled, IsBack};
 ghost use Rattle.hart_work.specs.Tasks.{StaysSettled, HasAccount};
 
@@ -82,7 +82,7 @@ pub fn run_construct<P: PatientPort, R, H: Schedulers<R>, F: Fn(u8, &H::Job)>(
     ensures own { OnOk result (IsSite tree.now (H.number_of nested)
         → parent tree.now (H.number_of nested) ≡ (P.seen port.old).owner
         → (P.seen port.new).alone ≡ true
-        → 1 ≤ unregisters (H.number_of nested) (P.seen port.new).mine) }
+        → HasEnded (P.seen port.new) (H.number_of nested)) }
     ensures stays { StaysSettled (H.settled around.old) (H.owed around.old) (H.settled around.new)
         (H.owed around.new) }
     ensures construct { H.construct around.new ≡ H.construct around.old }

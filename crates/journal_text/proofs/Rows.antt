@@ -6,12 +6,12 @@ use Rattle.std.specs.Option.{option_map, option_and_then}
 use Rattle.std.proofs.lemmas.Bool.{eqb-true}
 use Rattle.transfer_table.specs.Plan.{Plan, parent}
 use Rattle.transfer_table.specs.declared.entry.Entry.{Entry}
-use Rattle.transfer_table.specs.declared.entry.Entry.TheVariants.{Register, Request, Enter, Yield, Unregister}
+use Rattle.transfer_table.specs.declared.entry.Entry.TheVariants.{Register, Request, Enter, Yield, Unregister, Skip}
 use Rattle.journal_text.specs.declared.fault.TextFault.{TextFault}
 use Rattle.journal_text.specs.declared.fault.TextFault.TheVariants.{BadLine, BadNumber}
 use Rattle.journal_text.specs.JournalText.{line_text}
 use Rattle.journal_text.specs.Journals.{IsEntry}
-use Rattle.journal_text.specs.Reading.{Row, Deed, registers, requests, enters, yields, unregisters, row_with, row_of, deed_of, is_word, is_lettered, spells, number_up_to, entry_by, entry_in, entry_of, or_fault, and_then}
+use Rattle.journal_text.specs.Reading.{Row, Deed, registers, requests, enters, yields, unregisters, skips, row_with, row_of, deed_of, is_word, is_lettered, spells, number_up_to, entry_by, entry_in, entry_of, or_fault, and_then}
 use Rattle.journal_text.proofs.Numbers.{word_is, is_word_itself, number_of_decimal, number_spelled}
 
 abbrev pub action_of : Deed → List ℕ
@@ -20,6 +20,7 @@ action_of (requests count) = codes "request"
 action_of enters = codes "enter"
 action_of yields = codes "yield"
 action_of unregisters = codes "unregister"
+action_of skips = codes "skip"
 
 abbrev pub words_behind : Deed → List (List ℕ)
 words_behind (registers around) = codes "under" ∷ (115 ∷ around) ∷ []
@@ -27,6 +28,7 @@ words_behind (requests count) = count ∷ []
 words_behind enters = []
 words_behind yields = []
 words_behind unregisters = []
+words_behind skips = []
 
 abbrev pub row_rest : Row → List (List ℕ)
 row_rest row = (104 ∷ row.hart) ∷ action_of row.deed ∷ (115 ∷ row.site) ∷ words_behind row.deed
@@ -41,6 +43,7 @@ row_for plan place (Request hart site count) = row_with (decimal place) (decimal
 row_for plan place (Enter hart site) = row_with (decimal place) (decimal hart) (decimal site) enters
 row_for plan place (Yield hart site) = row_with (decimal place) (decimal hart) (decimal site) yields
 row_for plan place (Unregister hart site) = row_with (decimal place) (decimal hart) (decimal site) unregisters
+row_for plan place (Skip hart site) = row_with (decimal place) (decimal hart) (decimal site) skips
 
 -- an entry's line is its row's words with a space between each two, and a newline
 pub line_is_row : (plan : Plan) (place : ℕ) (entry : Entry) → line_text plan place entry ≡ join_with_byte 32 (row_words (row_for plan place entry)) ++ 10 ∷ []
@@ -49,6 +52,7 @@ line_is_row plan place (Request hart site count) = simp append_assoc
 line_is_row plan place (Enter hart site) = simp append_assoc
 line_is_row plan place (Yield hart site) = simp append_assoc
 line_is_row plan place (Unregister hart site) = simp append_assoc
+line_is_row plan place (Skip hart site) = simp append_assoc
 
 -- words of a row have its form
 deed_of_words : (deed : Deed) → deed_of (action_of deed) (words_behind deed) ≡ Some deed
@@ -57,6 +61,7 @@ deed_of_words (requests count) = refl
 deed_of_words enters = refl
 deed_of_words yields = refl
 deed_of_words unregisters = refl
+deed_of_words skips = refl
 
 pub row_of_words : (row : Row) → row_of (row_words row) ≡ Some row
 row_of_words row = ap (option_map (row_with row.place row.hart row.site)) (deed_of_words row.deed)
@@ -71,6 +76,8 @@ entry_of_row plan place (Enter hart site) small =
 entry_of_row plan place (Yield hart site) small =
     rw (is_word_itself (decimal place), number_of_decimal 255 hart (omega arith) small.hart, number_of_decimal 65535 site (omega arith) small.site) refl
 entry_of_row plan place (Unregister hart site) small =
+    rw (is_word_itself (decimal place), number_of_decimal 255 hart (omega arith) small.hart, number_of_decimal 65535 site (omega arith) small.site) refl
+entry_of_row plan place (Skip hart site) small =
     rw (is_word_itself (decimal place), number_of_decimal 255 hart (omega arith) small.hart, number_of_decimal 65535 site (omega arith) small.site) refl
 
 pub entry_is_read : (plan : Plan) (place : ℕ) (entry : Entry) → IsEntry entry → entry_of plan place (row_words (row_for plan place entry)) ≡ Ok entry
@@ -98,17 +105,18 @@ lettered : (letter : ℕ) (word : List ℕ) → is_lettered letter word ≡ true
 lettered letter [] e = cc e
 lettered letter (first ∷ rest) e = ap (λ (x : ℕ). x ∷ rest) (eqb-true first letter e)
 
-bare_cases : (a b c : Bool) (action : List ℕ) (deed : Deed) → (a ≡ true → action ≡ codes "enter") → (b ≡ true → action ≡ codes "yield") → (c ≡ true → action ≡ codes "unregister")
-    → cond a (Some enters) (cond b (Some yields) (cond c (Some unregisters) None)) ≡ Some deed → (action ≡ action_of deed) × (words_behind deed ≡ [])
-bare_cases true b c action deed ea eb ec e = let same : enters ≡ deed = cc e in subst (λ (d : Deed). (action ≡ action_of d) × (words_behind d ≡ [])) same (ea refl, refl)
-bare_cases false true c action deed ea eb ec e = let same : yields ≡ deed = cc e in subst (λ (d : Deed). (action ≡ action_of d) × (words_behind d ≡ [])) same (eb refl, refl)
-bare_cases false false true action deed ea eb ec e = let same : unregisters ≡ deed = cc e in subst (λ (d : Deed). (action ≡ action_of d) × (words_behind d ≡ [])) same (ec refl, refl)
-bare_cases false false false action deed ea eb ec e = cc e
+bare_cases : (a b c d : Bool) (action : List ℕ) (deed : Deed) → (a ≡ true → action ≡ codes "enter") → (b ≡ true → action ≡ codes "yield") → (c ≡ true → action ≡ codes "unregister") → (d ≡ true → action ≡ codes "skip")
+    → cond a (Some enters) (cond b (Some yields) (cond c (Some unregisters) (cond d (Some skips) None))) ≡ Some deed → (action ≡ action_of deed) × (words_behind deed ≡ [])
+bare_cases true b c d action deed ea eb ec ed e = let same : enters ≡ deed = cc e in subst (λ (d : Deed). (action ≡ action_of d) × (words_behind d ≡ [])) same (ea refl, refl)
+bare_cases false true c d action deed ea eb ec ed e = let same : yields ≡ deed = cc e in subst (λ (d : Deed). (action ≡ action_of d) × (words_behind d ≡ [])) same (eb refl, refl)
+bare_cases false false true d action deed ea eb ec ed e = let same : unregisters ≡ deed = cc e in subst (λ (d : Deed). (action ≡ action_of d) × (words_behind d ≡ [])) same (ec refl, refl)
+bare_cases false false false true action deed ea eb ec ed e = let same : skips ≡ deed = cc e in subst (λ (d : Deed). (action ≡ action_of d) × (words_behind d ≡ [])) same (ed refl, refl)
+bare_cases false false false false action deed ea eb ec ed e = cc e
 
 -- an action with no word behind the site
 bare_deed : (action : List ℕ) (deed : Deed) → deed_of action [] ≡ Some deed → (action ≡ action_of deed) × (words_behind deed ≡ [])
-bare_deed action deed e = bare_cases (is_word (codes "enter") action) (is_word (codes "yield") action) (is_word (codes "unregister") action) action deed
-    (word_is (codes "enter") action) (word_is (codes "yield") action) (word_is (codes "unregister") action) e
+bare_deed action deed e = bare_cases (is_word (codes "enter") action) (is_word (codes "yield") action) (is_word (codes "unregister") action) (is_word (codes "skip") action) action deed
+    (word_is (codes "enter") action) (word_is (codes "yield") action) (word_is (codes "unregister") action) (word_is (codes "skip") action) e
 
 deed_words : (action : List ℕ) (more : List (List ℕ)) (deed : Deed) → deed_of action more ≡ Some deed → (action ≡ action_of deed) × (more ≡ words_behind deed)
 deed_words action [] deed e = let bare = bare_deed action deed e in (bare.0, sym bare.1)
@@ -175,6 +183,9 @@ rows_by plan place row hart site yields entry p h hs s ss d e =
 rows_by plan place row hart site unregisters entry p h hs s ss d e =
     let same : Unregister hart site ≡ entry = cc e in
     subst (IsRowFor plan place row) same (row_is row (decimal place) (decimal hart) (decimal site) unregisters p h s d, record { hart = hs; site = ss; count = omega arith })
+rows_by plan place row hart site skips entry p h hs s ss d e =
+    let same : Skip hart site ≡ entry = cc e in
+    subst (IsRowFor plan place row) same (row_is row (decimal place) (decimal hart) (decimal site) skips p h s d, record { hart = hs; site = ss; count = omega arith })
 
 row_for_entry : (plan : Plan) (place : ℕ) (row : Row) (entry : Entry) → entry_in plan place row ≡ Some entry → IsRowFor plan place row entry
 row_for_entry plan place row entry e =

@@ -8,7 +8,7 @@ use Rattle.std.proofs.lemmas.List.Elements.{All-head, All-tail, All-cons, All-ni
 use Rattle.std.proofs.lemmas.List.Splits.{slice_split_at, join_with_byte-slice_split}
 use Rattle.transfer_table.specs.Plan.{Plan, IsPlan, parent}
 use Rattle.transfer_table.specs.declared.entry.Entry.{Entry}
-use Rattle.transfer_table.specs.declared.entry.Entry.TheVariants.{Register, Request, Enter, Yield, Unregister}
+use Rattle.transfer_table.specs.declared.entry.Entry.TheVariants.{Register, Request, Enter, Yield, Unregister, Skip}
 use Rattle.journal_text.specs.declared.fault.TextFault.{TextFault}
 use Rattle.journal_text.specs.declared.fault.TextFault.TheVariants as fault
 use Rattle.journal_text.specs.JournalText.{line_text, lines_text}
@@ -68,6 +68,8 @@ row_free plan right place small (Yield hart site) fits c low =
     bare_free place hart site (codes "yield") c low small fits.hart fits.site (high_free c low (codes "yield") refl)
 row_free plan right place small (Unregister hart site) fits c low =
     bare_free place hart site (codes "unregister") c low small fits.hart fits.site (high_free c low (codes "unregister") refl)
+row_free plan right place small (Skip hart site) fits c low =
+    bare_free place hart site (codes "skip") c low small fits.hart fits.site (high_free c low (codes "skip") refl)
 
 -- the words of an entry's line, and that the line has no newline
 words_written : (plan : Plan) → IsPlan plan → (place : ℕ) → place < 2 ^ 32 → (entry : Entry) → IsEntry entry

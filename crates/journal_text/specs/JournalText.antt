@@ -3,7 +3,7 @@ use Rattle.std.specs.Prelude.{ℕ, ◌+◌, List, [], ◌∷◌, ◌++◌, lengt
 use Rattle.std.specs.Fmt.{decimal}
 use Rattle.transfer_table.specs.Plan.{Plan, parent}
 use Rattle.transfer_table.specs.declared.entry.Entry.{Entry}
-use Rattle.transfer_table.specs.declared.entry.Entry.TheVariants.{Register, Request, Enter, Yield, Unregister}
+use Rattle.transfer_table.specs.declared.entry.Entry.TheVariants.{Register, Request, Enter, Yield, Unregister, Skip}
 
 -- the beginning of each line: the entry's place, its hart, what it does and its site
 abbrev pub start_text : ℕ → ℕ → List ℕ → ℕ → List ℕ
@@ -24,6 +24,7 @@ line_text plan place (Enter hart site) = start_text place hart (codes "enter") s
 line_text plan place (Yield hart site) = start_text place hart (codes "yield") site ++ 10 ∷ []
 line_text plan place (Unregister hart site) =
     start_text place hart (codes "unregister") site ++ 10 ∷ []
+line_text plan place (Skip hart site) = start_text place hart (codes "skip") site ++ 10 ∷ []
 
 -- the lines of entries, the first of which is at this place
 abbrev pub lines_text : Plan → ℕ → List Entry → List ℕ

@@ -8,7 +8,7 @@ use Rattle.std.specs.Option.{option_map, option_and_then}
 use Rattle.std.specs.Str.Parse.{digits_value}
 use Rattle.transfer_table.specs.Plan.{Plan, parent}
 use Rattle.transfer_table.specs.declared.entry.Entry.{Entry}
-use Rattle.transfer_table.specs.declared.entry.Entry.TheVariants.{Register, Request, Enter, Yield, Unregister}
+use Rattle.transfer_table.specs.declared.entry.Entry.TheVariants.{Register, Request, Enter, Yield, Unregister, Skip}
 use Rattle.journal_text.specs.declared.fault.TextFault.{TextFault}
 use Rattle.journal_text.specs.declared.fault.TextFault.TheVariants.{BadLine, BadNumber, WrongCount}
 
@@ -42,14 +42,15 @@ is_lettered letter (first ∷ rest) = first == letter
 pub data Deed : Type 0 where
   registers : List ℕ → Deed
   requests : List ℕ → Deed
-  enters yields unregisters : Deed
+  enters yields unregisters skips : Deed
 
 -- the deed of an action and the words behind the site
 abbrev pub deed_of : List ℕ → List (List ℕ) → Option Deed
 deed_of action [] =
     if is_word (codes "enter") action then Some enters else
     if is_word (codes "yield") action then Some yields else
-    if is_word (codes "unregister") action then Some unregisters else None
+    if is_word (codes "unregister") action then Some unregisters else
+    if is_word (codes "skip") action then Some skips else None
 deed_of action (count ∷ []) =
     if is_word (codes "request") action then Some (requests count) else None
 deed_of action (under ∷ around ∷ []) =
@@ -83,6 +84,7 @@ entry_by plan hart site (requests count) = option_map (Request hart site) (numbe
 entry_by plan hart site enters = Some (Enter hart site)
 entry_by plan hart site yields = Some (Yield hart site)
 entry_by plan hart site unregisters = Some (Unregister hart site)
+entry_by plan hart site skips = Some (Skip hart site)
 
 -- the entry of a row at this place, if all its numbers are right: its first one is the place
 abbrev pub entry_in : Plan → ℕ → Row → Option Entry

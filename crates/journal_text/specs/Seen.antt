@@ -13,6 +13,7 @@ deed_seen (deed.Requests count) = reading.requests count.now
 deed_seen deed.Enters = reading.enters
 deed_seen deed.Yields = reading.yields
 deed_seen deed.Unregisters = reading.unregisters
+deed_seen deed.Skips = reading.skips
 
 abbrev pub row_seen : Row → reading.Row
 row_seen row = reading.row_with row.place.now row.hart.now row.site.now (deed_seen row.deed)

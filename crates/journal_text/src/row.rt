@@ -17,6 +17,7 @@ pub enum Deed<'t> {
     Enters,
     Yields,
     Unregisters,
+    Skips,
 }
 
 /// A line that has the form of a row, with the words that stand for its numbers.
@@ -89,6 +90,8 @@ fn bare_deed<'t>(action: &[u8]) -> Option<Deed<'t>>
         Some(Deed::Yields)
     } else if is_word(action, b"unregister") {
         Some(Deed::Unregisters)
+    } else if is_word(action, b"skip") {
+        Some(Deed::Skips)
     } else {
         None
     }
@@ -147,5 +150,6 @@ fn entry_by(plan: &Plan, hart: u8, site: u16, deed: Deed<'_>) -> Option<Entry>
         Deed::Enters => Some(Entry::Enter { hart, site }),
         Deed::Yields => Some(Entry::Yield { hart, site }),
         Deed::Unregisters => Some(Entry::Unregister { hart, site }),
+        Deed::Skips => Some(Entry::Skip { hart, site }),
     }
 }

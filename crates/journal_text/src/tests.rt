@@ -20,10 +20,11 @@ fn each_kind_has_its_line(rt: HostRuntime) -> Result<(), Fail> {
         Entry::Enter { hart: 1, site: 1 },
         Entry::Yield { hart: 1, site: 1 },
         Entry::Unregister { hart: 0, site: 1 },
+        Entry::Skip { hart: 1, site: 2 },
     ];
     let text = write_entries(alloc, &plan, &list)?;
     let lines =
-        b"transfers 5\n0 h0 register s2 under s1\n1 h0 request s1 1\n2 h1 enter s1\n3 h1 yield s1\n4 h0 unregister s1\n";
+        b"transfers 6\n0 h0 register s2 under s1\n1 h0 request s1 1\n2 h1 enter s1\n3 h1 yield s1\n4 h0 unregister s1\n5 h1 skip s2\n";
     assert_eq!(rt; text.as_slice(), lines.as_slice());
     let read = read_entries(alloc, &plan, &text).ok().ok_or("a fault")?;
     assert_eq!(rt; read.as_slice(), list.as_slice());
@@ -83,6 +84,26 @@ fn bad_numbers_are_told(rt: HostRuntime) -> Result<(), Fail> {
         fault_of(alloc, b"transfers 1\n0 h0 request s1 256\n")?,
         second
     );
+    Ok(())
+}
+
+#[test]
+fn broken_lines_of_a_skip_are_told(rt: HostRuntime) -> Result<(), Fail> {
+    let alloc = rt.alloc();
+    let line = Some(TextFault::BadLine { line: 2 });
+    let number = Some(TextFault::BadNumber { line: 2 });
+    assert_eq!(rt; fault_of(alloc, b"transfers 1\n0 h0 skip s1\n")?, None);
+    assert_eq!(rt; fault_of(alloc, b"transfers 1\n0 h0 skip\n")?, line);
+    assert_eq!(rt; fault_of(alloc, b"transfers 1\n0 h0 skip 1\n")?, line);
+    assert_eq!(rt; fault_of(alloc, b"transfers 1\n0 h0 skips s1\n")?, line);
+    assert_eq!(rt; fault_of(alloc, b"transfers 1\n0 h0 skip s1 1\n")?, line);
+    assert_eq!(rt;
+        fault_of(alloc, b"transfers 1\n0 h0 skip s1 under s0\n")?,
+        line
+    );
+    assert_eq!(rt; fault_of(alloc, b"transfers 1\n0 h0 skip s\n")?, number);
+    assert_eq!(rt; fault_of(alloc, b"transfers 1\n0 h0 skip s01\n")?, number);
+    assert_eq!(rt; fault_of(alloc, b"transfers 1\n1 h0 skip s1\n")?, number);
     Ok(())
 }
 

@@ -45,6 +45,10 @@ fn write_line(text: &mut String, plan: &Plan, place: usize, entry: Entry) -> Res
             write_start(text, place, hart, "unregister", site)?;
             text.push_str("\n")
         }
+        Entry::Skip { hart, site } => {
+            write_start(text, place, hart, "skip", site)?;
+            text.push_str("\n")
+        }
     }
 }
 

@@ -1,4 +1,7 @@
 //! Ports and ledgers.
+ghost use Rattle.std.specs.Prelude.{◌≡◌, true, false};
+ghost use Rattle.transfer_table.specs.Plan.{IsSite, parent};
+ghost use Rattle.hart_port.specs.PortView.{is_in, registered, closes, sees_empty};
 
 use crate::tables::{ENTER, REGISTER, REQUEST, UNREGISTER, YIELD};
 use hart_port::{Entered, Ledger, PlainPort, Port, Seen, Taken};
@@ -17,26 +20,55 @@ fn is_there_and_back(alloc: Global, plan: &Plan, entries: &[Entry]) -> Result<bo
     if entries.len() != 4 || entries != all.as_slice() {
         return Ok(false);
     }
-    Ok(first_fault(alloc, plan, entries)? == None)
+    let all = vec![in alloc; true; plan.sites() as usize]?;
+    Ok(first_fault(alloc, plan, &all, entries)? == None)
+}
+
+// Whether the port is that of the only hart, which is in the base.
+fn is_first(port: &PlainPort) -> bool {
+    port.hart() == 0 && port.owner() == 0 && port.is_alone()
+}
+
+// Whether the hart registers a site.
+fn registers(port: &mut PlainPort, site: u16) -> bool
+    requires known { IsSite port.old.view.plan site }
+    requires child { port.old.view.owner ≡ parent port.old.view.plan site }
+    ensures view { result ≡ true → port.new.view ≡ registered port.old.view site }
+{
+    port.register((), site).is_ok()
+}
+
+// Whether nobody wants the hart in a site.
+fn is_unwanted(port: &mut PlainPort, site: u16) -> bool
+    requires known { IsSite port.old.view.plan site }
+    requires child { port.old.view.owner ≡ parent port.old.view.plan site }
+    ensures view { port.new.view ≡ port.old.view }
+{
+    port.try_enter((), site) == Entered::NotWanted { shown: 0 }
+}
+
+// Whether the hart closes its site and sees it empty.
+fn empties(port: &mut PlainPort) -> bool
+    requires home { is_in port.old.view.homes port.old.view.owner ≡ true }
+    requires open_yet { is_in port.old.view.closed port.old.view.owner ≡ false }
+    ensures view { port.new.view ≡ sees_empty (closes port.old.view) }
+{
+    port.close_site(());
+    port.see_empty(()) == Seen::Empty
 }
 
 #[test]
 fn one_hart_in_two_sites(rt: HostRuntime) -> Result<(), Fail> {
     let plan = Plan::new(rt.alloc(), 1, &[0, 1])?;
-    assert!(rt;
-        plan.harts() == 1 && plan.sites() == 2 && plan.parent(1) == 0 && plan.parent(2) == 1
-    );
     let mut port = PlainPort::new(rt.alloc(), &plan)?;
-    assert!(rt; port.hart() == 0 && port.owner() == 0 && port.is_alone());
-    assert!(rt; port.register((), 1).is_ok());
-    assert_eq!(rt; port.try_enter((), 2), Entered::NotWanted { shown: 0 });
-    assert!(rt; port.register((), 2).is_ok());
-    port.close_site(());
-    assert_eq!(rt; port.see_empty(()), Seen::Empty);
+    assert!(rt; is_first(&port));
+    assert!(rt; registers(&mut port, 1));
+    assert!(rt; is_unwanted(&mut port, 2));
+    assert!(rt; registers(&mut port, 2));
+    assert!(rt; empties(&mut port));
     port.unregister(());
     assert!(rt; port.see_gone((), 2));
-    port.close_site(());
-    assert_eq!(rt; port.see_empty(()), Seen::Empty);
+    assert!(rt; empties(&mut port));
     port.unregister(());
     assert_eq!(rt; port.register((), 1), Err(Taken { shown: 7 }));
     let entries = port.finish();

@@ -4,7 +4,9 @@ ghost use Rattle.std.specs.Prelude.{◌≡◌, [], ◌∷◌};
 use std::alloc::{AllocError, Global};
 use std::test::Fail;
 use transfer_table::NotAdmitted::*;
-use transfer_table::{Board, Entries, Entry, Fault, Plan, PlanFault, Stage, Why, first_fault};
+use transfer_table::{
+    Board, Entries, Entry, Fault, NotAdmitted, Plan, PlanFault, Stage, Why, first_fault,
+};
 
 pub(crate) const REGISTER: Entry = Entry::Register { hart: 0, site: 1 };
 
@@ -117,6 +119,60 @@ fn refusals(rt: HostRuntime) -> Result<(), Fail> {
     Ok(())
 }
 
+// Whether site 1 and site 2 inside it are gone and have no home, and both harts are in the base.
+fn are_skipped(board: &Board) -> bool
+    requires { board.now.plan ≡ record { harts = 2; parents = 0 ∷ 1 ∷ 0 ∷ [] } }
+{
+    (board.stage(1), board.stage(2), board.stage(3)) == (Stage::Gone, Stage::Gone, Stage::New)
+        && (board.home(1), board.home(2)) == (None, None)
+        && (board.owner(0), board.owner(1)) == (0, 0)
+}
+
+// Whether the board answers an entry so.
+fn answers(board: &mut Board, entry: Entry, answer: Result<(), NotAdmitted>) -> bool
+    ensures plan { board.new.plan ≡ board.old.plan }
+{
+    board.admit(entry) == answer
+}
+
+#[test]
+fn refusals_of_a_skip(rt: HostRuntime) -> Result<(), Fail> {
+    let plan = Plan::new(rt.alloc(), 2, &[0, 1, 0])?;
+    let mut board = Board::new(rt.alloc(), &plan)?;
+    let skip = Entry::Skip { hart: 0, site: 1 };
+    let inner = Entry::Skip { hart: 1, site: 2 };
+    let below = Err(NotOwner { owner: 0 });
+    assert!(rt;
+        answers(
+            &mut board,
+            Entry::Skip { hart: 2, site: 0 },
+            Err(NoSuchHart)
+        )
+    );
+    assert!(rt;
+        answers(
+            &mut board,
+            Entry::Skip { hart: 0, site: 4 },
+            Err(NoSuchSite)
+        )
+    );
+    assert!(rt; answers(&mut board, inner, below));
+    assert!(rt; answers(&mut board, skip, Ok(())));
+    assert!(rt; answers(&mut board, skip, Err(NotNew)));
+    assert!(rt; answers(&mut board, inner, below));
+    assert!(rt;
+        answers(
+            &mut board,
+            Entry::Register { hart: 1, site: 1 },
+            Err(NotNew)
+        )
+    );
+    assert!(rt; answers(&mut board, ENTER, Err(NotLive)));
+    assert!(rt; answers(&mut board, UNREGISTER, below));
+    assert!(rt; are_skipped(&board));
+    Ok(())
+}
+
 #[test]
 fn lists_of_entries(rt: HostRuntime) -> Result<(), Fail> {
     let list = vec![in rt.alloc(); Entry::Yield { hart: 1, site: 2 }]?;
@@ -133,7 +189,7 @@ fn lists_of_entries(rt: HostRuntime) -> Result<(), Fail> {
 fn a_complete_journal(rt: HostRuntime) -> Result<(), Fail> {
     let plan = Plan::new(rt.alloc(), 2, &[0])?;
     let list = [REGISTER, REQUEST, ENTER, YIELD, UNREGISTER];
-    assert_eq!(rt; first_fault(rt.alloc(), &plan, &list)?, None);
+    assert_eq!(rt; first_fault(rt.alloc(), &plan, &[true], &list)?, None);
     Ok(())
 }
 
@@ -143,17 +199,17 @@ fn forged_journals(rt: HostRuntime) -> Result<(), Fail> {
     let left_inside = [REGISTER, REQUEST, ENTER, UNREGISTER];
     let why = Why::Refused(HartInside { hart: 1 });
     assert_eq!(rt;
-        first_fault(rt.alloc(), &plan, &left_inside)?,
+        first_fault(rt.alloc(), &plan, &[true], &left_inside)?,
         Some(Fault { place: 3, why })
     );
     let why = Why::Refused(NoWish);
     assert_eq!(rt;
-        first_fault(rt.alloc(), &plan, &[REGISTER, ENTER])?,
+        first_fault(rt.alloc(), &plan, &[true], &[REGISTER, ENTER])?,
         Some(Fault { place: 1, why })
     );
     let why = Why::Unfinished { site: 1 };
     assert_eq!(rt;
-        first_fault(rt.alloc(), &plan, &[REGISTER])?,
+        first_fault(rt.alloc(), &plan, &[true], &[REGISTER])?,
         Some(Fault { place: 1, why })
     );
     Ok(())

@@ -3,14 +3,14 @@ use Rattle.std.proofs.Common.{◌≡◌, ◌+◌, ◌-◌, ◌*◌, ◌≤◌, �
 use Rattle.std.specs.List.{join_with_byte}
 use Rattle.std.proofs.lemmas.List.Elements.{All-weaker}
 use Rattle.std.proofs.lemmas.List.Splits.{join_with_byte-slice_split}
-use Rattle.std.proofs.lemmas.Nat.{mul-le}
 use Rattle.transfer_table.specs.Plan.{Plan, IsPlan, site_count}
 use Rattle.transfer_table.specs.Journal.{IsComplete, first_fault_of}
 use Rattle.transfer_table.specs.Laws.{IsEntryOf}
 use Rattle.transfer_table.specs.declared.entry.Entry.{Entry}
 use Rattle.transfer_table.specs.declared.fault.Fault.{Fault}
 use Rattle.transfer_table.proofs.Faults.{complete, first_fault_of-complete}
-use Rattle.transfer_table.proofs.LawsHold.{legal_lists_are_short, entries_are_in_the_plan}
+use Rattle.transfer_table.proofs.Bounds.{few_entries}
+use Rattle.transfer_table.proofs.LawsHold.{entries_are_in_the_plan}
 use Rattle.journal_text.specs.Journals.{IsEntry, IsJournalOf}
 use Rattle.journal_text.specs.JournalText.{journal_text}
 use Rattle.journal_text.specs.Reading.{lines_of, is_word, and_then, journal_in}
@@ -50,20 +50,18 @@ is_entry plan is entry of = record {
   count = omega (arith, of.2, is.few_harts);
 }
 
-is_journal : (plan : Plan) → IsPlan plan → (list : List Entry) → IsComplete plan list → IsJournalOf plan list (journal_text plan list)
-is_journal plan is list done =
-    let short : length list ≤ site_count plan * (3 * plan.harts - 1) = legal_lists_are_short plan list is (done.0, done.1) in
-    let most : site_count plan * (3 * plan.harts - 1) ≤ 4095 * 11 = mul-le (site_count plan) (3 * plan.harts - 1) 4095 11 is.few_sites (omega (arith, is.few_harts)) in
+is_journal : (plan : Plan) → IsPlan plan → (meant : List Bool) (list : List Entry) → IsComplete plan meant list → IsJournalOf plan list (journal_text plan list)
+is_journal plan is meant list done =
     record {
-      few = omega (arith, short, most);
+      few = few_entries plan is list done.0 done.1;
       entries = All-weaker (IsEntryOf plan) IsEntry (is_entry plan is) list (entries_are_in_the_plan plan list done.0 is done.1);
       spelled = refl;
     }
 
 -- ---- an output that is a run's is found
-pub legal_found : (plan : Plan) → IsPlan plan → (arrays : List ℕ) → IsOfLines arrays → (entries : ℕ) (output : List ℕ) → IsLegalOutput plan arrays entries output
-    → audit_of plan arrays output ≡ Ok (verdict.Legal entries)
-legal_found plan is arrays whole entries output legal =
+pub legal_found : (plan : Plan) → IsPlan plan → (meant : List Bool) → length meant ≡ site_count plan → (arrays : List ℕ) → IsOfLines arrays → (entries : ℕ) (output : List ℕ) → IsLegalOutput plan meant arrays entries output
+    → audit_of plan meant arrays output ≡ Ok (verdict.Legal entries)
+legal_found plan is meant many arrays whole entries output legal =
     let text = journal_text plan legal.list in
     let piece = some_piece (λ byte. byte == 10) text in
     let found : Compared = record { differs = None; lines = after_wanted 0 whole.lines; rest = piece.0 ∷ piece.1 } in
@@ -71,10 +69,10 @@ legal_found plan is arrays whole entries output legal =
     let own : lines_of output ≡ whole.lines ++ piece.0 ∷ piece.1 = ap lines_of legal.whole ∙ lines_behind arrays text whole ∙ ap (λ (l : List (List ℕ)). whole.lines ++ l) piece.2 in
     let same : compared 0 (lines_of arrays) (lines_of output) ≡ Ok found =
     ap (λ (l : List (List ℕ)). compared 0 l (lines_of output)) wanted ∙ ap (compared 0 (whole.lines ++ [] ∷ [])) own ∙ itself 0 whole.lines piece.0 piece.1 in
-    let read : journal_in plan (piece.0 ∷ piece.1) ≡ Ok legal.list = ap (journal_in plan) (sym piece.2) ∙ journal_written plan is legal.list text (is_journal plan is legal.list legal.complete) in
-    let none : first_fault_of plan legal.list ≡ None = first_fault_of-complete plan is legal.list legal.complete in
-    ap (and_then (audited plan)) same
-    ∙ ap (λ (r : Result (List Entry) TextFault). and_then (λ list. Ok (verdict_of plan None list)) (behind found.lines r)) read
+    let read : journal_in plan (piece.0 ∷ piece.1) ≡ Ok legal.list = ap (journal_in plan) (sym piece.2) ∙ journal_written plan is legal.list text (is_journal plan is meant legal.list legal.complete) in
+    let none : first_fault_of plan meant legal.list ≡ None = first_fault_of-complete plan is meant legal.list many legal.complete in
+    ap (and_then (audited plan meant)) same
+    ∙ ap (λ (r : Result (List Entry) TextFault). and_then (λ list. Ok (verdict_of plan meant None list)) (behind found.lines r)) read
     ∙ ap (λ (fault : Option Fault). Ok (of_fault fault (length legal.list))) none
     ∙ ap (λ (n : ℕ). Ok (verdict.Legal n)) legal.many
 
@@ -87,9 +85,9 @@ of_none : (fault : Option Fault) (many entries : ℕ) → of_fault fault many �
 of_none None many entries e = (refl, cc e)
 of_none (Some fault) many entries e = cc e
 
-of_legal : (plan : Plan) (differs : Option ℕ) (list : List Entry) (entries : ℕ) → verdict_of plan differs list ≡ verdict.Legal entries → (differs ≡ None) × (first_fault_of plan list ≡ None) × (length list ≡ entries)
-of_legal plan None list entries e = let own = of_none (first_fault_of plan list) (length list) entries e in (refl, own.0, own.1)
-of_legal plan (Some line) list entries e = cc e
+of_legal : (plan : Plan) (meant : List Bool) (differs : Option ℕ) (list : List Entry) (entries : ℕ) → verdict_of plan meant differs list ≡ verdict.Legal entries → (differs ≡ None) × (first_fault_of plan meant list ≡ None) × (length list ≡ entries)
+of_legal plan meant None list entries e = let own = of_none (first_fault_of plan meant list) (length list) entries e in (refl, own.0, own.1)
+of_legal plan meant (Some line) list entries e = cc e
 
 -- what is compared and doesn't differ is the lines that are wanted and the rest
 abbrev StandsBefore : List (List ℕ) → List (List ℕ) → List (List ℕ) → Type 0
@@ -134,25 +132,25 @@ rest_is_journal plan arrays output whole list (first ∷ more) same free read =
     sym (join_with_byte-slice_split 10 output) ∙ ap (join_with_byte 10) same ∙ sym (joined_behind whole.lines first more)
     ∙ ap (λ (t : List ℕ). t ++ text) (sym whole.joined) ∙ ap (λ (t : List ℕ). arrays ++ t) journal.spelled
 
-found_legal : (plan : Plan) → IsPlan plan → (arrays : List ℕ) → IsOfLines arrays → (entries : ℕ) (output : List ℕ) → audit_of plan arrays output ≡ Ok (verdict.Legal entries)
-    → IsLegalOutput plan arrays entries output
-found_legal plan is arrays whole entries output e =
-    let all = and_ok (audited plan) (compared 0 (lines_of arrays) (lines_of output)) (verdict.Legal entries) e in
-    let list = and_ok (λ list. Ok (verdict_of plan all.0.differs list)) (behind all.0.lines (journal_in plan all.0.rest)) (verdict.Legal entries) all.2 in
+found_legal : (plan : Plan) → IsPlan plan → (meant : List Bool) → length meant ≡ site_count plan → (arrays : List ℕ) → IsOfLines arrays → (entries : ℕ) (output : List ℕ) → audit_of plan meant arrays output ≡ Ok (verdict.Legal entries)
+    → IsLegalOutput plan meant arrays entries output
+found_legal plan is meant many arrays whole entries output e =
+    let all = and_ok (audited plan meant) (compared 0 (lines_of arrays) (lines_of output)) (verdict.Legal entries) e in
+    let list = and_ok (λ list. Ok (verdict_of plan meant all.0.differs list)) (behind all.0.lines (journal_in plan all.0.rest)) (verdict.Legal entries) all.2 in
     let read = behind_ok all.0.lines (journal_in plan all.0.rest) list.0 list.1 in
-    let same : verdict_of plan all.0.differs list.0 ≡ verdict.Legal entries = let own = list.2 in cc own in
-    let legal = of_legal plan all.0.differs list.0 entries same in
+    let same : verdict_of plan meant all.0.differs list.0 ≡ verdict.Legal entries = let own = list.2 in cc own in
+    let legal = of_legal plan meant all.0.differs list.0 entries same in
     let parts = no_difference 0 whole.lines (lines_of output) all.0 (pieces_free 10 output) (ap (λ (l : List (List ℕ)). compared 0 l (lines_of output)) (sym (own_lines arrays whole)) ∙ all.1) legal.0 in
     record {
       list = list.0;
-      complete = complete plan is list.0 legal.1;
+      complete = complete plan is meant list.0 many legal.1;
       many = legal.2;
       whole = rest_is_journal plan arrays output whole list.0 all.0.rest parts.0 parts.1 read;
     }
 
 pub legal_outputs : LegalOutputsAreFound
-legal_outputs plan is program store output entries =
+legal_outputs plan is meant many program store output entries =
     let whole = text_whole program store in (
-      found_legal plan is (array_text program store) whole entries output,
-      legal_found plan is (array_text program store) whole entries output,
+      found_legal plan is meant many (array_text program store) whole entries output,
+      legal_found plan is meant many (array_text program store) whole entries output,
     )

@@ -1,6 +1,6 @@
 -- What an audit of an output finds: whether its array lines are those that are wanted, and then whether its journal is
--- complete for the plan.
-use Rattle.std.specs.Prelude.{ℕ, ◌+◌, List, ◌∷◌, length, Option, Some, None, Result, Ok, Err, if◌then◌else◌}
+-- complete for the plan and the sites that are meant to be entered.
+use Rattle.std.specs.Prelude.{ℕ, ◌+◌, Bool, List, ◌∷◌, length, Option, Some, None, Result, Ok, Err, if◌then◌else◌}
 use Rattle.transfer_table.specs.Plan.{Plan}
 use Rattle.transfer_table.specs.Journal.{first_fault_of}
 use Rattle.transfer_table.specs.declared.entry.Entry.{Entry}
@@ -52,15 +52,15 @@ of_fault None entries = verdict.Legal entries
 of_fault (Some fault) entries = verdict.Illegal fault
 
 -- the first line that differs, else the first fault of the journal, else the number of its entries
-abbrev pub verdict_of : Plan → Option ℕ → List Entry → Verdict
-verdict_of plan (Some line) list = verdict.Differs line
-verdict_of plan None list = of_fault (first_fault_of plan list) (length list)
+abbrev pub verdict_of : Plan → List Bool → Option ℕ → List Entry → Verdict
+verdict_of plan meant (Some line) list = verdict.Differs line
+verdict_of plan meant None list = of_fault (first_fault_of plan meant list) (length list)
 
-abbrev pub audited : Plan → Compared → Result Verdict TextFault
-audited plan found = and_then (λ list. Ok (verdict_of plan found.differs list))
+abbrev pub audited : Plan → List Bool → Compared → Result Verdict TextFault
+audited plan meant found = and_then (λ list. Ok (verdict_of plan meant found.differs list))
     (behind found.lines (journal_in plan found.rest))
 
--- the verdict on an output, by the array lines that are wanted; or the first fault of its text
-abbrev pub audit_of : Plan → List ℕ → List ℕ → Result Verdict TextFault
-audit_of plan wanted output =
-    and_then (audited plan) (compared 0 (lines_of wanted) (lines_of output))
+-- the verdict on an output, by the sites that are meant and the array lines that are wanted; or the first fault of its text
+abbrev pub audit_of : Plan → List Bool → List ℕ → List ℕ → Result Verdict TextFault
+audit_of plan meant wanted output =
+    and_then (audited plan meant) (compared 0 (lines_of wanted) (lines_of output))

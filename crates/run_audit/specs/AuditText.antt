@@ -1,10 +1,10 @@
 -- The lines that tell a verdict, and the faults of an input's second part.
-use Rattle.std.specs.Prelude.{ℕ, List, [], ◌∷◌, ◌++◌, codes}
+use Rattle.std.specs.Prelude.{ℕ, true, false, List, [], ◌∷◌, ◌++◌, codes}
 use Rattle.std.specs.Fmt.{decimal}
 use Rattle.transfer_table.specs.declared.entry.NotAdmitted.{NotAdmitted}
 use Rattle.transfer_table.specs.declared.entry.NotAdmitted.TheVariants as refusal
 use Rattle.transfer_table.specs.declared.fault.Why.{Why}
-use Rattle.transfer_table.specs.declared.fault.Why.TheVariants.{Refused, Unfinished}
+use Rattle.transfer_table.specs.declared.fault.Why.TheVariants.{Refused, Unfinished, Unmeant}
 use Rattle.journal_text.specs.declared.fault.TextFault.{TextFault}
 use Rattle.journal_text.specs.declared.fault.TextFault.TheVariants as fault
 use Rattle.run_audit.specs.declared.verdict.Verdict.{Verdict}
@@ -27,6 +27,8 @@ refusal_text refusal.NoCount = codes "count is 0"
 abbrev pub cause_text : Why → List ℕ
 cause_text (Refused refused) = refusal_text refused
 cause_text (Unfinished site) = codes "s" ++ decimal site ++ codes " is unfinished"
+cause_text (Unmeant site true) = codes "s" ++ decimal site ++ codes " isn't skipped"
+cause_text (Unmeant site false) = codes "s" ++ decimal site ++ codes " is skipped"
 
 -- the line of a verdict
 abbrev pub verdict_text : Verdict → List ℕ

@@ -1,6 +1,6 @@
 -- Outputs that are a run's.
-use Rattle.std.specs.Prelude.{◌≡◌, ◌↔◌, ℕ, List, ◌++◌, length, Ok}
-use Rattle.transfer_table.specs.Plan.{Plan, IsPlan}
+use Rattle.std.specs.Prelude.{◌≡◌, ◌↔◌, ℕ, Bool, List, ◌++◌, length, Ok}
+use Rattle.transfer_table.specs.Plan.{Plan, IsPlan, site_count}
 use Rattle.transfer_table.specs.Journal.{IsComplete}
 use Rattle.transfer_table.specs.declared.entry.Entry.{Entry}
 use Rattle.journal_text.specs.JournalText.{journal_text}
@@ -10,17 +10,19 @@ use Rattle.array_eval.specs.ArrayText.{array_text}
 use Rattle.run_audit.specs.Audit.{audit_of}
 use Rattle.run_audit.specs.declared.verdict.Verdict.TheVariants as verdict
 
--- the output is these array lines, and then the text of a list of so many entries that is complete for the plan
-pub record IsLegalOutput (plan : Plan) (arrays : List ℕ) (entries : ℕ)
+-- The output is these array lines, and then the text of a list of so many entries that is complete for the plan and the sites
+-- that are meant to be entered.
+pub record IsLegalOutput (plan : Plan) (meant : List Bool) (arrays : List ℕ) (entries : ℕ)
     (output : List ℕ) : Type 0 where
   pub list : List Entry
-  pub complete : IsComplete plan list
+  pub complete : IsComplete plan meant list
   pub many : length list ≡ entries
   pub whole : output ≡ arrays ++ journal_text plan list
 
 -- an audit finds so many entries legal exactly in such an output
 abbrev pub LegalOutputsAreFound : Type 0
 LegalOutputsAreFound = (plan : Plan) → IsPlan plan
+    → (meant : List Bool) → length meant ≡ site_count plan
     → (program : ProgramTree) (store : Store) (output : List ℕ) (entries : ℕ)
-    → (audit_of plan (array_text program store) output ≡ Ok (verdict.Legal entries))
-    ↔ IsLegalOutput plan (array_text program store) entries output
+    → (audit_of plan meant (array_text program store) output ≡ Ok (verdict.Legal entries))
+    ↔ IsLegalOutput plan meant (array_text program store) entries output

@@ -1,6 +1,7 @@
 //! The audit.
 ghost use Rattle.std.specs.Prelude.{◌≡◌, ◌≤◌, ◌+◌, length, Ok, Err, IfOk, MatchResult};
 ghost use Rattle.array_tree.specs.Trees.{program_of};
+ghost use Rattle.transfer_table.specs.Plan.{site_count};
 ghost use Rattle.array_meaning.specs.Work.{final_store};
 ghost use Rattle.array_eval.specs.ArrayText.{array_text};
 ghost use Rattle.journal_text.specs.Reading.{lines_of};
@@ -18,15 +19,22 @@ use transfer_table::{Entries, Plan, first_fault};
 
 /// The verdict on an output of at most 4,194,304 bytes for the program, or the first fault of its text.
 ///
-/// The array lines are compared first, as bytes, and then the journal is checked.
-pub fn audit(alloc: Global, accepted: &Accepted<'_>, output: &[u8]) -> Result<Verdict, TextFault>
-    requires { length output.now ≤ most_audited }
-    ensures { Reads (λ verdict. verdict) (audit_of accepted.now.plan
+/// The array lines are compared first, as bytes, and then the journal is checked, by the sites that are meant to be entered:
+/// a truth value for each site, that of site `s` at place `s - 1`.
+pub fn audit(
+    alloc: Global,
+    accepted: &Accepted<'_>,
+    meant: &[bool],
+    output: &[u8],
+) -> Result<Verdict, TextFault>
+    requires short { length output.now ≤ most_audited }
+    requires meant { length meant.now ≡ site_count accepted.now.plan }
+    ensures { Reads (λ verdict. verdict) (audit_of accepted.now.plan meant.now
         (array_text (program_of accepted.now.program)
         (final_store (program_of accepted.now.program))) output.now) result }
 {
     let wanted = wanted_lines(alloc, accepted)?;
-    audit_against(alloc, accepted.plan(), &wanted, output)
+    audit_against(alloc, accepted.plan(), meant, &wanted, output)
 }
 
 // The array lines of the program.
@@ -43,14 +51,17 @@ fn wanted_lines(alloc: Global, accepted: &Accepted<'_>) -> Result<Vec<u8>, Alloc
 fn audit_against(
     alloc: Global,
     plan: &Plan,
+    meant: &[bool],
     wanted: &[u8],
     output: &[u8],
 ) -> Result<Verdict, TextFault>
-    requires { length output.now ≤ most_audited }
-    ensures { Reads (λ verdict. verdict) (audit_of plan.now wanted.now output.now) result }
+    requires short { length output.now ≤ most_audited }
+    requires meant { length meant.now ≡ site_count plan.now }
+    ensures { Reads (λ verdict. verdict)
+        (audit_of plan.now meant.now wanted.now output.now) result }
 {
     let found = compared(wanted, output)?;
-    audited(alloc, plan, &found)
+    audited(alloc, plan, meant, &found)
 }
 
 /// What comes of the array lines: the first that differs, how many there are, and what stands behind them.
@@ -97,12 +108,19 @@ fn first_difference(differs: Option<u32>, line: u32, wanted: &[u8], found: &[u8]
 }
 
 // The verdict on compared lines and the journal behind them.
-fn audited(alloc: Global, plan: &Plan, found: &ArrayLines<'_>) -> Result<Verdict, TextFault>
-    requires { found.now.lines + length found.now.rest.now ≤ most_audited }
-    ensures { Reads (λ verdict. verdict) (audited plan.now (compared_seen found.now)) result }
+fn audited(
+    alloc: Global,
+    plan: &Plan,
+    meant: &[bool],
+    found: &ArrayLines<'_>,
+) -> Result<Verdict, TextFault>
+    requires short { found.now.lines + length found.now.rest.now ≤ most_audited }
+    requires meant { length meant.now ≡ site_count plan.now }
+    ensures { Reads (λ verdict. verdict)
+        (audited plan.now meant.now (compared_seen found.now)) result }
 {
     match read_entries(alloc, plan, found.rest) {
-        Ok(list) => Ok(verdict(alloc, plan, found.differs, &list)?),
+        Ok(list) => Ok(verdict(alloc, plan, meant, found.differs, &list)?),
         Err(fault) => Err(told_behind(fault, found.lines)),
     }
 }
@@ -124,17 +142,20 @@ fn told_behind(fault: TextFault, lines: u32) -> TextFault
 fn verdict(
     alloc: Global,
     plan: &Plan,
+    meant: &[bool],
     differs: Option<u32>,
     list: &Entries,
 ) -> Result<Verdict, AllocError>
-    requires { length list.now ≤ 65535 }
-    ensures { IfOk result (λ verdict. verdict ≡ verdict_of plan.now differs list.now) }
+    requires few { length list.now ≤ 65535 }
+    requires meant { length meant.now ≡ site_count plan.now }
+    ensures { IfOk result
+        (λ verdict. verdict ≡ verdict_of plan.now meant.now differs list.now) }
 {
     if let Some(line) = differs {
         return Ok(Verdict::Differs(line));
     }
     let entries = list.as_slice();
-    match first_fault(alloc, plan, entries)? {
+    match first_fault(alloc, plan, meant, entries)? {
         Some(fault) => Ok(Verdict::Illegal(fault)),
         None => Ok(Verdict::Legal(entries.len() as u32)),
     }

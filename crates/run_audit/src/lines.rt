@@ -32,6 +32,14 @@ fn add_cause(line: &mut String, why: Why) -> Result<(), AllocError>
     match why {
         Why::Refused(refusal) => add_refusal(line, refusal),
         Why::Unfinished { site } => write!(line, "s{site} is unfinished"),
+        Why::Unmeant {
+            site,
+            registered: true,
+        } => write!(line, "s{site} isn't skipped"),
+        Why::Unmeant {
+            site,
+            registered: false,
+        } => write!(line, "s{site} is skipped"),
     }
 }
 

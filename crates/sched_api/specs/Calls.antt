@@ -4,6 +4,8 @@ use Rattle.hart_port.specs.Count.{Rose}
 use Rattle.hart_port.specs.PortView.{PortView, Registers, entered}
 use Rattle.hart_port.specs.Words.{is_wanted}
 use Rattle.hart_port.specs.declared.port.Taken.{Taken}
+use Rattle.hart_port.specs.declared.port.Entered.{Entered}
+use Rattle.hart_port.specs.declared.port.Entered.TheVariants as tried
 use Rattle.sched_api.specs.declared.hearing.Told.{Told}
 use Rattle.sched_api.specs.declared.hearing.Call.TheVariants.{Registered, Unregistered, Requested, Yielded, Blocked}
 use Rattle.sched_api.specs.declared.scheduler.Next.{Next}
@@ -46,6 +48,16 @@ Lends answers site view child (NotWanted shown) view' child' =
     (view' ≡ view) × (is_wanted shown ≡ false) × (child' ≡ child)
 Lends answers site view child (Moved read found) view' child' =
     (view' ≡ view) × (is_wanted read ≡ true) × (read ≢ found) × (child' ≡ child)
+
+-- what the port answered to the register, and to the try to enter
+abbrev pub claim_of : {H : Type 0} → Result H Taken → Result (Unit {0}) Taken
+claim_of (Ok heard) = Ok tt
+claim_of (Err taken) = Err taken
+
+abbrev pub try_of : {C : Type 0} → Lent C → Entered
+try_of (Inside next) = tried.Inside
+try_of (NotWanted shown) = tried.NotWanted shown
+try_of (Moved read found) = tried.Moved read found
 
 -- Of a try to enter a child: the port's count of refusals rose unless the hart is inside.
 abbrev pub RoseUnlessLent : {C : Type 0} → Lent C → ℕ → ℕ → Type 0

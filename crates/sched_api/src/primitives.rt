@@ -3,7 +3,7 @@ ghost use Rattle.std.specs.Prelude.{◌≡◌, ◌<◌, false};
 ghost use Rattle.transfer_table.specs.Plan.{IsSite, parent as parent_of};
 ghost use Rattle.hart_port.specs.Count.{RoseIfErr};
 ghost use Rattle.hart_port.specs.PortView.{IsPortView, is_in, MayRequest, requested_by, yielded, MayUnregister, unregistered};
-ghost use Rattle.sched_api.specs.Calls.{IsHeard, Lends, RoseUnlessLent, requested_told, yielded_told, unregistered_told};
+ghost use Rattle.sched_api.specs.Calls.{IsHeard, Lends, RoseUnlessLent, claim_of, try_of, requested_told, yielded_told, unregistered_told};
 
 use crate::scheduler::{Lent, Next, Scheduler};
 use hart_port::{Entered, Port, Taken};
@@ -21,6 +21,7 @@ pub fn sched_register<P: Port, S: Scheduler>(
     ensures does { IsHeard S.Heard.heard S.hears site (P.seen port.old) parent.old result
         (P.seen port.new) parent.new }
     ensures count { RoseIfErr result (P.refused port.old) (P.refused port.new) }
+    ensures gives { P.register_gives port.old site (claim_of result) port.new }
     ensures site { S.site_of parent.new ≡ S.site_of parent.old }
     ensures kept { IsPortView (P.seen port.new) }
 {
@@ -105,6 +106,7 @@ pub fn sched_enter<P: Port, S: Scheduler>(
     ensures does { Lends S.answers (S.site_of child.old) (P.seen port.old) child.old result
         (P.seen port.new) child.new }
     ensures count { RoseUnlessLent result (P.refused port.old) (P.refused port.new) }
+    ensures gives { P.enter_gives port.old (S.site_of child.old) (try_of result) port.new }
     ensures site { S.site_of child.new ≡ S.site_of child.old }
     ensures kept { IsPortView (P.seen port.new) }
 {

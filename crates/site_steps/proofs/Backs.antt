@@ -1,20 +1,20 @@
 -- How a hart comes back, step by step.
-use Rattle.std.proofs.Common.{◌≡◌, ℕ, ◌<◌, ◌≤◌, true, false, [], ◌∷◌, ◌++◌, refl, sym, ap, ◌∙◌, subst, arith, inl, inr, Option, Some}
+use Rattle.std.proofs.Common.{◌≡◌, ℕ, ◌+◌, ◌<◌, ◌≤◌, true, false, [], ◌∷◌, ◌++◌, refl, sym, ap, ◌∙◌, subst, arith, inl, inr, Option, Some}
 use Rattle.std.proofs.lemmas.Bool.{cases_eq, cases_lt}
 use Rattle.transfer_table.specs.Plan.{Plan, IsPlan, IsSite, parent}
-use Rattle.transfer_table.specs.Entry.{registers, unregisters}
+use Rattle.transfer_table.specs.Entry.{unregisters, skips_over}
 use Rattle.transfer_table.specs.declared.entry.Entry.TheVariants.{Register, Enter, Yield, Unregister}
 use Rattle.transfer_table.proofs.Balance.{unregisters-here}
-use Rattle.hart_port.specs.PortView.{PortView, IsPortView, is_in, with_site, without, registered, unregistered, entered, yielded, closes, sees_gone, sees_empty}
+use Rattle.hart_port.specs.PortView.{PortView, IsPortView, HasClaimed, HasEnded, is_in, with_site, without, registered, unregistered, entered, yielded, closes, sees_gone, sees_empty}
 use Rattle.site_steps.specs.Back.{IsSettled, IsBack, ChildrenOver, HasLooked}
 use Rattle.site_steps.specs.Visits.{ChildrenOverBefore, SeenGoneBefore}
 use Rattle.site_steps.proofs.Flags.{with_other, with_stays, without_other, without_here}
 use Rattle.site_steps.specs.Children.{NextChild}
-use Rattle.site_steps.proofs.Overs.{over_stays, taken_over}
+use Rattle.site_steps.proofs.Overs.{over_stays, skips_stay, taken_over}
 use Rattle.site_steps.proofs.Children.{before_next}
 
 pub back_refl : (h : PortView) → IsSettled h → IsBack h h
-back_refl h inner = record { plan = refl; hart = refl; alone = refl; table = refl; owner = refl; homes = λ s le. refl; inner = inner; closed = λ s le. refl; gone = λ s is. is; over = λ s. omega arith }
+back_refl h inner = record { plan = refl; hart = refl; alone = refl; table = refl; owner = refl; homes = λ s le. refl; inner = inner; closed = λ s le. refl; gone = λ s is. is; over = λ s. omega arith; skipped = λ p s. refl }
 
 pub back_then : (a b c : PortView) → IsBack a b → IsBack b c → IsBack a c
 back_then a b c f g = record {
@@ -28,11 +28,12 @@ back_then a b c f g = record {
   closed = λ s le. g.closed s (let o = f.owner in omega arith) ∙ f.closed s le;
   gone = λ s is. g.gone s (f.gone s is);
   over = λ s. let x = f.over s in let y = g.over s in omega arith;
+  skipped = λ p s. g.skipped p s ∙ f.skipped p s;
 }
 
 -- the hart registers a child, comes back to it, looks until it is empty, and unregisters it
 pub back_over : (h a b c : PortView) (s : ℕ) → IsPlan h.plan → IsSite h.plan s → h.owner ≡ parent h.plan s → IsSettled h → a ≡ registered h s → IsBack a b → HasLooked b c →
-    IsBack h (unregistered c) × (1 ≤ unregisters s (unregistered c).mine)
+    IsBack h (unregistered c) × HasEnded (unregistered c) s
 back_over h a b c s is_plan site around settled is back looked = (
   record {
     plan = ap (λ (x : PortView). x.plan) looked.same ∙ plan;
@@ -52,9 +53,11 @@ back_over h a b c s is_plan site around settled is back looked = (
         ∙ ap (λ (y : PortView). is_in y.closed x) is ∙ without_other h.closed s x (λ e. omega arith);
     gone = λ x g. looked.gone x (back.gone x (ap (λ (y : PortView). is_in y.gone x) is ∙ g));
     over = λ x. omega (arith, over_stays x h.mine (Register h.hart s), ap (λ (y : PortView). unregisters x y.mine) is, back.over x, ap (λ (y : PortView). unregisters x y.mine) looked.same, over_stays x c.mine (Unregister c.hart c.owner));
+    skipped = λ p x. skips_stay p x c.mine (Unregister c.hart c.owner) refl ∙ ap (λ (y : PortView). skips_over p x y.mine) looked.same ∙ back.skipped p x
+        ∙ ap (λ (y : PortView). skips_over p x y.mine) is ∙ skips_stay p x h.mine (Register h.hart s) refl;
   },
   (let one = unregisters-here c.mine (Unregister c.hart c.owner) in
-      subst (λ y. 1 ≤ unregisters y (c.mine ++ Unregister c.hart c.owner ∷ [])) here (omega arith)),
+      subst (λ y. 1 ≤ unregisters y (c.mine ++ Unregister c.hart c.owner ∷ []) + skips_over c.plan y (c.mine ++ Unregister c.hart c.owner ∷ [])) here (omega arith)),
 )
   where
     less : h.owner < s
@@ -114,14 +117,15 @@ seen_more h a n next looked seen is more c site up below =
     ]
 
 -- one child more is over
-pub over_more : (h a : PortView) (n : ℕ) (next : Option ℕ) → IsBack h a → ChildrenOverBefore h (Some n) → NextChild h.plan h.owner n next → (a.alone ≡ true → 1 ≤ unregisters n a.mine) → ChildrenOverBefore a next
+pub over_more : (h a : PortView) (n : ℕ) (next : Option ℕ) → IsBack h a → ChildrenOverBefore h (Some n) → NextChild h.plan h.owner n next → (a.alone ≡ true → HasEnded a n) → ChildrenOverBefore a next
 over_more h a n next back over is more alone c site up below =
     let site' = subst (λ p. IsSite p c) back.plan site in
     let up' : parent h.plan c ≡ h.owner = subst (λ p. parent p c ≡ h.owner) back.plan (up ∙ back.owner) in
     let most = before_next h.plan h.owner n c next is site' up' below in
     elim (cases_eq c n) [
-      | inl e ↦ subst (λ x. 1 ≤ unregisters x a.mine) (sym e) (more alone)
-      | inr m ↦ let was = over (sym back.alone ∙ alone) c site' up' (omega arith) in let still = back.over c in omega arith
+      | inl e ↦ subst (HasEnded a) (sym e) (more alone)
+      | inr m ↦ let was = over (sym back.alone ∙ alone) c site' up' (omega arith) in let still = back.over c in let kept = back.skipped h.plan c in
+          subst (λ (p : Plan). 1 ≤ unregisters c a.mine + skips_over p c a.mine) (sym back.plan) (omega arith)
     ]
 
 -- the hart enters a child, comes back to it, and yields
@@ -140,6 +144,7 @@ back_visited h a b s is_plan site around settled is back = record {
   closed = λ x le. back.closed x (omega (arith, owner_is)) ∙ ap (λ (y : PortView). is_in y.closed x) is;
   gone = λ x g. back.gone x (ap (λ (y : PortView). is_in y.gone x) is ∙ g);
   over = λ x. omega (arith, over_stays x h.mine (Enter h.hart s), ap (λ (y : PortView). unregisters x y.mine) is, back.over x, over_stays x b.mine (Yield b.hart b.owner));
+  skipped = λ p x. skips_stay p x b.mine (Yield b.hart b.owner) refl ∙ back.skipped p x ∙ ap (λ (y : PortView). skips_over p x y.mine) is ∙ skips_stay p x h.mine (Enter h.hart s) refl;
 }
   where
     less : h.owner < s
@@ -161,7 +166,7 @@ back_visited h a b s is_plan site around settled is back = record {
     own = ap (λ (p : Plan). parent p b.owner) plan ∙ ap (parent h.plan) there ∙ sym around
 
 -- where the register of a child is refused, the child is over, if no other hart shares the table
-pub refused_over : (h a : PortView) (s : ℕ) → IsPortView a → IsSite h.plan s → h.owner ≡ parent h.plan s → a ≡ h → (h.alone ≡ true → 1 ≤ registers s h.mine)
-    → a.alone ≡ true → 1 ≤ unregisters s a.mine
-refused_over h a s kept site child is came = subst (λ (x : PortView). x.alone ≡ true → 1 ≤ unregisters s x.mine) (sym is)
+pub refused_over : (h a : PortView) (s : ℕ) → IsPortView a → IsSite h.plan s → h.owner ≡ parent h.plan s → a ≡ h → (h.alone ≡ true → HasClaimed h s)
+    → a.alone ≡ true → HasEnded a s
+refused_over h a s kept site child is came = subst (λ (x : PortView). x.alone ≡ true → HasEnded x s) (sym is)
     (λ alone. taken_over h s (subst IsPortView is kept) site child alone (came alone))

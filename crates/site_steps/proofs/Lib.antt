@@ -2,3 +2,4 @@ pub mod Children
 pub mod Flags
 pub mod Overs
 pub mod Backs
+pub mod Skipped

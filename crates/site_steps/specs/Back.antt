@@ -1,15 +1,15 @@
 -- How a hart comes back to the site that it was in.
 use Rattle.std.specs.Prelude.{◌≡◌, ◌≢◌, ℕ, ◌<◌, ◌≤◌, true, false}
-use Rattle.transfer_table.specs.Plan.{IsSite, parent}
-use Rattle.transfer_table.specs.Entry.{unregisters}
-use Rattle.hart_port.specs.PortView.{PortView, is_in}
+use Rattle.transfer_table.specs.Plan.{Plan, IsSite, parent}
+use Rattle.transfer_table.specs.Entry.{unregisters, skips_over}
+use Rattle.hart_port.specs.PortView.{PortView, is_in, HasEnded}
 
 -- the hart is the home of no site inside the one that it is in
 abbrev pub IsSettled : PortView → Type 0
 IsSettled h = (s : ℕ) → h.owner < s → is_in h.homes s ≡ false
 
--- The hart is back in the site that it was in, and the home of no site inside. Nothing of the sites around has changed, and
--- what was gone or over is so still.
+-- The hart is back in the site that it was in, and the home of no site inside. Nothing of the sites around has changed, what
+-- was gone or over is so still, and the hart has skipped nothing.
 pub record IsBack (h after : PortView) : Type 0 where
   pub plan : after.plan ≡ h.plan
   pub hart : after.hart ≡ h.hart
@@ -21,11 +21,12 @@ pub record IsBack (h after : PortView) : Type 0 where
   pub closed : (s : ℕ) → s ≤ h.owner → is_in after.closed s ≡ is_in h.closed s
   pub gone : (s : ℕ) → is_in h.gone s ≡ true → is_in after.gone s ≡ true
   pub over : (s : ℕ) → unregisters s h.mine ≤ unregisters s after.mine
+  pub skipped : (p : Plan) (s : ℕ) → skips_over p s after.mine ≡ skips_over p s h.mine
 
--- where no other hart shares the table, each child of the hart's owner was unregistered
+-- where no other hart shares the table, each child of the hart's owner was unregistered or skipped
 abbrev pub ChildrenOver : PortView → Type 0
 ChildrenOver h = h.alone ≡ true → (c : ℕ) → IsSite h.plan c → parent h.plan c ≡ h.owner
-    → 1 ≤ unregisters c h.mine
+    → HasEnded h c
 
 -- the hart has looked at sites, and at the owner: it made no entry
 pub record HasLooked (h after : PortView) : Type 0 where

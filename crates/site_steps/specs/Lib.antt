@@ -1,3 +1,4 @@
 pub mod Back
 pub mod Children
 pub mod Visits
+pub mod Skips

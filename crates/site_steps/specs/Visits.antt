@@ -1,8 +1,7 @@
 -- How far a hart has come that goes through the children of its owner.
-use Rattle.std.specs.Prelude.{◌≡◌, ℕ, ◌+◌, ◌-◌, ◌<◌, ◌≤◌, true, Option, Some, None}
+use Rattle.std.specs.Prelude.{◌≡◌, ℕ, ◌+◌, ◌-◌, ◌<◌, true, Option, Some, None}
 use Rattle.transfer_table.specs.Plan.{Plan, IsSite, parent, site_count}
-use Rattle.transfer_table.specs.Entry.{unregisters}
-use Rattle.hart_port.specs.PortView.{PortView, is_in}
+use Rattle.hart_port.specs.PortView.{PortView, is_in, HasEnded}
 
 -- the next one to be visited, if there is one, is a child of this site
 abbrev pub IsChildIf : Plan → ℕ → Option ℕ → Type 0
@@ -19,10 +18,10 @@ abbrev pub IsBefore : Option ℕ → ℕ → Type 0
 IsBefore None c = Unit {0}
 IsBefore (Some next) c = c < next
 
--- where no other hart shares the table, the children before the next one were unregistered
+-- where no other hart shares the table, the children before the next one were unregistered or skipped
 abbrev pub ChildrenOverBefore : PortView → Option ℕ → Type 0
 ChildrenOverBefore h next = h.alone ≡ true → (c : ℕ) → IsSite h.plan c → parent h.plan c ≡ h.owner
-    → IsBefore next c → 1 ≤ unregisters c h.mine
+    → IsBefore next c → HasEnded h c
 
 -- the hart has seen the children before the next one gone
 abbrev pub SeenGoneBefore : PortView → Option ℕ → Type 0

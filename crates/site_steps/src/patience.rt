@@ -1,18 +1,18 @@
 //! Ports that wait.
-ghost use Rattle.std.specs.Prelude.{◌≡◌, ◌≤◌, true};
+ghost use Rattle.std.specs.Prelude.{◌≡◌, true};
 ghost use Rattle.transfer_table.specs.Plan.{IsSite};
-ghost use Rattle.transfer_table.specs.Entry.{unregisters};
-ghost use Rattle.hart_port.specs.PortView.{IsPortView, is_in, sees_gone, sees_empty};
+ghost use Rattle.hart_port.specs.PortView.{IsPortView, is_in, HasEnded, sees_gone, sees_empty};
 
 use hart_port::{PlainPort, Port, Seen};
 
 /// A port whose hart can wait for what other harts do. A wait that returns has seen what it waited for.
 pub trait PatientPort: Port {
-    /// Looks at the site until it is gone. Where no other hart shares the table, the hart has unregistered it.
+    /// Looks at the site until it is gone. Where no other hart shares the table, the hart has unregistered or
+    /// skipped it.
     fn until_gone(&mut self, hold: Self::Hold, site: u16)
         requires known { IsSite (Self.seen self.old).plan site }
         requires over { (Self.seen self.old).alone ≡ true
-            → 1 ≤ unregisters site (Self.seen self.old).mine }
+            → HasEnded (Self.seen self.old) site }
         ensures does { Self.seen self.new ≡ sees_gone (Self.seen self.old) site }
         ensures kept { IsPortView (Self.seen self.new) };
 
@@ -27,7 +27,7 @@ pub trait PatientPort: Port {
 /// A single hart waits for nothing: it sees at once what it waits for.
 impl PatientPort for PlainPort {
     fn until_gone(&mut self, hold: (), site: u16) {
-        // A look at the owner tells what the port keeps: a site that this hart unregistered is gone.
+        // A look at the owner tells what the port keeps: a site that this hart unregistered or skipped is gone.
         let _ = self.owner();
         if !self.see_gone(hold, site) {
             unreachable!()

@@ -1,7 +1,7 @@
 //! How the sites that nobody entered come and go.
-ghost use Rattle.std.specs.Prelude.{◌≡◌, ◌≤◌, true};
+ghost use Rattle.std.specs.Prelude.{◌≡◌, true};
 ghost use Rattle.transfer_table.specs.Plan.{IsSite, parent};
-ghost use Rattle.transfer_table.specs.Entry.{unregisters};
+ghost use Rattle.hart_port.specs.PortView.{HasEnded};
 ghost use Rattle.site_steps.specs.Back.{IsSettled, IsBack, ChildrenOver};
 
 use crate::ending::finish_site;
@@ -36,7 +36,7 @@ pub fn sweep_children<P: PatientPort>(tree: &SiteTree, port: &mut P, hold: P::Ho
     }
 }
 
-// Makes a child of the owner come and go, unless it is registered already.
+// Makes a child of the owner come and go, unless it is registered or skipped already.
 #[cycle(sweep)]
 fn sweep_site<P: PatientPort>(tree: &SiteTree, port: &mut P, hold: P::Hold, site: u16)
     requires plan { (P.seen port.old).plan ≡ tree.now }
@@ -44,7 +44,7 @@ fn sweep_site<P: PatientPort>(tree: &SiteTree, port: &mut P, hold: P::Hold, site
     requires known { IsSite tree.now site }
     requires child { (P.seen port.old).owner ≡ parent tree.now site }
     ensures back { IsBack (P.seen port.old) (P.seen port.new) }
-    ensures over { (P.seen port.new).alone ≡ true → 1 ≤ unregisters site (P.seen port.new).mine }
+    ensures over { (P.seen port.new).alone ≡ true → HasEnded (P.seen port.new) site }
 {
     match port.register(hold, site) {
         Ok(()) => {

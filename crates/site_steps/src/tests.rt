@@ -1,8 +1,8 @@
 //! The sites of a small plan: sites 1 and 5 at the top, 2 and 4 inside 1, 3 inside 2.
 ghost use Rattle.std.specs.Prelude.{◌≡◌, IfOk, ◌∷◌, []};
 
-use crate::{SiteTree, finish_base, sweep_children, sweep_failed};
-use hart_port::PlainPort;
+use crate::{SiteTree, WaitingPort, finish_base, skip_sites, sweep_children, sweep_failed};
+use hart_port::{Entered, PlainPort, Port};
 use std::alloc::Global;
 use std::test::Fail;
 use transfer_table::{Entry, Plan};
@@ -82,5 +82,51 @@ fn a_second_sweep_adds_nothing(rt: HostRuntime) -> Result<(), Fail> {
     let entries = port.finish();
     let expected = [register(1), unregister(1), register(2), unregister(2)];
     assert!(rt; entries.as_slice() == expected.as_slice());
+    Ok(())
+}
+
+// The topmost sites of a span are skipped, each with what is inside it; what was claimed is left as it is.
+#[test]
+fn the_tops_of_a_span_are_skipped(rt: HostRuntime) -> Result<(), Fail> {
+    let plan = small_plan(rt.alloc())?;
+    let tree = SiteTree::new(rt.alloc(), &plan)?;
+    let mut port = PlainPort::new(rt.alloc(), &plan)?;
+    skip_sites(&tree, &mut port, (), 1, 5);
+    skip_sites(&tree, &mut port, (), 1, 6);
+    let entries = port.finish();
+    let expected = [
+        Entry::Skip { hart: 0, site: 1 },
+        Entry::Skip { hart: 0, site: 5 },
+    ];
+    assert!(rt; entries.as_slice() == expected.as_slice());
+    Ok(())
+}
+
+// A port that waits does what the port does that it was made of.
+#[test]
+fn sites_come_and_go_over_a_port_that_waits(rt: HostRuntime) -> Result<(), Fail> {
+    let plan = Plan::new(rt.alloc(), 1, &[0, 0])?;
+    let tree = SiteTree::new(rt.alloc(), &plan)?;
+    let mut port = WaitingPort::new(PlainPort::new(rt.alloc(), &plan)?, &rt);
+    assert!(rt; port.is_alone() && port.hart() == 0 && port.owner() == 0);
+    sweep_children(&tree, &mut port, ());
+    finish_base(&tree, &mut port, ());
+    let entries = port.into_port().finish();
+    let expected = [
+        Entry::Register { hart: 0, site: 1 },
+        Entry::Unregister { hart: 0, site: 1 },
+        Entry::Register { hart: 0, site: 2 },
+        Entry::Unregister { hart: 0, site: 2 },
+    ];
+    assert!(rt; entries.as_slice() == expected.as_slice());
+    Ok(())
+}
+
+#[test]
+fn nobody_asks_for_the_only_hart_over_a_port_that_waits(rt: HostRuntime) -> Result<(), Fail> {
+    let plan = Plan::new(rt.alloc(), 1, &[0, 0])?;
+    let mut port = WaitingPort::new(PlainPort::new(rt.alloc(), &plan)?, &rt);
+    assert_eq!(rt; port.try_enter((), 2), Entered::NotWanted { shown: 0 });
+    assert!(rt; !port.see_gone((), 1));
     Ok(())
 }

@@ -9,7 +9,7 @@ use Rattle.transfer_table.specs.Allowed.{IsAllowed, IsAlone, ChildrenGone}
 use Rattle.transfer_table.specs.declared.entry.Stage.{Stage}
 use Rattle.transfer_table.specs.declared.entry.Stage.TheVariants.{New, Live, Gone}
 use Rattle.transfer_table.specs.declared.entry.Entry.{Entry}
-use Rattle.transfer_table.specs.declared.entry.Entry.TheVariants.{Register, Request, Enter, Yield, Unregister}
+use Rattle.transfer_table.specs.declared.entry.Entry.TheVariants.{Register, Request, Enter, Yield, Unregister, Skip}
 use Rattle.transfer_table.specs.declared.entry.NotAdmitted.{NotAdmitted}
 use Rattle.transfer_table.proofs.Scans.{no_other, no_child, none_other, none_child}
 
@@ -65,6 +65,10 @@ pub admits_yield : (p : Plan) (t : TableState) (h s : ℕ) → IsHart p h → Is
     → admit_of p t (Yield h s) ≡ Ok (effect_of p t (Yield h s))
 admits_yield p t h s a b c d = rw (known_hart p.harts h a, known_site p s b, eq-eqb (owner t h) s c, not_home (row t s).home h d) refl
 
+pub admits_skip : (p : Plan) (t : TableState) (h s : ℕ) → IsHart p h → IsSite p s → owner t h ≡ parent p s → (row t s).stage ≡ New
+    → admit_of p t (Skip h s) ≡ Ok (effect_of p t (Skip h s))
+admits_skip p t h s a b c d = rw (known_hart p.harts h a, known_site p s b, eq-eqb (owner t h) (parent p s) c, d) refl
+
 -- where no other hart is inside, the scan finds none
 pub hart_inside-none : (p : Plan) (t : TableState) (h s : ℕ) → IsPosition record { plan = p; state = t } → IsAlone p t h s → hart_inside t h s ≡ None
 hart_inside-none p t h s is alone = no_other t.owners h s 0 (λ g lt n. alone g (let z = is.owners in omega arith) (λ e. n (omega arith)))
@@ -86,6 +90,7 @@ admits p t (Request h s k) is a = admits_request p t h s k a.0 a.1 a.2 a.3 a.4 a
 admits p t (Enter h s) is a = admits_enter p t h s a.0 a.1 a.2 a.3 a.4
 admits p t (Yield h s) is a = admits_yield p t h s a.0 a.1 a.2 a.3
 admits p t (Unregister h s) is a = admits_unregister p t h s is a.0 a.1 a.2 a.3 a.4 a.5
+admits p t (Skip h s) is a = admits_skip p t h s a.0 a.1 a.2 a.3
 
 clean : (f : Option NotAdmitted) (x u : TableState) → unless_refused f x ≡ Ok u → (f ≡ None) × (u ≡ x)
 clean None x u e = (refl, cc)
@@ -139,3 +144,5 @@ admitted p t (Unregister h s) u size is = let c = clean _ _ u is in let a = pass
   ),
   c.1,
 )
+admitted p t (Skip h s) u size is = let c = clean _ _ u is in let a = passed _ _ _ c.0 in let b = passed _ _ _ a.1 in let d = passed _ _ _ b.1 in let g = passed _ _ _ d.1 in
+    ((in_harts p.harts h a.0, in_sites p s b.0, same_site (owner t h) (parent p s) d.0, new_is (row t s).stage (holds_of (is_new (row t s).stage) g.0)), c.1)

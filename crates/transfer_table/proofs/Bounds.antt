@@ -1,24 +1,27 @@
 -- A legal list is short: each entry lowers a potential.
-use Rattle.std.proofs.Common.{◌≡◌, ◌≢◌, ℕ, suc, zero, ◌+◌, ◌-◌, ◌*◌, ◌<◌, ◌≤◌, Bool, true, false, not, cond, eqb, List, [], ◌∷◌, length, set, refl, sym, ap, subst, ◌∙◌, arith, slice_index_or, Option, Some, Ok, ◌++◌, eq-eqb, ne_eqb, inl, inr, length-set, length-append, get_or-set_same, get_or-set_other}
+use Rattle.std.proofs.Common.{◌≡◌, ◌≢◌, ℕ, suc, zero, ◌+◌, ◌-◌, ◌*◌, ◌<◌, ◌≤◌, Bool, true, false, not, cond, eqb, if◌then◌else◌, List, [], ◌∷◌, length, set, refl, sym, ap, subst, ◌∙◌, arith, slice_index_or, Option, Some, Ok, ◌++◌, eq-eqb, ne_eqb, inl, inr, length-set, length-append, get_or-set_same, get_or-set_other}
 use mathlib.Core.Logic.{dite}
 use native.Mathlib.Decide.{ℕ_discrete}
 use Rattle.std.specs.List.{sum_by}
 use Rattle.std.proofs.lemmas.List.Folds.{sum_by-replicate}
-use Rattle.std.proofs.lemmas.List.Sums.{sum_by-set}
+use Rattle.std.proofs.lemmas.List.Sums.{sum_by-set, sum_by-append}
 use Rattle.std.proofs.lemmas.List.{set-get_or}
-use Rattle.transfer_table.specs.Plan.{Plan, IsPlan, IsHart, IsSite, parent, site_count}
-use Rattle.transfer_table.specs.Table.{TableState, owner, row, blank, first_state, effect_of, is_new, is_live, is_gone, is_home, admit_of}
+use Rattle.transfer_table.specs.Plan.{Plan, IsPlan, IsHart, IsSite, parent, is_within, site_count, most_entries, room}
+use Rattle.transfer_table.specs.Table.{TableState, owner, row, blank, first_state, effect_of, is_new, is_live, is_gone, is_home, admit_of, swept, swept_row}
 use Rattle.transfer_table.specs.Journal.{Reaches}
 use Rattle.transfer_table.specs.declared.entry.Row.{Row}
 use Rattle.transfer_table.specs.declared.entry.Stage.{Stage}
 use Rattle.transfer_table.specs.declared.entry.Stage.TheVariants.{New, Live, Gone}
 use Rattle.transfer_table.specs.declared.entry.Entry.{Entry}
-use Rattle.transfer_table.specs.declared.entry.Entry.TheVariants.{Register, Request, Enter, Yield, Unregister}
+use Rattle.transfer_table.specs.declared.entry.Entry.TheVariants.{Register, Request, Enter, Yield, Unregister, Skip}
 use Rattle.transfer_table.specs.Allowed.{IsAllowed}
 use Rattle.transfer_table.specs.Laws.{IsBaseOrLive}
 use Rattle.transfer_table.proofs.Admits.{live_is, not_home}
 use Rattle.transfer_table.proofs.Replays.{reaches-snoc}
-use Rattle.transfer_table.proofs.Positions.{Fits, fits_first, lasts}
+use Rattle.transfer_table.proofs.Positions.{Fits, fits_first, fits_effect, lasts}
+use Rattle.transfer_table.proofs.Effects.{at_site, row-effect_other}
+use Rattle.transfer_table.proofs.Sweeps.{swept-set}
+use Rattle.transfer_table.proofs.Within.{within_all, within-itself, within-below}
 use Rattle.transfer_table.proofs.Lists.{replicate_at}
 
 abbrev IsLive : TableState → ℕ → Type 0
@@ -133,7 +136,7 @@ record Fine (p : Plan) (n : ℕ) (t : TableState) : Type 0 where
   size : Fits p t
   owners : (h : ℕ) → h < p.harts → IsPath p t (owner t h)
   nested : (x : ℕ) → 1 ≤ x → x ≤ site_count p → IsLive t x → IsPath p t (parent p x)
-  short : n + potential p t ≤ site_count p * (3 * p.harts - 1)
+  short : n + potential p t ≤ room p
 
 row_here : (t : TableState) (x : ℕ) (r : Row) → 1 ≤ x → x ≤ length t.rows → slice_index_or (set t.rows (x - 1) r) (x - 1) blank ≡ r
 row_here t x r low high = get_or-set_same t.rows (x - 1) r blank (omega arith)
@@ -304,6 +307,50 @@ module _ (p : Plan) (n : ℕ) (t : TableState) (f : Fine p n t) where
         short = omega arith;
       }
 
+  -- a live site isn't within a new one
+  not_within : (x : ℕ) → IsSite p x → (row t x).stage ≡ New → (m y : ℕ) → y ≤ m → y ≤ site_count p → IsLive t y → is_within p x y ≡ false
+  not_within x site new m y le high live = by_cases (is_within p x y) refl
+    where
+      new_all : (m y : ℕ) → y ≤ m → y ≤ site_count p → is_within p x y ≡ true → IsLive t y → ⊥
+      new_all m y le high w = within_all p s x (λ o. IsLive t o → ⊥) (not_both (row t x).stage (ap is_new new))
+          (λ c c_site w' up live'. dite (ℕ_discrete (parent p c) 0)
+          (λ z. let f' : is_within p x 0 ≡ false = within-below p x 0 site.0 in let t' : true ≡ false = sym w' ∙ (ap (is_within p x) z ∙ f') in cc)
+          (λ n'. up (f.nested c c_site.0 c_site.1 live' n').1)) m y le high w
+
+      by_cases : (b : Bool) → is_within p x y ≡ b → is_within p x y ≡ false
+      by_cases true w = absurd (new_all m y le high w live)
+      by_cases false w = w
+
+  -- what is swept is due no more
+  sweep_due : (x : ℕ) (rs : List Row) (k : ℕ) → sum_by (site_due p.harts) (swept p x rs k) ≤ sum_by (site_due p.harts) rs
+  sweep_due x [] k = omega arith
+  sweep_due x (r ∷ rs) k = split (is_within p x k) (sweep_due x rs (k + 1))
+    where
+      split : (b : Bool) → sum_by (site_due p.harts) (swept p x rs (k + 1)) ≤ sum_by (site_due p.harts) rs → sum_by (site_due p.harts) ((if b then swept_row r else r) ∷ swept p x rs (k + 1)) ≤ sum_by (site_due p.harts) (r ∷ rs)
+      split true le = let a = sum_by-append (site_due p.harts) (swept_row r ∷ []) (swept p x rs (k + 1)) in let b = sum_by-append (site_due p.harts) (r ∷ []) rs in omega arith
+      split false le = let a = sum_by-append (site_due p.harts) (r ∷ []) (swept p x rs (k + 1)) in let b = sum_by-append (site_due p.harts) (r ∷ []) rs in omega arith
+
+  skip_fine : (h x : ℕ) → IsAllowed p t (Skip h x) → Fine p (suc n) (effect_of p t (Skip h x))
+  skip_fine h x a =
+      let low = a.1.0 in let high = a.1.1 in
+      let w : TableState = effect_of p t (Skip h x) in
+      let inner : x - 1 < length t.rows = let z = f.size.rows in omega arith in
+      let rows_stay : (y : ℕ) → 1 ≤ y → y ≤ site_count p → IsLive t y → row w y ≡ row t y = λ y b c l. row-effect_other p t (Skip h x) y f.size a (b, c) (λ z. not_both (row t x).stage (ap is_new a.3) (subst (λ (q : ℕ). IsLive t q) z l)) (not_within x a.1 a.3 y y (omega arith) c l) in
+      let homes : (y : ℕ) → 1 ≤ y → y ≤ site_count p → IsLive t y → (row w y).home ≡ (row t y).home = λ y b c l. ap (λ (q : Row). q.home) (rows_stay y b c l) in
+      let way : (y : ℕ) → IsPath p t y → IsPath p w y = λ y q nonzero. let z = q nonzero in (z.0, ap (λ (q : Row). is_live q.stage) (rows_stay y (omega arith) z.0 z.1) ∙ z.1) in
+      let was_live : (y : ℕ) → 1 ≤ y → y ≤ site_count p → IsLive w y → IsLive t y = λ y b c l. at_site p t (Skip h x) y (λ z r. is_live r.stage ≡ true → IsLive t z) f.size a (b, c) (λ l'. absurd (cc)) (λ _ _ l'. l') (λ _ _ l'. absurd (cc)) l in
+      let harts : harts_sum p w p.harts ≡ harts_sum p t p.harts = sum_same p t w p.harts (λ g l. same_paths p n t w f homes g (owner t g) (f.owners g l)) in
+      let once = sum_by-set (site_due p.harts) t.rows (x - 1) (swept_row (row t x)) blank inner in
+      let same : sum_by (site_due p.harts) (swept p x (set t.rows (x - 1) (swept_row (row t x))) 1) ≡ sum_by (site_due p.harts) (swept p x t.rows 1) = let e : 1 + (x - 1) ≡ x = omega arith in ap (sum_by (site_due p.harts)) (swept-set p x t.rows 1 (x - 1) blank inner (ap (is_within p x) e ∙ within-itself p x)) in
+      let less = sweep_due x (set t.rows (x - 1) (swept_row (row t x))) 1 in
+      let due : site_due p.harts (row t x) ≡ 3 * p.harts - 1 = ap (due_in p.harts (row t x).asked (row t x).wishes) a.3 in
+      let some = s.some_hart in let old = f.short in record {
+        size = fits_effect p t (Skip h x) f.size;
+        owners = λ g l. way (owner t g) (f.owners g l);
+        nested = λ y b c l. way (parent p y) (f.nested y b c (was_live y b c l));
+        short = omega arith;
+      }
+
 fine_step : (p : Plan) (n : ℕ) (t u : TableState) (e : Entry) → Fine p n t → IsAllowed p t e → u ≡ effect_of p t e → Fine p (suc n) u
 fine_step p n t u (Register h x) f a is = subst (Fine p (suc n)) (sym is) (register_fine p n t f h x a)
 fine_step p n t u (Request h x k) f a is = subst (Fine p (suc n)) (sym is) (let same : set t.owners h x ≡ t.owners = ap (set t.owners h) (sym a.2) ∙ set-get_or t.owners h 0 in
@@ -312,6 +359,7 @@ fine_step p n t u (Enter h x) f a is = subst (Fine p (suc n)) (sym is) (enter_fi
 fine_step p n t u (Yield h x) f a is = subst (Fine p (suc n)) (sym is) (let same : set t.rows (x - 1) (row t x) ≡ t.rows = set-get_or t.rows (x - 1) blank in
     let Q : List Row → Type 0 = λ q. Fine p (suc n) record { owners = set t.owners h (parent p x); rows = q } in subst Q same (yield_fine p n t f h x a))
 fine_step p n t u (Unregister h x) f a is = subst (Fine p (suc n)) (sym is) (unregister_fine p n t f h x a)
+fine_step p n t u (Skip h x) f a is = subst (Fine p (suc n)) (sym is) (skip_fine p n t f h x a)
 
 no_guests : (p : Plan) (m : ℕ) → harts_sum p (first_state p) m ≡ 0
 unfolding harts_sum
@@ -329,12 +377,16 @@ fine_first p plan = record {
 fine : (p : Plan) → IsPlan p → (es : List Entry) (t : TableState) → Reaches p es t → Fine p (length es) t
 fine p plan es t is = lasts p plan (λ l u. Fine p (length l) u) (fine_first p plan) (λ l u e leads fits f a. subst (λ (n : ℕ). Fine p n (effect_of p u e)) (let z = length-append l (e ∷ []) in omega arith) (fine_step p (length l) u (effect_of p u e) e f a refl)) es t is
 
--- a legal list has at most S * (3n - 1) entries
-pub legal_length : (p : Plan) → IsPlan p → (es : List Entry) (t : TableState) → Reaches p es t → length es ≤ site_count p * (3 * p.harts - 1)
+-- a legal list has at most so many entries as its plan has room for
+pub legal_length : (p : Plan) → IsPlan p → (es : List Entry) (t : TableState) → Reaches p es t → length es ≤ room p
 legal_length p plan es t is = let f = fine p plan es t is in let b = f.short in omega arith
 
+-- so no legal list is too long
+pub few_entries : (p : Plan) → IsPlan p → (es : List Entry) (t : TableState) → Reaches p es t → length es ≤ most_entries
+few_entries p plan es t is = let long = legal_length p plan es t is in let short = plan.short in omega (arith, long, short)
+
 -- a legal list that goes on has fewer
-pub legal_room : (p : Plan) → IsPlan p → (es : List Entry) (t u : TableState) (e : Entry) → Reaches p es t → admit_of p t e ≡ Ok u → length es < site_count p * (3 * p.harts - 1)
+pub legal_room : (p : Plan) → IsPlan p → (es : List Entry) (t u : TableState) (e : Entry) → Reaches p es t → admit_of p t e ≡ Ok u → length es < room p
 legal_room p plan es t u e leads is = let f = legal_length p plan (es ++ e ∷ []) u (reaches-snoc p es e t u leads is) in let n = length-append es (e ∷ []) in omega arith
 
 live_path : (p : Plan) (t : TableState) (o : ℕ) → IsPath p t o → IsBaseOrLive p t o

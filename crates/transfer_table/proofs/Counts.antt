@@ -7,7 +7,7 @@ use mir.Val.{bool_byte}
 use Rattle.transfer_table.specs.declared.entry.Row.{Row}
 use Rattle.transfer_table.specs.declared.entry.Stage.TheVariants.{Gone}
 use Rattle.transfer_table.specs.Plan.{Plan, IsPlan, site_count, parent}
-use Rattle.transfer_table.specs.Table.{Position, first_state, least_left, is_gone, blank}
+use Rattle.transfer_table.specs.Table.{Position, first_state, least_left, is_gone, blank, swept_row}
 use Rattle.transfer_table.specs.Board.{IsBoard, IsCount, count_left}
 use Rattle.transfer_table.proofs.Lists.{any_default, replicate_at}
 
@@ -92,10 +92,10 @@ counted_once b counts i is lt = split (is_gone (slice_index_or b.state.rows i bl
         let k = is.left.counted (slice_index b.plan.parents i) (omega arith) in omega arith
 
 -- a board stays one where a row becomes gone, and its parent's count falls by what the row counted
-pub board-gone : (b : Position) (counts : List ℕ) (h o i n : ℕ) (r : Row) → IsBoard b counts → i < site_count b.plan → is_gone r.stage ≡ true → r.wishes ≤ r.asked → n ≡ counts_for (slice_index_or b.state.rows i blank)
-    → IsBoard record { plan = b.plan; state = record { owners = slice_set b.state.owners h o; rows = slice_set b.state.rows i r } } (slice_set counts (slice_index b.plan.parents i) (slice_index counts (slice_index b.plan.parents i) - n))
-board-gone b counts h o i n r is lt gone few here = record {
-  position = record { plan = is.position.plan; owners = length-set b.state.owners h o ∙ is.position.owners; rows = length-set b.state.rows i r ∙ is.position.rows };
+pub board-gone : (b : Position) (counts os : List ℕ) (i n : ℕ) (r : Row) → IsBoard b counts → length os ≡ b.plan.harts → i < site_count b.plan → is_gone r.stage ≡ true → r.wishes ≤ r.asked → n ≡ counts_for (slice_index_or b.state.rows i blank)
+    → IsBoard record { plan = b.plan; state = record { owners = os; rows = slice_set b.state.rows i r } } (slice_set counts (slice_index b.plan.parents i) (slice_index counts (slice_index b.plan.parents i) - n))
+board-gone b counts os i n r is size lt gone few here = record {
+  position = record { plan = is.position.plan; owners = size; rows = length-set b.state.rows i r ∙ is.position.rows };
   wished = λ s. get_or-set_keeps (λ x. x.wishes ≤ x.asked) b.state.rows i (s - 1) r blank few (is.wished s);
   left = record {
     size = length-set counts (slice_index b.plan.parents i) (slice_index counts (slice_index b.plan.parents i) - n) ∙ is.left.size;
@@ -127,11 +127,12 @@ byte_for : (g : Bool) → bool_byte (not g) ≡ (if g then 0 else 1)
 byte_for true = refl
 byte_for false = refl
 
--- what a board needs and keeps where a site becomes gone: r, q, k, g and n are what the code reads
-pub board-unregister : (b : Position) (counts : List ℕ) (h x q k n : ℕ) (g : Bool) (r : Row) → IsBoard b counts → 1 ≤ x → x ≤ site_count b.plan
+-- what a board needs and keeps where a site becomes gone: r, q, k, g and n are what the code reads, r' is the new row
+pub board-ends : (b : Position) (counts os : List ℕ) (x q k n : ℕ) (g : Bool) (r r' : Row) → IsBoard b counts → length os ≡ b.plan.harts → 1 ≤ x → x ≤ site_count b.plan
     → r ≡ slice_index_or b.state.rows (x - 1) r → q ≡ parent b.plan x → k ≡ slice_index_or counts q k → g ≡ is_gone r.stage → n ≡ bool_byte (not g)
-    → (n ≤ k) × IsBoard record { plan = b.plan; state = record { owners = slice_set b.state.owners h q; rows = slice_set b.state.rows (x - 1) record r { stage = Gone } } } (slice_set counts q (k - n))
-board-unregister b counts h x q k n g r is low high read_row read_parent read_count read_stage read_byte =
+    → is_gone r'.stage ≡ true → r'.wishes ≡ r.wishes → r'.asked ≡ r.asked
+    → (n ≤ k) × IsBoard record { plan = b.plan; state = record { owners = os; rows = slice_set b.state.rows (x - 1) r' } } (slice_set counts q (k - n))
+board-ends b counts os x q k n g r r' is size low high read_row read_parent read_count read_stage read_byte gone wishes asked =
     let lt : x - 1 < site_count b.plan = omega arith in
     let here = row_read b counts (x - 1) r is lt read_row in
     let same : n ≡ counts_for (slice_index_or b.state.rows (x - 1) blank) = read_byte ∙ (byte_for g ∙ (ap (λ (y : Bool). if y then 0 else 1) read_stage ∙ ap counts_for here)) in
@@ -139,8 +140,22 @@ board-unregister b counts h x q k n g r is low high read_row read_parent read_co
     let start = start_read b counts (x - 1) k is lt (subst P read_parent read_count) in
     let once = counted_once b counts (x - 1) is lt in
     let few : r.wishes ≤ r.asked = subst (λ (y : Row). y.wishes ≤ y.asked) (sym here) (is.wished x) in
-    let Q : ℕ × ℕ → Type 0 = λ y. IsBoard record { plan = b.plan; state = record { owners = slice_set b.state.owners h y.0; rows = slice_set b.state.rows (x - 1) record r { stage = Gone } } } (slice_set counts y.0 (y.1 - n)) in
-    (omega arith, subst Q (λ i. (sym read_parent i, sym start i)) (board-gone b counts h (parent b.plan x) (x - 1) n (record r { stage = Gone }) is lt refl few same))
+    let Q : ℕ × ℕ → Type 0 = λ y. IsBoard record { plan = b.plan; state = record { owners = os; rows = slice_set b.state.rows (x - 1) r' } } (slice_set counts y.0 (y.1 - n)) in
+    (omega arith, subst Q (λ i. (sym read_parent i, sym start i)) (board-gone b counts os (x - 1) n r' is size lt gone (omega arith) same))
+
+-- so it is at an unregister
+pub board-unregister : (b : Position) (counts : List ℕ) (h x q k n : ℕ) (g : Bool) (r : Row) → IsBoard b counts → 1 ≤ x → x ≤ site_count b.plan
+    → r ≡ slice_index_or b.state.rows (x - 1) r → q ≡ parent b.plan x → k ≡ slice_index_or counts q k → g ≡ is_gone r.stage → n ≡ bool_byte (not g)
+    → (n ≤ k) × IsBoard record { plan = b.plan; state = record { owners = slice_set b.state.owners h q; rows = slice_set b.state.rows (x - 1) record r { stage = Gone } } } (slice_set counts q (k - n))
+board-unregister b counts h x q k n g r is low high read_row read_parent read_count read_stage read_byte =
+    board-ends b counts (slice_set b.state.owners h q) x q k n g r (record r { stage = Gone }) is (length-set b.state.owners h q ∙ is.position.owners) low high read_row read_parent read_count read_stage read_byte refl refl refl
+
+-- and where one is swept
+pub board-swept : (b : Position) (counts : List ℕ) (x q k n : ℕ) (g : Bool) (r : Row) → IsBoard b counts → 1 ≤ x → x ≤ site_count b.plan
+    → r ≡ slice_index_or b.state.rows (x - 1) r → q ≡ parent b.plan x → k ≡ slice_index_or counts q k → g ≡ is_gone r.stage → n ≡ bool_byte (not g)
+    → (n ≤ k) × IsBoard record { plan = b.plan; state = record { owners = b.state.owners; rows = slice_set b.state.rows (x - 1) (swept_row r) } } (slice_set counts q (k - n))
+board-swept b counts x q k n g r is low high read_row read_parent read_count read_stage read_byte =
+    board-ends b counts b.state.owners x q k n g r (swept_row r) is is.position.owners low high read_row read_parent read_count read_stage read_byte refl refl refl
 
 -- how many of the parents are s
 abbrev pub children : List ℕ → ℕ → ℕ

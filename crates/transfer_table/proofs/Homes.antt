@@ -10,7 +10,7 @@ use Rattle.transfer_table.specs.Laws.IsWithin.{itself, child}
 use Rattle.transfer_table.specs.declared.entry.Row.{Row}
 use Rattle.transfer_table.specs.declared.entry.Stage.TheVariants.{New, Live}
 use Rattle.transfer_table.specs.declared.entry.Entry.{Entry}
-use Rattle.transfer_table.specs.declared.entry.Entry.TheVariants.{Register, Request, Enter, Yield, Unregister}
+use Rattle.transfer_table.specs.declared.entry.Entry.TheVariants.{Register, Request, Enter, Yield, Unregister, Skip}
 use Rattle.transfer_table.proofs.Positions.{Fits, lasts}
 use Rattle.transfer_table.proofs.Effects.{at_site, at_hart, row_after, owner_after, allowed_site}
 use Rattle.transfer_table.proofs.Stages.{first_blank}
@@ -31,6 +31,7 @@ moves p t (Request h x k) s a site home live w = subst (IsWithin p s) a.2 w
 moves p t (Enter h x) s a site home live w = child x a.1 (subst (IsWithin p s) a.2 w)
 moves p t (Yield h x) s a site home live w = way_up p s x (subst (IsWithin p s) a.2 w) (λ z. let Q : ℕ → Type 0 = λ y. (row t y).home ≡ Some h in a.3 (subst Q (sym z) home))
 moves p t (Unregister h x) s a site home live w = way_up p s x (subst (IsWithin p s) a.2 w) (λ z. let g = live (sym z) in absurd (cc))
+moves p t (Skip h x) s a site home live w = subst (IsWithin p s) a.2 w
 
 still : (p : Plan) (t : TableState) (e : Entry) (s : ℕ) → Fits p t → IsAllowed p t e → IsSite p s → (s ≡ site_of e → (row_after t e).stage ≡ Live)
     → ((h : ℕ) × ((row t s).home ≡ Some h) × IsHart p h × IsWithin p s (owner t h)) → (h : ℕ) × ((row t s).home ≡ Some h) × IsHart p h × IsWithin p s (owner (effect_of p t e) h)
@@ -48,10 +49,12 @@ here p t (Request h s k) fits a f live = still p t (Request h s k) s fits a a.1 
 here p t (Enter h s) fits a f live = still p t (Enter h s) s fits a a.1 (λ _. live) (f live)
 here p t (Yield h s) fits a f live = still p t (Yield h s) s fits a a.1 (λ _. live) (f live)
 here p t (Unregister h s) fits a f live = absurd (cc)
+here p t (Skip h s) fits a f live = absurd (cc)
 
 -- the home of a live site is inside it
 pub legal_home : (p : Plan) → IsPlan p → (es : List Entry) (t : TableState) → Reaches p es t → (s : ℕ) → IsSite p s → HasHome p t s
 legal_home p plan es t is = lasts p plan (λ _ u. (s : ℕ) → IsSite p s → HasHome p u s) (λ s _ live. absurd (let new : (row (first_state p) s).stage ≡ New = ap (λ (r : Row). r.stage) (first_blank p s) in cc))
-    (λ xs u e leads fits f a s site. at_site p u e s (λ x r. r.stage ≡ Live → (h : ℕ) × (r.home ≡ Some h) × IsHart p h × IsWithin p x (owner (effect_of p u e) h)) fits a site.0
+    (λ xs u e leads fits f a s site. at_site p u e s (λ x r. r.stage ≡ Live → (h : ℕ) × (r.home ≡ Some h) × IsHart p h × IsWithin p x (owner (effect_of p u e) h)) fits a site
     (here p u e fits a (f (site_of e) (allowed_site p u e a)))
-    (λ n live. still p u e s fits a site (λ z. absurd (n z)) (f s site live))) es t is
+    (λ n _ live. still p u e s fits a site (λ z. absurd (n z)) (f s site live))
+    (λ _ _ live. absurd (cc))) es t is

@@ -7,7 +7,7 @@ use Rattle.transfer_table.specs.Journal.{Reaches}
 use Rattle.transfer_table.specs.Entry.{hart_of, site_of, made_by}
 use Rattle.transfer_table.specs.declared.entry.Row.{Row}
 use Rattle.transfer_table.specs.declared.entry.Entry.{Entry}
-use Rattle.transfer_table.specs.declared.entry.Entry.TheVariants.{Register, Request, Enter, Yield, Unregister}
+use Rattle.transfer_table.specs.declared.entry.Entry.TheVariants.{Register, Request, Enter, Yield, Unregister, Skip}
 use Rattle.transfer_table.proofs.Admits.{not_home}
 use Rattle.transfer_table.proofs.Positions.{lasts}
 use Rattle.transfer_table.proofs.Lists.{replicate_at}
@@ -43,6 +43,7 @@ other_home p t (Request g s k) h n f = f
 other_home p t (Enter g s) h n f = f
 other_home p t (Yield g s) h n f = f
 other_home p t (Unregister g s) h n f = f
+other_home p t (Skip g s) h n f = λ z. cc
 
 -- a hart that made no entry is idle
 pub legal_idle : (p : Plan) → IsPlan p → (es : List Entry) (t : TableState) → Reaches p es t → (h : ℕ) → made_by h es ≡ [] → IsIdle p t h
@@ -50,7 +51,7 @@ legal_idle p plan es t is = lasts p plan (λ xs u. (h : ℕ) → made_by h xs �
     (λ h _. record { base = replicate_at p.harts h 0; homeless = λ s _ z. let w : (row (first_state p) s).home ≡ None = ap (λ (r : Row). r.home) (first_blank p s) in absurd (cc) })
     (λ xs u e leads fits f a h none. let both = nothing_left (made_by h xs) (made_by h (e ∷ [])) (sym (made_by-snoc h xs e) ∙ none) in let n = not_by h e both.1 in let old = f h both.0 in record {
       base = at_hart p u e h (λ g o. g ≡ h → o ≡ 0) fits a (λ z. absurd (n (sym z))) (λ _ _. old.base) refl;
-      homeless = λ s site. at_site p u e s (λ x r. r.home ≢ Some h) fits a site.0 (other_home p u e h n (old.homeless (site_of e) (allowed_site p u e a))) (λ _. old.homeless s site);
+      homeless = λ s site. at_site p u e s (λ x r. r.home ≢ Some h) fits a site (other_home p u e h n (old.homeless (site_of e) (allowed_site p u e a))) (λ _ _. old.homeless s site) (λ _ _ z. cc);
     }) es t is
 
 -- a hart that made no entry is the home of no live site

@@ -1,6 +1,7 @@
 -- There is a plan exactly where it has no fault.
-use Rattle.std.proofs.Common.{◌≡◌, ℕ, zero, suc, ◌+◌, ◌-◌, ◌<◌, ◌≤◌, Bool, true, false, ◌||◌, ◌==◌, nat_le, nat_lt, if◌then◌else◌, List, [], ◌∷◌, length, refl, ap, arith, slice_index, Option, Some, None}
+use Rattle.std.proofs.Common.{◌≡◌, ℕ, zero, suc, ◌+◌, ◌-◌, ◌*◌, ◌<◌, ◌≤◌, Bool, true, false, ◌||◌, ◌==◌, nat_le, nat_lt, if◌then◌else◌, List, [], ◌∷◌, length, refl, ap, arith, slice_index, Option, Some, None}
 use Rattle.std.proofs.lemmas.Bool.Decides.{nat_tests}
+use Rattle.std.proofs.lemmas.Nat.{mul-le}
 use Rattle.transfer_table.specs.Plan.{Plan, IsPlan, parent, bad_parent, plan_fault_of}
 use Rattle.transfer_table.specs.Causes.{cause_if}
 use Rattle.transfer_table.specs.declared.plan.PlanFault.{PlanFault}
@@ -33,6 +34,8 @@ is_plan n qs e = let sites : Option PlanFault = cause_if (nat_lt 4095 (length qs
       some_hart = grind (arith, nat_tests);
       few_harts = grind (arith, nat_tests);
       few_sites = grind (arith, nat_tests);
+      short = let sites : length qs ≤ 4095 = grind (arith, nat_tests) in let harts : n ≤ 4 = grind (arith, nat_tests) in
+          let most : length qs * (3 * n - 1) ≤ 4095 * 11 = mul-le (length qs) (3 * n - 1) 4095 11 sites (omega arith) in omega arith;
       below = λ x low high. let r = all_below qs 1 (x - 1) d.0 (omega arith) in omega arith;
     }
 

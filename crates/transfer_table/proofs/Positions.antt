@@ -1,14 +1,16 @@
 -- A state keeps its size, and what each entry of a legal list keeps holds at its end.
-use Rattle.std.proofs.Common.{◌-◌, List, [], ◌∷◌, ◌++◌, sym, subst, ◌∙◌, length-set}
+use Rattle.std.proofs.Common.{◌≡◌, ℕ, ◌-◌, List, [], ◌∷◌, ◌++◌, refl, sym, subst, ◌∙◌, length-set, Ok}
 use Rattle.std.proofs.lemmas.List.{length-replicate}
-use Rattle.transfer_table.specs.Plan.{Plan, IsPlan, site_count}
-use Rattle.transfer_table.specs.Table.{TableState, IsPosition, effect_of, first_state, blank}
+use Rattle.transfer_table.specs.Plan.{Plan, IsPlan, IsHart, IsSite, parent, site_count}
+use Rattle.transfer_table.specs.Table.{TableState, Position, IsPosition, IsAnswer, effect_of, first_state, owner, row, blank}
 use Rattle.transfer_table.specs.Journal.{Reaches}
 use Rattle.transfer_table.specs.Allowed.{IsAllowed}
+use Rattle.transfer_table.specs.declared.entry.Stage.TheVariants.{New}
 use Rattle.transfer_table.specs.declared.entry.Entry.{Entry}
-use Rattle.transfer_table.specs.declared.entry.Entry.TheVariants.{Register, Request, Enter, Yield, Unregister}
-use Rattle.transfer_table.proofs.Admits.{admits, admitted}
+use Rattle.transfer_table.specs.declared.entry.Entry.TheVariants.{Register, Request, Enter, Yield, Unregister, Skip}
+use Rattle.transfer_table.proofs.Admits.{admits, admits_skip, admitted}
 use Rattle.transfer_table.proofs.Replays.{kept, reaches-snoc}
+use Rattle.transfer_table.proofs.Sweeps.{length-swept}
 
 -- a plan and a state that fit together
 abbrev pub Fits : Plan → TableState → Type 0
@@ -23,6 +25,7 @@ fits_effect p t (Request h s k) f = record { plan = f.plan; owners = f.owners; r
 fits_effect p t (Enter h s) f = record { plan = f.plan; owners = length-set t.owners h s ∙ f.owners; rows = length-set t.rows (s - 1) _ ∙ f.rows }
 fits_effect p t (Yield h s) f = record { plan = f.plan; owners = length-set t.owners h _ ∙ f.owners; rows = f.rows }
 fits_effect p t (Unregister h s) f = record { plan = f.plan; owners = length-set t.owners h _ ∙ f.owners; rows = length-set t.rows (s - 1) _ ∙ f.rows }
+fits_effect p t (Skip h s) f = record { plan = f.plan; owners = f.owners; rows = length-swept p s t.rows 1 ∙ f.rows }
 
 -- after a legal list plan and state fit together
 pub legal_position : (p : Plan) → IsPlan p → (es : List Entry) (t : TableState) → Reaches p es t → Fits p t
@@ -37,3 +40,14 @@ lasts p is P start step es t leads = kept p P start (λ xs u v e before holds a.
 -- a legal list goes on with an entry that is allowed
 pub reaches-allowed : (p : Plan) → IsPlan p → (es : List Entry) (t : TableState) (e : Entry) → Reaches p es t → IsAllowed p t e → Reaches p (es ++ e ∷ []) (effect_of p t e)
 reaches-allowed p plan es t e leads a = reaches-snoc p es e t (effect_of p t e) leads (admits p t e (legal_position p plan es t leads) a)
+
+-- a skip that is allowed answers that it is done
+pub answer-skip : (old new : Position) (h s : ℕ) → IsPosition old → IsHart old.plan h → IsSite old.plan s → owner old.state h ≡ parent old.plan s → (row old.state s).stage ≡ New
+    → new ≡ record { plan = old.plan; state = effect_of old.plan old.state (Skip h s) } → IsAnswer old new (Skip h s) (Ok tt)
+answer-skip old new h s fits hart site own new_site is = subst (λ (n : Position). IsAnswer old n (Skip h s) (Ok tt)) (sym is) record {
+  plan = refl;
+  kept = fits_effect old.plan old.state (Skip h s) fits;
+  ok = admits_skip old.plan old.state h s hart site own new_site;
+  err = tt;
+  unchanged = tt;
+}

@@ -4,7 +4,7 @@ use Rattle.transfer_table.specs.Plan.{Plan, IsHart, IsSite, parent}
 use Rattle.transfer_table.specs.Table.{TableState, owner, row}
 use Rattle.transfer_table.specs.declared.entry.Stage.TheVariants.{New, Live, Gone}
 use Rattle.transfer_table.specs.declared.entry.Entry.{Entry}
-use Rattle.transfer_table.specs.declared.entry.Entry.TheVariants.{Register, Request, Enter, Yield, Unregister}
+use Rattle.transfer_table.specs.declared.entry.Entry.TheVariants.{Register, Request, Enter, Yield, Unregister, Skip}
 
 -- no other hart's owner is the site
 abbrev pub IsAlone : Plan → TableState → ℕ → ℕ → Type 0
@@ -28,3 +28,5 @@ IsAllowed p t (Yield h s) = IsHart p h × IsSite p s × (owner t h ≡ s) × ((r
 IsAllowed p t (Unregister h s) =
     IsHart p h × IsSite p s × (owner t h ≡ s) × ((row t s).home ≡ Some h) × IsAlone p t h s
     × ChildrenGone p t s
+IsAllowed p t (Skip h s) =
+    IsHart p h × IsSite p s × (owner t h ≡ parent p s) × ((row t s).stage ≡ New)

@@ -1,14 +1,17 @@
 -- The replay of a list of entries, and what is legal and complete.
-use Rattle.std.specs.Prelude.{◌≡◌, ℕ, ◌+◌, if◌then◌else◌, List, [], ◌∷◌, Option, Some, None, Result, Ok, Err}
+use Rattle.std.specs.Prelude.{◌≡◌, ℕ, ◌+◌, ◌-◌, nat_le, Bool, true, false, not, if◌then◌else◌, List, [], ◌∷◌, length, replicate, slice_index_or, Option, Some, None, Result, Ok, Err}
 use Rattle.std.specs.Option.{option_map}
-use Rattle.transfer_table.specs.Plan.{Plan, IsSite}
+use Rattle.transfer_table.specs.Causes.{first_cause}
+use Rattle.transfer_table.specs.Plan.{Plan, IsSite, site_count}
+use Rattle.transfer_table.specs.Entry.{registers}
 use Rattle.transfer_table.specs.Table.{TableState, admit_of, first_state, row, is_gone}
 use Rattle.transfer_table.specs.declared.entry.Row.{Row}
 use Rattle.transfer_table.specs.declared.entry.Entry.{Entry}
 use Rattle.transfer_table.specs.declared.entry.Stage.TheVariants.{Gone}
 use Rattle.transfer_table.specs.declared.entry.NotAdmitted.{NotAdmitted}
 use Rattle.transfer_table.specs.declared.fault.Fault.{Fault}
-use Rattle.transfer_table.specs.declared.fault.Why.TheVariants.{Refused, Unfinished}
+use Rattle.transfer_table.specs.declared.fault.Why.{Why}
+use Rattle.transfer_table.specs.declared.fault.Why.TheVariants.{Refused, Unfinished, Unmeant}
 
 -- goes on where there is a state, and keeps a refusal
 abbrev pub and_then : {A B E : Type 0} → (A → Result B E) → Result A E → Result B E
@@ -36,14 +39,46 @@ IsLegal p es = (t : TableState) × Reaches p es t
 abbrev pub AllGone : Plan → TableState → Type 0
 AllGone p t = (s : ℕ) → IsSite p s → (row t s).stage ≡ Gone
 
--- no entry is refused, and at the end every site is gone
-abbrev pub IsComplete : Plan → List Entry → Type 0
-IsComplete p es = (t : TableState) × Reaches p es t × AllGone p t
+-- Which sites are meant to be entered: a truth value for each site, that of site s at place s - 1.
+abbrev pub is_meant : List Bool → ℕ → Bool
+is_meant meant s = slice_index_or meant (s - 1) false
+
+-- all sites of the plan are meant
+abbrev pub all_meant : Plan → List Bool
+all_meant p = replicate (site_count p) true
+
+-- whether the list has a Register of the site
+abbrev pub has_register : List Entry → ℕ → Bool
+has_register es s = nat_le 1 (registers s es)
+
+-- the sites that have a Register in the list are exactly the meant ones
+abbrev pub AreMeant : Plan → List Bool → List Entry → Type 0
+AreMeant p meant es = (s : ℕ) → IsSite p s → has_register es s ≡ is_meant meant s
+
+-- no entry is refused, at the end every site is gone, and the sites that have a Register are exactly the meant ones
+abbrev pub IsComplete : Plan → List Bool → List Entry → Type 0
+IsComplete p meant es = (t : TableState) × Reaches p es t × AllGone p t × AreMeant p meant es
 
 -- the least site, from k on, that isn't gone; the list has the rows from site k on
 abbrev pub unfinished : List Row → ℕ → Option ℕ
 unfinished [] k = None
 unfinished (r ∷ rs) k = if is_gone r.stage then unfinished rs (k + 1) else Some k
+
+-- the least site, from k on, of which is told that it is registered and which isn't meant, or the other way round; the list has
+-- the sites from k on
+abbrev pub unmeant : (ℕ → Bool) → List Bool → ℕ → Option Why
+unmeant registered [] k = None
+unmeant registered (m ∷ ms) k =
+    if (if registered k then m else not m) then unmeant registered ms (k + 1)
+    else Some (Unmeant k (registered k))
+
+-- What a list lacks that leads to this state, of whose sites is told which are registered: the least site that isn't gone, and
+-- where all are gone, the least that is registered and not meant, or meant and not registered.
+abbrev pub lacks : List Bool → (ℕ → Bool) → TableState → Option Why
+lacks meant registered t = first_cause
+    (option_map Unfinished (unfinished t.rows 1)
+    ∷ unmeant registered meant 1
+    ∷ [])
 
 -- goes on where the entry at place k is admitted, and tells its refusal
 abbrev pub or_refused : ℕ → (TableState → Option Fault) → Result TableState NotAdmitted
@@ -51,13 +86,22 @@ abbrev pub or_refused : ℕ → (TableState → Option Fault) → Result TableSt
 or_refused k f (Ok u) = f u
 or_refused k f (Err why) = Some record { place = k; why = Refused why }
 
--- the first fault from a state on, where the next entry stands at place k
-abbrev pub fault_from : Plan → TableState → List Entry → ℕ → Option Fault
-fault_from p t [] k = option_map (λ s. record { place = k; why = Unfinished s })
-    (unfinished t.rows 1)
-fault_from p t (e ∷ es) k = or_refused k (λ u. fault_from p u es (k + 1)) (admit_of p t e)
+-- the first refused entry from a state on, where the next entry stands at place k
+abbrev pub refused_from : Plan → TableState → List Entry → ℕ → Option Fault
+refused_from p t [] k = None
+refused_from p t (e ∷ es) k = or_refused k (λ u. refused_from p u es (k + 1)) (admit_of p t e)
 
--- the place and the refusal of the first refused entry; where none is refused, the list's length
--- and the least site that isn't gone; nothing for a complete list
-abbrev pub first_fault_of : Plan → List Entry → Option Fault
-first_fault_of p es = fault_from p (first_state p) es 0
+-- what a list lacks no entry of which is refused; its place is the list's length
+abbrev pub lacking : List Bool → List Entry → Result TableState NotAdmitted → Option Fault
+lacking meant es (Ok t) = option_map (λ why. record { place = length es; why = why })
+    (lacks meant (has_register es) t)
+lacking meant es (Err why) = None
+
+-- The place and the refusal of the first refused entry. Where none is refused, the list's length, and the least site that isn't
+-- gone; where all are gone, the least that has a Register and isn't meant, or is meant and has none. Nothing for a complete
+-- list.
+abbrev pub first_fault_of : Plan → List Bool → List Entry → Option Fault
+first_fault_of p meant es = first_cause
+    (refused_from p (first_state p) es 0
+    ∷ lacking meant es (replay p es)
+    ∷ [])

@@ -1,15 +1,16 @@
 -- The laws of the table, for every plan and every list of entries. What is said of the last state of
 -- a legal list holds after each of its entries, since each list that it begins with is legal too.
-use Rattle.std.specs.Prelude.{◌≡◌, ◌≢◌, ℕ, zero, suc, ◌+◌, ◌-◌, ◌*◌, ◌≤◌, ◌==◌, ◌⊎◌, List, [], ◌++◌, length, Some, Ok}
+use Rattle.std.specs.Prelude.{◌≡◌, ◌≢◌, ◌↔◌, ℕ, zero, suc, ◌+◌, ◌-◌, ◌≤◌, ◌==◌, ◌⊎◌, Bool, true, false, not, ◌&&◌, if◌then◌else◌, List, [], ◌++◌, length, Some, Ok}
 use Rattle.std.specs.List.{All, count_by}
-use Rattle.transfer_table.specs.Plan.{Plan, IsPlan, IsHart, IsSite, parent, site_count}
-use Rattle.transfer_table.specs.Table.{TableState, IsPosition, admit_of, effect_of, owner, row, blank}
-use Rattle.transfer_table.specs.Journal.{Reaches, IsLegal, AllGone}
+use Rattle.std.specs.Option.{is_some}
+use Rattle.transfer_table.specs.Plan.{Plan, IsPlan, IsHart, IsSite, parent, is_within, room, site_count}
+use Rattle.transfer_table.specs.Table.{TableState, IsPosition, admit_of, effect_of, owner, row, blank, is_gone}
+use Rattle.transfer_table.specs.Journal.{Reaches, IsLegal, AllGone, AreMeant, is_meant}
 use Rattle.transfer_table.specs.Allowed.{IsAllowed}
-use Rattle.transfer_table.specs.Entry.{hart_of, site_of, count_of, made_by, registers, enters, unregisters, requested}
+use Rattle.transfer_table.specs.Entry.{hart_of, site_of, count_of, made_by, registers, enters, unregisters, skips, skips_over, requested}
 use Rattle.transfer_table.specs.declared.entry.Stage.TheVariants.{New, Live, Gone}
 use Rattle.transfer_table.specs.declared.entry.Entry.{Entry}
-use Rattle.transfer_table.specs.declared.entry.Entry.TheVariants.{Register, Request, Enter, Yield, Unregister}
+use Rattle.transfer_table.specs.declared.entry.Entry.TheVariants.{Register, Request, Enter, Yield, Unregister, Skip}
 
 -- it is the base, or a live site
 abbrev pub IsBaseOrLive : Plan → TableState → ℕ → Type 0
@@ -42,6 +43,17 @@ pub data IsWithin (p : Plan) (s : ℕ) : ℕ → Type 0 where
   itself : IsWithin p s s
   child : (c : ℕ) → IsSite p c → IsWithin p s (parent p c) → IsWithin p s c
 
+-- the test of what is within a site tells it
+abbrev pub WithinIsTested : Type 0
+WithinIsTested = (p : Plan) (s o : ℕ) → IsPlan p → IsSite p s → IsSite p o
+    → (is_within p s o ≡ true) ↔ IsWithin p s o
+
+-- every child of a new site is new
+abbrev pub ChildrenOfNewAreNew : Type 0
+ChildrenOfNewAreNew = (p : Plan) (es : List Entry) (t : TableState) → IsPlan p → Reaches p es t
+    → (s c : ℕ) → IsSite p s → IsSite p c → parent p c ≡ s → (row t s).stage ≡ New
+    → (row t c).stage ≡ New
+
 -- the home of a live site is a hart whose owner is the site or a descendant of it
 abbrev pub HomesStayInside : Type 0
 HomesStayInside = (p : Plan) (es : List Entry) (t : TableState) → IsPlan p → Reaches p es t
@@ -55,6 +67,7 @@ IsByHome t (Request h s k) = (row t s).home ≡ Some h
 IsByHome t (Enter h s) = Unit {0}
 IsByHome t (Yield h s) = Unit {0}
 IsByHome t (Unregister h s) = Unit {0}
+IsByHome t (Skip h s) = Unit {0}
 
 -- every request is by the site's home; the harts that entered a site, and its wishes, are what it asked, which is at
 -- most all harts but one
@@ -67,14 +80,58 @@ WishesBalance = (p : Plan) (es : List Entry) (t : TableState) → IsPlan p → R
 -- a legal list has at most three entries for each site and hart, less one for each site
 abbrev pub LegalListsAreShort : Type 0
 LegalListsAreShort = (p : Plan) (es : List Entry) → IsPlan p → IsLegal p es
-    → length es ≤ site_count p * (3 * p.harts - 1)
+    → length es ≤ room p
 
--- where every site is gone, every owner is the base, and each site was registered once and unregistered once
+-- What the row of a site tells of the entries: it was registered at most once, and then it has a home; it was unregistered once
+-- where it is gone and has one; and where it is gone and has none, one entry skipped it, by itself or with a site around it.
+pub record IsCounted (p : Plan) (es : List Entry) (t : TableState) (s : ℕ) : Type 0 where
+  pub came : registers s es ≡ (if is_some (row t s).home then 1 else 0)
+  pub went : unregisters s es
+      ≡ (if (is_gone (row t s).stage && is_some (row t s).home) then 1 else 0)
+  pub skipped : skips_over p s es
+      ≡ (if (is_gone (row t s).stage && not (is_some (row t s).home)) then 1 else 0)
+
+abbrev pub RowsTellEntries : Type 0
+RowsTellEntries = (p : Plan) (es : List Entry) (t : TableState) → IsPlan p → Reaches p es t
+    → (s : ℕ) → IsSite p s → IsCounted p es t s
+
+-- How a site begins and ends, by its own entries: it is registered or skipped at most once; a new site is neither, a live one is
+-- registered; what was unregistered, or skipped itself, is gone. A gone site that was neither registered nor skipped itself was
+-- skipped with a site around it, so its parent is a site that is gone.
+pub record BeginsOnce (p : Plan) (es : List Entry) (t : TableState) (s : ℕ) : Type 0 where
+  pub once : registers s es + skips s es ≤ 1
+  pub fresh : (row t s).stage ≡ New → (registers s es + skips s es ≡ 0) × (unregisters s es ≡ 0)
+  pub live : (row t s).stage ≡ Live
+      → (registers s es ≡ 1) × (skips s es ≡ 0) × (unregisters s es ≡ 0)
+  pub over : 1 ≤ unregisters s es + skips s es → (row t s).stage ≡ Gone
+  pub ends : (row t s).stage ≡ Gone → unregisters s es + skips s es ≡ registers s es + skips s es
+  pub left_out : (row t s).stage ≡ Gone → registers s es + skips s es ≡ 0
+      → IsSite p (parent p s) × ((row t (parent p s)).stage ≡ Gone)
+
+abbrev pub SitesBeginOnce : Type 0
+SitesBeginOnce = (p : Plan) (es : List Entry) (t : TableState) → IsPlan p → Reaches p es t
+    → (s : ℕ) → IsSite p s → BeginsOnce p es t s
+
+-- of a meant site: it was registered once and unregistered once, and no entry skips it or a site around it
+pub record CameAndWent (p : Plan) (es : List Entry) (s : ℕ) : Type 0 where
+  pub came : registers s es ≡ 1
+  pub went : unregisters s es ≡ 1
+  pub kept : skips_over p s es ≡ 0
+
+-- of another one: it was never registered, and one entry skips it, or a site around it
+pub record WasSkipped (p : Plan) (es : List Entry) (s : ℕ) : Type 0 where
+  pub never_came : registers s es ≡ 0
+  pub never_went : unregisters s es ≡ 0
+  pub skipped : skips_over p s es ≡ 1
+
+-- In a complete list every owner is the base at the end, each meant site came and went once, and each other one was skipped
+-- once.
 abbrev pub SitesComeAndGoOnce : Type 0
-SitesComeAndGoOnce = (p : Plan) (es : List Entry) (t : TableState) → IsPlan p
-    → Reaches p es t → AllGone p t
+SitesComeAndGoOnce = (p : Plan) (meant : List Bool) (es : List Entry) (t : TableState) → IsPlan p
+    → Reaches p es t → AllGone p t → AreMeant p meant es
     → ((h : ℕ) → IsHart p h → owner t h ≡ 0)
-    × ((s : ℕ) → IsSite p s → (registers s es ≡ 1) × (unregisters s es ≡ 1))
+    × ((s : ℕ) → IsSite p s → is_meant meant s ≡ true → CameAndWent p es s)
+    × ((s : ℕ) → IsSite p s → is_meant meant s ≡ false → WasSkipped p es s)
 
 -- what a legal list begins with is legal
 abbrev pub PrefixesAreLegal : Type 0
@@ -89,7 +146,7 @@ AllowedIsAdmitted = (p : Plan) (t : TableState) (e : Entry) → IsPosition recor
     → (IsAllowed p t e → admit_of p t e ≡ Ok (effect_of p t e))
     × ((u : TableState) → admit_of p t e ≡ Ok u → IsAllowed p t e × (u ≡ effect_of p t e))
 
--- its hart and its site are the plan's, and it asks for less harts than there are
+-- its hart and its site are the plan's, and it asks for fewer harts than there are
 abbrev pub IsEntryOf : Plan → Entry → Type 0
 IsEntryOf p e = IsHart p (hart_of e) × IsSite p (site_of e) × (count_of e ≤ p.harts - 1)
 

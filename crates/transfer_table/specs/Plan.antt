@@ -1,5 +1,5 @@
 -- A plan: how many harts there are, and the tree of the sites.
-use Rattle.std.specs.Prelude.{ℕ, ◌+◌, ◌-◌, ◌<◌, ◌≤◌, ◌==◌, nat_le, nat_lt, ◌||◌, if◌then◌else◌, List, [], ◌∷◌, length, slice_index, Option, Some, None}
+use Rattle.std.specs.Prelude.{ℕ, zero, suc, Bool, ◌+◌, ◌-◌, ◌*◌, ◌<◌, ◌≤◌, ◌==◌, nat_le, nat_lt, ◌||◌, if◌then◌else◌, List, [], ◌∷◌, length, slice_index, Option, Some, None}
 use Rattle.std.specs.Option.{option_map}
 use Rattle.transfer_table.specs.Causes.{cause_if, first_cause}
 use Rattle.transfer_table.specs.declared.plan.PlanFault.{PlanFault}
@@ -17,6 +17,15 @@ site_count p = length p.parents
 abbrev pub parent : Plan → ℕ → ℕ
 parent p s = slice_index p.parents (s - 1)
 
+-- whether at most so many steps from the site o to its parent lead to s; below s there is no need to look
+abbrev pub leads_up : Plan → ℕ → ℕ → ℕ → Bool
+leads_up p s zero o = o == s
+leads_up p s (suc n) o = if nat_lt s o then leads_up p s n (parent p o) else o == s
+
+-- whether the site o is s, or a descendant of it: a child of s, or a child of a descendant
+abbrev pub is_within : Plan → ℕ → ℕ → Bool
+is_within p s o = leads_up p s o o
+
 -- the harts of a plan are numbered from 0
 abbrev pub IsHart : Plan → ℕ → Type 0
 IsHart p h = h < p.harts
@@ -25,11 +34,26 @@ IsHart p h = h < p.harts
 abbrev pub IsSite : Plan → ℕ → Type 0
 IsSite p s = (1 ≤ s) × (s ≤ site_count p)
 
--- one to four harts, at most 4,095 sites, and each site's parent is smaller than the site
+-- The limits of a plan: harts, sites, and entries of a legal list.
+abbrev pub most_harts : ℕ
+most_harts = 4
+
+abbrev pub most_sites : ℕ
+most_sites = 4095
+
+abbrev pub most_entries : ℕ
+most_entries = 65535
+
+-- for how many entries a plan has room: so many may stand in a legal list
+abbrev pub room : Plan → ℕ
+room p = site_count p * (3 * p.harts - 1)
+
+-- at least one hart, not too many harts and sites, a legal list isn't too long, and each site's parent is smaller than the site
 pub record IsPlan (p : Plan) : Type 0 where
   pub some_hart : 1 ≤ p.harts
-  pub few_harts : p.harts ≤ 4
-  pub few_sites : site_count p ≤ 4095
+  pub few_harts : p.harts ≤ most_harts
+  pub few_sites : site_count p ≤ most_sites
+  pub short : room p ≤ most_entries
   pub below : (s : ℕ) → 1 ≤ s → s ≤ site_count p → parent p s < s
 
 -- the least site, from k on, whose parent isn't smaller; the list has the parents from site k on
@@ -40,7 +64,7 @@ bad_parent (q ∷ qs) k = if nat_le k q then Some k else bad_parent qs (k + 1)
 -- why there is no plan with these harts and parents, where there is none; of several causes the first
 abbrev pub plan_fault_of : ℕ → List ℕ → Option PlanFault
 plan_fault_of n qs = first_cause
-    (cause_if ((n == 0) || nat_lt 4 n) (fault.BadHarts n)
-    ∷ cause_if (nat_lt 4095 (length qs)) (fault.TooManySites (length qs))
+    (cause_if ((n == 0) || nat_lt most_harts n) (fault.BadHarts n)
+    ∷ cause_if (nat_lt most_sites (length qs)) (fault.TooManySites (length qs))
     ∷ option_map fault.BadParent (bad_parent qs 1)
     ∷ [])

@@ -2,12 +2,12 @@
 use Rattle.std.specs.Prelude.{◌≡◌, ℕ, ◌+◌, ◌-◌, ◌==◌, nat_le, nat_lt, Bool, true, false, not, ◌||◌, ◌&&◌, if◌then◌else◌, List, [], ◌∷◌, ◌++◌, length, replicate, slice_index, slice_index_or, slice_set, Option, Some, None, Result, Ok, Err, IfOk, IfErr, OnErr}
 use Rattle.std.specs.Option.{option_map}
 use Rattle.transfer_table.specs.Causes.{cause_if, first_cause}
-use Rattle.transfer_table.specs.Plan.{Plan, parent, site_count, IsPlan}
+use Rattle.transfer_table.specs.Plan.{Plan, parent, is_within, site_count, IsPlan}
 use Rattle.transfer_table.specs.declared.entry.Row.{Row}
 use Rattle.transfer_table.specs.declared.entry.Stage.{Stage}
 use Rattle.transfer_table.specs.declared.entry.Stage.TheVariants.{New, Live, Gone}
 use Rattle.transfer_table.specs.declared.entry.Entry.{Entry}
-use Rattle.transfer_table.specs.declared.entry.Entry.TheVariants.{Register, Request, Enter, Yield, Unregister}
+use Rattle.transfer_table.specs.declared.entry.Entry.TheVariants.{Register, Request, Enter, Yield, Unregister, Skip}
 use Rattle.transfer_table.specs.declared.entry.NotAdmitted.{NotAdmitted}
 use Rattle.transfer_table.specs.declared.entry.NotAdmitted.TheVariants as refusal
 
@@ -119,6 +119,10 @@ refusals_of p t (Unregister h s) =
     ∷ option_map refusal.HartInside (hart_inside t h s)
     ∷ option_map refusal.ChildLeft (child_left p t s)
     ∷ []
+refusals_of p t (Skip h s) =
+    common_refusals p t h s (parent p s)
+    ++ cause_if (not (is_new (row t s).stage)) refusal.NotNew
+    ∷ []
 
 -- the owners when the hart has gone to the site
 abbrev pub moved : TableState → ℕ → ℕ → List ℕ
@@ -127,6 +131,15 @@ moved t h s = slice_set t.owners h s
 -- the rows when the site's row is this one
 abbrev pub with_row : TableState → ℕ → Row → List Row
 with_row t s r = slice_set t.rows (s - 1) r
+
+-- the row of a site that is gone and has no home
+abbrev pub swept_row : Row → Row
+swept_row r = record r { stage = Gone; home = None }
+
+-- the rows when the site and all its descendants are gone and have no home; the list has the rows from site k on
+abbrev pub swept : Plan → ℕ → List Row → ℕ → List Row
+swept p s [] k = []
+swept p s (r ∷ rs) k = (if is_within p s k then swept_row r else r) ∷ swept p s rs (k + 1)
 
 -- what an entry that isn't refused does; all that a case doesn't name stays
 abbrev pub effect_of : Plan → TableState → Entry → TableState
@@ -152,6 +165,7 @@ effect_of p t (Unregister h s) = record {
   owners = moved t h (parent p s);
   rows = with_row t s record (row t s) { stage = Gone };
 }
+effect_of p t (Skip h s) = record t { rows = swept p s t.rows 1 }
 
 abbrev pub unless_refused : Option NotAdmitted → TableState → Result TableState NotAdmitted
 unless_refused None t = Ok t

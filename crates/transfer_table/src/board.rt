@@ -1,7 +1,7 @@
 //! The table of one thread.
 ghost use Rattle.std.specs.Prelude.{◌≡◌, ◌≤◌, ◌<◌, ◌+◌, IfErr, IfOk, OnErr, Ok, Err, Some, None, true, false, length, slice_index, slice_index_or, not, ◌&&◌, ◌==◌, ℕ};
 ghost use Rattle.transfer_table.specs.Plan.{IsHart, IsSite, IsPlan, parent, site_count};
-ghost use Rattle.transfer_table.specs.Table.{admit_of, IsAnswer, common_refusals, first_state, IsPosition, hart_inside, child_left, owner, row, blank, is_gone, is_home, home_number};
+ghost use Rattle.transfer_table.specs.Table.{admit_of, IsAnswer, common_refusals, first_state, IsPosition, hart_inside, child_left, owner, row, blank, is_gone, is_home, home_number, swept, swept_row, with_row};
 ghost use Rattle.transfer_table.specs.Causes.{first_cause};
 ghost use Rattle.transfer_table.specs.Journal.{unfinished};
 ghost use Rattle.transfer_table.specs.Board.{IsCount, count_left};
@@ -126,6 +126,7 @@ impl Board {
             Entry::Enter { hart, site } => self.enter(hart, site),
             Entry::Yield { hart, site } => self.yield_hart(hart, site),
             Entry::Unregister { hart, site } => self.unregister(hart, site),
+            Entry::Skip { hart, site } => self.skip(hart, site),
         }
     }
 
@@ -212,6 +213,56 @@ impl Board {
         self.children_left[parent as usize] -= counted;
         self.owners[hart as usize] = parent;
         Ok(())
+    }
+
+    fn skip(&mut self, hart: u8, site: u16) -> Result<(), NotAdmitted>
+        ensures { IsAnswer self.old self.new (Entry.Skip hart site) result }
+    {
+        self.check_owner(hart, site, self.plan.parent(site))?;
+        let Stage::New = self.rows[site as usize - 1].stage else {
+            return Err(NotAdmitted::NotNew);
+        };
+        self.sweep(site);
+        Ok(())
+    }
+
+    // Makes the site and all its descendants gone, without a home.
+    fn sweep(&mut self, site: u16)
+        requires { IsSite self.old.plan site }
+        ensures { self.new ≡ record {
+          plan = self.old.plan;
+          state = record {
+            owners = self.old.state.owners;
+            rows = swept self.old.plan site self.old.state.rows 1;
+          };
+        } }
+    {
+        // No descendant is smaller.
+        for i in site as usize - 1..self.rows.len() {
+            if self.plan.is_within(site, i as u16 + 1) {
+                self.sweep_one(i as u16 + 1);
+            }
+        }
+    }
+
+    // Makes the site gone, without a home.
+    fn sweep_one(&mut self, site: u16)
+        requires { IsSite self.old.plan site }
+        ensures { self.new ≡ record {
+          plan = self.old.plan;
+          state = record {
+            owners = self.old.state.owners;
+            rows = with_row self.old.state site (swept_row (row self.old.state site));
+          };
+        } }
+    {
+        let parent = self.plan.parent(site);
+        let row = &mut self.rows[site as usize - 1];
+        // Until now its parent's count has counted it.
+        let counted = u16::from(!row.stage.is_gone());
+        row.stage = Stage::Gone;
+        row.home = None;
+        self.children_left[parent as usize] -= counted;
     }
 
     // What every entry may be refused for: its hart, its site, and an owner that isn't the wanted

@@ -14,6 +14,9 @@ pub enum Entry {
     Yield { hart: u8, site: u16 },
     /// The home, alone in the site, goes back to the parent, and the site is gone.
     Unregister { hart: u8, site: u16 },
+    /// The hart, whose owner is the site's parent, leaves the new site out: it and all its descendants
+    /// are gone, and no hart moves.
+    Skip { hart: u8, site: u16 },
 }
 
 /// How far a site has come.
@@ -23,7 +26,7 @@ pub enum Stage {
     New,
     /// It is registered, and not yet unregistered.
     Live,
-    /// It is unregistered.
+    /// It is unregistered, or it was skipped, by itself or with a site around it.
     Gone,
 }
 

@@ -1,6 +1,9 @@
 //! The first fault of a journal.
-ghost use Rattle.std.specs.Prelude.{◌≡◌, ◌<◌, ◌^◌, ◌↔◌, IfOk, IfSome, IfNone, Some, None, [], length};
-ghost use Rattle.transfer_table.specs.Journal.{fault_from, first_fault_of, IsComplete};
+ghost use Rattle.std.specs.Prelude.{◌≡◌, ◌<◌, ◌^◌, ◌↔◌, IfOk, IfNone, None, Ok, length};
+ghost use Rattle.transfer_table.specs.Plan.{IsPlan, site_count};
+ghost use Rattle.transfer_table.specs.Table.{first_state, row};
+ghost use Rattle.transfer_table.specs.Journal.{refused_from, replay_from, first_fault_of, lacks, unmeant, IsComplete};
+ghost use Rattle.std.specs.Option.{is_some};
 
 use crate::board::Board;
 use crate::entry::{Entry, NotAdmitted};
@@ -14,6 +17,9 @@ pub enum Why {
     Refused(NotAdmitted),
     /// No entry is refused, and the site, the least such, isn't gone at the end.
     Unfinished { site: u16 },
+    /// No entry is refused, and every site is gone at the end. The site is the least that was
+    /// registered and isn't meant, or is meant and wasn't registered; which is told.
+    Unmeant { site: u16, registered: bool },
 }
 
 /// Where a list of entries isn't complete, and why.
@@ -24,38 +30,48 @@ pub struct Fault {
     pub why: Why,
 }
 
-/// Where the list isn't complete for the plan, and why; `None` exactly where it is complete. The
-/// list has fewer than 2^32 entries. The work grows as the list and the plan do.
-pub fn first_fault(alloc: Global, plan: &Plan, list: &[Entry]) -> Result<Option<Fault>, AllocError>
-    requires { length list.now < 2 ^ 32 }
-    ensures fault { IfOk result (λ fault. fault ≡ first_fault_of plan.now list.now) }
-    ensures complete { IfOk result (λ fault. fault ≡ None ↔ IsComplete plan.now list.now) }
+/// Where the list isn't complete for the plan and the sites that are meant to be entered, and why;
+/// `None` exactly where it is complete. There is a truth value for each site, that of site `s` at
+/// place `s - 1`. The list has fewer than 2^32 entries.
+pub fn first_fault(
+    alloc: Global,
+    plan: &Plan,
+    meant: &[bool],
+    list: &[Entry],
+) -> Result<Option<Fault>, AllocError>
+    requires few { length list.now < 2 ^ 32 }
+    requires meant { length meant.now ≡ site_count plan.now }
+    ensures fault { IfOk result (λ fault. fault ≡ first_fault_of plan.now meant.now list.now) }
+    ensures complete { IfOk result (λ fault. fault ≡ None ↔ IsComplete plan.now meant.now list.now) }
 {
     let mut board = Board::new(alloc, plan)?;
-    Ok(fault_from(&mut board, list))
+    Ok(fault_on(&mut board, meant, list))
 }
 
-// The first fault of the list from the board's state on.
-fn fault_from(board: &mut Board, list: &[Entry]) -> Option<Fault>
-    requires { length list.now < 2 ^ 32 }
-    ensures { result ≡ fault_from board.old.plan board.old.state list.now 0 }
+// The first fault of the list, by a board that has admitted no entry yet.
+fn fault_on(board: &mut Board, meant: &[bool], list: &[Entry]) -> Option<Fault>
+    requires few { length list.now < 2 ^ 32 }
+    requires meant { length meant.now ≡ site_count board.old.plan }
+    requires plan { IsPlan board.old.plan }
+    requires first { board.old.state ≡ first_state board.old.plan }
+    ensures { result ≡ first_fault_of board.old.plan meant.now list.now }
 {
     if let Some(fault) = first_refused(board, list) {
         return Some(fault);
     }
-    board.unfinished().map(|site| Fault {
+    lacking(board, meant).map(|why| Fault {
         place: list.len() as u32,
-        why: Why::Unfinished { site },
+        why,
     })
 }
 
 // The first entry that the board refuses. The board admits all before it.
 fn first_refused(board: &mut Board, list: &[Entry]) -> Option<Fault>
     requires { length list.now < 2 ^ 32 }
-    ensures some { IfSome result
-        (λ fault. fault_from board.old.plan board.old.state list.now 0 ≡ Some fault) }
-    ensures none { IfNone result (fault_from board.old.plan board.old.state list.now 0
-        ≡ fault_from board.old.plan board.new.state [] (length list.now)) }
+    ensures first { result ≡ refused_from board.old.plan board.old.state list.now 0 }
+    ensures none { IfNone result
+        (replay_from board.old.plan board.old.state list.now ≡ Ok board.new.state) }
+    ensures plan { board.new.plan ≡ board.old.plan }
 {
     for place in 0..list.len() {
         if let Err(refusal) = board.admit(list[place]) {
@@ -63,6 +79,33 @@ fn first_refused(board: &mut Board, list: &[Entry]) -> Option<Fault>
                 place: place as u32,
                 why: Why::Refused(refusal),
             });
+        }
+    }
+    None
+}
+
+// What the list lacks whose entries the board has admitted: those that registered a site gave it a home.
+fn lacking(board: &Board, meant: &[bool]) -> Option<Why>
+    requires { length meant.now ≡ site_count board.now.plan }
+    ensures { result ≡ lacks meant.now (λ s. is_some (row board.now.state s).home)
+        board.now.state }
+{
+    if let Some(site) = board.unfinished() {
+        return Some(Why::Unfinished { site });
+    }
+    first_unmeant(board, meant)
+}
+
+// The least site that has a home and isn't meant, or is meant and has none.
+fn first_unmeant(board: &Board, meant: &[bool]) -> Option<Why>
+    requires { length meant.now ≡ site_count board.now.plan }
+    ensures { result ≡ unmeant (λ s. is_some (row board.now.state s).home) meant.now 1 }
+{
+    for i in 0..board.plan().sites() {
+        let site = i + 1;
+        let registered = board.home(site).is_some();
+        if registered != meant[usize::from(i)] {
+            return Some(Why::Unmeant { site, registered });
         }
     }
     None

@@ -1,6 +1,6 @@
 //! The laws of the table, each the contract of a function that does nothing. They hold for every
 //! plan and every list of entries; `specs/Laws.antt` says them.
-ghost use Rattle.transfer_table.specs.Laws.{AllowedIsAdmitted, EntriesAreInThePlan, HartsAreConserved, HomesStayInside, IdleHartsStay, LegalListsAreShort, NewRowsAreBlank, ParentsOutliveChildren, PrefixesAreLegal, SitesComeAndGoOnce, WishesBalance};
+ghost use Rattle.transfer_table.specs.Laws.{AllowedIsAdmitted, EntriesAreInThePlan, HartsAreConserved, HomesStayInside, IdleHartsStay, LegalListsAreShort, NewRowsAreBlank, ParentsOutliveChildren, PrefixesAreLegal, RowsTellEntries, SitesBeginOnce, SitesComeAndGoOnce, WishesBalance, ChildrenOfNewAreNew, WithinIsTested};
 
 /// Every owner is the base or a live site, and the harts that the base and the sites hold are all
 /// harts.
@@ -29,8 +29,9 @@ pub fn legal_lists_are_short()
     ensures { LegalListsAreShort }
 {}
 
-/// Where every site is gone, every owner is the base, and each site was registered exactly once and
-/// unregistered exactly once.
+/// In a complete list every owner is the base at the end. Each meant site was registered exactly once
+/// and unregistered exactly once. Each other site was never registered, and exactly one entry skips
+/// it, or a site around it.
 pub fn sites_come_and_go_once()
     ensures { SitesComeAndGoOnce }
 {}
@@ -58,4 +59,25 @@ pub fn new_rows_are_blank()
 /// A hart that made no entry is in the base, and the home of no site.
 pub fn idle_harts_stay()
     ensures { IdleHartsStay }
+{}
+
+/// The test of what is within a site tells it.
+pub fn within_is_tested()
+    ensures { WithinIsTested }
+{}
+
+/// Every child of a new site is new.
+pub fn children_of_new_are_new()
+    ensures { ChildrenOfNewAreNew }
+{}
+
+/// The row of a site tells how often it was registered, unregistered and skipped.
+pub fn rows_tell_entries()
+    ensures { RowsTellEntries }
+{}
+
+/// A site is registered or skipped at most once. What was unregistered, or skipped itself, is gone; and
+/// a gone site that was neither registered nor skipped itself has a parent that is gone.
+pub fn sites_begin_once()
+    ensures { SitesBeginOnce }
 {}

@@ -1,6 +1,6 @@
 //! How many harts there are, and the tree of the sites.
 ghost use Rattle.std.specs.Prelude.{◌≡◌, ◌≢◌, ◌≤◌, ◌<◌, length, IfOk, Some, None};
-ghost use Rattle.transfer_table.specs.Plan.{IsPlan, IsSite, bad_parent, parent, plan_fault_of};
+ghost use Rattle.transfer_table.specs.Plan.{IsPlan, IsSite, bad_parent, is_within, parent, plan_fault_of, site_count};
 
 use std::alloc::{AllocError, Global};
 use std::marker::Model;
@@ -97,6 +97,18 @@ impl Plan {
             return 0;
         }
         parents.get(site as usize - 1).copied().unwrap_or(0)
+    }
+
+    // Whether the site is this one or a descendant of it.
+    pub(crate) fn is_within(&self, around: u16, site: u16) -> bool
+        requires { site ≤ site_count self.now }
+        ensures { result ≡ is_within self.now around site }
+    {
+        let mut at = site;
+        while at > around {
+            at = self.parent(at);
+        }
+        at == around
     }
 
     /// An equal plan.

@@ -126,7 +126,8 @@ fn entries_of(alloc: Global, plan: &Plan, turns: &mut Turns<Paused<Task>>) -> Re
 
 // Whether these are two entries, and complete. They are counted first, since `first_fault` asks for fewer than 2 ^ 32.
 fn are_two(alloc: Global, plan: &Plan, entries: &[Entry]) -> Result<bool, Fail> {
-    Ok(entries.len() == 2 && first_fault(alloc, plan, entries)? == None)
+    let all = vec![in alloc; true; plan.sites() as usize]?;
+    Ok(entries.len() == 2 && first_fault(alloc, plan, &all, entries)? == None)
 }
 
 // Whether a hart that runs all contexts in its site makes these entries.

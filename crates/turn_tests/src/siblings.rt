@@ -132,7 +132,8 @@ fn is_journal(alloc: Global, plan: &Plan, entries: &[Entry]) -> Result<bool, All
     if entries.len() != 21 || entries != JOURNAL.as_slice() {
         return Ok(false);
     }
-    Ok(first_fault(alloc, plan, entries)? == None)
+    let all = vec![in alloc; true; plan.sites() as usize]?;
+    Ok(first_fault(alloc, plan, &all, entries)? == None)
 }
 
 // Whether all three do so, under a base.

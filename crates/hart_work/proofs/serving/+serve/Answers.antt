@@ -1,9 +1,8 @@
-use Rattle.std.proofs.Common.{◌≡◌, ◌≤◌, ℕ, true, sym, ◌∙◌, ap, subst, arith, rules, Result, Ok, Err}
+use Rattle.std.proofs.Common.{◌≡◌, ℕ, true, sym, ◌∙◌, ap, subst, arith, rules, Result, Ok, Err}
 use Rattle.std.specs.Prelude.{OnOk}
 use Rattle.std.proofs.lemmas.Grind.{common_steps}
 use Rattle.transfer_table.specs.Plan.{IsSite, parent, Plan}
-use Rattle.transfer_table.specs.Entry.{unregisters}
-use Rattle.hart_port.specs.PortView.{PortView}
+use Rattle.hart_port.specs.PortView.{PortView, HasEnded}
 use Rattle.site_steps.specs.Back.{IsBack}
 use Rattle.site_steps.proofs.Backs.{back_refl, back_then, back_over, back_visited, refused_over}
 use Rattle.hart_work.proofs.serving.+serve.Goals as goal
@@ -131,8 +130,8 @@ run_construct-returns-in-Ok-clause-own g t c =
     let child = child_of c.args.tree.now h s c.owner.result c.requires.plan c.owner.ensures.same is_one.0 is_one.1 in
     let back = back_then a served settled (back_then a asked served c.ask.ensures.back c.serve.ensures.back) c.sweep_failed.ensures.back in
     let all = back_over h a settled done s c.owner.ensures.kept.plan child.0 child.1 c.requires.inner c.in-Ok.ensures.does.0 back c.finish_site.ensures.looked in
-    let over = subst (λ (x : PortView). 1 ≤ unregisters s x.mine) (sym c.unregister.ensures.does) all.1 in
-    at_any c.take.result _ (λ _ _ _. subst (λ n. 1 ≤ unregisters n (g.P.Port.seen c.unregister.new.port).mine) c.number-number.ensures over)
+    let over = subst (λ (x : PortView). HasEnded x s) (sym c.unregister.ensures.does) all.1 in
+    at_any c.take.result _ (λ _ _ _. subst (HasEnded (g.P.Port.seen c.unregister.new.port)) c.number-number.ensures over)
 
 pub run_construct-returns-in-Err-clause-own : goal.run_construct-returns-in-Err-clause-own
 run_construct-returns-in-Err-clause-own g t c =
@@ -143,5 +142,5 @@ run_construct-returns-in-Err-clause-own g t c =
     let is_one = c.is_child.ensures.0 yes in
     let child = child_of c.args.tree.now h s c.owner.result c.requires.plan c.owner.ensures.same is_one.0 is_one.1 in
     let over = refused_over h a s c.in-Err.ensures.kept child.0 child.1 c.in-Err.ensures.does.0 c.in-Err.ensures.does.2 in
-    let seen = subst (λ (x : PortView). x.alone ≡ true → 1 ≤ unregisters s x.mine) (sym c.until_gone.ensures.does) over in
-    at_any c.compute-in-Err.result _ (λ _ _ alone. subst (λ n. 1 ≤ unregisters n (g.P.Port.seen c.until_gone.new.self).mine) c.number-number.ensures (seen alone))
+    let seen = subst (λ (x : PortView). x.alone ≡ true → HasEnded x s) (sym c.until_gone.ensures.does) over in
+    at_any c.compute-in-Err.result _ (λ _ _ alone. subst (HasEnded (g.P.Port.seen c.until_gone.new.self)) c.number-number.ensures (seen alone))

@@ -9,7 +9,7 @@ push_reserved-requires c =
     let b = c.self.inside.board in
     let is = c.self.invariant in
     let few = legal_room b.plan is.ledger.plan c.self.inside.entries.items b.state c.admit.new.self.state c.args.entry is.ledger.reached c.in_ok-admit.ensures.ok in
-    let room = is.room in
+    let enough = is.enough in
     omega arith
 
 pub invariant_of-self-2 : goal.invariant_of-self-2
@@ -22,7 +22,7 @@ invariant_of-self-2 c =
     let capacity = c.push_reserved.ensures.capacity in
     record {
       ledger = record { plan = c.in_ok-admit.ensures.kept.plan; reached = rw (plan, items) leads; closing = rw plan is.ledger.closing };
-      room = rw (plan, capacity) is.room;
+      enough = rw (plan, capacity) is.enough;
     }
 
 pub returns-clause-kept : goal.returns-clause-kept

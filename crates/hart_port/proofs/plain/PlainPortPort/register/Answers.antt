@@ -1,10 +1,10 @@
 -- A new site was never registered or asked for, and one that isn't new was registered, so its word is claimed.
-use Rattle.std.proofs.Common.{◌≡◌, ◌≢◌, ◌≤◌, ◌∙◌, ap, sym, subst, length-set}
+use Rattle.std.proofs.Common.{◌≡◌, ◌≢◌, ◌∙◌, ap, sym, subst, length-set}
 use Rattle.transfer_table.specs.Plan.{IsSite, parent}
 use Rattle.transfer_table.specs.Table.{row}
 use Rattle.transfer_table.specs.Entry.{registers, requested}
 use Rattle.transfer_table.specs.declared.entry.Stage.TheVariants.{New}
-use Rattle.hart_port.specs.PortView.{PortView, registered, is_in, without}
+use Rattle.hart_port.specs.PortView.{PortView, HasClaimed, registered, is_in, without}
 use Rattle.hart_port.specs.Words.{is_claimed}
 use Rattle.hart_port.specs.Ledger.{LedgerState}
 use Rattle.hart_port.specs.Plain.{Plain, view_of}
@@ -24,7 +24,7 @@ returns-then-not-matches-clause-does c =
     let old : (row l.state c.args.site).stage ≢ New = λ new. elim c.match-matches.branch [ in-New w ↦ absurd (let no = c.if-not-matches.true in cc) | in_default w ↦ w.in_default.not-New (c.stage.ensures ∙ new) ] in (
       view,
       ap is_claimed (c.site_word-shown.ensures.inside site) ∙ is_claimed-site_word (row l.state c.args.site) (is_in l.closing c.args.site) old,
-      λ _. subst (λ (v : PortView). 1 ≤ registers c.args.site v.mine) view (stale l.plan is.ledger.plan l.entries l.state is.ledger.reached c.args.site site old),
+      λ _. subst (λ (v : PortView). HasClaimed v c.args.site) view (stale l.plan is.ledger.plan l.entries l.state is.ledger.reached c.args.site site old),
     )
 
 pub returns-then-not-matches-clause-kept : goal.returns-then-not-matches-clause-kept

@@ -1,9 +1,8 @@
 -- A site that was unregistered is gone; the sets keep their sizes.
-use Rattle.std.proofs.Common.{◌≤◌, ◌∙◌, ap, sym, subst, length-set, refl}
+use Rattle.std.proofs.Common.{◌∙◌, ap, sym, subst, length-set, refl}
 use Rattle.transfer_table.specs.Plan.{IsSite}
 use Rattle.transfer_table.specs.Table.{row}
-use Rattle.transfer_table.specs.Entry.{unregisters}
-use Rattle.hart_port.specs.PortView.{PortView, IsPortView, with_site, without}
+use Rattle.hart_port.specs.PortView.{PortView, IsPortView, HasEnded, with_site, without}
 use Rattle.hart_port.specs.Plain.{Plain}
 use Rattle.hart_port.proofs.Single.{went}
 use Rattle.hart_port.proofs.Views.{kept_view, is_view}
@@ -15,7 +14,7 @@ returns-then-not-is_gone-clause-alone c only some =
     let is = c.self.invariant in
     let back = sym (ap (λ (p : Plain). p.view) c.self.view_is) in
     let site = subst (λ (v : PortView). IsSite v.plan c.args.site) back c.requires in
-    let gone = went l.plan is.ledger.plan l.entries l.state is.ledger.reached c.args.site site (subst (λ (v : PortView). 1 ≤ unregisters c.args.site v.mine) back some) in
+    let gone = went l.plan is.ledger.plan l.entries l.state is.ledger.reached c.args.site site (subst (λ (v : PortView). HasEnded v c.args.site) back some) in
     let here = sym (ap (λ (p : Plain). (row p.state c.args.site).stage) c.self.view_is) ∙ gone in
     let yes = c.is_gone.ensures.1 here in
     let no = c.if-not-is_gone.true in

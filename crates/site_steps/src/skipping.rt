@@ -1,0 +1,29 @@
+//! How sites are skipped that nobody is to enter.
+ghost use Rattle.std.specs.Prelude.{◌≡◌, ◌+◌};
+ghost use Rattle.site_steps.specs.Skips.{HasSkipped, ChildrenClaimed};
+
+use crate::tree::SiteTree;
+use hart_port::Port;
+
+/// Skips each child of the owner from `first` to before `end`, and with it all that is inside it. A child that was claimed is
+/// left as it is.
+pub fn skip_sites<P: Port>(tree: &SiteTree, port: &mut P, hold: P::Hold, first: u16, end: u16)
+    requires plan { (P.seen port.old).plan ≡ tree.now }
+    ensures skipped { HasSkipped (P.seen port.old) (P.seen port.new) first end }
+    ensures claimed { ChildrenClaimed (P.seen port.new) first end }
+{
+    'sites: for site in first..end {
+        skip_child(tree, port, hold, site);
+    }
+}
+
+// Skips the site if it is a child of the owner.
+fn skip_child<P: Port>(tree: &SiteTree, port: &mut P, hold: P::Hold, site: u16)
+    requires plan { (P.seen port.old).plan ≡ tree.now }
+    ensures skipped { HasSkipped (P.seen port.old) (P.seen port.new) site (site + 1) }
+    ensures claimed { ChildrenClaimed (P.seen port.new) site (site + 1) }
+{
+    if tree.is_child(port.owner(), site) {
+        let _ = port.skip(hold, site);
+    }
+}
