@@ -15,36 +15,42 @@ use Rattle.transfer_table.specs.Entry.{hart_of, site_of}
 use Rattle.transfer_table.specs.declared.entry.Row.{Row}
 use Rattle.transfer_table.specs.declared.entry.Stage.TheVariants.{Live}
 use Rattle.transfer_table.specs.declared.entry.Entry.{Entry}
-use Rattle.transfer_table.specs.declared.entry.Entry.TheVariants.{Register, Request, Enter, Yield, Unregister}
+use Rattle.transfer_table.specs.declared.entry.Entry.TheVariants.{Register, Request, Enter, Yield, Unregister, Skip}
 use Rattle.transfer_table.proofs.Admits.{admits}
 use Rattle.transfer_table.proofs.Positions.{Fits, legal_position, reaches-allowed}
-use Rattle.transfer_table.proofs.Effects.{owner_after, row_after, allowed_site, owner-effect_same, owner-effect_other, row-effect_same, row-effect_other, at_site}
-use Rattle.transfer_table.proofs.Stages.{legal_blank, gone_lasts}
+use Rattle.transfer_table.proofs.Effects.{owner_after, row_after, allowed_site, owner-effect_same, owner-effect_other, row-effect_other, at_site}
+use Rattle.transfer_table.proofs.Stages.{legal_blank, gone_lasts, covered_new}
 use Rattle.transfer_table.proofs.Makers.{made_by-own, made_by-other}
 use Rattle.hart_port.specs.PortView.{is_in}
 use Rattle.board_rule.specs.declared.view.View.{View}
 use Rattle.board_rule.specs.declared.view.Marks.{Marks}
-use Rattle.board_rule.specs.declared.view.Drawn.{Drawn}
+use Rattle.board_words.specs.declared.entries.Drawn.{Drawn}
 use Rattle.board_rule.specs.declared.view.Doing.{Doing}
 use Rattle.board_rule.specs.declared.view.Doing.TheVariants.{Idle, Claiming, Crediting, Reserved, Landing, Sealing}
 use Rattle.hart_port.specs.Words.{board_word}
-use Rattle.board_rule.specs.Words.{journal_index, journal_word}
-use Rattle.board_rule.specs.Counts.{total, one_if, draws, draws_in, numbered, ended_as, Load, part, load, flight}
+use Rattle.board_words.specs.Words.{journal_index, journal_word}
+use Rattle.board_words.specs.Counts.{total, one_if, draws_in, ended_as}
+use Rattle.board_rule.specs.Counts.{draws, numbered, Load, part, load, flight}
 use Rattle.board_rule.specs.Views.{made_entry}
-use Rattle.board_rule.specs.Rule.{Stands, Knows, KnowsSites, IsSeat, IsSiteWord, DoesRight, SawChildren, started, is_last}
+use Rattle.board_rule.specs.Rule.{Stands, Knows, KnowsSites, IsSeat, IsSiteWord, DoesRight, SawChildren}
+use Rattle.board_words.specs.Shown.{started, shown}
+use Rattle.board_words.specs.Places.{is_last}
+use Rattle.board_words.proofs.Shown.{shown-after, shown-other, shown-lasts, uncovered}
 use Rattle.board_rule.specs.Laws.{St, after_step, Appends}
-use Rattle.board_rule.proofs.Totals.{total-set, total-same, total-one, total-two}
-use Rattle.board_rule.proofs.Lists.{get-more, get-snoc, get-last, get-inside, length-snoc}
+use Rattle.board_words.proofs.Totals.{total-set, total-same, total-one, total-two}
+use Rattle.board_words.proofs.Lists.{get-more, get-snoc, get-last, get-inside, length-snoc}
+use Rattle.board_words.proofs.Places.{at-more, at-own}
 use Rattle.board_rule.proofs.Loads.{load-same, part-here}
-use Rattle.board_rule.proofs.SiteSteps.{place_at, flights_fall}
+use Rattle.board_words.proofs.Places.{place_at}
+use Rattle.board_rule.proofs.SiteSteps.{flights_fall}
 
 -- ---- what another hart sees of an entry
 
 -- an entry leaves the homes of the other harts as they are
 pub lives_with-other : (p : Plan) → IsPlan p → (es : List Entry) (t : TableState) (e : Entry) → Reaches p es t → Fits p t → IsAllowed p t e → (h : ℕ) → h ≢ hart_of e → (y : ℕ) → IsSite p y → lives_with (effect_of p t e) y h ≡ lives_with t y h
-lives_with-other p plan es t e leads fits a h other y site = at_site p t e y (λ x r. x ≡ y → (is_live r.stage && is_home r.home h) ≡ lives_with t y h) fits a site.0
+lives_with-other p plan es t e leads fits a h other y site = at_site p t e y (λ x r. x ≡ y → (is_live r.stage && is_home r.home h) ≡ lives_with t y h) fits a site
     (λ z. let Q : ℕ → Type 0 = λ q. (is_live (row_after t e).stage && is_home (row_after t e).home h) ≡ lives_with t q h in subst Q z (here e a other))
-    (λ n _. refl) refl
+    (λ n _ _. refl) (λ n c _. ap (λ (r : Row). is_live r.stage && is_home r.home h) (sym (legal_blank p plan es t leads y site (covered_new p plan es t e leads a y site c)))) refl
   where
     here : (e : Entry) → IsAllowed p t e → h ≢ hart_of e → (is_live (row_after t e).stage && is_home (row_after t e).home h) ≡ lives_with t (site_of e) h
     here (Register g s) a n = let b : row t s ≡ blank = legal_blank p plan es t leads s a.1 a.3 in rw (ne_eqb g h (λ z. n (sym z)), b) refl
@@ -52,6 +58,7 @@ lives_with-other p plan es t e leads fits a h other y site = at_site p t e y (λ
     here (Enter g s) a n = refl
     here (Yield g s) a n = refl
     here (Unregister g s) a n = rw (a.3, ne_eqb g h (λ z. n (sym z))) (sym (and-false (is_live (row t s).stage)))
+    here (Skip g s) a n = ap (λ (r : Row). is_live r.stage && is_home r.home h) (sym (legal_blank p plan es t leads s a.1 a.3))
 
 -- what a seat knows of the sites lasts over an entry that leaves its homes, and brings no hart into a site that it saw empty
 pub sites_moved : (p : Plan) (t : TableState) (e : Entry) → Fits p t → IsAllowed p t e → (h : ℕ) (m : Marks) (c : ℕ → Bool) (f f' : ℕ → ℕ)
@@ -74,28 +81,33 @@ sites_moved p t e fits a h m c f f' homes flown arrives k = record {
 }
 
 -- what a seat is about lasts over an entry of another hart
-pub does_lasting : (p : Plan) (es fs : List Entry) (t : TableState) (e : Entry) → Fits p t → IsAllowed p t e → (v : View) (d : Doing) → ((y : ℕ) → d ≡ Claiming y → y ≢ site_of e)
+pub does_lasting : (p : Plan) → IsPlan p → (es : List Entry) (t : TableState) (e : Entry) → Reaches p es t → Fits p t → IsAllowed p t e → (v : View) (d : Doing) → IsHart p v.hart → v.owner ≡ owner t v.hart → ((y : ℕ) → d ≡ Claiming y → y ≢ site_of e)
     → (d ≡ Reserved (site_of e) → (row t (site_of e)).stage ≡ Live → (row_after t e).stage ≡ Live)
-    → DoesRight p es t v d → DoesRight p fs (effect_of p t e) v d
-does_lasting p es fs t e fits a v Idle apart live r = tt
-does_lasting p es fs t e fits a v (Claiming y) apart live r = (r.0, r.1, ap (λ (z : Row). z.stage) (row-effect_other p t e y a r.0.0 (apart y refl)) ∙ r.2, r.3)
-does_lasting p es fs t e fits a v (Crediting y k) apart live r = r
-does_lasting p es fs t e fits a v (Reserved y) apart live r = (
+    → DoesRight p es t v d → DoesRight p (es ++ e ∷ []) (effect_of p t e) v d
+does_lasting p plan es t e leads fits a v Idle hart own apart live r = tt
+does_lasting p plan es t e leads fits a v (Claiming y) hart own apart live r = (
   r.0,
   r.1,
-  at_site p t e y (λ x q. x ≡ y → q.stage ≡ Live) fits a r.0.0
-      (λ z. live (ap Reserved (sym z)) (let Q : ℕ → Type 0 = λ q. (row t q).stage ≡ Live in subst Q (sym z) r.2)) (λ n _. r.2) refl,
+  ap (λ (z : Row). z.stage) (row-effect_other p t e y fits a r.0 (apart y refl) (uncovered p plan es t leads e a v.hart y hart r.0 (sym own ∙ r.1) (apart y refl))) ∙ r.2,
   r.3,
 )
-does_lasting p es fs t e fits a v (Landing y) apart live r = r
-does_lasting p es fs t e fits a v (Sealing y) apart live r = (r.0, gone_lasts p t e fits a y r.0 r.1, r.2)
+does_lasting p plan es t e leads fits a v (Crediting y k) hart own apart live r = r
+does_lasting p plan es t e leads fits a v (Reserved y) hart own apart live r = (
+  r.0,
+  r.1,
+  at_site p t e y (λ x q. x ≡ y → q.stage ≡ Live) fits a r.0
+      (λ z. live (ap Reserved (sym z)) (let Q : ℕ → Type 0 = λ q. (row t q).stage ≡ Live in subst Q (sym z) r.2)) (λ n _ _. r.2) (λ n c _. absurd (let new = covered_new p plan es t e leads a y r.0 c in let live' = r.2 in cc)) refl,
+  r.3,
+)
+does_lasting p plan es t e leads fits a v (Landing y) hart own apart live r = r
+does_lasting p plan es t e leads fits a v (Sealing y) hart own apart live r = (r.0, shown-lasts p plan es t leads e a y r.0 r.1, r.2)
 
 -- ---- the step
 
 pub in_plan : (p : Plan) (s : St) (k : Stands p s) (id : ℕ) (v : View) → get_elem? s.views id ≡ some v → IsSeat v → IsHart p v.hart
 in_plan p s k id v at seat = let Q : Plan → Type 0 = λ q. v.hart < q.harts in subst Q (k.views id v at seat).itself.plan seat
 
-made_above : (m h : ℕ) → one_if (nat_le m h) ≡ 0 → h < m
+pub made_above : (m h : ℕ) → one_if (nat_le m h) ≡ 0 → h < m
 made_above m h e = grind (arith, nat_tests)
 
 -- a hart with a seat was made and isn't ended, and no other seat is its
@@ -160,18 +172,19 @@ board_step p s k id v e d m o place n at seat undrawn by allowed owned placed bo
             (get-snoc es i e f is);
         beyond = λ i l. let b = k.beyond i (omega arith) in (word_same i ∙ b.0, draws_same i (λ z. omega arith) ∙ b.1);
         sites = λ y is. dite (ℕ_discrete y x)
-            (λ z. let Q : ℕ → Type 0 = λ q. IsSiteWord (slice_index (set s.words 0 n) q) (k.closing q) (load q vs) (row u q) in
-            subst Q (sym z) (rw (get_or-set_other s.words 0 x n 0 (λ c. omega arith), row-effect_same p t e fits allowed) word))
-            (λ not. let low' = is.0 in rw (get_or-set_other s.words 0 y n 0 (λ c. omega arith), row-effect_other p t e y allowed low' not, load-same y s.views id v w at (elsewhere y not)) (k.sites y is));
+            (λ z. let Q : ℕ → Type 0 = λ q. IsSiteWord (slice_index (set s.words 0 n) q) (k.closing q) (load q vs) (shown (es ++ e ∷ []) u q) in
+            subst Q (sym z) (rw (get_or-set_other s.words 0 x n 0 (λ c. omega arith), shown-after p k.plan es t k.legal e allowed) word))
+            (λ not. let low' = is.0 in rw (get_or-set_other s.words 0 y n 0 (λ c. omega arith), shown-other p k.plan es t k.legal e allowed y is not, load-same y s.views id v w at (elsewhere y not)) (k.sites y is));
         seats = λ h l. rw (total-same (numbered h) s.views id v w at refl) (k.seats h l);
         first = total-same (numbered 0) s.views id v w at refl ∙ k.first;
         unmade = λ h l. made_by-other h es e (not_me h (λ z. omega (arith, here.2))) ∙ k.unmade h l;
-        over = λ i z is. k.over i z is ∙ sym (made_by-other z.hart es e (not_me z.hart (λ c. let q = total-one (ended_as v.hart) k.ended i z is in let one : one_if (eqb z.hart v.hart) ≡ 1 = ap one_if (eq-eqb z.hart v.hart c) in omega (arith, here.1))));
+        over = λ i z is. let o = k.over i z is in (o.0 ∙ sym (made_by-other z.hart es e (not_me z.hart (λ c. let q = total-one (ended_as v.hart) k.ended i z is in let one : one_if (eqb z.hart v.hart) ≡ 1 = ap one_if (eq-eqb z.hart v.hart c) in omega (arith, here.1)))), at-more es e z.mine z.places o.1);
         views = λ j z is lt. ⊎_elim
             (λ c. let P : View → Type 0 = λ q. Knows p (es ++ e ∷ []) u q k.closing (flight vs) k.made k.ended in subst P c.1 (record {
               itself = record {
                 plan = me.plan;
                 mine = ap (λ (q : List Entry). q ++ e ∷ []) me.mine ∙ sym (made_by-own v.hart es e by);
+                placed = at-own es e place placed v.mine v.places me.placed;
                 owner = owned ∙ (sym (owner-effect_same p t e fits allowed) ∙ ap (owner u) by);
                 drawn = λ q same. let Q : Drawn → Type 0 = λ r. (slice_get (es ++ e ∷ []) r.place ≡ Some r.entry) × is_last (v.mine ++ e ∷ []) r.entry in
                     let eq : record { place = place; entry = e } ≡ q = cc in subst Q eq ((ap (slice_get (es ++ e ∷ [])) placed) ∙ get-last es e, (v.mine, refl));
@@ -186,11 +199,12 @@ board_step p s k id v e d m o place n at seat undrawn by allowed owned placed bo
               itself = record {
                 plan = me'.plan;
                 mine = me'.mine ∙ sym (made_by-other z.hart es e (not_me z.hart other));
+                placed = at-more es e z.mine z.places me'.placed;
                 owner = me'.owner ∙ sym (owner-effect_other p t e z.hart (λ q. not_me z.hart other (sym q)));
                 drawn = λ q same. let r = me'.drawn q same in (get-more es (e ∷ []) q.place q.entry r.0, r.1);
                 joined = me'.joined;
               };
-              does = does_lasting p es (es ++ e ∷ []) t e fits allowed z z.doing
+              does = does_lasting p k.plan es t e k.legal fits allowed z z.doing (in_plan p s k j z c.1 lt) me'.owner
                   (λ y claims same. let r = total-one (λ (q : View). (part q.doing x).claims) vs j z there in
                   let c1 : (part z.doing x).claims ≡ 1 = ap (λ (q : Doing). (part q x).claims) claims ∙ ap (λ (l : Load). l.claims) (part-here (Claiming y) x same) in
                   let one = word.claimed in omega arith)

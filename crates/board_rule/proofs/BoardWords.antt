@@ -1,22 +1,21 @@
 -- The board word through a step that adds an entry.
-use Rattle.std.proofs.Common.{◌≡◌, ℕ, ◌+◌, ◌-◌, ◌*◌, ◌%◌, ◌^◌, ◌<◌, ◌≤◌, List, [], ◌∷◌, ◌++◌, length, sym, ap, ◌∙◌, arith}
-use Rattle.std.proofs.Math.Nat.{add-mul, mul-le-mul_left}
-use Rattle.transfer_table.specs.Plan.{Plan, IsPlan, parent, site_count}
+use Rattle.std.proofs.Common.{◌≡◌, ℕ, ◌+◌, ◌-◌, ◌*◌, ◌%◌, ◌^◌, ◌≤◌, List, [], ◌∷◌, ◌++◌, length, sym, ap, ◌∙◌, arith}
+use Rattle.std.proofs.Math.Nat.{add-mul}
+use Rattle.transfer_table.specs.Plan.{Plan, IsPlan, parent}
 use Rattle.transfer_table.specs.Table.{TableState, effect_of, owner}
 use Rattle.transfer_table.specs.Journal.{Reaches}
 use Rattle.transfer_table.specs.Allowed.{IsAllowed}
 use Rattle.transfer_table.specs.Entry.{hart_of}
 use Rattle.transfer_table.specs.declared.entry.Entry.{Entry}
-use Rattle.transfer_table.specs.declared.entry.Entry.TheVariants.{Register, Request, Enter, Yield, Unregister}
-use Rattle.transfer_table.proofs.Admits.{admits}
+use Rattle.transfer_table.specs.declared.entry.Entry.TheVariants.{Register, Request, Enter, Yield, Unregister, Skip}
 use Rattle.transfer_table.proofs.Positions.{legal_position, reaches-allowed}
 use Rattle.transfer_table.proofs.Effects.{owner_after}
-use Rattle.transfer_table.proofs.Bounds.{legal_room}
 use Rattle.hart_port.specs.Words.{owner_digits}
 use Rattle.hart_port.specs.Words.{board_word}
-use Rattle.board_rule.specs.Words.{length_unit, room}
-use Rattle.board_rule.proofs.Lists.{digits-set}
+use Rattle.board_rule.specs.Words.{length_unit}
+use Rattle.board_words.proofs.Lists.{digits-set}
 use Rattle.board_rule.proofs.Fields.{digits_small}
+use Rattle.board_words.proofs.Rooms.{has_room}
 
 -- one digit changes
 digits_after : (p : Plan) → IsPlan p → (es : List Entry) (t : TableState) (e : Entry) → Reaches p es t → IsAllowed p t e
@@ -26,13 +25,7 @@ digits_after p plan es t (Request h s k) leads a = ap (λ (o : ℕ). owner_digit
 digits_after p plan es t (Enter h s) leads a = digits-set t.owners h s (let z = (legal_position p plan es t leads).owners in omega (arith, a.0))
 digits_after p plan es t (Yield h s) leads a = digits-set t.owners h (parent p s) (let z = (legal_position p plan es t leads).owners in omega (arith, a.0))
 digits_after p plan es t (Unregister h s) leads a = digits-set t.owners h (parent p s) (let z = (legal_position p plan es t leads).owners in omega (arith, a.0))
-
--- an entry that is allowed finds its place in the journal
-pub has_room : (p : Plan) → IsPlan p → (es : List Entry) (t : TableState) (e : Entry) → Reaches p es t → IsAllowed p t e → length es < room p
-has_room p plan es t e leads a = legal_room p plan es t (effect_of p t e) e leads (admits p t e (legal_position p plan es t leads) a)
-
-few_entries : (p : Plan) → IsPlan p → room p ≤ 45045
-few_entries p plan = let few = plan.few_harts in let sites = plan.few_sites in let a : site_count p * (3 * p.harts - 1) ≤ site_count p * 11 = mul-le-mul_left (site_count p) (let z : 3 * p.harts - 1 ≤ 11 = omega arith in z) in omega arith
+digits_after p plan es t (Skip h s) leads a = ap (λ (o : ℕ). owner_digits t.owners + o * 4096 ^ h) a.2
 
 -- the word after the addition
 pub board_next : (p : Plan) → IsPlan p → (es : List Entry) (t : TableState) (e : Entry) → Reaches p es t → IsAllowed p t e → (n k : ℕ) → n ≡ board_word t (length es)
@@ -41,7 +34,7 @@ pub board_next : (p : Plan) → IsPlan p → (es : List Entry) (t : TableState) 
 board_next p plan es t e leads a n k is amount =
     let digit = digits_after p plan es t e leads a in
     let small = digits_small p plan (es ++ e ∷ []) (effect_of p t e) (reaches-allowed p plan es t e leads a) in
-    let few = few_entries p plan in let less = has_room p plan es t e leads a in omega arith
+    let short = plan.short in let less = has_room p plan es t e leads a in omega arith
 
 -- how much is added where an owner rises, and where it falls
 pub rising : (x o q k : ℕ) → o ≤ x → k ≡ length_unit + (x - o) * q → k + o * q ≡ length_unit + x * q

@@ -5,12 +5,13 @@ use mathlib.Core.Logic.{dite}
 use native.Mathlib.Decide.{ℕ_discrete, dec_le}
 use lib.ListN.{get_elem?}
 use Rattle.transfer_table.specs.Plan.{Plan, IsSite}
-use Rattle.transfer_table.specs.Table.{row}
 use Rattle.board_rule.specs.declared.view.View.{View}
 use Rattle.board_rule.specs.declared.view.Doing.{Doing}
 use Rattle.board_rule.specs.declared.view.Doing.TheVariants.{Idle, Claiming, Crediting, Reserved, Landing, Sealing}
-use Rattle.board_rule.specs.Counts.{total, one_if, numbered, no_load, weight, busy_at, Load, part, load, flight}
+use Rattle.board_words.specs.Counts.{total, one_if}
+use Rattle.board_rule.specs.Counts.{numbered, no_load, weight, busy_at, Load, part, load, flight}
 use Rattle.board_rule.specs.Rule.{Stands}
+use Rattle.board_words.specs.Shown.{shown}
 use Rattle.board_rule.specs.Laws.{St}
 use Rattle.board_rule.proofs.Loads.{part-here, part-elsewhere}
 use Rattle.board_rule.proofs.BoardSteps.{in_plan}
@@ -72,5 +73,5 @@ few_flights p s k x low =
 -- a site's word is below 2^20
 pub small_word : (p : Plan) (s : St) (k : Stands p s) (x : ℕ) → IsSite p x → slice_index s.words x < 1048576
 small_word p s k x site =
-    let i = k.sites x site in let f = fields (slice_index s.words x) (k.closing x) (load x s.views) (row k.table x) (few_wishes p s k x site) i in
+    let i = k.sites x site in let f = fields (slice_index s.words x) (k.closing x) (load x s.views) (shown k.journal k.table x) (few_wishes p s k x site) i in
     let fly = f.flying in let few = few_flights p s k x site.0 in let harts = k.plan.few_harts in omega arith

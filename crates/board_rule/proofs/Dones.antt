@@ -13,17 +13,21 @@ use Rattle.board_rule.specs.declared.view.Doing.TheVariants.{Idle, Crediting, La
 use Rattle.board_rule.specs.Counts.{Load, no_load, weight, busy_at, part, load, flight}
 use Rattle.board_rule.specs.Views.{done_view, close_view}
 use Rattle.board_rule.specs.Rule.{Stands, KnowsSites, IsSeat, IsSiteWord, DoesRight}
+use Rattle.board_words.specs.Shown.{shown}
+use Rattle.transfer_table.specs.declared.entry.Row.{Row}
+use Rattle.board_words.proofs.Shown.{shown-live}
 use Rattle.board_rule.specs.Steps.{MayClose}
 use Rattle.board_rule.specs.Laws.{St, after_step, Keeps}
 use Rattle.board_rule.proofs.Loads.{part-elsewhere, part-here, part-idle, load-shift, load-same, Shifts}
-use Rattle.board_rule.proofs.Sets.{with_site-in, with_site-keeps}
-use Rattle.board_rule.proofs.SiteWords.{credited_word, landed_word, sealed_word, closing_word, is_live-stage}
+use Rattle.board_words.proofs.Sets.{with_site-in, with_site-keeps}
+use Rattle.board_rule.proofs.SiteWords.{credited_word, landed_word, sealed_word, closing_word}
+use Rattle.board_words.proofs.Bits.{is_live-stage}
 use Rattle.board_rule.proofs.SiteSteps.{site_step, sites_other, closing_with, closing_lasts, closing_here}
 use Rattle.board_rule.proofs.Looks.{few_wishes}
 
 -- a seat that is about x ends it, and the word of x becomes n
 done_step : (p : Plan) (s : St) (k : Stands p s) (id : ℕ) (v : View) (x n : ℕ) (d : Doing) → get_elem? s.views id ≡ some v → IsSeat v → IsSite p x → v.doing ≡ d → busy_at d ≡ x
-    → ((c c' : Load) → Shifts c c' (weight d) no_load → IsSiteWord (slice_index s.words x) (k.closing x) c (row k.table x) → IsSiteWord n (k.closing x) c' (row k.table x))
+    → ((c c' : Load) → Shifts c c' (weight d) no_load → IsSiteWord (slice_index s.words x) (k.closing x) c (shown k.journal k.table x) → IsSiteWord n (k.closing x) c' (shown k.journal k.table x))
     → Keeps p s k (after_step s x n id (done_view v))
 done_step p s k id v x n d at seat site does busy word =
     let know = (k.views id v at seat).sites in
@@ -44,21 +48,21 @@ right p s k id v d at seat does = let R : Doing → Type 0 = λ q. DoesRight p k
 pub credit_keeps : (p : Plan) (s : St) (k : Stands p s) (id : ℕ) (v : View) (x n : ℕ) → get_elem? s.views id ≡ some v → IsSeat v → slice_index s.words x < 2 ^ 64 → v.doing ≡ Crediting x n
     → Keeps p s k (after_step s x ((slice_index s.words x + 256 * n) % 2 ^ 64) id (done_view v))
 credit_keeps p s k id v x n at seat small does = let site = (right p s k id v (Crediting x n) at seat does).0 in
-    done_step p s k id v x _ (Crediting x n) at seat site does refl (λ c c' shift word. credited_word (slice_index s.words x) n (k.closing x) c c' (row k.table x) x shift (few_wishes p s k x site) small word)
+    done_step p s k id v x _ (Crediting x n) at seat site does refl (λ c c' shift word. credited_word (slice_index s.words x) n (k.closing x) c c' (shown k.journal k.table x) x shift (few_wishes p s k x site) small word)
 
 pub land_keeps : (p : Plan) (s : St) (k : Stands p s) (id : ℕ) (v : View) (x : ℕ) → get_elem? s.views id ≡ some v → IsSeat v → slice_index s.words x < 2 ^ 64 → v.doing ≡ Landing x
     → Keeps p s k (after_step s x ((slice_index s.words x + (2 ^ 64 - 65536)) % 2 ^ 64) id (done_view v))
 land_keeps p s k id v x at seat small does = let site = (right p s k id v (Landing x) at seat does).0 in
-    done_step p s k id v x _ (Landing x) at seat site does refl (λ c c' shift word. landed_word (slice_index s.words x) (k.closing x) c c' (row k.table x) x shift small word)
+    done_step p s k id v x _ (Landing x) at seat site does refl (λ c c' shift word. landed_word (slice_index s.words x) (k.closing x) c c' (shown k.journal k.table x) x shift small word)
 
 pub seal_keeps : (p : Plan) (s : St) (k : Stands p s) (id : ℕ) (v : View) (x : ℕ) → get_elem? s.views id ≡ some v → IsSeat v → v.doing ≡ Sealing x
     → Keeps p s k (after_step s x (bit_or (slice_index s.words x) 4) id (done_view v))
 seal_keeps p s k id v x at seat does = let r = right p s k id v (Sealing x) at seat does in
-    done_step p s k id v x _ (Sealing x) at seat r.0 does refl (λ c c' shift word. sealed_word (slice_index s.words x) (k.closing x) c c' (row k.table x) x shift r.1 (few_wishes p s k x r.0) word)
+    done_step p s k id v x _ (Sealing x) at seat r.0 does refl (λ c c' shift word. sealed_word (slice_index s.words x) (k.closing x) c c' (shown k.journal k.table x) x shift r.1 (few_wishes p s k x r.0) word)
 
 -- ---- close
 
-both : (a b : Bool) → (a && b) ≡ true → (a ≡ true) × (b ≡ true)
+pub both : (a b : Bool) → (a && b) ≡ true → (a ≡ true) × (b ≡ true)
 both true true e = (refl, refl)
 both true false e = absurd (cc)
 both false b e = absurd (cc)
@@ -94,6 +98,6 @@ close_keeps p s k id v at seat may =
     (λ y n. refl)
     (λ _. refl)
     (λ _. let r : flight (set s.views id (close_view v)) x ≡ flight s.views x = ap (λ (c : Load). c.reserves + c.lands) same in omega arith)
-    (rw same (closing_word (slice_index s.words x) (k.closing x) (load x s.views) (row k.table x) home.1 (few_wishes p s k x home.0) (k.sites x home.0)))
+    (rw same (closing_word (slice_index s.words x) (k.closing x) (load x s.views) (shown k.journal k.table x) (ap (λ (r : Row). r.stage) (shown-live p k.plan k.journal k.table k.legal x home.0 home.1) ∙ home.1) (few_wishes p s k x home.0) (k.sites x home.0)))
     (subst R (sym may.0.0) tt)
     (sites_closed p k.table v.hart v.marks k.closing (flight s.views) x may.1 know)

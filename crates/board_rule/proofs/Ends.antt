@@ -1,28 +1,30 @@
 -- Once all seats are joined nothing is drawn, so each place of the journal is written.
-use Rattle.std.proofs.Common.{◌≡◌, ◌≢◌, ℕ, zero, suc, ◌+◌, ◌/◌, ◌%◌, ◌<◌, ◌≤◌, eqb, cond, List, [], ◌∷◌, length, slice_index, slice_get, refl, sym, ap, ◌∙◌, subst, arith, Option, Some, None}
+use Rattle.std.proofs.Common.{◌≡◌, ◌≢◌, ℕ, suc, ◌+◌, ◌<◌, List, length, slice_index, slice_get, sym, ap, ◌∙◌, arith, Option, Some, None}
 use mathlib.Core.Option.{some, some-injective}
 use mathlib.Core.Logic.{dite}
 use native.Mathlib.Decide.{ℕ_discrete, dec_le}
 use lib.ListN.{get_elem?}
 use Rattle.transfer_table.specs.Plan.{Plan, site_count}
-use Rattle.transfer_table.specs.Entry.{hart_of, site_of, count_of, made_by}
+use Rattle.transfer_table.specs.Entry.{made_by}
 use Rattle.transfer_table.specs.Laws.{IsEntryOf}
 use Rattle.transfer_table.specs.declared.entry.Entry.{Entry}
-use Rattle.transfer_table.specs.declared.entry.Entry.TheVariants.{Register, Request, Enter, Yield, Unregister}
 use Rattle.transfer_table.proofs.Bounds.{legal_length}
 use Rattle.transfer_table.proofs.Balance.{legal_entries}
 use Rattle.board_rule.specs.declared.view.View.{View}
-use Rattle.board_rule.specs.declared.view.Drawn.{Drawn}
-use Rattle.board_rule.specs.declared.view.Ended.{Ended}
-use Rattle.board_rule.specs.Words.{entries_in, journal_word, spelled}
-use Rattle.board_rule.specs.Counts.{total, draws, draws_in, ended_as}
+use Rattle.board_words.specs.declared.entries.Drawn.{Drawn}
+use Rattle.board_words.specs.declared.entries.Ended.{Ended}
+use Rattle.board_rule.specs.Words.{entries_in}
+use Rattle.board_words.specs.Words.{journal_word, spelled}
+use Rattle.board_words.specs.Counts.{total, draws_in, ended_as}
+use Rattle.board_rule.specs.Counts.{draws}
 use Rattle.board_rule.specs.Rule.{Stands, IsSeat}
 use Rattle.board_rule.specs.Ends.{Spells, AllEnded, IsJournal}
 use Rattle.board_rule.specs.Laws.{St}
-use Rattle.board_rule.proofs.Lists.{index_of, get_there}
-use Rattle.board_rule.proofs.Totals.{total-none}
+use Rattle.board_words.proofs.Lists.{index_of, get_there}
+use Rattle.board_words.proofs.Totals.{total-none}
 use Rattle.board_rule.proofs.BoardSteps.{in_plan, one_seat, other_hart}
 use Rattle.board_rule.proofs.Registers.{length_is}
+use Rattle.board_words.proofs.Spelled.{entry_at}
 
 pub settled : (p : Plan) (s : St) (k : Stands p s) (id : ℕ) (v : View) → get_elem? s.views id ≡ some v → v.hart ≡ 0 → IsSeat v → v.drawn ≡ None → AllEnded p v
     → (i : ℕ) (e : Entry) → slice_get k.journal i ≡ Some e → journal_word p s.words i ≡ spelled e
@@ -40,44 +42,6 @@ settled p s k id v at zeroth seat undrawn all i e is = (k.places i e is).written
         let m = all u.hart (let low : u.hart ≢ 0 = λ z. other (z ∙ sym zeroth) in omega arith) lt in omega arith)))
         (λ not. ap (λ (c : View). draws_in c.drawn i) (k.spent j u there not))
 
--- the kind of an entry, as its word has it
-kind : Entry → ℕ
-kind (Register h s) = 1
-kind (Request h s k) = 2
-kind (Enter h s) = 3
-kind (Yield h s) = 4
-kind (Unregister h s) = 5
-
-parts : (e : Entry) → hart_of e ≤ 31 → count_of e ≤ 255 → (spelled e % 8 ≡ kind e) × (spelled e / 8 % 32 ≡ hart_of e) × (spelled e / 256 % 256 ≡ count_of e) × (spelled e / 65536 ≡ site_of e)
-unfolding kind
-parts (Register h s) a b = (omega arith, omega arith, omega arith, omega arith)
-parts (Request h s k) a b = (omega arith, omega arith, omega arith, omega arith)
-parts (Enter h s) a b = (omega arith, omega arith, omega arith, omega arith)
-parts (Yield h s) a b = (omega arith, omega arith, omega arith, omega arith)
-parts (Unregister h s) a b = (omega arith, omega arith, omega arith, omega arith)
-
--- the entry of these parts
-built : ℕ → ℕ → ℕ → ℕ → Entry
-built k h c s = cond (eqb k 1) (Register h s) (cond (eqb k 2) (Request h s c) (cond (eqb k 3) (Enter h s) (cond (eqb k 4) (Yield h s) (Unregister h s))))
-
-rebuilt : (e : Entry) → built (kind e) (hart_of e) (count_of e) (site_of e) ≡ e
-unfolding built kind
-rebuilt (Register h s) = refl
-rebuilt (Request h s k) = refl
-rebuilt (Enter h s) = refl
-rebuilt (Yield h s) = refl
-rebuilt (Unregister h s) = refl
-
--- a word spells one entry
-pub spelled_once : (e f : Entry) → hart_of e ≤ 31 → count_of e ≤ 255 → hart_of f ≤ 31 → count_of f ≤ 255 → spelled e ≡ spelled f → e ≡ f
-spelled_once e f a b c d same =
-    let p = parts e a b in let q = parts f c d in
-    let k : kind e ≡ kind f = sym p.0 ∙ ap (λ (n : ℕ). n % 8) same ∙ q.0 in
-    let h : hart_of e ≡ hart_of f = sym p.1 ∙ ap (λ (n : ℕ). n / 8 % 32) same ∙ q.1 in
-    let n : count_of e ≡ count_of f = sym p.2 ∙ ap (λ (n : ℕ). n / 256 % 256) same ∙ q.2 in
-    let x : site_of e ≡ site_of f = sym p.3 ∙ ap (λ (n : ℕ). n / 65536) same ∙ q.3 in
-    sym (rebuilt e) ∙ (λ i. built (k i) (h i) (n i) (x i)) ∙ rebuilt f
-
 -- the entry whose word was read
 pub place_of : (p : Plan) (ws : List ℕ) (es : List Entry) → Spells p ws es → (head n m i : ℕ) → get_elem? ws 0 ≡ some head → i < entries_in head → m ≡ site_count p → get_elem? ws (1 + m + i) ≡ some n
     → (e : Entry) × (slice_get es i ≡ Some e) × (n ≡ spelled e) × IsEntryOf p e
@@ -89,11 +53,6 @@ place_of p ws es sp head n m i at lt is there =
     let here = sp.places i e.0 e.1 in
     let word : journal_word p ws i ≡ n = ap (λ (q : ℕ). slice_index ws (1 + q + i)) (sym is) ∙ index_of ws (1 + m + i) n 0 there in
     (e.0, e.1, sym word ∙ here.0, here.1)
-
-entry_at : (p : Plan) (es : List Entry) (i : ℕ) (e : Entry) → slice_get es i ≡ Some e → Rattle.std.specs.List.All (IsEntryOf p) es → IsEntryOf p e
-entry_at p [] i e is all = absurd (cc)
-entry_at p (x ∷ xs) zero e is all = let same : x ≡ e = cc in subst (IsEntryOf p) same (all 0 x (omega arith))
-entry_at p (x ∷ xs) (suc i) e is all = entry_at p xs i e is (λ k d lt. all (suc k) d (omega arith))
 
 -- the words at the end have the journal
 pub ends : (p : Plan) (s : St) (k : Stands p s) (id : ℕ) (v : View) → get_elem? s.views id ≡ some v → v.hart ≡ 0 → IsSeat v → v.drawn ≡ None → AllEnded p v → Spells p s.words k.journal × IsJournal p v k.journal
@@ -108,8 +67,8 @@ ends p s k id v at zeroth seat undrawn all =
       record {
         table = k.table;
         legal = k.legal;
-        first = ap (λ (h : ℕ). made_by h k.journal) (sym zeroth) ∙ sym know.itself.mine;
-        others = λ i e is. sym (k.over i e (ap (λ (z : List Ended). get_elem? z i) (sym ended) ∙ is));
+        first = (ap (λ (h : ℕ). made_by h k.journal) (sym zeroth) ∙ sym know.itself.mine, know.itself.placed);
+        others = λ i e is. let o = k.over i e (ap (λ (z : List Ended). get_elem? z i) (sym ended) ∙ is) in (sym o.0, o.1);
         gone = know.sites.gone;
       },
     )

@@ -7,6 +7,7 @@ use Rattle.transfer_table.proofs.Positions.{legal_position}
 use Rattle.transfer_table.proofs.Stages.{gone_lasts}
 use Rattle.transfer_table.proofs.Balance.{legal_balance}
 use Rattle.board_rule.specs.StepLaws.{GoneStaysGone, WantsBalance}
+use Rattle.board_words.proofs.Shown.{shown-wishes}
 
 pub gone_stays_gone : GoneStaysGone
 gone_stays_gone p s s' k e step x site gone =
@@ -15,4 +16,4 @@ gone_stays_gone p s s' k e step x site gone =
     let Q : TableState → Type 0 = λ t. (row t x).stage ≡ Gone in subst Q (sym d.1) (gone_lasts p k.table e fits d.0 x site gone)
 
 pub wants_balance : WantsBalance
-wants_balance p s k x site = let w = (k.sites x site).wishes in let b = (legal_balance p k.plan k.journal k.table k.legal x site).wished in omega arith
+wants_balance p s k x site = let w = (k.sites x site).wishes in let z = shown-wishes p k.plan k.journal k.table k.legal x site in let b = (legal_balance p k.plan k.journal k.table k.legal x site).wished in omega arith

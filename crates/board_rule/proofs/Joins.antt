@@ -11,19 +11,23 @@ use Rattle.hart_port.specs.PortView.{is_in}
 use Rattle.hart_port.specs.Ledger.{no_site}
 use Rattle.board_rule.specs.declared.view.View.{View}
 use Rattle.board_rule.specs.declared.view.Marks.{Marks}
-use Rattle.board_rule.specs.declared.view.Drawn.{Drawn}
-use Rattle.board_rule.specs.declared.view.Ended.{Ended}
+use Rattle.board_words.specs.declared.entries.Drawn.{Drawn}
+use Rattle.board_words.specs.declared.entries.Ended.{Ended}
 use Rattle.board_rule.specs.declared.view.Doing.{Doing}
 use Rattle.board_rule.specs.declared.view.Doing.TheVariants.{Idle}
-use Rattle.board_rule.specs.Counts.{total, one_if, draws, draws_in, numbered, ended_as, no_load, Load, part, load, flight}
-use Rattle.board_rule.specs.Views.{joined_view, spent_view, union}
+use Rattle.board_words.specs.Counts.{total, one_if, draws_in, ended_as}
+use Rattle.board_rule.specs.Counts.{draws, numbered, no_load, Load, part, load, flight}
+use Rattle.board_rule.specs.Views.{joined_view, spent_view}
+use Rattle.board_words.specs.Sets.{union}
 use Rattle.board_rule.specs.Rule.{Stands, Knows, KnowsSites, IsSeat, DoesRight}
+use Rattle.board_words.specs.Places.{AreAt}
 use Rattle.board_rule.specs.Steps.{IsReady}
 use Rattle.board_rule.specs.Laws.{St, Keeps}
-use Rattle.board_rule.proofs.Totals.{total-set, total-same, total-snoc}
+use Rattle.board_words.proofs.Totals.{total-set, total-same, total-snoc}
 use Rattle.board_rule.proofs.Loads.{part-idle}
-use Rattle.board_rule.proofs.Sets.{in-no_site, union-in, length-union}
-use Rattle.board_rule.proofs.SiteSteps.{place_at, sites_other}
+use Rattle.board_words.proofs.Sets.{in-no_site, union-in, length-union}
+use Rattle.board_words.proofs.Places.{place_at}
+use Rattle.board_rule.proofs.SiteSteps.{sites_other}
 use Rattle.board_rule.proofs.BoardSteps.{other_hart}
 
 -- what both knew to be gone is known, and nothing is seen empty
@@ -53,7 +57,7 @@ join_keeps p s k id other v w at apart there zeroth seat idle seat_w ready_w =
     let same : (f : View → ℕ) → f both ≡ f v → f w ≡ 0 → f spent_view ≡ 0 → total f vs ≡ total f s.views
     = λ f a b c. let x = total-same f s.views id v both at a in let y = total-set f mid other w spent_view at_other in omega arith in
     let w_hart : w.hart ≢ 0 = λ z. other_hart p s k id other v w at seat apart there (z ∙ sym zeroth) in
-    let now : List Ended = k.ended ++ record { hart = w.hart; mine = w.mine } ∷ [] in
+    let now : List Ended = k.ended ++ record { hart = w.hart; mine = w.mine; places = w.places } ∷ [] in
     let draws_w : (i : ℕ) → draws i w ≡ 0 = λ i. ap (λ (d : Option Drawn). draws_in d i) ready_w.1 in
     let part_w : (x : ℕ) → part w.doing x ≡ no_load = λ x. ap (λ (d : Doing). part d x) ready_w.0 ∙ part-idle x in
     let load_same : (x : ℕ) → load x vs ≡ load x s.views = λ x. let a = part_w x in let b = part-idle x in λ i. record {
@@ -81,24 +85,24 @@ join_keeps p s k id other v w at apart there zeroth seat idle seat_w ready_w =
         beyond = λ i c. let b = k.beyond i c in (b.0, same (draws i) refl (draws_w i) refl ∙ b.1);
         sites = λ x site. rw (load_same x) (k.sites x site);
         seats = λ h l. let old = k.seats h l in let x = total-same (numbered h) s.views id v both at refl in let y = total-set (numbered h) mid other w spent_view at_other in
-            let e = total-snoc (ended_as h) k.ended record { hart = w.hart; mine = w.mine } in
+            let e = total-snoc (ended_as h) k.ended record { hart = w.hart; mine = w.mine; places = w.places } in
             let none : numbered h spent_view ≡ 0 = ap one_if (ne_eqb 255 h (λ z. omega arith)) in
             omega arith;
         first = same (numbered 0) refl (ap one_if (ne_eqb w.hart 0 w_hart)) refl ∙ k.first;
         unmade = k.unmade;
-        over = λ i e is. ⊎_elim (λ old. k.over i e old) (λ new. subst (λ (z : Ended). z.mine ≡ made_by z.hart k.journal) new know_w.itself.mine) (at_snoc k.ended record { hart = w.hart; mine = w.mine } e i is);
+        over = λ i e is. ⊎_elim (λ old. k.over i e old) (λ new. subst (λ (z : Ended). (z.mine ≡ made_by z.hart k.journal) × AreAt k.journal z.mine z.places) new (know_w.itself.mine, know_w.itself.placed)) (at_snoc k.ended record { hart = w.hart; mine = w.mine; places = w.places } e i is);
         views = λ j u is lt. ⊎_elim
             (λ t. absurd (let z : IsSeat spent_view = subst IsSeat (sym t.1) lt in omega arith))
             (λ t. ⊎_elim
             (λ c. subst P c.1 (record {
-              itself = record { plan = me.plan; mine = me.mine; owner = me.owner; drawn = me.drawn; joined = λ z. ((me.joined zeroth).0, ap (λ (es : List Ended). es ++ record { hart = w.hart; mine = w.mine } ∷ []) (me.joined zeroth).1) };
+              itself = record { plan = me.plan; mine = me.mine; placed = me.placed; owner = me.owner; drawn = me.drawn; joined = λ z. ((me.joined zeroth).0, ap (λ (es : List Ended). es ++ record { hart = w.hart; mine = w.mine; places = w.places } ∷ []) (me.joined zeroth).1) };
               does = subst R (sym idle) tt;
               sites = sites_other p k.table v.hart both.marks k.closing k.closing (flight s.views) (flight vs) (λ y z. z) flown
                   (let Q : Plan → Type 0 = λ q. KnowsSites p k.table v.hart (record v.marks { empty = no_site q; gone = union v.marks.gone w.marks.gone }) k.closing (flight s.views) in
                   subst Q (sym me.plan) (sites_joined p k.table v.hart w.hart v.marks w.marks k.closing (flight s.views) know.sites know_w.sites));
             }))
             (λ c. let o = k.views j u c.1 lt in let it = o.itself in record {
-              itself = record { plan = it.plan; mine = it.mine; owner = it.owner; drawn = it.drawn; joined = λ z. absurd (other_hart p s k id j v u at seat c.0 c.1 (z ∙ sym zeroth)) };
+              itself = record { plan = it.plan; mine = it.mine; placed = it.placed; owner = it.owner; drawn = it.drawn; joined = λ z. absurd (other_hart p s k id j v u at seat c.0 c.1 (z ∙ sym zeroth)) };
               does = o.does;
               sites = sites_other p k.table u.hart u.marks k.closing k.closing (flight s.views) (flight vs) (λ y z. z) flown o.sites;
             })

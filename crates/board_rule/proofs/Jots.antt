@@ -5,23 +5,25 @@ use mathlib.Core.Logic.{dite}
 use native.Mathlib.Decide.{ℕ_discrete}
 use lib.ListN.{get_elem?}
 use Rattle.atomic_table.proofs.Lists.{at_set}
-use Rattle.transfer_table.specs.Plan.{Plan}
+use Rattle.transfer_table.specs.Plan.{Plan, room}
 use Rattle.transfer_table.specs.Table.{TableState}
 use Rattle.transfer_table.specs.declared.entry.Entry.{Entry}
 use Rattle.transfer_table.proofs.Bounds.{legal_length}
 use Rattle.board_rule.specs.declared.view.View.{View}
-use Rattle.board_rule.specs.declared.view.Drawn.{Drawn}
+use Rattle.board_words.specs.declared.entries.Drawn.{Drawn}
 use Rattle.board_rule.specs.declared.view.Doing.{Doing}
 use Rattle.board_rule.specs.declared.view.Doing.TheVariants.{Idle, Claiming, Crediting, Reserved, Landing, Sealing}
-use Rattle.board_rule.specs.Words.{room, journal_index, journal_word, spelled}
-use Rattle.board_rule.specs.Counts.{total, one_if, draws, draws_in, numbered, Load, load, flight}
+use Rattle.board_words.specs.Words.{journal_index, journal_word, spelled}
+use Rattle.board_words.specs.Counts.{total, one_if, draws_in}
+use Rattle.board_rule.specs.Counts.{draws, numbered, Load, load, flight}
 use Rattle.board_rule.specs.Views.{jot_view}
 use Rattle.board_rule.specs.Rule.{Stands, Knows, IsSeat, DoesRight}
 use Rattle.board_rule.specs.Laws.{St, after_step, Keeps}
-use Rattle.board_rule.proofs.Totals.{total-set, total-same}
-use Rattle.board_rule.proofs.Lists.{get-inside}
+use Rattle.board_words.proofs.Totals.{total-set, total-same}
+use Rattle.board_words.proofs.Lists.{get-inside}
 use Rattle.board_rule.proofs.Loads.{load-same}
-use Rattle.board_rule.proofs.SiteSteps.{place_at, sites_other, knows_other}
+use Rattle.board_words.proofs.Places.{place_at}
+use Rattle.board_rule.proofs.SiteSteps.{sites_other, knows_other}
 
 does_jotted : (p : Plan) (es : List Entry) (t : TableState) (v : View) (d : Doing) → DoesRight p es t v d → DoesRight p es t (jot_view v) d
 does_jotted p es t v Idle r = tt
@@ -75,7 +77,7 @@ jot_keeps p s k id v place e at seat drawn =
         over = k.over;
         views = λ j u is lt. ⊎_elim
             (λ t. let P : View → Type 0 = λ z. Knows p k.journal k.table z k.closing (flight (set s.views id w)) k.made k.ended in subst P t.1 (record {
-              itself = record { plan = me.plan; mine = me.mine; owner = me.owner; drawn = λ d c. absurd (cc); joined = me.joined };
+              itself = record { plan = me.plan; mine = me.mine; placed = me.placed; owner = me.owner; drawn = λ d c. absurd (cc); joined = me.joined };
               does = does_jotted p k.journal k.table v v.doing know.does;
               sites = sites_other p k.table v.hart v.marks k.closing k.closing (flight s.views) (flight (set s.views id w)) (λ y z. z) flown know.sites;
             }))

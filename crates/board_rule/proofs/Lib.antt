@@ -1,16 +1,12 @@
-pub mod Totals
-pub mod Lists
 pub mod Loads
 pub mod SiteWords
 pub mod Fields
-pub mod Sets
 pub mod SiteSteps
 pub mod BoardSteps
 pub mod Looks
 pub mod Claims
 pub mod Dones
 pub mod Jots
-pub mod Asked
 pub mod BoardWords
 pub mod Registers
 pub mod Moves

@@ -11,7 +11,6 @@ use Rattle.transfer_table.specs.Plan.{Plan, IsHart, IsSite, parent}
 use Rattle.transfer_table.specs.Table.{TableState, owner, row}
 use Rattle.transfer_table.specs.declared.entry.Stage.TheVariants.{Gone}
 use Rattle.transfer_table.proofs.Positions.{legal_position}
-use Rattle.transfer_table.proofs.Balance.{legal_wishes}
 use Rattle.hart_port.specs.PortView.{is_in, with_site, without}
 use Rattle.hart_port.specs.Words.{is_closed, flight_of, owner_field}
 use Rattle.board_rule.specs.declared.view.View.{View}
@@ -23,17 +22,20 @@ use Rattle.board_rule.specs.Words.{others_at}
 use Rattle.board_rule.specs.Counts.{draws, numbered, Load, load, flight}
 use Rattle.board_rule.specs.Views.{glance_view, see_gone_view, see_drained_view, see_empty_view, gone_marks}
 use Rattle.board_rule.specs.Rule.{Stands, Knows, KnowsSites, IsSeat, DoesRight}
+use Rattle.board_words.specs.Shown.{shown}
 use Rattle.board_rule.specs.Steps.{IsReady, MaySeeDrained, MaySeeEmpty}
 use Rattle.board_rule.specs.Laws.{St, after_step, Keeps}
-use Rattle.board_rule.proofs.Totals.{total-same}
+use Rattle.board_words.proofs.Shown.{few_shown, row-gone}
+use Rattle.board_words.proofs.Totals.{total-same}
 use Rattle.board_rule.proofs.Loads.{load-same}
-use Rattle.board_rule.proofs.Sets.{with_site-other, with_site-in, with_site-keeps, without-in}
+use Rattle.board_words.proofs.Sets.{with_site-other, with_site-in, with_site-keeps, without-in}
 use Rattle.board_rule.proofs.SiteWords.{fields, closed_gone}
-use Rattle.board_rule.proofs.SiteSteps.{place_at, sites_other, knows_other}
+use Rattle.board_words.proofs.Places.{place_at}
+use Rattle.board_rule.proofs.SiteSteps.{sites_other, knows_other}
 use Rattle.board_rule.proofs.Fields.{owners_small, field_is}
 
-pub few_wishes : (p : Plan) (s : St) (k : Stands p s) (x : ℕ) → IsSite p x → (row k.table x).wishes ≤ 3
-few_wishes p s k x site = let w = legal_wishes p k.plan k.journal k.table k.legal x site in let few = k.plan.few_harts in omega (arith, w.0, w.1)
+pub few_wishes : (p : Plan) (s : St) (k : Stands p s) (x : ℕ) → IsSite p x → (shown k.journal k.table x).wishes ≤ 3
+few_wishes p s k x site = few_shown p k.plan k.journal k.table k.legal x site
 
 -- the seat knows other sites, or has one more look, and no word has changed
 pub look_step : (p : Plan) (s : St) (k : Stands p s) (id : ℕ) (v : View) (m : Marks) (ls : List Look) (i n : ℕ) → get_elem? s.views id ≡ some v → IsSeat v → v.doing ≡ Idle → n ≡ slice_index s.words i
@@ -68,7 +70,7 @@ look_step p s k id v m ls i n at seat idle is knows =
         views = λ j u there lt. ⊎_elim
             (λ t. let Q : View → Type 0 = λ z. Knows p k.journal k.table z k.closing (flight (set s.views id w)) k.made k.ended in
             subst Q t.1 (record {
-              itself = record { plan = me.plan; mine = me.mine; owner = me.owner; drawn = me.drawn; joined = me.joined };
+              itself = record { plan = me.plan; mine = me.mine; placed = me.placed; owner = me.owner; drawn = me.drawn; joined = me.joined };
               does = subst R (sym idle) tt;
               sites = sites_other p k.table v.hart m k.closing k.closing (flight s.views) (flight (set s.views id w)) (λ y z. z) flown knows;
             }))
@@ -128,7 +130,7 @@ see_gone_keeps p s k id v x at seat ready site =
     let plan = (k.views id v at seat).itself.plan in
     let Q : Plan → Type 0 = λ q. KnowsSites p k.table v.hart (if is_closed n then gone_marks q x v.marks else v.marks) k.closing (flight s.views) in
     look_step p s k id v _ _ x n at seat ready.0 refl (subst Q (sym plan) (by_bit (is_closed n)
-    (λ closed. sites_gone p k.table v.hart v.marks k.closing (flight s.views) x site (closed_gone n (k.closing x) (load x s.views) (row k.table x) (few_wishes p s k x site) (k.sites x site) (eqb-true (n / 4 % 2) 1 closed)) know)
+    (λ closed. sites_gone p k.table v.hart v.marks k.closing (flight s.views) x site (row-gone p k.plan k.journal k.table k.legal x (closed_gone n (k.closing x) (load x s.views) (shown k.journal k.table x) (few_wishes p s k x site) (k.sites x site) (eqb-true (n / 4 % 2) 1 closed))) know)
     know))
   where
     by_bit : (b : Bool) → (b ≡ true → KnowsSites p k.table v.hart (gone_marks p x v.marks) k.closing (flight s.views)) → KnowsSites p k.table v.hart v.marks k.closing (flight s.views)
@@ -157,7 +159,7 @@ see_drained_keeps p s k id v at seat may =
     let x : ℕ = v.owner in let n : ℕ = slice_index s.words x in
     let know = (k.views id v at seat).sites in
     let site = know.homes_in x (know.closed x may.1).0 in
-    let f = (fields n (k.closing x) (load x s.views) (row k.table x) (few_wishes p s k x site) (k.sites x site)).flying in
+    let f = (fields n (k.closing x) (load x s.views) (shown k.journal k.table x) (few_wishes p s k x site) (k.sites x site)).flying in
     look_step p s k id v _ _ x n at seat may.0.0 refl (by_bit (flight_of n == 0) (λ none. sites_drained p k.table v.hart v.marks k.closing (flight s.views) x may.1 (sym f ∙ eqb-true (flight_of n) 0 none) know) know)
   where
     by_bit : (b : Bool) → (b ≡ true → KnowsSites p k.table v.hart (record v.marks { drained = with_site v.marks.drained v.owner }) k.closing (flight s.views)) → KnowsSites p k.table v.hart v.marks k.closing (flight s.views)

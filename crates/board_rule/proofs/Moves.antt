@@ -1,5 +1,5 @@
 -- The steps by which a hart moves between a site and its parent: enter, yield, unregister.
-use Rattle.std.proofs.Common.{◌≡◌, ◌≢◌, ℕ, ◌+◌, ◌*◌, ◌%◌, ◌^◌, ◌≤◌, Bool, true, false, ◌&&◌, eq-eqb, [], ◌∷◌, ◌++◌, set, slice_index, refl, sym, ap, ◌∙◌, subst, arith, Some, ⊎_elim, length-set}
+use Rattle.std.proofs.Common.{◌≡◌, ◌≢◌, ℕ, ◌+◌, ◌*◌, ◌%◌, ◌^◌, ◌≤◌, Bool, true, false, ◌&&◌, eq-eqb, [], ◌∷◌, ◌++◌, set, slice_index, refl, sym, ap, ◌∙◌, subst, arith, Some, ⊎_elim, inl, length-set}
 use mathlib.Core.Option.{some}
 use mathlib.Core.Logic.{dite}
 use native.Mathlib.Decide.{ℕ_discrete}
@@ -23,19 +23,21 @@ use Rattle.board_rule.specs.declared.view.Doing.TheVariants.{Reserved, Landing, 
 use Rattle.board_rule.specs.Words.{length_unit, entries_in}
 use Rattle.board_rule.specs.Counts.{Load, no_load, weight, busy_at, part, load, flight}
 use Rattle.board_rule.specs.Views.{enter_view, yield_view, unregister_view, left_marks}
-use Rattle.board_rule.specs.Rule.{Stands, KnowsSites, IsSeat, DoesRight, SawChildren, started}
+use Rattle.board_rule.specs.Rule.{Stands, KnowsSites, IsSeat, DoesRight, SawChildren}
+use Rattle.board_words.specs.Shown.{started}
 use Rattle.board_rule.specs.Steps.{MayYield, MayUnregister}
 use Rattle.board_rule.specs.Laws.{St, after_step, Appends}
-use Rattle.board_rule.proofs.Totals.{total-one}
+use Rattle.board_words.proofs.Totals.{total-one}
 use Rattle.board_rule.proofs.Loads.{part-elsewhere, part-here, load-shift, load-same}
-use Rattle.board_rule.proofs.Sets.{without-same, without-other, without-in}
+use Rattle.board_words.proofs.Sets.{without-same, without-other, without-in}
 use Rattle.board_rule.proofs.SiteWords.{entered_word, unregistered_word}
 use Rattle.board_rule.proofs.BoardSteps.{board_step, in_plan, sites_moved}
 use Rattle.board_rule.proofs.BoardWords.{board_next}
 use Rattle.board_rule.proofs.Claims.{turns_to, idle_part}
 use Rattle.board_rule.proofs.Dones.{home_live}
-use Rattle.board_rule.proofs.Asked.{is_home-some}
-use Rattle.board_rule.proofs.Registers.{length_is, lives_with-kept}
+use Rattle.board_words.proofs.Asked.{is_home-some}
+use Rattle.board_rule.proofs.Registers.{length_is, lives_with-kept, word_row}
+use Rattle.board_words.proofs.Shown.{shown-live, shown-wishes, shown-after}
 
 -- ---- enter
 
@@ -49,7 +51,7 @@ enter_allowed p s k id v x at seat does =
     let know = k.views id v at seat in
     let R : Doing → Type 0 = λ q. DoesRight p k.journal k.table v q in
     let right : DoesRight p k.journal k.table v (Reserved x) = subst R does know.does in
-    let wishes = (k.sites x right.0).wishes in let one = reserved_one p s k id v x at does in
+    let wishes = (k.sites x right.0).wishes in let same = shown-wishes p k.plan k.journal k.table k.legal x right.0 in let one = reserved_one p s k id v x at does in
     (in_plan p s k id v at seat, right.0, sym know.itself.owner ∙ right.1, right.2, omega arith)
 
 pub enter_appends : (p : Plan) (s : St) (k : Stands p s) (id : ℕ) (v : View) (x amount : ℕ) → get_elem? s.views id ≡ some v → IsSeat v → v.doing ≡ Reserved x
@@ -75,13 +77,13 @@ enter_appends p s k id v z amount at seat reserved added =
     board_step p s k id v e (Landing x) v.marks x (entries_in (slice_index s.words 0)) ((slice_index s.words 0 + amount) % 2 ^ 64) at seat right.3 refl allowed refl (length_is p s k)
     (board_next p k.plan k.journal t e k.legal allowed (slice_index s.words 0) amount k.board amount_is)
     (λ y n. part-elsewhere (Landing x) y (λ c. n (sym c)) ∙ sym (ap (λ (q : Doing). part q y) does ∙ part-elsewhere (Reserved x) y (λ c. n (sym c))))
-    (entered_word (slice_index s.words x) (k.closing x) (load x s.views) (load x (set s.views id w)) (row t x) x shift (λ new. let live = right.2 in cc) (k.sites x site))
+    (entered_word (slice_index s.words x) (k.closing x) (load x s.views) (load x (set s.views id w)) (row t x) x shift (λ new. let live = right.2 in cc) (word_row (shown-live p k.plan k.journal t k.legal x site right.2) (k.sites x site)))
     (ap started right.2)
     (λ _ live. live)
     (λ _. omega arith)
     (λ j u apart there seat_u is_empty saw. let o = (k.views j u there seat_u).sites in let none = (o.drained x (o.empty x is_empty)).1 in absurd (omega arith))
     (site, (v.mine, refl))
-    (sites_moved p t e fits allowed h v.marks k.closing (flight s.views) (flight s.views) (lives_with-kept p t e fits allowed refl refl h) (λ _ _ z. z) (λ other _ _. other refl) know.sites)
+    (sites_moved p t e fits allowed h v.marks k.closing (flight s.views) (flight s.views) (lives_with-kept p t e fits allowed (λ _. refl) refl refl h) (λ _ _ z. z) (λ other _ _. other refl) know.sites)
 
 -- ---- yield
 
@@ -118,13 +120,13 @@ yield_appends p s k id v amount at seat may added =
     board_step p s k id v e v.doing v.marks (parent v.plan x) (entries_in (slice_index s.words 0)) ((slice_index s.words 0 + amount) % 2 ^ 64) at seat may.0.1 refl allowed (ap (λ (q : Plan). parent q x) know.itself.plan) (length_is p s k)
     (board_next p k.plan k.journal t e k.legal allowed (slice_index s.words 0) amount k.board (ap (λ (o : ℕ). amount + o * 4096 ^ h) (sym know.itself.owner) ∙ added))
     (λ y n. refl)
-    (rw same (k.sites x site))
+    (rw same (word_row (shown-live p k.plan k.journal t k.legal x site here.1) (k.sites x site)))
     (ap started here.1)
     (λ _ live. live)
     (λ _. let r : flight (set s.views id w) x ≡ flight s.views x = ap (λ (c : Load). c.reserves + c.lands) same in omega arith)
     (λ j u apart there seat_u is_empty saw. still_inside p s k j u x there seat_u site here.1 saw)
     (subst R (sym idle) tt)
-    (sites_moved p t e fits allowed h v.marks k.closing (flight s.views) (flight s.views) (lives_with-kept p t e fits allowed refl refl h) (λ _ _ z. z) (λ other _ _. other refl) know.sites)
+    (sites_moved p t e fits allowed h v.marks k.closing (flight s.views) (flight s.views) (lives_with-kept p t e fits allowed (λ _. refl) refl refl h) (λ _ _ z. z) (λ other _ _. other refl) know.sites)
 
 -- ---- unregister
 
@@ -158,7 +160,7 @@ sites_left p t h x fits a m c f k =
       homes = λ y is. dite (ℕ_discrete y x)
           (λ e. let Q : ℕ → Type 0 = λ q. is_in (without m.homes x) q ≡ lives_with u q h in
           subst Q (sym e) (without-same m.homes x ∙ sym (ap (λ (r : Row). is_live r.stage && is_home r.home h) (row-effect_same p t (Unregister h x) fits a))))
-          (λ n. without-other m.homes x y n ∙ (k.homes y is ∙ sym (ap (λ (r : Row). is_live r.stage && is_home r.home h) (row-effect_other p t (Unregister h x) y a is.0 n))));
+          (λ n. without-other m.homes x y n ∙ (k.homes y is ∙ sym (ap (λ (r : Row). is_live r.stage && is_home r.home h) (row-effect_other p t (Unregister h x) y fits a is n refl))));
       homes_in = λ y is. k.homes_in y (without-in m.homes x y is).1;
       closed = λ y is. let r = without-in m.closed x y is in let old = k.closed y r.1 in (without-other m.homes x y r.0 ∙ old.0, old.1);
       drained = λ y is. let r = without-in m.drained x y is in let old = k.drained y r.1 in (without-other m.closed x y r.0 ∙ old.0, old.1);
@@ -186,10 +188,10 @@ unregister_appends p s k id v amount at seat may added =
     board_step p s k id v e (Sealing x) (left_marks x v.marks) (parent v.plan x) (entries_in (slice_index s.words 0)) ((slice_index s.words 0 + amount) % 2 ^ 64) at seat may.0.1 refl allowed (ap (λ (q : Plan). parent q x) know.itself.plan) (length_is p s k)
     (board_next p k.plan k.journal t e k.legal allowed (slice_index s.words 0) amount k.board (ap (λ (o : ℕ). amount + o * 4096 ^ h) (sym know.itself.owner) ∙ added))
     (turns_to v x (Sealing x) idle refl)
-    (unregistered_word (slice_index s.words x) (k.closing x) (load x s.views) (load x (set s.views id w)) (row t x) x shift leave.live leave.closed (k.sites x site))
+    (unregistered_word (slice_index s.words x) (k.closing x) (load x s.views) (load x (set s.views id w)) (row t x) x shift leave.live leave.closed (word_row (shown-live p k.plan k.journal t k.legal x site leave.live) (k.sites x site)))
     refl
     (λ one _. absurd (omega arith))
     (λ _. omega arith)
     (λ j u apart there seat_u is_empty saw. still_inside p s k j u x there seat_u site leave.live saw)
-    (site, ap (λ (r : Row). r.stage) (row-effect_same p t e fits allowed), (v.mine, refl))
+    (site, ap (λ (r : Row). r.stage) (shown-after p k.plan k.journal t k.legal e allowed), inl (v.mine, refl))
     (sites_left p t h x fits allowed v.marks k.closing (flight s.views) know.sites)

@@ -18,15 +18,17 @@ use Rattle.board_rule.specs.declared.view.View.{View}
 use Rattle.board_rule.specs.declared.view.Doing.{Doing}
 use Rattle.board_rule.specs.declared.view.Doing.TheVariants.{Idle}
 use Rattle.hart_port.specs.Words.{owner_digits}
-use Rattle.board_rule.specs.Words.{width, journal_index}
-use Rattle.board_rule.specs.Counts.{total, one_if, draws, numbered, no_load, Load, part, load, flight}
+use Rattle.board_words.specs.Words.{width, journal_index}
+use Rattle.board_words.specs.Counts.{total, one_if}
+use Rattle.board_rule.specs.Counts.{draws, numbered, no_load, Load, part, load, flight}
 use Rattle.board_rule.specs.Views.{first_view, no_marks, split_left, split_right}
 use Rattle.board_rule.specs.Rule.{Stands, Knows, KnowsSites, HasFlags, IsSeat, DoesRight}
 use Rattle.board_rule.specs.Laws.{St, Keeps}
-use Rattle.board_rule.proofs.Totals.{total-same, total-snoc}
+use Rattle.board_words.proofs.Totals.{total-same, total-snoc}
 use Rattle.board_rule.proofs.Loads.{part-idle}
-use Rattle.board_rule.proofs.Sets.{in-no_site}
-use Rattle.board_rule.proofs.SiteSteps.{place_at, sites_other}
+use Rattle.board_words.proofs.Sets.{in-no_site}
+use Rattle.board_words.proofs.Places.{place_at}
+use Rattle.board_rule.proofs.SiteSteps.{sites_other}
 use Rattle.board_rule.proofs.BoardSteps.{one_seat, other_hart}
 
 no_digits : (n : ℕ) → owner_digits (replicate n 0) ≡ 0
@@ -37,7 +39,7 @@ first_is : (v w : View) (j : ℕ) → get_elem? (v ∷ []) j ≡ some w → v �
 first_is v w zero e = some-injective v w e
 first_is v w (suc j) e = absurd (some-ne-none w (sym e))
 
-first_seats : (h : ℕ) → one_if (eqb 0 h) + 0 + 0 + one_if (nat_le 1 h) ≡ 1
+pub first_seats : (h : ℕ) → one_if (eqb 0 h) + 0 + 0 + one_if (nat_le 1 h) ≡ 1
 first_seats h = grind (arith, nat_tests)
 
 flags : (p : Plan) → HasFlags p (no_marks p)
@@ -74,20 +76,20 @@ opens p plan = record {
   board = (let z = no_digits p.harts in let y : slice_index (replicate (width p) 0) 0 ≡ 0 = replicate_at (width p) 0 0 in omega arith);
   places = λ i e is. absurd (cc);
   beyond = λ i l. (replicate_at (width p) (journal_index p i) 0, refl);
-  sites = λ x site. let none = load-idle x (first_view p) refl in rw (replicate_at {A = ℕ} (width p) x 0, first_blank p x, none) (record { want = 0; claimed = omega arith; fresh = λ _. (refl, refl); over = λ z. absurd (cc); sealed = omega arith; wishes = refl; word_is = omega arith });
+  sites = λ x site. let none = load-idle x (first_view p) refl in rw (replicate_at {A = ℕ} (width p) x 0, none) (record { want = 0; claimed = omega arith; fresh = λ _. (refl, refl); over = λ z. absurd (cc); sealed = omega arith; wishes = refl; word_is = omega arith });
   seats = λ h l. first_seats h;
   first = refl;
   unmade = λ h l. refl;
   over = λ k e is. absurd (some-ne-none e (sym is));
   views = λ j v is lt. let P : View → Type 0 = λ z. Knows p [] (first_state p) z (λ _. false) (flight (first_view p ∷ [])) 1 [] in subst P (first_is (first_view p) v j is) (record {
-    itself = record { plan = refl; mine = refl; owner = sym (replicate_at p.harts 0 0); drawn = λ d c. absurd (cc); joined = λ _. (refl, refl) };
+    itself = record { plan = refl; mine = refl; placed = tt; owner = sym (replicate_at p.harts 0 0); drawn = λ d c. absurd (cc); joined = λ _. (refl, refl) };
     does = tt;
     sites = nothing_known p (first_state p) 0 (λ _. false) _ (λ x site. ap (λ (r : Row). is_live r.stage && is_home r.home 0) (first_blank p x));
   });
   spent = λ j v is not. absurd (not (subst IsSeat (first_is (first_view p) v j is) (let z = plan.some_hart in omega arith)));
 }
 
-made_tells : (m h : ℕ) → one_if (eqb m h) + one_if (nat_le (m + 1) h) ≡ one_if (nat_le m h)
+pub made_tells : (m h : ℕ) → one_if (eqb m h) + one_if (nat_le (m + 1) h) ≡ one_if (nat_le m h)
 made_tells m h = grind (arith, nat_tests)
 
 pub split_keeps : (p : Plan) (s : St) (k : Stands p s) (id : ℕ) (v : View) → get_elem? s.views id ≡ some v → v.hart ≡ 0 → v.plan ≡ p → v.made < p.harts → v.doing ≡ Idle
@@ -134,18 +136,18 @@ split_keeps p s k id v at zeroth is_plan below idle =
         views = λ j u is lt. let P : View → Type 0 = λ z. Knows p k.journal k.table z k.closing (flight vs) (k.made + 1) k.ended in ⊎_elim
             (λ old. ⊎_elim
             (λ t. subst P t.1 (record {
-              itself = record { plan = me.plan; mine = me.mine; owner = me.owner; drawn = me.drawn; joined = λ z. (ap (λ (q : ℕ). q + 1) made, (me.joined zeroth).1) };
+              itself = record { plan = me.plan; mine = me.mine; placed = me.placed; owner = me.owner; drawn = me.drawn; joined = λ z. (ap (λ (q : ℕ). q + 1) made, (me.joined zeroth).1) };
               does = subst R (sym idle) tt;
               sites = sites_other p k.table v.hart v.marks k.closing k.closing (flight s.views) (flight vs) (λ y z. z) flown know.sites;
             }))
             (λ t. let o = k.views j u t.1 lt in let it = o.itself in record {
-              itself = record { plan = it.plan; mine = it.mine; owner = it.owner; drawn = it.drawn; joined = λ z. absurd (other_hart p s k id j v u at seat t.0 t.1 (z ∙ sym zeroth)) };
+              itself = record { plan = it.plan; mine = it.mine; placed = it.placed; owner = it.owner; drawn = it.drawn; joined = λ z. absurd (other_hart p s k id j v u at seat t.0 t.1 (z ∙ sym zeroth)) };
               does = o.does;
               sites = sites_other p k.table u.hart u.marks k.closing k.closing (flight s.views) (flight vs) (λ y z. z) flown o.sites;
             })
             (at_set s.views id j l u old))
             (λ new. subst P new (record {
-              itself = record { plan = is_plan; mine = sym unmade; owner = sym idle_hart.base; drawn = λ d c. absurd (cc); joined = λ z. absurd (let c = (one_seat p s k id v at seat).2 in omega arith) };
+              itself = record { plan = is_plan; mine = sym unmade; placed = tt; owner = sym idle_hart.base; drawn = λ d c. absurd (cc); joined = λ z. absurd (let c = (one_seat p s k id v at seat).2 in omega arith) };
               does = tt;
               sites = (let Q : Plan → Type 0 = λ q. KnowsSites p k.table v.made (no_marks q) k.closing (flight vs) in subst Q (sym is_plan) (nothing_known p k.table v.made k.closing (flight vs) (legal_idle-lives_with p k.plan k.journal k.table k.legal v.made unmade)));
             }))

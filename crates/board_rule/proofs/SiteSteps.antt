@@ -6,22 +6,22 @@ use native.Mathlib.Decide.{ℕ_discrete}
 use lib.ListN.{get_elem?}
 use Rattle.atomic_table.proofs.Lists.{at_set}
 use Rattle.transfer_table.specs.Plan.{Plan, IsSite}
-use Rattle.transfer_table.specs.Table.{TableState, row}
+use Rattle.transfer_table.specs.Table.{TableState}
 use Rattle.transfer_table.specs.declared.entry.Entry.{Entry}
 use Rattle.board_rule.specs.declared.view.View.{View}
 use Rattle.board_rule.specs.declared.view.Marks.{Marks}
 use Rattle.board_rule.specs.declared.view.Look.{Look}
-use Rattle.board_rule.specs.declared.view.Ended.{Ended}
+use Rattle.board_words.specs.declared.entries.Ended.{Ended}
 use Rattle.board_rule.specs.declared.view.Doing.{Doing}
-use Rattle.board_rule.specs.Words.{journal_index, journal_word}
-use Rattle.board_rule.specs.Counts.{total, draws, numbered, Load, part, load, flight}
-use Rattle.board_rule.specs.Rule.{Stands, Knows, KnowsSites, IsSeat, IsPlace, IsSiteWord, DoesRight}
+use Rattle.board_words.specs.Words.{journal_index, journal_word}
+use Rattle.board_words.specs.Counts.{total}
+use Rattle.board_rule.specs.Counts.{draws, numbered, Load, part, load, flight}
+use Rattle.board_rule.specs.Rule.{Stands, Knows, KnowsSites, IsSeat, IsSiteWord, DoesRight}
+use Rattle.board_words.specs.Shown.{shown}
 use Rattle.board_rule.specs.Laws.{St, after_step, Keeps}
-use Rattle.board_rule.proofs.Totals.{total-same}
+use Rattle.board_words.proofs.Totals.{total-same}
 use Rattle.board_rule.proofs.Loads.{load-same}
-
-pub place_at : (e : Entry) (a b c d : ℕ) → a ≡ b → c ≡ d → IsPlace b d e → IsPlace a c e
-place_at e a b c d p q h = rw (p, q) h
+use Rattle.board_words.proofs.Places.{place_at}
 
 -- the closing bits, where that of x is b
 abbrev pub closing_with : (ℕ → Bool) → ℕ → Bool → ℕ → Bool
@@ -69,7 +69,7 @@ pub site_step : (p : Plan) (s : St) (k : Stands p s) (id : ℕ) (v : View) (d : 
     → ((y : ℕ) → y ≢ x → part d y ≡ part v.doing y)
     → (k.closing x ≡ true → b ≡ true)
     → (b ≡ true → flight (set s.views id (record v { doing = d; marks = m; looks = ls })) x ≤ flight s.views x)
-    → IsSiteWord n b (load x (set s.views id (record v { doing = d; marks = m; looks = ls }))) (row k.table x)
+    → IsSiteWord n b (load x (set s.views id (record v { doing = d; marks = m; looks = ls }))) (shown k.journal k.table x)
     → DoesRight p k.journal k.table (record v { doing = d; marks = m; looks = ls }) d
     → KnowsSites p k.table v.hart m (closing_with k.closing x b) (flight s.views)
     → Keeps p s k (after_step s x n id (record v { doing = d; marks = m; looks = ls }))
@@ -96,7 +96,7 @@ site_step p s k id v d m ls x n b at seat site elsewhere last fall word does kno
         places = λ i f is. place_at f _ _ _ _ (word_same i) (draws_same i) (k.places i f is);
         beyond = λ i l. let r = k.beyond i l in (word_same i ∙ r.0, draws_same i ∙ r.1);
         sites = λ y is. dite (ℕ_discrete y x)
-            (λ z. let Q : ℕ → Type 0 = λ q. IsSiteWord (slice_index (set s.words x n) q) (closing q) (load q (set s.views id w)) (row k.table q) in
+            (λ z. let Q : ℕ → Type 0 = λ q. IsSiteWord (slice_index (set s.words x n) q) (closing q) (load q (set s.views id w)) (shown k.journal k.table q) in
             subst Q (sym z) (rw (get_or-set_same s.words x n 0 (let q = k.wide in omega arith), here) word))
             (λ not. rw (get_or-set_other s.words x y n 0 not, closing_else k.closing x b y not, load-same y s.views id v w at (elsewhere y not)) (k.sites y is));
         seats = λ h l. rw (total-same (numbered h) s.views id v w at refl) (k.seats h l);
@@ -106,7 +106,7 @@ site_step p s k id v d m ls x n b at seat site elsewhere last fall word does kno
         views = λ j u is lt. ⊎_elim
             (λ t. let P : View → Type 0 = λ z. Knows p k.journal k.table z closing (flight (set s.views id w)) k.made k.ended in
             subst P t.1 (record {
-              itself = record { plan = me.plan; mine = me.mine; owner = me.owner; drawn = me.drawn; joined = me.joined };
+              itself = record { plan = me.plan; mine = me.mine; placed = me.placed; owner = me.owner; drawn = me.drawn; joined = me.joined };
               does = does;
               sites = sites_other p k.table v.hart m closing closing (flight s.views) (flight (set s.views id w)) (λ y z. z) flown knows;
             }))

@@ -1,66 +1,17 @@
 -- A site's word through each kind of step, as facts on numbers.
-use Rattle.std.proofs.Common.{◌≡◌, ◌≢◌, ℕ, ◌+◌, ◌-◌, ◌*◌, ◌/◌, ◌%◌, ◌^◌, ◌<◌, ◌≤◌, Bool, true, false, refl, ap, arith, bit_or, bit_and, Some}
-use Rattle.std.specs.Int.Bits.{or_add_and}
-use Rattle.std.proofs.lemmas.Nat.{and_mask}
-use Rattle.std.proofs.lemmas.Nat.Bits.{and_high}
-use Rattle.transfer_table.specs.Table.{is_gone, is_live, blank}
+use Rattle.std.proofs.Common.{◌≡◌, ◌≢◌, ℕ, ◌+◌, ◌-◌, ◌*◌, ◌/◌, ◌%◌, ◌^◌, ◌<◌, ◌≤◌, Bool, true, false, refl, ap, arith, bit_or, Some}
+use Rattle.std.specs.Option.{is_some}
+use Rattle.transfer_table.specs.Table.{is_gone, blank, swept_row}
 use Rattle.transfer_table.specs.declared.entry.Row.{Row}
 use Rattle.transfer_table.specs.declared.entry.Stage.{Stage}
 use Rattle.transfer_table.specs.declared.entry.Stage.TheVariants.{New, Live, Gone}
 use Rattle.board_rule.specs.declared.view.Doing.TheVariants.{Claiming, Crediting, Reserved, Landing, Sealing}
-use Rattle.board_rule.specs.Counts.{Load, no_load, weight, one_if}
-use Rattle.board_rule.specs.Rule.{IsSiteWord, started}
+use Rattle.board_rule.specs.Counts.{Load, no_load, weight}
+use Rattle.board_words.specs.Counts.{one_if}
+use Rattle.board_rule.specs.Rule.{IsSiteWord}
+use Rattle.board_words.specs.Shown.{started}
 use Rattle.board_rule.proofs.Loads.{Shifts}
-
--- ---- bits
-
-or_one : (n : ℕ) → bit_or n 1 + n % 2 ≡ n + 1
-or_one n = let a = or_add_and n 1 in let b : bit_and n 1 ≡ n % 2 = and_mask n 1 in omega arith
-
-or_two : (n : ℕ) → bit_or n 2 + n / 2 % 2 * 2 ≡ n + 2
-or_two n = let a = or_add_and n 2 in let b : bit_and n 2 ≡ n / 2 % 2 * 2 = and_high n 1 1 in omega arith
-
-or_four : (n : ℕ) → bit_or n 4 + n / 4 % 2 * 4 ≡ n + 4
-or_four n = let a = or_add_and n 4 in let b : bit_and n 4 ≡ n / 4 % 2 * 4 = and_high n 1 2 in omega arith
-
--- setting a claimed bit that is set changes nothing
-pub claimed_again : (n : ℕ) → n % 2 ≡ 1 → bit_or n 1 ≡ n
-claimed_again n odd = let o = or_one n in omega arith
-
-bit_of : (b : Bool) → one_if b ≤ 1
-bit_of true = omega arith
-bit_of false = omega arith
-
-pub is_open : (b : Bool) → one_if b ≡ 0 → b ≡ false
-is_open true e = absurd (omega arith)
-is_open false e = refl
-
-gone_bit : (g : Stage) → (one_if (is_gone g) ≤ started g) × (started g ≤ 1)
-gone_bit New = (omega arith, omega arith)
-gone_bit Live = (omega arith, omega arith)
-gone_bit Gone = (omega arith, omega arith)
-
-unstarted : (g : Stage) → started g ≡ 0 → g ≡ New
-unstarted New e = refl
-unstarted Live e = absurd (omega arith)
-unstarted Gone e = absurd (omega arith)
-
-pub is_live-stage : (g : Stage) → is_live g ≡ true → g ≡ Live
-is_live-stage New e = absurd (cc)
-is_live-stage Live e = refl
-is_live-stage Gone e = absurd (cc)
-
-all_gone : (g : Stage) → one_if (is_gone g) ≡ 1 → g ≡ Gone
-all_gone New e = absurd (omega arith)
-all_gone Live e = absurd (omega arith)
-all_gone Gone e = refl
-
-live_now : (g : Stage) → g ≢ New → g ≢ Gone → g ≡ Live
-live_now New n m = absurd (n refl)
-live_now Live n m = refl
-live_now Gone n m = absurd (m refl)
-
--- ---- what the fields of the word are
+use Rattle.board_words.proofs.Bits.{or_one, or_two, or_four, bit_of, gone_bit, unstarted, all_gone, live_now}
 
 pub record Fields (w : ℕ) (b : Bool) (c : Load) (r : Row) (want : ℕ) : Type 0 where
   pub claimed : w % 2 ≡ started r.stage + c.claims
@@ -81,9 +32,13 @@ pub closed_gone : (w : ℕ) (b : Bool) (c : Load) (r : Row) → r.wishes ≤ 3 �
 closed_gone w b c r few i bit = let f = (fields w b c r few i).closed in let g = gone_bit r.stage in all_gone r.stage (omega arith)
 
 -- an open site with a want is live
-pub wanted_live : (w : ℕ) (b : Bool) (c : Load) (r : Row) → (r.stage ≡ New → r.wishes ≡ 0) → (i : IsSiteWord w b c r) → b ≡ false → 1 ≤ i.want → r.stage ≡ Live
-wanted_live w b c r blank i unclosed some_want = let a = i.wishes in
-    live_now r.stage (λ z. let none = blank z in absurd (omega arith)) (λ z. let over = i.over z in cc)
+pub wanted_live : (w : ℕ) (b : Bool) (c : Load) (r : Row) → (r.stage ≡ New → is_some r.home ≡ false) → (is_some r.home ≡ false → r.wishes ≡ 0) → (i : IsSiteWord w b c r) → b ≡ false → 1 ≤ i.want → r.stage ≡ Live
+wanted_live w b c r homeless askless i unclosed some_want = let a = i.wishes in
+    live_now r.stage (λ z. let none = askless (homeless z) in absurd (omega arith)) (λ z. by_home (is_some r.home) refl z)
+  where
+    by_home : (h : Bool) → is_some r.home ≡ h → r.stage ≡ Gone → ⊥
+    by_home true e z = let over = i.over z e in cc
+    by_home false e z = let none = askless e in let a = i.wishes in omega arith
 
 -- ---- steps that leave the row
 
@@ -153,7 +108,7 @@ closing_word w b c r live few i =
       want = i.want;
       claimed = i.claimed;
       fresh = λ z. absurd (cc);
-      over = λ _. refl;
+      over = λ _ _. refl;
       sealed = i.sealed;
       wishes = i.wishes;
       word_is = omega arith;
@@ -228,7 +183,22 @@ unregistered_word w b c c' r x m live over i =
       want = i.want;
       claimed = omega arith;
       fresh = λ z. absurd (cc);
-      over = λ _. over;
+      over = λ _ _. over;
+      sealed = omega arith;
+      wishes = omega arith;
+      word_is = omega arith;
+    }
+
+pub skipped_word : (w : ℕ) (b : Bool) (c c' : Load) (r : Row) (x : ℕ) → Shifts c c' (weight (Claiming x)) (weight (Sealing x)) → r ≡ blank → IsSiteWord w b c r → IsSiteWord w b c' (swept_row r)
+skipped_word w b c c' r x m new i =
+    let a = i.wishes in let is = i.word_is in let one = i.claimed in let sealed = i.sealed in
+    let st : started r.stage ≡ 0 = ap (λ (z : Row). started z.stage) new in let go : one_if (is_gone r.stage) ≡ 0 = ap (λ (z : Row). one_if (is_gone z.stage)) new in let wi : r.wishes ≡ 0 = ap (λ (z : Row). z.wishes) new in
+    let m0 : c'.claims + 1 ≡ c.claims + 0 = m.claims in let m1 : c'.seals + 0 ≡ c.seals + 1 = m.seals in let m2 : c'.reserves + 0 ≡ c.reserves + 0 = m.reserves in let m3 : c'.lands + 0 ≡ c.lands + 0 = m.lands in let m4 : c'.credits + 0 ≡ c.credits + 0 = m.credits in
+    record {
+      want = i.want;
+      claimed = omega arith;
+      fresh = λ z. absurd (cc);
+      over = λ _ h. absurd (cc);
       sealed = omega arith;
       wishes = omega arith;
       word_is = omega arith;

@@ -1,22 +1,9 @@
 -- Sums over the views of all seats: what they do at a site, and what they have drawn.
-use Rattle.std.specs.Prelude.{ℕ, ◌+◌, ◌==◌, Bool, true, false, if◌then◌else◌, List, [], ◌∷◌, Option, Some, None}
+use Rattle.std.specs.Prelude.{ℕ, ◌+◌, ◌==◌, if◌then◌else◌, List}
 use Rattle.board_rule.specs.declared.view.View.{View}
-use Rattle.board_rule.specs.declared.view.Drawn.{Drawn}
-use Rattle.board_rule.specs.declared.view.Ended.{Ended}
 use Rattle.board_rule.specs.declared.view.Doing.{Doing}
 use Rattle.board_rule.specs.declared.view.Doing.TheVariants.{Idle, Claiming, Crediting, Reserved, Landing, Sealing}
-
-abbrev pub total : {V : Type 0} → (V → ℕ) → List V → ℕ
-total f [] = 0
-total f (v ∷ vs) = f v + total f vs
-
-abbrev pub one_if : Bool → ℕ
-one_if true = 1
-one_if false = 0
-
-abbrev pub draws_in : Option Drawn → ℕ → ℕ
-draws_in None i = 0
-draws_in (Some d) i = one_if (d.place == i)
+use Rattle.board_words.specs.Counts.{total, one_if, draws_in}
 
 -- 1 for a view that has drawn the place and hasn't written its entry
 abbrev pub draws : ℕ → View → ℕ
@@ -25,10 +12,6 @@ draws i v = draws_in v.drawn i
 -- 1 for the view of the hart
 abbrev pub numbered : ℕ → View → ℕ
 numbered h v = one_if (v.hart == h)
-
--- 1 where the hart is the one that was joined away
-abbrev pub ended_as : ℕ → Ended → ℕ
-ended_as h e = one_if (e.hart == h)
 
 -- what seats do at one site: how many are claiming it, sealing it, reserved to it and landing on it, and for how many harts
 -- they are crediting it

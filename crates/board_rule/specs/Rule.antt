@@ -1,5 +1,6 @@
 -- What the words and the views stand for, between any two steps.
-use Rattle.std.specs.Prelude.{◌≡◌, ℕ, ◌+◌, ◌*◌, ◌<◌, ◌≤◌, nat_le, Bool, true, false, List, [], ◌∷◌, ◌++◌, length, slice_index, slice_get, Some, None}
+use Rattle.std.specs.Prelude.{◌≡◌, ◌⊎◌, ℕ, ◌+◌, ◌*◌, ◌<◌, ◌≤◌, nat_le, Bool, true, false, List, [], length, slice_index, slice_get, Some, None}
+use Rattle.std.specs.Option.{is_some}
 use mathlib.Core.Option.{some}
 use lib.ListN.{get_elem?}
 use Rattle.atomic_table.specs.Table.{State}
@@ -9,37 +10,25 @@ use Rattle.transfer_table.specs.Journal.{Reaches}
 use Rattle.transfer_table.specs.Allowed.{IsAlone}
 use Rattle.transfer_table.specs.Entry.{made_by}
 use Rattle.transfer_table.specs.declared.entry.Row.{Row}
-use Rattle.transfer_table.specs.declared.entry.Stage.{Stage}
 use Rattle.transfer_table.specs.declared.entry.Stage.TheVariants.{New, Live, Gone}
 use Rattle.transfer_table.specs.declared.entry.Entry.{Entry}
-use Rattle.transfer_table.specs.declared.entry.Entry.TheVariants.{Request, Enter, Unregister}
+use Rattle.transfer_table.specs.declared.entry.Entry.TheVariants.{Request, Enter, Unregister, Skip}
 use Rattle.hart_port.specs.PortView.{is_in}
 use Rattle.board_rule.specs.declared.view.View.{View}
 use Rattle.board_rule.specs.declared.view.Marks.{Marks}
-use Rattle.board_rule.specs.declared.view.Drawn.{Drawn}
-use Rattle.board_rule.specs.declared.view.Ended.{Ended}
+use Rattle.board_words.specs.declared.entries.Drawn.{Drawn}
+use Rattle.board_words.specs.declared.entries.Ended.{Ended}
 use Rattle.board_rule.specs.declared.view.Doing.{Doing}
 use Rattle.board_rule.specs.declared.view.Doing.TheVariants.{Idle, Claiming, Crediting, Reserved, Landing, Sealing}
 use Rattle.hart_port.specs.Words.{board_word}
-use Rattle.board_rule.specs.Words.{width, journal_word, spelled}
-use Rattle.board_rule.specs.Counts.{total, one_if, draws, numbered, ended_as, Load, load, flight}
+use Rattle.board_words.specs.Words.{width, journal_word, wish_unit, guest_unit}
+use Rattle.board_words.specs.Counts.{total, one_if, ended_as}
+use Rattle.board_rule.specs.Counts.{draws, numbered, Load, load, flight}
 use Rattle.board_rule.specs.Views.{spent_view}
-
--- ---- a place of the journal
-
--- Of a place that the journal has: its word spells the entry and no view has drawn the place, or the word is 0 and one view
--- has drawn it.
-pub record IsPlace (word draws : ℕ) (e : Entry) : Type 0 where
-  pub one : draws ≤ 1
-  pub written : draws ≡ 0 → word ≡ spelled e
-  pub due : draws ≡ 1 → word ≡ 0
+use Rattle.board_words.specs.Places.{IsPlace, AreAt, is_last}
+use Rattle.board_words.specs.Shown.{started, shown}
 
 -- ---- a site
-
-abbrev pub started : Stage → ℕ
-started New = 0
-started Live = 1
-started Gone = 1
 
 -- A site's word, from the site's row, its closing bit and what the seats do there. The word has the claimed bit, twice the
 -- closing bit, four times the closed bit, 256 times the want and 65,536 times the flight.
@@ -49,23 +38,20 @@ pub record IsSiteWord (word : ℕ) (closing : Bool) (c : Load) (r : Row) : Type 
   pub claimed : started r.stage + c.claims ≤ 1
   -- a new site isn't closing and nobody is on the way in
   pub fresh : r.stage ≡ New → (closing ≡ false) × (c.reserves + c.lands ≡ 0)
-  -- a gone site is closing
-  pub over : r.stage ≡ Gone → closing ≡ true
+  -- a gone site that was registered is closing
+  pub over : r.stage ≡ Gone → is_some r.home ≡ true → closing ≡ true
   -- it is closed where it is gone and no seat is sealing it
   pub sealed : c.seals ≤ one_if (is_gone r.stage)
   -- the unmet wishes are the want, those for which a hart is reserved, and those that are not yet added to the want
   pub wishes : want + c.reserves + c.credits ≡ r.wishes
   pub word_is : word + 4 * c.seals ≡ started r.stage + c.claims + 2 * one_if closing
-      + 4 * one_if (is_gone r.stage) + 256 * want + 65536 * (c.reserves + c.lands)
+      + 4 * one_if (is_gone r.stage) + wish_unit * want + guest_unit * (c.reserves + c.lands)
 
 -- ---- what a seat knows
 
 -- a seat that was not joined away
 abbrev pub IsSeat : View → Type 0
 IsSeat v = v.hart < v.plan.harts
-
-abbrev pub is_last : List Entry → Entry → Type 0
-is_last es e = (ds : List Entry) × (es ≡ ds ++ e ∷ [])
 
 -- each set has a flag for the base and for each site
 pub record HasFlags (p : Plan) (m : Marks) : Type 0 where
@@ -89,13 +75,14 @@ module _ (p : Plan) (es : List Entry) (t : TableState) (v : View) where
       IsSite p x × (v.owner ≡ parent p x) × ((row t x).stage ≡ Live) × (v.drawn ≡ None)
   DoesRight (Crediting x k) = IsSite p x × is_last v.mine (Request v.hart x k)
   DoesRight (Landing x) = IsSite p x × is_last v.mine (Enter v.hart x)
-  DoesRight (Sealing x) = IsSite p x × ((row t x).stage ≡ Gone)
-      × is_last v.mine (Unregister v.hart x)
+  DoesRight (Sealing x) = IsSite p x × ((shown es t x).stage ≡ Gone)
+      × (is_last v.mine (Unregister v.hart x) ⊎ is_last v.mine (Skip v.hart x))
 
   -- who it is, and what it made
   pub record KnowsItself (made : ℕ) (ended : List Ended) : Type 0 where
     pub plan : v.plan ≡ p
     pub mine : v.mine ≡ made_by v.hart es
+    pub placed : AreAt es v.mine v.places
     pub owner : v.owner ≡ owner t v.hart
     -- the entry that it is to write stands in the journal at its place, and is the last that it made
     pub drawn : (d : Drawn) → v.drawn ≡ Some d
@@ -144,13 +131,14 @@ pub record Stands (p : Plan) (s : State (Unit {0}) View) : Type 0 where
       → (journal_word p s.words i ≡ 0) × (total (draws i) s.views ≡ 0)
   -- each site's word shows its row and what the seats do there
   pub sites : (x : ℕ) → IsSite p x
-      → IsSiteWord (slice_index s.words x) (closing x) (load x s.views) (row table x)
+      → IsSiteWord (slice_index s.words x) (closing x) (load x s.views) (shown journal table x)
   -- each hart has one seat, or was joined away, or has not been made
   pub seats : (h : ℕ) → IsHart p h → total (numbered h) s.views + total (ended_as h) ended
       + one_if (nat_le made h) ≡ 1
   pub first : total (numbered 0) s.views ≡ 1
   pub unmade : (h : ℕ) → made ≤ h → made_by h journal ≡ []
-  pub over : (k : ℕ) (e : Ended) → get_elem? ended k ≡ some e → e.mine ≡ made_by e.hart journal
+  pub over : (k : ℕ) (e : Ended) → get_elem? ended k ≡ some e
+      → (e.mine ≡ made_by e.hart journal) × AreAt journal e.mine e.places
   -- each seat knows what stands, and a seat that was joined away knows nothing
   pub views : (j : ℕ) (v : View) → get_elem? s.views j ≡ some v → IsSeat v
       → Knows p journal table v closing (flight s.views) made ended

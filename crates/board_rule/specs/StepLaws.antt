@@ -1,4 +1,4 @@
--- What each of the sixteen kinds of step does to the rule and to the journal, and that seats are made and joined by it. In
+-- What each of the seventeen kinds of step does to the rule and to the journal, and that seats are made and joined by it. In
 -- each, id is a seat that was not joined away and v its view.
 use Rattle.std.specs.Prelude.{◌≡◌, ◌≢◌, ℕ, ◌+◌, ◌-◌, ◌*◌, ◌%◌, ◌^◌, ◌<◌, ◌==◌, [], ◌∷◌, ◌++◌, slice_index, slice_set, bit_or, Some}
 use mathlib.Core.Option.{some}
@@ -9,12 +9,13 @@ use Rattle.transfer_table.specs.Table.{row}
 use Rattle.transfer_table.specs.Entry.{enters}
 use Rattle.transfer_table.specs.declared.entry.Stage.TheVariants.{Gone}
 use Rattle.transfer_table.specs.declared.entry.Entry.{Entry}
-use Rattle.transfer_table.specs.declared.entry.Entry.TheVariants.{Register, Request, Enter, Yield, Unregister}
+use Rattle.transfer_table.specs.declared.entry.Entry.TheVariants.{Register, Request, Enter, Yield, Unregister, Skip}
 use Rattle.board_rule.specs.declared.view.View.{View}
 use Rattle.board_rule.specs.declared.view.Doing.TheVariants.{Idle, Claiming, Crediting, Reserved, Landing, Sealing}
-use Rattle.board_rule.specs.Words.{length_unit, entries_in, journal_index, spelled}
+use Rattle.board_rule.specs.Words.{length_unit, owner_unit, entries_in}
+use Rattle.board_words.specs.Words.{journal_index, spelled, wish_unit, guest_unit}
 use Rattle.board_rule.specs.Counts.{busy_at, load}
-use Rattle.board_rule.specs.Views.{split_left, split_right, joined_view, spent_view, glance_view, see_gone_view, see_drained_view, see_empty_view, claim_view, reserve_view, done_view, close_view, jot_view, register_view, request_view, enter_view, yield_view, unregister_view}
+use Rattle.board_rule.specs.Views.{split_left, split_right, joined_view, spent_view, glance_view, see_gone_view, see_drained_view, see_empty_view, claim_view, reserve_view, done_view, close_view, jot_view, register_view, request_view, enter_view, yield_view, unregister_view, skip_view}
 use Rattle.board_rule.specs.Rule.{Stands, IsSeat}
 use Rattle.board_rule.specs.Steps.{IsReady, MayClaim, MayReserve, MayRequest, MayYield, MayClose, MaySeeDrained, MaySeeEmpty, MayUnregister}
 use Rattle.board_rule.specs.Laws.{St, after_step, Keeps, Appends}
@@ -39,7 +40,7 @@ abbrev pub CreditKeeps : Type 0
 CreditKeeps = (p : Plan) (s : St) (k : Stands p s) (id : ℕ) (v : View) (x n : ℕ)
     → get_elem? s.views id ≡ some v → IsSeat v → slice_index s.words x < 2 ^ 64
     → v.doing ≡ Crediting x n
-    → Keeps p s k (after_step s x ((slice_index s.words x + 256 * n) % 2 ^ 64) id (done_view v))
+    → Keeps p s k (after_step s x ((slice_index s.words x + wish_unit * n) % 2 ^ 64) id (done_view v))
 
 -- a look at a word: by a hart that means to enter
 abbrev pub GlanceKeeps : Type 0
@@ -73,7 +74,7 @@ SeeEmptyKeeps = (p : Plan) (s : St) (k : Stands p s) (id : ℕ) (v : View)
 abbrev pub ReserveKeeps : Type 0
 ReserveKeeps = (p : Plan) (s : St) (k : Stands p s) (id : ℕ) (v : View) (x w : ℕ)
     → get_elem? s.views id ≡ some v → IsSeat v → MayReserve p v x w
-    → Keeps p s k (after_step s x (either (slice_index s.words x == w) (w - 256 + 65536)
+    → Keeps p s k (after_step s x (either (slice_index s.words x == w) (w - wish_unit + guest_unit)
     (slice_index s.words x)) id (reserve_view x w (slice_index s.words x) v))
 
 -- taking one from the flight
@@ -81,7 +82,7 @@ abbrev pub LandKeeps : Type 0
 LandKeeps = (p : Plan) (s : St) (k : Stands p s) (id : ℕ) (v : View) (x : ℕ)
     → get_elem? s.views id ≡ some v → IsSeat v → slice_index s.words x < 2 ^ 64
     → v.doing ≡ Landing x
-    → Keeps p s k (after_step s x ((slice_index s.words x + (2 ^ 64 - 65536)) % 2 ^ 64) id
+    → Keeps p s k (after_step s x ((slice_index s.words x + (2 ^ 64 - guest_unit)) % 2 ^ 64) id
     (done_view v))
 
 -- setting the closing bit of the owner
@@ -121,7 +122,7 @@ JoinKeeps = (p : Plan) (s : St) (k : Stands p s) (id other : ℕ) (v w : View)
 
 -- what is added moves the hart's digit from its owner to the site
 abbrev pub MovesTo : View → ℕ → ℕ → Type 0
-MovesTo v x amount = amount + v.owner * 4096 ^ v.hart ≡ length_unit + x * 4096 ^ v.hart
+MovesTo v x amount = amount + v.owner * owner_unit v.hart ≡ length_unit + x * owner_unit v.hart
 
 abbrev pub RegisterAppends : Type 0
 RegisterAppends = (p : Plan) (s : St) (k : Stands p s) (id : ℕ) (v : View) (x amount : ℕ)
@@ -158,6 +159,13 @@ UnregisterAppends = (p : Plan) (s : St) (k : Stands p s) (id : ℕ) (v : View) (
     → Appends p s k (Unregister v.hart v.owner)
     (after_step s 0 ((slice_index s.words 0 + amount) % 2 ^ 64) id
     (unregister_view (entries_in (slice_index s.words 0)) v))
+
+abbrev pub SkipAppends : Type 0
+SkipAppends = (p : Plan) (s : St) (k : Stands p s) (id : ℕ) (v : View) (x : ℕ)
+    → get_elem? s.views id ≡ some v → IsSeat v → v.doing ≡ Claiming x
+    → Appends p s k (Skip v.hart (busy_at v.doing))
+    (after_step s 0 ((slice_index s.words 0 + length_unit) % 2 ^ 64) id
+    (skip_view (entries_in (slice_index s.words 0)) v))
 
 -- ---- what follows from the rule
 

@@ -1,8 +1,8 @@
 -- How each kind of step changes the view of its seat.
-use Rattle.std.specs.Prelude.{ℕ, ◌+◌, ◌==◌, Bool, ◌||◌, if◌then◌else◌, List, [], ◌∷◌, ◌++◌, Some, None}
+use Rattle.std.specs.Prelude.{ℕ, ◌+◌, ◌==◌, if◌then◌else◌, [], ◌∷◌, ◌++◌, Some, None}
 use Rattle.transfer_table.specs.Plan.{Plan, parent}
 use Rattle.transfer_table.specs.declared.entry.Entry.{Entry}
-use Rattle.transfer_table.specs.declared.entry.Entry.TheVariants.{Register, Request, Enter, Yield, Unregister}
+use Rattle.transfer_table.specs.declared.entry.Entry.TheVariants.{Register, Request, Enter, Yield, Unregister, Skip}
 use Rattle.hart_port.specs.Words.{is_claimed, is_closed, flight_of}
 use Rattle.hart_port.specs.PortView.{is_in, with_site, without}
 use Rattle.hart_port.specs.Ledger.{no_site}
@@ -14,6 +14,7 @@ use Rattle.board_rule.specs.declared.view.LookKind.{LookKind}
 use Rattle.board_rule.specs.declared.view.LookKind.TheVariants as look
 use Rattle.board_rule.specs.declared.view.Marks.{Marks}
 use Rattle.board_rule.specs.declared.view.Doing.TheVariants.{Idle, Claiming, Crediting, Reserved, Landing, Sealing}
+use Rattle.board_words.specs.Sets.{union}
 
 -- ---- seats that are made, split and joined
 
@@ -33,6 +34,7 @@ fresh_view p h = record {
   hart = h;
   owner = 0;
   mine = [];
+  places = [];
   drawn = None;
   doing = Idle;
   marks = no_marks p;
@@ -52,17 +54,11 @@ split_left v = record v { made = v.made + 1 }
 abbrev pub split_right : View → View
 split_right v = fresh_view v.plan v.made
 
--- the sites of either set
-abbrev pub union : List Bool → List Bool → List Bool
-union [] bs = bs
-union (a ∷ more) [] = a ∷ more
-union (a ∷ more) (b ∷ bs) = (a || b) ∷ union more bs
-
 -- Hart 0's seat when another hart's is joined into it. Nothing is seen empty any more, since the children of a site may be
 -- known to be gone only now.
 abbrev pub joined_view : View → View → View
 joined_view v w = record v {
-  ended = v.ended ++ record { hart = w.hart; mine = w.mine } ∷ [];
+  ended = v.ended ++ record { hart = w.hart; mine = w.mine; places = w.places } ∷ [];
   marks = record v.marks { empty = no_site v.plan; gone = union v.marks.gone w.marks.gone };
 }
 
@@ -70,7 +66,7 @@ joined_view v w = record v {
 abbrev pub spent_view : View
 spent_view = fresh_view record { harts = 0; parents = [] } 255
 
--- ---- looks
+-- ---- looks: what a step makes of the view besides the word that is noted, and the view with that word
 
 abbrev pub look_at : ℕ → LookKind → ℕ → Look
 look_at x kind found = record { site = x; kind = kind; found = found }
@@ -92,44 +88,50 @@ gone_marks p x m = record m {
 }
 
 -- a look at the site's word, to see whether it is gone
-abbrev pub see_gone_view : ℕ → ℕ → View → View
-see_gone_view x found v = record v {
-  looks = v.looks ++ look_at x look.Look found ∷ [];
+abbrev pub see_gone_next : ℕ → ℕ → View → View
+see_gone_next x found v = record v {
   marks = if is_closed found then gone_marks v.plan x v.marks else v.marks;
 }
 
+abbrev pub see_gone_view : ℕ → ℕ → View → View
+see_gone_view x found v = looked x look.Look found (see_gone_next x found v)
+
 -- a look at the owner's word, to see whether a hart is on its way in
-abbrev pub see_drained_view : ℕ → View → View
-see_drained_view found v = record v {
-  looks = v.looks ++ look_at v.owner look.Look found ∷ [];
+abbrev pub see_drained_next : ℕ → View → View
+see_drained_next found v = record v {
   marks = if flight_of found == 0 then record v.marks {
     drained = with_site v.marks.drained v.owner;
   } else v.marks;
 }
 
+abbrev pub see_drained_view : ℕ → View → View
+see_drained_view found v = looked v.owner look.Look found (see_drained_next found v)
+
 -- a look at the board word, to see whether another hart is in the owner
-abbrev pub see_empty_view : ℕ → View → View
-see_empty_view found v = record v {
-  looks = v.looks ++ look_at 0 look.LookAtBoard found ∷ [];
+abbrev pub see_empty_next : ℕ → View → View
+see_empty_next found v = record v {
   marks = if others_at v.plan.harts found v.hart v.owner then v.marks else record v.marks {
     empty = with_site v.marks.empty v.owner;
   };
 }
 
+abbrev pub see_empty_view : ℕ → View → View
+see_empty_view found v = looked 0 look.LookAtBoard found (see_empty_next found v)
+
 -- ---- steps on a site's word
 
+abbrev pub claim_next : ℕ → ℕ → View → View
+claim_next x found v = record v { doing = if is_claimed found then v.doing else Claiming x }
+
 abbrev pub claim_view : ℕ → ℕ → View → View
-claim_view x found v = record v {
-  looks = v.looks ++ look_at x look.Claim found ∷ [];
-  doing = if is_claimed found then v.doing else Claiming x;
-}
+claim_view x found v = looked x look.Claim found (claim_next x found v)
 
 -- the exchange expects w
+abbrev pub reserve_next : ℕ → ℕ → ℕ → View → View
+reserve_next x w found v = record v { doing = if found == w then Reserved x else v.doing }
+
 abbrev pub reserve_view : ℕ → ℕ → ℕ → View → View
-reserve_view x w found v = record v {
-  looks = v.looks ++ look_at x look.Reserve found ∷ [];
-  doing = if found == w then Reserved x else v.doing;
-}
+reserve_view x w found v = looked x look.Reserve found (reserve_next x w found v)
 
 -- a credit, a landing and a seal: what was to be done is done
 abbrev pub done_view : View → View
@@ -166,6 +168,7 @@ abbrev pub made_entry : Entry → ℕ → ℕ → View → View
 made_entry e o place v = record v {
   owner = o;
   mine = v.mine ++ e ∷ [];
+  places = v.places ++ place ∷ [];
   drawn = Some record { place = place; entry = e };
 }
 
@@ -192,3 +195,9 @@ unregister_view place v =
       doing = Sealing v.owner;
       marks = left_marks v.owner v.marks;
     }
+
+-- the seat stays where it is, and has still to seal the site that it skipped
+abbrev pub skip_view : ℕ → View → View
+skip_view place v = let x : ℕ = busy_at v.doing in record (made_entry (Skip v.hart x) v.owner place v) {
+  doing = Sealing x;
+}

@@ -1,7 +1,7 @@
 //! What each kind of step does, each law the contract of a function that does nothing.
 //! `specs/StepLaws.antt` says them. Each step changes the view of its own seat alone; a split also
 //! makes the new seat's, and a join changes two.
-ghost use Rattle.board_rule.specs.StepLaws.{ClaimKeeps, JotKeeps, CreditKeeps, GlanceKeeps, SeeGoneKeeps, SeeDrainedKeeps, SeeEmptyKeeps, ReserveKeeps, LandKeeps, CloseKeeps, SealKeeps, SplitKeeps, JoinKeeps, RegisterAppends, RequestAppends, EnterAppends, YieldAppends, UnregisterAppends, GoneStaysGone, WantsBalance};
+ghost use Rattle.board_rule.specs.StepLaws.{ClaimKeeps, JotKeeps, CreditKeeps, GlanceKeeps, SeeGoneKeeps, SeeDrainedKeeps, SeeEmptyKeeps, ReserveKeeps, LandKeeps, CloseKeeps, SealKeeps, SplitKeeps, JoinKeeps, RegisterAppends, RequestAppends, EnterAppends, YieldAppends, UnregisterAppends, SkipAppends, GoneStaysGone, WantsBalance};
 
 /// A claim keeps the rule and the journal.
 pub fn claim_keeps()
@@ -91,6 +91,11 @@ pub fn yield_appends()
 /// The step of an unregister keeps the rule and appends its entry, which the table admits.
 pub fn unregister_appends()
     ensures { UnregisterAppends }
+{}
+
+/// The step of a skip keeps the rule and appends its entry, which the table admits.
+pub fn skip_appends()
+    ensures { SkipAppends }
 {}
 
 /// What is gone stays gone over every entry.

@@ -12,4 +12,4 @@ mod rule;
 mod view;
 
 pub use rule::BoardRule;
-pub use view::{Doing, Drawn, Ended, Look, LookKind, Marks, View};
+pub use view::{Doing, Look, LookKind, Marks, View};

@@ -1,5 +1,6 @@
 //! What a seat knows. No value of these types is made: they are what contracts say of a seat. A
 //! clause reads an array as a list, of any length.
+use board_words::{Drawn, Ended};
 use transfer_table::{Entry, Plan};
 
 /// The kinds of step whose word is noted.
@@ -20,12 +21,6 @@ pub struct Look {
     pub site: u16,
     pub kind: LookKind,
     pub found: u64,
-}
-
-/// A place of the journal that was drawn, and the entry that is still to be written there.
-pub struct Drawn {
-    pub place: u64,
-    pub entry: Entry,
 }
 
 /// What a seat is about, between the steps of a call.
@@ -59,12 +54,6 @@ pub struct Marks {
     pub gone: [bool; 0],
 }
 
-/// A hart whose seat was joined away, and the entries that it made.
-pub struct Ended {
-    pub hart: u8,
-    pub mine: [Entry; 0],
-}
-
 /// What a seat knows.
 pub struct View {
     pub plan: Plan,
@@ -73,6 +62,8 @@ pub struct View {
     pub owner: u16,
     /// The entries that the hart made, in order.
     pub mine: [Entry; 0],
+    /// The place of the journal that it drew for each of them.
+    pub places: [u64; 0],
     pub drawn: Option<Drawn>,
     pub doing: Doing,
     pub marks: Marks,

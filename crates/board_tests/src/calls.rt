@@ -81,7 +81,8 @@ fn has_left<'a, R: Threads + Wait + Sync>(
 
 // Whether these are five entries, and complete.
 fn are_five(alloc: Global, plan: &Plan, entries: &[Entry]) -> Result<bool, Fail> {
-    Ok(entries.len() == 5 && first_fault(alloc, plan, entries)? == None)
+    let all = vec![in alloc; true; plan.sites() as usize]?;
+    Ok(entries.len() == 5 && first_fault(alloc, plan, &all, entries)? == None)
 }
 
 #[test]

@@ -18,4 +18,6 @@ mod row;
 #[cfg(test)]
 mod seats;
 #[cfg(test)]
+mod skips;
+#[cfg(test)]
 mod threads;

@@ -74,7 +74,7 @@ fn a_run_that_is_not_complete(rt: HostRuntime) -> Result<(), Fail> {
         why: Why::Unfinished { site: 1 },
     };
     assert_eq!(rt;
-        first_fault(rt.alloc(), &plan, closed.entries())?,
+        first_fault(rt.alloc(), &plan, &[true], closed.entries())?,
         Some(fault)
     );
     Ok(())

@@ -179,7 +179,8 @@ fn roam<R: Threads + Wait + Sync>(rt: &R, board: &WordBoard, plan: &Plan, seats:
     {
         visit_children(board, plan, seat, 0);
     };
-    for_each_mut(rt, seats, 4, &go);
+    let parts = seats.len().max(1);
+    for_each_mut(rt, seats, parts, &go);
 }
 
 // The journal of so many harts, each in a thread.
@@ -202,7 +203,8 @@ fn is_complete(alloc: Global, plan: &Plan, closed: &Closed) -> Result<bool, Fail
     if entries.len() < 3 * sites || (3 + 2 * guests) * sites < entries.len() {
         return Ok(false);
     }
-    Ok(first_fault(alloc, plan, entries)? == None)
+    let all = vec![in alloc; true; plan.sites() as usize]?;
+    Ok(first_fault(alloc, plan, &all, entries)? == None)
 }
 
 #[test]

@@ -1,6 +1,7 @@
-//! Two harts at one site: five entries.
-ghost use Rattle.std.specs.Prelude.{◌≡◌, [], ◌∷◌, true, false};
+//! Two harts at one site: five entries. After each call the words are compared.
+ghost use Rattle.std.specs.Prelude.{◌≡◌, ◌<◌, [], ◌∷◌, true, false};
 ghost use Rattle.hart_port.specs.PortView.{is_in};
+ghost use Rattle.board_words.specs.Words.{width};
 ghost use Rattle.board_rule.specs.Views.{fresh_view};
 ghost use Rattle.word_board.specs.Of.{IsOf};
 
@@ -27,7 +28,15 @@ pub(crate) fn is_row(alloc: Global, plan: &Plan, entries: &[Entry]) -> Result<bo
     if entries.len() != 5 || entries != ROW.as_slice() {
         return Ok(false);
     }
-    Ok(first_fault(alloc, plan, entries)? == None)
+    let all = vec![in alloc; true; plan.sites() as usize]?;
+    Ok(first_fault(alloc, plan, &all, entries)? == None)
+}
+
+// Whether the board word and the word of site 1 are these.
+pub(crate) fn has(board: &WordBoard, first: u64, second: u64) -> bool
+    requires { 1 < width board.now.plan }
+{
+    board.peek(0) == first && board.peek(1) == second
 }
 
 // Whether one hart registers the site and asks for the other, which comes then and not before.
@@ -44,14 +53,20 @@ fn has_come(board: &WordBoard, home: &mut HartSeat, guest: &mut HartSeat) -> boo
     ensures inside { result ≡ true → guest.new.seat.me.0.owner ≡ 1 }
     ensures guest { result ≡ true → is_in guest.new.seat.me.0.marks.homes 1 ≡ false }
 {
-    if board.register(home, 1) != Ok(())
-        || board.register(guest, 1) != Err(Taken { shown: 1 })
+    if board.register(home, 1) != Ok(()) || !has(board, 281474976710657, 1) {
+        return false;
+    }
+    if board.register(guest, 1) != Err(Taken { shown: 1 })
         || board.try_enter(guest, 1) != (Entered::NotWanted { shown: 1 })
+        || !has(board, 281474976710657, 1)
     {
         return false;
     }
     board.request(home, 1, 1);
-    board.try_enter(guest, 1) == Entered::Inside
+    if !has(board, 562949953421313, 257) || board.try_enter(guest, 1) != Entered::Inside {
+        return false;
+    }
+    has(board, 844424930136065, 1)
 }
 
 // Whether the site, once it is closed, is held by the guest, empty without it, and gone when its home has left.
@@ -71,15 +86,28 @@ fn has_gone(board: &WordBoard, home: &mut HartSeat, guest: &mut HartSeat) -> boo
     let held = Seen::Held {
         shown: 844424930136065,
     };
-    if board.see_empty(home) != held {
+    if !has(board, 844424930136065, 3) || board.see_empty(home) != held {
         return false;
     }
     board.yield_hart(guest);
+    let yielded = has(board, 1125899906842625, 3);
     let Seen::Empty = board.see_empty(home) else {
         return false;
     };
     board.unregister(home);
-    board.see_gone(home, 1)
+    yielded && has(board, 1407374883553280, 7) && board.see_gone(home, 1)
+}
+
+// Whether the journal's words spell the row.
+fn is_spelled(board: &WordBoard) -> bool
+    requires { 6 < width board.now.plan }
+{
+    let spelled = [65537, 65794, 65547, 65548, 65541];
+    let mut same = true;
+    for place in 0..5 {
+        same = same && board.peek(2 + place) == spelled[place];
+    }
+    same
 }
 
 #[test]
@@ -88,6 +116,7 @@ fn two_harts_at_one_site(rt: HostRuntime) -> Result<(), Fail> {
     let (board, mut a, mut b) = open_two(rt.alloc(), &plan)?;
     assert!(rt; has_come(&board, &mut a, &mut b));
     assert!(rt; has_gone(&board, &mut a, &mut b));
+    assert!(rt; is_spelled(&board));
     let closed = close_two(rt.alloc(), board, a, b)?;
     assert!(rt; is_row(rt.alloc(), &plan, closed.entries())?);
     Ok(())

@@ -34,6 +34,37 @@ pub(crate) fn close_all(
     }
 }
 
+/// The board of a plan for one hart, and its seat.
+pub(crate) fn open_one(alloc: Global, plan: &Plan) -> Result<(WordBoard, HartSeat), AllocError>
+    requires { plan.now.harts ≡ 1 }
+    ensures plan { IfOk result (λ r. r.0.plan ≡ plan.now) }
+    ensures of { IfOk result (λ r. IsOf r.0 r.1) }
+    ensures seat { IfOk result (λ r. r.1.seat.me.0 ≡ record (fresh_view plan.now 0) { made = 1 }) }
+{
+    let (board, mut seats) = WordBoard::new(alloc, plan)?;
+    let seat = seats.remove(0);
+    Ok((board, seat))
+}
+
+/// The journal of a board for one hart.
+pub(crate) fn close_one(
+    alloc: Global,
+    board: WordBoard,
+    seat: HartSeat,
+) -> Result<Closed, AllocError>
+    requires one { board.plan.harts ≡ 1 }
+    requires of { IsOf board seat }
+    requires hart { seat.seat.me.0.hart ≡ 0 }
+    ensures { IfOk result (λ closed. IsJournalOf board.plan (seat ∷ []) closed) }
+{
+    let mut seats = Vec::with_capacity(alloc, 1)?;
+    seats.push(seat)?;
+    match board.close(alloc, seats) {
+        Ok(closed) => Ok(closed),
+        Err(_) => Err(AllocError),
+    }
+}
+
 /// The board of a plan for two harts, and its two seats.
 pub(crate) fn open_two(
     alloc: Global,

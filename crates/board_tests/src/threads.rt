@@ -88,7 +88,8 @@ fn play<R: Threads + Wait + Sync>(rt: &R, board: &WordBoard, plan: &Plan, seats:
 // Whether a journal is the row's, with the guest or without.
 fn is_row(alloc: Global, plan: &Plan, closed: &Closed) -> Result<bool, Fail> {
     let entries = closed.entries();
-    if entries.len() > 5 || first_fault(alloc, plan, entries)? != None {
+    let all = vec![in alloc; true; plan.sites() as usize]?;
+    if entries.len() > 5 || first_fault(alloc, plan, &all, entries)? != None {
         return Ok(false);
     }
     Ok(entries == WITH_A_GUEST.as_slice() || entries == ALONE.as_slice())

@@ -4,32 +4,34 @@ use mathlib.Core.Option.{some}
 use lib.ListN.{get_elem?}
 use prog.Atomic.{either}
 use Rattle.atomic_table.specs.Table.{Allows, Me}
-use Rattle.transfer_table.specs.Plan.{Plan, IsSite, parent}
+use Rattle.transfer_table.specs.Plan.{Plan, IsSite, parent, room}
 use Rattle.transfer_table.specs.Allowed.{IsAllowed}
 use Rattle.transfer_table.specs.Entry.{registers, requested}
 use Rattle.transfer_table.specs.declared.entry.Entry.{Entry}
-use Rattle.transfer_table.specs.declared.entry.Entry.TheVariants.{Register, Request, Enter, Yield, Unregister}
+use Rattle.transfer_table.specs.declared.entry.Entry.TheVariants.{Register, Request, Enter, Yield, Unregister, Skip}
 use Rattle.board_rule.specs.declared.view.View.{View}
+use Rattle.board_rule.specs.declared.view.LookKind.TheVariants as look
 use Rattle.board_rule.specs.declared.view.Doing.{Doing}
 use Rattle.board_rule.specs.declared.view.Doing.TheVariants.{Claiming, Crediting, Reserved, Landing, Sealing}
-use Rattle.board_rule.specs.Words.{length_unit, entries_in, journal_index, room, spelled}
+use Rattle.board_rule.specs.Words.{length_unit, entries_in}
+use Rattle.board_words.specs.Words.{journal_index, spelled}
 use Rattle.board_rule.specs.Counts.{busy_at}
-use Rattle.board_rule.specs.Views.{claim_view, reserve_view, glance_view, see_gone_view, see_drained_view, see_empty_view, close_view, done_view, jot_view, register_view, request_view, enter_view, yield_view, unregister_view}
+use Rattle.board_rule.specs.Views.{claim_view, reserve_view, glance_view, see_gone_view, see_drained_next, see_drained_view, see_empty_view, close_view, done_view, jot_view, register_view, request_view, enter_view, yield_view, unregister_view, skip_view}
 use Rattle.board_rule.specs.Rule.{Stands, IsSeat, DoesRight}
 use Rattle.board_rule.specs.Steps.{IsReady, MayClaim, MayReserve, MayRequest, MayYield, MayClose, MaySeeDrained, MaySeeEmpty, MayUnregister}
 use Rattle.board_rule.specs.Laws.{St}
 use Rattle.board_rule.specs.StepLaws.{MovesTo}
-use Rattle.board_rule.proofs.Asked.{new_untouched}
-use Rattle.board_rule.proofs.BoardWords.{has_room}
+use Rattle.board_words.proofs.Asked.{new_untouched}
+use Rattle.board_words.proofs.Rooms.{has_room}
 use Rattle.board_rule.proofs.Bounds.{small_word}
 use Rattle.board_rule.proofs.Claims.{claim_keeps, reserve_keeps}
 use Rattle.board_rule.proofs.Dones.{credit_keeps, land_keeps, seal_keeps, close_keeps}
 use Rattle.board_rule.proofs.Jots.{jot_keeps}
 use Rattle.board_rule.proofs.Looks.{glance_keeps, see_gone_keeps, see_drained_keeps, see_empty_keeps}
 use Rattle.board_rule.proofs.Moves.{enter_allowed, enter_appends, yield_allowed, yield_appends, unregister_allowed, unregister_appends}
-use Rattle.board_rule.proofs.Registers.{register_allowed, register_appends, request_allowed, request_appends, length_is}
+use Rattle.board_rule.proofs.Registers.{register_allowed, register_appends, skip_allowed, skip_appends, request_allowed, request_appends, length_is}
 use Rattle.board_rule.proofs.Tells.{allowed}
-use Rattle.word_board.specs.Plays.{Tells, nothing_more, IsPlaceOf, IsNewPlace, IsSmall}
+use Rattle.word_board.specs.Plays.{Tells, noting, nothing_more, IsPlaceOf, IsNewPlace, IsSmall}
 
 abbrev pub M : Type 0
 M = Me (Unit {0}) View
@@ -56,8 +58,8 @@ module _ (p : Plan) (slots id : ℕ) (me : M) (seat : IsSeat me.0) where
   pub sees_gone : (x : ℕ) → IsReady me.0 → IsSite p x → Allows (Stands p) slots id me x (λ n. n) (Tells (see_gone_view x) nothing_more me)
   sees_gone x ready site = allowed p slots id me x (λ n. n) (see_gone_view x) nothing_more (λ _. seat) (λ s k at _. ((see_gone_keeps p s k id me.0 x at seat ready site).0, tt))
 
-  pub sees_drained : (x : ℕ) → me.0.owner ≡ x → MaySeeDrained me.0 → Allows (Stands p) slots id me x (λ n. n) (Tells see_drained_view nothing_more me)
-  sees_drained x is may = subst (λ (q : ℕ). Allows (Stands p) slots id me q (λ n. n) (Tells see_drained_view nothing_more me)) is
+  pub sees_drained : (x : ℕ) → me.0.owner ≡ x → MaySeeDrained me.0 → Allows (Stands p) slots id me x (λ n. n) (Tells (noting x look.Look see_drained_next) nothing_more me)
+  sees_drained x is may = subst (λ (q : ℕ). Allows (Stands p) slots id me q (λ n. n) (Tells (noting q look.Look see_drained_next) nothing_more me)) is
       (allowed p slots id me me.0.owner (λ n. n) see_drained_view nothing_more (λ _. seat) (λ s k at _. ((see_drained_keeps p s k id me.0 at seat may).0, tt)))
 
   pub sees_empty : MaySeeEmpty me.0 → Allows (Stands p) slots id me 0 (λ n. n) (Tells see_empty_view nothing_more me)
@@ -84,6 +86,10 @@ module _ (p : Plan) (slots id : ℕ) (me : M) (seat : IsSeat me.0) where
       let Q : ℕ × List Entry → Type 0 = λ z. (registers z.0 z.1 ≡ 0) × (requested z.0 z.1 ≡ 0) in
       let first = subst Q (λ i. (sym (ap busy_at does) i, sym know.itself.mine i)) new in
       ((register_appends p s k id me.0 x amount at seat does moves).0, (placed s k (Register me.0.hart x) at (register_allowed p s k id me.0 x at seat does), first.0, first.1)))
+
+  pub skips_at : (x : ℕ) → me.0.doing ≡ Claiming x → Allows (Stands p) slots id me 0 (λ n. (n + length_unit) % 2 ^ 64) (Tells (λ n. skip_view (entries_in n)) (IsPlaceOf me.0) me)
+  skips_at x does = allowed p slots id me 0 (λ n. (n + length_unit) % 2 ^ 64) (λ n. skip_view (entries_in n)) (IsPlaceOf me.0) (λ _. seat) (λ s k at _.
+      ((skip_appends p s k id me.0 x at seat does).0, placed s k (Skip me.0.hart x) at (skip_allowed p s k id me.0 x at seat does)))
 
   pub requests : (n : ℕ) → MayRequest p me.0 n → Allows (Stands p) slots id me 0 (λ w. (w + length_unit) % 2 ^ 64) (Tells (λ w. request_view n (entries_in w)) (IsPlaceOf me.0) me)
   requests n may = allowed p slots id me 0 (λ w. (w + length_unit) % 2 ^ 64) (λ w. request_view n (entries_in w)) (IsPlaceOf me.0) (λ _. seat) (λ s k at _.

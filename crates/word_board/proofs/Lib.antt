@@ -3,3 +3,4 @@ pub mod Split
 pub mod Gathers
 pub mod Ports
 pub mod Names
+pub mod Makers

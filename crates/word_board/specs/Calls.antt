@@ -3,7 +3,7 @@ use Rattle.std.specs.Prelude.{◌≡◌, ◌≢◌, ℕ, ◌+◌, ◌-◌, ◌�
 use Rattle.transfer_table.specs.Plan.{Plan}
 use Rattle.transfer_table.specs.Entry.{registers, requested}
 use Rattle.transfer_table.specs.declared.entry.Entry.{Entry}
-use Rattle.transfer_table.specs.declared.entry.Entry.TheVariants.{Register, Enter}
+use Rattle.transfer_table.specs.declared.entry.Entry.TheVariants.{Register, Enter, Skip}
 use Rattle.hart_port.specs.PortView.{is_in, with_site}
 use Rattle.hart_port.specs.Words.{is_claimed, is_closed, is_wanted, flight_of}
 use Rattle.hart_port.specs.declared.port.Taken.{Taken}
@@ -19,28 +19,43 @@ use Rattle.board_rule.specs.Words.{others_at}
 use Rattle.board_rule.specs.Rule.{SawChildren}
 use Rattle.board_rule.specs.Views.{look_at, looked, home_marks, see_gone_view}
 
--- the view after an entry: the new owner, the entry last among those that the hart made, the new marks, and the words that
--- the call read; all else is as it was
-abbrev pub did : Entry → ℕ → Marks → List Look → View → View
-did e o m words v = record v {
+-- the view after an entry: the new owner, the entry last among those that the hart made, the place that was drawn for it, the
+-- new marks, and the words that the call read; all else is as it was
+abbrev pub did : Entry → ℕ → ℕ → Marks → List Look → View → View
+did e place o m words v = record v {
   owner = o;
   mine = v.mine ++ e ∷ [];
+  places = v.places ++ place ∷ [];
   marks = m;
   looks = v.looks ++ words;
 }
 
--- and of a call that read no word
-abbrev pub did_blind : Entry → ℕ → Marks → View → View
-did_blind e o m v = record v { owner = o; mine = v.mine ++ e ∷ []; marks = m }
+-- Of a call that reads no word: the hart made the entry, at some place.
+abbrev pub Makes : Entry → ℕ → Marks → View → View → Type 0
+Makes e o m v w = (place : ℕ)
+    × (w ≡ record v {
+      owner = o;
+      mine = v.mine ++ e ∷ [];
+      places = v.places ++ place ∷ [];
+      marks = m;
+    })
 
 -- Of a register: the claim found the site unclaimed, and the hart made its Register, having made neither Register nor Request
 -- of the site before; or it found the site claimed.
 abbrev pub Registers : View → ℕ → Result (Unit {0}) Taken → View → Type 0
 Registers v x (Ok done) w =
-    (found : ℕ) × (is_claimed found ≡ false)
-    × (w ≡ did (Register v.hart x) x (home_marks x v.marks) (look_at x look.Claim found ∷ []) v)
+    (found place : ℕ) × (is_claimed found ≡ false)
+    × (w ≡ did (Register v.hart x) place x (home_marks x v.marks) (look_at x look.Claim found ∷ []) v)
     × (registers x v.mine ≡ 0) × (requested x v.mine ≡ 0)
 Registers v x (Err taken) w =
+    (is_claimed taken.shown ≡ true) × (w ≡ looked x look.Claim taken.shown v)
+
+-- Of a skip: the claim found the site unclaimed, and the hart made its Skip; or it found the site claimed.
+abbrev pub Skips : View → ℕ → Result (Unit {0}) Taken → View → Type 0
+Skips v x (Ok done) w =
+    (found place : ℕ) × (is_claimed found ≡ false)
+    × (w ≡ did (Skip v.hart x) place v.owner v.marks (look_at x look.Claim found ∷ []) v)
+Skips v x (Err taken) w =
     (is_claimed taken.shown ≡ true) × (w ≡ looked x look.Claim taken.shown v)
 
 -- when a hart may ask for more harts: it is its owner's home, hasn't closed it, and asks for some but not too many
@@ -54,8 +69,8 @@ pub record MayAsk (p : Plan) (v : View) (x k : ℕ) : Type 0 where
 -- Of a try to enter: the word that was read wants a hart, was found again by the exchange, and the hart made its Enter; or the
 -- word wants none; or it wants one, and the exchange found another.
 abbrev pub Enters : View → ℕ → Entered → View → Type 0
-Enters v x Inside w = (read : ℕ) × (is_wanted read ≡ true)
-    × (w ≡ did (Enter v.hart x) x v.marks
+Enters v x Inside w = (read place : ℕ) × (is_wanted read ≡ true)
+    × (w ≡ did (Enter v.hart x) place x v.marks
     (look_at x look.Look read ∷ look_at x look.Reserve read ∷ []) v)
 Enters v x (NotWanted shown) w = (is_wanted shown ≡ false) × (w ≡ looked x look.Look shown v)
 Enters v x (Moved read found) w =

@@ -1,16 +1,17 @@
 -- All seats of a board: as they are made, and as they are given back.
-use Rattle.std.specs.Prelude.{◌≡◌, ℕ, ◌+◌, ◌≤◌, ◌<◌, true, if◌then◌else◌, ◌==◌, List, length, slice_index_or}
+use Rattle.std.specs.Prelude.{◌≡◌, ◌↔◌, Bool, ℕ, ◌+◌, ◌≤◌, ◌<◌, true, if◌then◌else◌, ◌==◌, List, length, slice_index_or}
 use mathlib.Core.Option.{some}
 use lib.ListN.{get_elem?}
 use Rattle.atomic_table.specs.Seated.{TableId}
 use Rattle.transfer_table.specs.Plan.{Plan, IsSite, parent}
 use Rattle.transfer_table.specs.Table.{TableState, row}
-use Rattle.transfer_table.specs.Journal.{Reaches, IsComplete}
-use Rattle.transfer_table.specs.Entry.{made_by}
+use Rattle.transfer_table.specs.Journal.{Reaches, IsComplete, is_meant}
+use Rattle.transfer_table.specs.Entry.{made_by, registers}
 use Rattle.transfer_table.specs.declared.entry.Stage.TheVariants.{Gone}
 use Rattle.transfer_table.specs.declared.entry.Entry.{Entry}
 use Rattle.hart_port.specs.PortView.{is_in}
 use Rattle.board_rule.specs.declared.view.View.{View}
+use Rattle.board_words.specs.Places.{AreAt}
 use Rattle.board_rule.specs.Views.{fresh_view}
 use Rattle.word_board.specs.declared.seat.HartSeat.{HartSeat}
 
@@ -36,15 +37,24 @@ abbrev pub SawGone : List HartSeat → ℕ → Type 0
 SawGone qs x = (h : ℕ) × (h < length qs)
     × ((d : HartSeat) → is_in (slice_index_or qs h d).seat.me.0.marks.gone x ≡ true)
 
--- The journal of the board: a legal list, in which each hart has the entries that its seat made. What a seat has seen gone is
--- gone at its end. It is complete where each top site was seen gone.
+-- some seat made Register of the site
+abbrev pub MadeRegister : List HartSeat → ℕ → Type 0
+MadeRegister qs x = (h : ℕ) × (h < length qs)
+    × ((d : HartSeat) → 1 ≤ registers x (slice_index_or qs h d).seat.me.0.mine)
+
+-- The journal of the board: a legal list, in which each hart has the entries that its seat made, each at the place that the
+-- seat drew for it. What a seat has seen gone is gone at its end. It is complete for sites that are meant where each top site was seen gone, and the seats registered exactly the
+-- meant ones.
 pub record IsJournalOf (p : Plan) (qs : List HartSeat) (es : List Entry) : Type 0 where
   pub table : TableState
   pub legal : Reaches p es table
   pub each : (h : ℕ) (d : HartSeat) → h < p.harts
       → made_by h es ≡ (slice_index_or qs h d).seat.me.0.mine
+  pub placed : (h : ℕ) (d : HartSeat) → h < p.harts
+      → AreAt es (slice_index_or qs h d).seat.me.0.mine (slice_index_or qs h d).seat.me.0.places
   pub gone : (x : ℕ) → SawGone qs x → IsSite p x × ((row table x).stage ≡ Gone)
-  pub complete : ((x : ℕ) → IsSite p x → parent p x ≡ 0 → SawGone qs x) → IsComplete p es
+  pub complete : (meant : List Bool) → ((x : ℕ) → IsSite p x → parent p x ≡ 0 → SawGone qs x)
+      → ((x : ℕ) → IsSite p x → (is_meant meant x ≡ true) ↔ MadeRegister qs x) → IsComplete p meant es
 
 -- ---- between the steps of a close
 
@@ -57,7 +67,7 @@ AreOthers z p qs = (i : ℕ) (d : HartSeat) → i < length qs
 -- the view has taken in hart h, which had this view
 pub record HasOne (v : View) (h : ℕ) (w : View) : Type 0 where
   pub at : ℕ
-  pub one : get_elem? v.ended at ≡ some record { hart = h; mine = w.mine }
+  pub one : get_elem? v.ended at ≡ some record { hart = h; mine = w.mine; places = w.places }
   pub gone : (x : ℕ) → is_in w.marks.gone x ≡ true → is_in v.marks.gone x ≡ true
 
 -- the view has taken in each of the seats from the n-th on

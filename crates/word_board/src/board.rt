@@ -3,14 +3,16 @@ ghost use Rattle.std.specs.Prelude.{◌≡◌, ◌≢◌, ◌≤◌, true, false
 ghost use Rattle.transfer_table.specs.Plan.{IsPlan, IsSite, parent, site_count};
 ghost use Rattle.transfer_table.specs.declared.entry.Entry.TheVariants.{Request, Yield, Unregister};
 ghost use Rattle.hart_port.specs.PortView.{is_in};
-ghost use Rattle.board_rule.specs.Words.{width, others_at};
+ghost use Rattle.board_words.specs.Words.{width};
+ghost use Rattle.board_rule.specs.Words.{others_at};
 ghost use Rattle.board_rule.specs.Views.{close_view, left_marks};
-ghost use Rattle.word_board.specs.Calls.{Registers, MayAsk, did_blind, Enters, SeesGone, Sees, MayLeaveHome};
+ghost use Rattle.word_board.specs.Calls.{Registers, Skips, MayAsk, Makes, Enters, SeesGone, Sees, MayLeaveHome};
 
 use crate::seat::HartSeat;
-use crate::words::{GUEST, is_held, is_wanted};
+use crate::words::is_held;
 use atomic_table::Table;
 use board_rule::{BoardRule, View};
+use board_words::{GUEST, is_wanted};
 use hart_port::{Entered, Seen, Taken};
 use std::alloc::Global;
 use transfer_table::{Entry, Plan};
@@ -52,15 +54,34 @@ impl WordBoard {
         Ok(())
     }
 
+    /// Makes Skip of the site, a child of the owner, in which the hart stays. A hart that finds the site
+    /// claimed is told the word.
+    pub fn skip(&self, seat: &mut HartSeat, site: u16) -> Result<(), Taken>
+        requires of { IsOf self.now seat.old }
+        requires site { IsSite self.now.plan site }
+        requires child { seat.old.seat.me.0.owner ≡ parent self.now.plan site }
+        ensures of { IsOf self.now seat.new }
+        ensures does { Skips seat.old.seat.me.0 site result seat.new.seat.me.0 }
+    {
+        let hart = seat.hart;
+        let found = self.claim(&mut seat.seat, site);
+        if found % 2 == 1 {
+            return Err(Taken { shown: found });
+        }
+        let place = self.make_skip(&mut seat.seat, site);
+        self.jot(&mut seat.seat, place, Entry::Skip { hart, site });
+        self.seal(&mut seat.seat, site);
+        Ok(())
+    }
+
     /// Makes Request of the site that the hart is in and the home of, for `count` more harts.
     pub fn request(&self, seat: &mut HartSeat, site: u16, count: u8)
         requires of { IsOf self.now seat.old }
         requires site { IsSite self.now.plan site }
         requires may { MayAsk self.now.plan seat.old.seat.me.0 site count }
         ensures of { IsOf self.now seat.new }
-        ensures does { seat.new.seat.me.0
-            ≡ did_blind (Request seat.old.seat.me.0.hart site count) site seat.old.seat.me.0.marks
-            seat.old.seat.me.0 }
+        ensures does { Makes (Request seat.old.seat.me.0.hart site count) site
+            seat.old.seat.me.0.marks seat.old.seat.me.0 seat.new.seat.me.0 }
     {
         let hart = seat.hart;
         let place = self.make_request(&mut seat.seat, count);
@@ -98,10 +119,9 @@ impl WordBoard {
         requires inside { 0 < seat.old.seat.me.0.owner }
         requires guest { is_in seat.old.seat.me.0.marks.homes seat.old.seat.me.0.owner ≡ false }
         ensures of { IsOf self.now seat.new }
-        ensures does { seat.new.seat.me.0
-            ≡ did_blind (Yield seat.old.seat.me.0.hart seat.old.seat.me.0.owner)
+        ensures does { Makes (Yield seat.old.seat.me.0.hart seat.old.seat.me.0.owner)
             (parent self.now.plan seat.old.seat.me.0.owner) seat.old.seat.me.0.marks
-            seat.old.seat.me.0 }
+            seat.old.seat.me.0 seat.new.seat.me.0 }
     {
         let (hart, site) = (seat.hart, seat.owner);
         let above = self.plan.parent(site);
@@ -158,10 +178,10 @@ impl WordBoard {
         requires of { IsOf self.now seat.old }
         requires may { MayLeaveHome self.now.plan seat.old.seat.me.0 }
         ensures of { IsOf self.now seat.new }
-        ensures does { seat.new.seat.me.0
-            ≡ did_blind (Unregister seat.old.seat.me.0.hart seat.old.seat.me.0.owner)
+        ensures does { Makes (Unregister seat.old.seat.me.0.hart seat.old.seat.me.0.owner)
             (parent self.now.plan seat.old.seat.me.0.owner)
-            (left_marks seat.old.seat.me.0.owner seat.old.seat.me.0.marks) seat.old.seat.me.0 }
+            (left_marks seat.old.seat.me.0.owner seat.old.seat.me.0.marks) seat.old.seat.me.0
+            seat.new.seat.me.0 }
     {
         let (hart, site) = (seat.hart, seat.owner);
         let above = self.plan.parent(site);
@@ -169,5 +189,13 @@ impl WordBoard {
         seat.owner = above;
         self.jot(&mut seat.seat, place, Entry::Unregister { hart, site });
         self.seal(&mut seat.seat, site);
+    }
+
+    /// The word at this place, as it is now: first the board word, then those of the sites, then those of
+    /// the journal. It takes no seat and tells none anything. Tests compare words by it.
+    pub fn peek(&self, place: usize) -> u64
+        requires { place < width self.now.plan }
+    {
+        self.table.shared.peek(place)
     }
 }

@@ -1,10 +1,10 @@
 //! The end of a board.
 ghost use Rattle.std.specs.Prelude.{◌≡◌, ℕ, ◌+◌, ◌<◌, ◌≤◌, [], true, IfOk, IfErr, vec_capacity, List};
 ghost use Rattle.std.specs.Mem.Slots.{slots_items, slots_len, IsFull};
-ghost use Rattle.transfer_table.specs.Plan.{IsPlan};
+ghost use Rattle.transfer_table.specs.Plan.{IsPlan, room};
 ghost use Rattle.transfer_table.specs.declared.entry.Entry.{Entry};
 ghost use Rattle.hart_port.specs.PortView.{is_in};
-ghost use Rattle.board_rule.specs.Words.{width, room};
+ghost use Rattle.board_words.specs.Words.{width};
 ghost use Rattle.board_rule.specs.Views.{joined_view};
 ghost use Rattle.board_rule.specs.Ends.{Spells, AllEnded, IsJournal};
 ghost use Rattle.word_board.specs.Seats.{AreAll, AreOthers, HasFrom, IsJournalOf};
@@ -12,7 +12,8 @@ ghost use Rattle.word_board.specs.Seats.{AreAll, AreOthers, HasFrom, IsJournalOf
 use crate::board::WordBoard;
 use crate::plays::Gather;
 use crate::seat::HartSeat;
-use crate::words::{LENGTH_UNIT, entry_of};
+use crate::words::LENGTH_UNIT;
+use board_words::entry_of;
 use std::alloc::Global;
 use std::marker::Model;
 use transfer_table::{Entry, Plan};
@@ -77,7 +78,8 @@ fn gather_all(board: &WordBoard, first: &mut HartSeat, mut seats: Vec<HartSeat>)
     ensures board { first.new.seat.table_id ≡ board.now.table.shared.table_id }
     ensures hart { first.new.seat.me.0.hart ≡ 0 }
     ensures plan { first.new.seat.me.0.plan ≡ first.old.seat.me.0.plan }
-    ensures mine { first.new.seat.me.0.mine ≡ first.old.seat.me.0.mine }
+    ensures mine { (first.new.seat.me.0.mine ≡ first.old.seat.me.0.mine)
+        × (first.new.seat.me.0.places ≡ first.old.seat.me.0.places) }
     ensures gone { (x : ℕ) → is_in first.old.seat.me.0.marks.gone x ≡ true
         → is_in first.new.seat.me.0.marks.gone x ≡ true }
     ensures gathered { HasFrom first.new.seat.me.0 seats.items 0 }

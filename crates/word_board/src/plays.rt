@@ -1,4 +1,5 @@
-//! What each kind of step tells its seat: the new view, from the word that was found.
+//! The kinds of step. `specs/Plays.antt` says what each tells its seat, and there the word that was
+//! found is noted: a kind can't tell another.
 ghost use Rattle.std.specs.Prelude.{ℕ};
 
 use atomic_table::{Join, Play, Split};
@@ -9,10 +10,9 @@ use std::marker::{Brand, PhantomData};
 pub(crate) struct Claim;
 
 impl Play<(), View> for Claim {
-    ghost use Rattle.board_rule.specs.Views.{claim_view};
-    ghost use Rattle.word_board.specs.Plays.{Tells, nothing_more};
+    ghost use Rattle.word_board.specs.Plays.{claims};
 
-    ghost then = { λ step. Tells (claim_view step.word) nothing_more };
+    ghost then = { claims };
 }
 
 /// Makes the Register of the site that is claimed. Its place is inside the journal, and of that site
@@ -20,12 +20,18 @@ impl Play<(), View> for Claim {
 pub(crate) struct MakeRegister;
 
 impl Play<(), View> for MakeRegister {
-    ghost use Rattle.board_rule.specs.Words.{entries_in};
-    ghost use Rattle.board_rule.specs.Counts.{busy_at};
-    ghost use Rattle.board_rule.specs.Views.{register_view};
-    ghost use Rattle.word_board.specs.Plays.{Tells, IsNewPlace};
+    ghost use Rattle.word_board.specs.Plays.{makes_register};
 
-    ghost then = { λ step me. Tells (λ found. register_view (entries_in found)) (IsNewPlace me.0) me };
+    ghost then = { makes_register };
+}
+
+/// Makes the Skip of the site that is claimed.
+pub(crate) struct MakeSkip;
+
+impl Play<(), View> for MakeSkip {
+    ghost use Rattle.word_board.specs.Plays.{makes_skip};
+
+    ghost then = { makes_skip };
 }
 
 /// How many harts a request asks for. Each call of `request` picks it.
@@ -43,124 +49,108 @@ pub(crate) struct MakeRequest<A: Asked> {
 }
 
 impl<A: Asked> Play<(), View> for MakeRequest<A> {
-    ghost use Rattle.board_rule.specs.Words.{entries_in};
-    ghost use Rattle.board_rule.specs.Views.{request_view};
-    ghost use Rattle.word_board.specs.Plays.{Tells, IsPlaceOf};
+    ghost use Rattle.word_board.specs.Plays.{makes_request};
 
-    ghost then = { λ step me. Tells (λ found. request_view A.count (entries_in found)) (IsPlaceOf me.0) me };
+    ghost then = { makes_request A.count };
 }
 
 /// Makes the Enter of the site that the hart is reserved to.
 pub(crate) struct MakeEnter;
 
 impl Play<(), View> for MakeEnter {
-    ghost use Rattle.board_rule.specs.Words.{entries_in};
-    ghost use Rattle.board_rule.specs.Views.{enter_view};
-    ghost use Rattle.word_board.specs.Plays.{Tells, IsPlaceOf};
+    ghost use Rattle.word_board.specs.Plays.{makes_enter};
 
-    ghost then = { λ step me. Tells (λ found. enter_view (entries_in found)) (IsPlaceOf me.0) me };
+    ghost then = { makes_enter };
 }
 
 /// Makes a Yield of the owner.
 pub(crate) struct MakeYield;
 
 impl Play<(), View> for MakeYield {
-    ghost use Rattle.board_rule.specs.Words.{entries_in};
-    ghost use Rattle.board_rule.specs.Views.{yield_view};
-    ghost use Rattle.word_board.specs.Plays.{Tells, IsPlaceOf};
+    ghost use Rattle.word_board.specs.Plays.{makes_yield};
 
-    ghost then = { λ step me. Tells (λ found. yield_view (entries_in found)) (IsPlaceOf me.0) me };
+    ghost then = { makes_yield };
 }
 
 /// Makes an Unregister of the owner.
 pub(crate) struct MakeUnregister;
 
 impl Play<(), View> for MakeUnregister {
-    ghost use Rattle.board_rule.specs.Words.{entries_in};
-    ghost use Rattle.board_rule.specs.Views.{unregister_view};
-    ghost use Rattle.word_board.specs.Plays.{Tells, IsPlaceOf};
+    ghost use Rattle.word_board.specs.Plays.{makes_unregister};
 
-    ghost then = { λ step me. Tells (λ found. unregister_view (entries_in found)) (IsPlaceOf me.0) me };
+    ghost then = { makes_unregister };
 }
 
 /// Writes the entry at its place.
 pub(crate) struct Jot;
 
 impl Play<(), View> for Jot {
-    ghost use Rattle.board_rule.specs.Views.{jot_view};
-    ghost use Rattle.word_board.specs.Plays.{Tells, nothing_more};
+    ghost use Rattle.word_board.specs.Plays.{jots};
 
-    ghost then = { λ step. Tells (λ _. jot_view) nothing_more };
+    ghost then = { jots };
 }
 
 /// What follows an entry on its site's word: a credit, a landing or a seal.
 pub(crate) struct Follow;
 
 impl Play<(), View> for Follow {
-    ghost use Rattle.board_rule.specs.Views.{done_view};
-    ghost use Rattle.word_board.specs.Plays.{Tells, nothing_more};
+    ghost use Rattle.word_board.specs.Plays.{follows};
 
-    ghost then = { λ step. Tells (λ _. done_view) nothing_more };
+    ghost then = { follows };
 }
 
 /// Looks at a site.
 pub(crate) struct Glance;
 
 impl Play<(), View> for Glance {
-    ghost use Rattle.board_rule.specs.Views.{glance_view};
-    ghost use Rattle.word_board.specs.Plays.{Tells, IsSmall};
+    ghost use Rattle.word_board.specs.Plays.{glances};
 
-    ghost then = { λ step. Tells (glance_view step.word) IsSmall };
+    ghost then = { glances };
 }
 
 /// Looks whether a site is gone.
 pub(crate) struct SeeGone;
 
 impl Play<(), View> for SeeGone {
-    ghost use Rattle.board_rule.specs.Views.{see_gone_view};
-    ghost use Rattle.word_board.specs.Plays.{Tells, nothing_more};
+    ghost use Rattle.word_board.specs.Plays.{sees_gone};
 
-    ghost then = { λ step. Tells (see_gone_view step.word) nothing_more };
+    ghost then = { sees_gone };
 }
 
 /// Looks whether a hart is on its way into the owner.
 pub(crate) struct SeeDrained;
 
 impl Play<(), View> for SeeDrained {
-    ghost use Rattle.board_rule.specs.Views.{see_drained_view};
-    ghost use Rattle.word_board.specs.Plays.{Tells, nothing_more};
+    ghost use Rattle.word_board.specs.Plays.{sees_drained};
 
-    ghost then = { λ step. Tells see_drained_view nothing_more };
+    ghost then = { sees_drained };
 }
 
 /// Looks whether another hart is in the owner.
 pub(crate) struct SeeEmpty;
 
 impl Play<(), View> for SeeEmpty {
-    ghost use Rattle.board_rule.specs.Views.{see_empty_view};
-    ghost use Rattle.word_board.specs.Plays.{Tells, nothing_more};
+    ghost use Rattle.word_board.specs.Plays.{sees_empty};
 
-    ghost then = { λ step. Tells see_empty_view nothing_more };
+    ghost then = { sees_empty };
 }
 
 /// Takes one from a site's want and adds one to its flight, if the word is the one that was read.
 pub(crate) struct Reserve;
 
 impl Play<(), View> for Reserve {
-    ghost use Rattle.board_rule.specs.Views.{reserve_view};
-    ghost use Rattle.word_board.specs.Plays.{Tells, nothing_more};
+    ghost use Rattle.word_board.specs.Plays.{reserves};
 
-    ghost then = { λ step. Tells (reserve_view step.word step.first) nothing_more };
+    ghost then = { reserves };
 }
 
 /// Sets the owner's closing bit.
 pub(crate) struct Shut;
 
 impl Play<(), View> for Shut {
-    ghost use Rattle.board_rule.specs.Views.{close_view};
-    ghost use Rattle.word_board.specs.Plays.{Tells, nothing_more};
+    ghost use Rattle.word_board.specs.Plays.{shuts};
 
-    ghost then = { λ step. Tells (λ _. close_view) nothing_more };
+    ghost then = { shuts };
 }
 
 /// Hart 0's seat makes the next hart's.

@@ -1,9 +1,9 @@
 //! A board by reference, and a seat of it.
 ghost use Rattle.std.specs.Prelude.{◌≡◌, ◌<◌, ◌≤◌, true, false};
 ghost use Rattle.transfer_table.specs.Plan.{IsSite, parent};
-ghost use Rattle.transfer_table.specs.Entry.{unregisters};
 ghost use Rattle.hart_port.specs.Count.{RoseIfErr, RoseUnlessInside};
-ghost use Rattle.hart_port.specs.PortView.{IsPortView, is_in, Registers, MayRequest, requested_by, Enters, yielded, closes, sees_gone, Sees, MayUnregister, unregistered};
+ghost use Rattle.hart_port.specs.PortView.{IsPortView, is_in, Registers, Skips, HasEnded, MayRequest, requested_by, Enters, yielded, closes, sees_gone, Sees, MayUnregister, unregistered};
+ghost use Rattle.word_board.specs.Calls.{Registers as OwnRegisters, Skips as OwnSkips, Enters as OwnEnters, SeesGone, Sees as OwnSees};
 ghost use Rattle.word_board.specs.Of.{IsOf};
 ghost use Rattle.word_board.specs.PortViews.{port_view};
 
@@ -11,7 +11,8 @@ use crate::board::WordBoard;
 use crate::seat::HartSeat;
 use hart_port::{Entered, Port, Seen, Taken};
 
-/// The port of a hart of a word board. No call waits.
+/// The port of a hart of a word board. No call waits. A call that shows a word, or sees a site gone,
+/// also says what the seat knows then, as the board's call does: so it read that word on the board.
 #[derive(Drop)]
 pub struct WordPort<'a> {
     board: &'a WordBoard,
@@ -54,7 +55,19 @@ impl<'a> Port for WordPort<'a> {
 
     ghost seen = { λ w. port_view w.seat };
 
+    ghost use Rattle.word_board.specs.Calls.{Registers as OwnRegisters, Skips as OwnSkips, Enters as OwnEnters, SeesGone, Sees as OwnSees};
+
     ghost refused = { λ w. w.refused };
+
+    ghost register_gives = { λ w site answer v. OwnRegisters w.seat.seat.me.0 site answer v.seat.seat.me.0 };
+
+    ghost skip_gives = { λ w site answer v. OwnSkips w.seat.seat.me.0 site answer v.seat.seat.me.0 };
+
+    ghost enter_gives = { λ w site answer v. OwnEnters w.seat.seat.me.0 site answer v.seat.seat.me.0 };
+
+    ghost gone_gives = { λ w site answer v. SeesGone w.seat.seat.me.0 site answer v.seat.seat.me.0 };
+
+    ghost empty_gives = { λ w answer v. OwnSees w.seat.seat.me.0 answer v.seat.seat.me.0 };
 
     fn hart(&self) -> u8 {
         self.seat.hart()
@@ -73,11 +86,29 @@ impl<'a> Port for WordPort<'a> {
         requires child { (port_view self.old.seat).owner
             ≡ parent (port_view self.old.seat).plan site }
         ensures does { Registers (port_view self.old.seat) site result (port_view self.new.seat) }
+        ensures own { OwnRegisters self.old.seat.seat.me.0 site result self.new.seat.seat.me.0 }
         ensures count { RoseIfErr result self.old.refused self.new.refused }
         ensures kept { IsPortView (port_view self.new.seat) }
         ensures board { self.new.board.now ≡ self.old.board.now }
     {
         let answer = self.board.register(&mut self.seat, site);
+        if answer.is_err() {
+            self.refused = self.refused.saturating_add(1);
+        }
+        answer
+    }
+
+    fn skip(&mut self, _hold: (), site: u16) -> Result<(), Taken>
+        requires known { IsSite (port_view self.old.seat).plan site }
+        requires child { (port_view self.old.seat).owner
+            ≡ parent (port_view self.old.seat).plan site }
+        ensures does { Skips (port_view self.old.seat) site result (port_view self.new.seat) }
+        ensures own { OwnSkips self.old.seat.seat.me.0 site result self.new.seat.seat.me.0 }
+        ensures count { RoseIfErr result self.old.refused self.new.refused }
+        ensures kept { IsPortView (port_view self.new.seat) }
+        ensures board { self.new.board.now ≡ self.old.board.now }
+    {
+        let answer = self.board.skip(&mut self.seat, site);
         if answer.is_err() {
             self.refused = self.refused.saturating_add(1);
         }
@@ -100,6 +131,7 @@ impl<'a> Port for WordPort<'a> {
         requires child { (port_view self.old.seat).owner
             ≡ parent (port_view self.old.seat).plan site }
         ensures does { Enters (port_view self.old.seat) site result (port_view self.new.seat) }
+        ensures own { OwnEnters self.old.seat.seat.me.0 site result self.new.seat.seat.me.0 }
         ensures count { RoseUnlessInside result self.old.refused self.new.refused }
         ensures kept { IsPortView (port_view self.new.seat) }
         ensures board { self.new.board.now ≡ self.old.board.now }
@@ -141,8 +173,9 @@ impl<'a> Port for WordPort<'a> {
         ensures gone { result ≡ true
             → port_view self.new.seat ≡ sees_gone (port_view self.old.seat) site }
         ensures not_yet { result ≡ false → port_view self.new.seat ≡ port_view self.old.seat }
+        ensures own { SeesGone self.old.seat.seat.me.0 site result self.new.seat.seat.me.0 }
         ensures alone { (port_view self.old.seat).alone ≡ true
-            → 1 ≤ unregisters site (port_view self.old.seat).mine → result ≡ true }
+            → HasEnded (port_view self.old.seat) site → result ≡ true }
         ensures count { self.new.refused ≡ self.old.refused }
         ensures kept { IsPortView (port_view self.new.seat) }
         ensures board { self.new.board.now ≡ self.old.board.now }
@@ -156,6 +189,7 @@ impl<'a> Port for WordPort<'a> {
         requires closed { is_in (port_view self.old.seat).closed
             (port_view self.old.seat).owner ≡ true }
         ensures does { Sees (port_view self.old.seat) result (port_view self.new.seat) }
+        ensures own { OwnSees self.old.seat.seat.me.0 result self.new.seat.seat.me.0 }
         ensures count { self.new.refused ≡ self.old.refused }
         ensures kept { IsPortView (port_view self.new.seat) }
         ensures board { self.new.board.now ≡ self.old.board.now }

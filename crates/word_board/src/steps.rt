@@ -1,26 +1,27 @@
 //! The kinds of step, each a single change of one word by a seat.
 ghost use Rattle.std.specs.Prelude.{◌≡◌, ℕ, ◌+◌, ◌*◌, ◌^◌, ◌<◌, ◌≤◌, ◌≢◌, Some};
-ghost use Rattle.transfer_table.specs.Plan.{IsSite, parent};
+ghost use Rattle.transfer_table.specs.Plan.{IsSite, parent, room};
 ghost use Rattle.transfer_table.specs.Entry.{registers, requested};
-ghost use Rattle.board_rule.specs.Words.{room};
 ghost use Rattle.board_rule.specs.Rule.{FitsPlan};
 ghost use Rattle.board_rule.specs.Steps.{IsReady, MayClaim, MayReserve, MayRequest, MayYield, MayClose, MaySeeDrained, MaySeeEmpty, MayUnregister};
-ghost use Rattle.board_rule.specs.Views.{claim_view, reserve_view, glance_view, see_gone_view, see_drained_view, see_empty_view, close_view, done_view, jot_view, register_view, request_view, enter_view, yield_view, unregister_view};
+ghost use Rattle.board_rule.specs.Views.{claim_view, reserve_view, glance_view, see_gone_view, see_drained_view, see_empty_view, close_view, done_view, jot_view, register_view, request_view, enter_view, yield_view, unregister_view, skip_view};
 ghost use Rattle.board_rule.specs.declared.view.Doing.TheVariants.{Idle, Claiming, Crediting, Reserved, Landing, Sealing};
 
 use crate::board::WordBoard;
 use crate::plays::{
-    Asked, Claim, Follow, Glance, Jot, MakeEnter, MakeRegister, MakeRequest, MakeUnregister,
-    MakeYield, Reserve, SeeDrained, SeeEmpty, SeeGone, Shut,
+    Asked, Claim, Follow, Glance, Jot, MakeEnter, MakeRegister, MakeRequest, MakeSkip,
+    MakeUnregister, MakeYield, Reserve, SeeDrained, SeeEmpty, SeeGone, Shut,
 };
-use crate::words::{CLAIMED, CLOSED, CLOSING, GUEST, LENGTH_UNIT, WISH, digit, word_of};
+use crate::words::{LENGTH_UNIT, digit};
 use atomic_table::Seat;
 use board_rule::View;
+use board_words::{CLAIMED, CLOSED, CLOSING, GUEST, WISH, word_of};
 use std::marker::Brand;
 use transfer_table::Entry;
 
 impl WordBoard {
     ghost use Rattle.word_board.specs.Of.{IsOn};
+    ghost use Rattle.word_board.specs.Plays.{IsSmall};
 
     /// Claims the site. The word that was found is given back.
     pub(crate) fn claim(&self, seat: &mut Seat<(), View>, site: u16) -> u64
@@ -56,6 +57,23 @@ impl WordBoard {
     {
         let amount = LENGTH_UNIT + digit(site - owner, hart);
         self.table.shared.fetch_add::<MakeRegister>(seat, 0, amount) / LENGTH_UNIT
+    }
+
+    /// Makes the Skip of the site that is claimed. The place of its entry is given back.
+    pub(crate) fn make_skip(&self, seat: &mut Seat<(), View>, site: u16) -> u64
+        requires on { IsOn self.now seat.old.table_id seat.old.me.0 }
+        requires claiming { seat.old.me.0.doing ≡ Claiming site }
+        ensures on { IsOn self.now seat.new.table_id seat.new.me.0 }
+        ensures view { seat.new.me ≡ (skip_view result seat.old.me.0, seat.old.me.1) }
+        ensures fits { FitsPlan seat.new.me.0 }
+        ensures place { result < room self.now.plan }
+    {
+        // The step is about the site that is claimed.
+        let _ = site;
+        self.table
+            .shared
+            .fetch_add::<MakeSkip>(seat, 0, LENGTH_UNIT)
+            / LENGTH_UNIT
     }
 
     /// Makes a Request of the owner for `count` harts. The place of its entry is given back.
@@ -233,7 +251,7 @@ impl WordBoard {
         ensures on { IsOn self.now seat.new.table_id seat.new.me.0 }
         ensures view { seat.new.me ≡ (glance_view site result seat.old.me.0, seat.old.me.1) }
         ensures fits { FitsPlan seat.new.me.0 }
-        ensures small { result < 1048576 }
+        ensures small { IsSmall result }
     {
         self.table.shared.load::<Glance>(seat, site as usize)
     }
@@ -278,7 +296,7 @@ impl WordBoard {
     /// is given back.
     pub(crate) fn reserve(&self, seat: &mut Seat<(), View>, site: u16, read: u64) -> u64
         requires on { IsOn self.now seat.old.table_id seat.old.me.0 }
-        requires small { read < 1048576 }
+        requires small { IsSmall read }
         requires may { MayReserve self.now.plan seat.old.me.0 site read }
         ensures on { IsOn self.now seat.new.table_id seat.new.me.0 }
         ensures view { seat.new.me ≡ (reserve_view site read result seat.old.me.0, seat.old.me.1) }

@@ -20,7 +20,7 @@ loop-other-preserved c =
       c.gather.ensures.boards,
       ap (λ (v : View). v.hart) c.gather.ensures.joined ∙ i.1,
       ap (λ (v : View). v.plan) c.gather.ensures.joined ∙ i.2,
-      ap (λ (v : View). v.mine) c.gather.ensures.joined ∙ i.3,
+      (ap (λ (v : View). v.mine) c.gather.ensures.joined ∙ i.3.0, ap (λ (v : View). v.places) c.gather.ensures.joined ∙ i.3.1),
       items,
       omega (arith, i.5),
       has_more c.loop-other.first.seat.me.0 c.in-Some.other.seat.me.0 c.gather.new.first.seat.me.0 all now was c.gather.ensures.joined (sym one) i.6

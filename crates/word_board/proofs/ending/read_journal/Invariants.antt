@@ -1,7 +1,7 @@
 use Rattle.std.proofs.Common.{◌≡◌, ◌≤◌, List, take, vec_len, vec_capacity}
 use Rattle.std.specs.Mem.Slots.{slots_items}
 use Rattle.transfer_table.specs.declared.entry.Entry.{Entry}
-use Rattle.board_rule.specs.Words.{room}
+use Rattle.transfer_table.specs.Plan.{room}
 use Rattle.board_rule.specs.Ends.{Spells}
 use Rattle.word_board.proofs.ending.read_journal.Given as goal
 

@@ -31,6 +31,6 @@ returns-clause-journal c =
     let lt : 0 < length all = omega (arith, c.args.self.is_plan.some_hart, c.requires.count) in
     let same : (d : HartSeat) → first ≡ get_or all 0 d = λ d. c.remove-first.ensures.value ∙ any_default all 0 first d lt in
     is_journal_of c.args.self.plan c.args.self.is_plan v all c.finish-list.result.items c.requires.count
-    (λ d. c.gather_all.ensures.mine ∙ ap (λ (q : HartSeat). q.seat.me.0.mine) (same d))
+    (λ d. (c.gather_all.ensures.mine.0 ∙ ap (λ (q : HartSeat). q.seat.me.0.mine) (same d), c.gather_all.ensures.mine.1 ∙ ap (λ (q : HartSeat). q.seat.me.0.places) (same d)))
     (λ d x is. c.gather_all.ensures.gone x (ap (λ (q : HartSeat). is_in q.seat.me.0.marks.gone x) (same d) ∙ is))
     has c.finish-list.ensures

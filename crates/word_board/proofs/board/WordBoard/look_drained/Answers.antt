@@ -1,15 +1,16 @@
 use Rattle.std.proofs.Common.{sym, arith, subst}
 use Rattle.atomic_table.specs.Table.{Allows}
 use Rattle.transfer_table.specs.Plan.{Plan}
-use Rattle.board_rule.specs.Views.{see_drained_view}
+use Rattle.board_rule.specs.declared.view.LookKind.TheVariants as look
+use Rattle.board_rule.specs.Views.{see_drained_next}
 use Rattle.board_rule.specs.Rule.{Stands}
-use Rattle.word_board.specs.Plays.{Tells, nothing_more}
+use Rattle.word_board.specs.Plays.{Tells, noting, nothing_more}
 use Rattle.word_board.proofs.Allowed.{sees_drained}
 use Rattle.word_board.proofs.board.WordBoard.look_drained.Goals as goal
 
 pub load-requires : goal.load-requires
 load-requires c = let b = c.args.self.now in let q = c.args.seat.now in
-    let P : Plan → Type 0 = λ p. Allows (Stands p) b.table.shared.table_id.slots q.id q.me c.args.owner (λ n. n) (Tells see_drained_view nothing_more q.me) in (
+    let P : Plan → Type 0 = λ p. Allows (Stands p) b.table.shared.table_id.slots q.id q.me c.args.owner (λ n. n) (Tells (noting c.args.owner look.Look see_drained_next) nothing_more q.me) in (
       c.requires.on.board,
       omega (arith, b.wide, c.requires.site.1),
       subst P (sym b.key) (sees_drained b.plan _ q.id q.me c.requires.on.seat c.args.owner c.requires.owner c.requires.may),

@@ -7,16 +7,16 @@ use Rattle.std.proofs.lemmas.Bool.{eqb-true}
 use Rattle.std.proofs.lemmas.List.Sums.{sum_by-cons}
 use Rattle.std.proofs.lemmas.List.Filters.{sum_by-filter_both}
 use Rattle.transfer_table.specs.Plan.{Plan, IsPlan, IsSite}
-use Rattle.transfer_table.specs.Table.{TableState, row, is_home, is_new}
+use Rattle.transfer_table.specs.Table.{TableState, row, is_home}
 use Rattle.transfer_table.specs.Journal.{Reaches}
 use Rattle.transfer_table.specs.Entry.{hart_of, site_of, count_of, is_register, made_by, registers, requested}
 use Rattle.transfer_table.specs.Laws.{IsByHome}
 use Rattle.transfer_table.specs.declared.entry.Row.{Row}
-use Rattle.transfer_table.specs.declared.entry.Stage.{Stage}
 use Rattle.transfer_table.specs.declared.entry.Stage.TheVariants.{New}
 use Rattle.transfer_table.specs.declared.entry.Entry.{Entry}
-use Rattle.transfer_table.specs.declared.entry.Entry.TheVariants.{Register, Request, Enter, Yield, Unregister}
-use Rattle.transfer_table.proofs.Balance.{legal_balance, legal_by_home, legal_counts}
+use Rattle.transfer_table.specs.declared.entry.Entry.TheVariants.{Register, Request, Enter, Yield, Unregister, Skip}
+use Rattle.transfer_table.proofs.Balance.{legal_balance, legal_by_home}
+use Rattle.transfer_table.proofs.Begins.{legal_begins}
 use Rattle.transfer_table.proofs.Stages.{legal_blank}
 
 pub is_home-some : (o : Option ℕ) (h : ℕ) → is_home o h ≡ true → o ≡ Some h
@@ -33,6 +33,7 @@ not_asked t x h (Request g s k) home by other = rw (ne_eqb s x (λ z. other (let
 not_asked t x h (Enter g s) home by other = none_asked (eqb s x) 0 refl
 not_asked t x h (Yield g s) home by other = none_asked (eqb s x) 0 refl
 not_asked t x h (Unregister g s) home by other = none_asked (eqb s x) 0 refl
+not_asked t x h (Skip g s) home by other = none_asked (eqb s x) 0 refl
 
 -- all requests of a site are its home's
 requested_by_home : (t : TableState) (x h : ℕ) → (row t x).home ≡ Some h → (es : List Entry) → All (IsByHome t) es → requested x (made_by h es) ≡ requested x es
@@ -57,7 +58,7 @@ fewer f h es = let both = sum_by-filter_both (λ (e : Entry). hart_of e == h) (�
 -- nobody has registered a new site, or asked for it
 pub new_untouched : (p : Plan) → IsPlan p → (es : List Entry) (t : TableState) → Reaches p es t → (x h : ℕ) → IsSite p x → (row t x).stage ≡ New → (registers x (made_by h es) ≡ 0) × (requested x (made_by h es) ≡ 0)
 new_untouched p plan es t leads x h site new =
-    let came : registers x es ≡ 0 = (legal_counts p plan es t leads x site).came ∙ ap (λ (g : Stage). if is_new g then 0 else 1) new in
+    let came : registers x es ≡ 0 = let z = ((legal_begins p plan es t leads x site).fresh new).0 in omega arith in
     let asked : requested x es ≡ 0 = sym (legal_balance p plan es t leads x site).asked ∙ ap (λ (r : Row). r.asked) (legal_blank p plan es t leads x site new) in
     let a = fewer (λ (e : Entry). cond (if site_of e == x then is_register e else false) 1 0) h es in
     let b = fewer (λ (e : Entry). if site_of e == x then count_of e else 0) h es in (omega arith, omega arith)

@@ -1,0 +1,5 @@
+pub mod Words
+pub mod Counts
+pub mod Places
+pub mod Shown
+pub mod Sets

@@ -1,0 +1,69 @@
+//! The words of sites and of entries as numbers.
+ghost use Rattle.std.specs.Prelude.{◌≡◌, ◌≤◌};
+ghost use Rattle.transfer_table.specs.Plan.{most_sites};
+ghost use Rattle.transfer_table.specs.Entry.{hart_of, count_of, site_of};
+ghost use Rattle.hart_port.specs.Words.{is_wanted};
+ghost use Rattle.board_words.specs.Words.{spelled};
+
+use transfer_table::Entry;
+
+/// The claimed, the closing and the closed bit of a site's word.
+pub const CLAIMED: u64 = 1;
+
+pub const CLOSING: u64 = 2;
+
+pub const CLOSED: u64 = 4;
+
+/// One wish, and one hart that a site's word counts: on its way in, or a guest.
+pub const WISH: u64 = 256;
+
+pub const GUEST: u64 = 65536;
+
+// One hart, one of a count, and one site in the word of an entry.
+const HART: u64 = 8;
+
+const COUNT: u64 = 256;
+
+const SITE: u64 = 65536;
+
+/// Whether a site's word shows a wish that a hart may meet.
+pub fn is_wanted(word: u64) -> bool
+    ensures { result ≡ is_wanted word }
+{
+    word % 2 == 1 && word / 2 % 2 != 1 && word / 4 % 2 != 1 && word / WISH % 256 != 0
+}
+
+/// The word that spells the entry.
+pub fn word_of(entry: Entry) -> u64
+    ensures { result ≡ spelled entry }
+{
+    match entry {
+        Entry::Register { hart, site } => 1 + HART * hart as u64 + SITE * site as u64,
+        Entry::Request { hart, site, count } => {
+            2 + HART * hart as u64 + COUNT * count as u64 + SITE * site as u64
+        }
+        Entry::Enter { hart, site } => 3 + HART * hart as u64 + SITE * site as u64,
+        Entry::Yield { hart, site } => 4 + HART * hart as u64 + SITE * site as u64,
+        Entry::Unregister { hart, site } => 5 + HART * hart as u64 + SITE * site as u64,
+        Entry::Skip { hart, site } => 6 + HART * hart as u64 + SITE * site as u64,
+    }
+}
+
+/// The entry that the word spells.
+pub fn entry_of(word: u64) -> Entry
+    requires { (e : Entry) × (hart_of e ≤ 31) × (count_of e ≤ 255) × (site_of e ≤ most_sites)
+        × (word ≡ spelled e) }
+    ensures { (hart_of result ≤ 31) × (count_of result ≤ 255) × (word ≡ spelled result) }
+{
+    let hart = (word / HART % 32) as u8;
+    let count = (word / COUNT % 256) as u8;
+    let site = (word / SITE) as u16;
+    match word % 8 {
+        1 => Entry::Register { hart, site },
+        2 => Entry::Request { hart, site, count },
+        3 => Entry::Enter { hart, site },
+        4 => Entry::Yield { hart, site },
+        5 => Entry::Unregister { hart, site },
+        _ => Entry::Skip { hart, site },
+    }
+}
