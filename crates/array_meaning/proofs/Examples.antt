@@ -1,10 +1,11 @@
 -- Small programs, and what the definitions make of them.
-use Rattle.std.proofs.Common.{◌≡◌, ℕ, List, [], ◌∷◌, ℤ, pos, false, Some, refl}
+use Rattle.std.proofs.Common.{◌≡◌, ℕ, List, [], ◌∷◌, ℤ, pos, true, false, Some, refl}
 use Rattle.std.specs.Prelude.{IsTrue}
 use Rattle.std.specs.Int.{int_wrap}
 use Rattle.array_tree.specs.declared.tree.Op.TheVariants.{Add, Mul}
-use Rattle.array_tree.specs.Trees.{Number, Var, Binary, Statement, Assign, For, If, Par, Team, Sequence, ended, followed, Sequences, no_more, beside, Declaration, ProgramTree}
+use Rattle.array_tree.specs.Trees.{Number, Var, Read, Binary, Statement, Assign, For, If, Par, Team, Sequence, ended, followed, Sequences, no_more, beside, Declaration, ProgramTree}
 use Rattle.array_meaning.specs.Work.{final_store}
+use Rattle.array_meaning.specs.Entered.{entered_of}
 use Rattle.array_meaning.specs.Plans.{plan_of}
 use Rattle.array_meaning.specs.Sites.{branch_works}
 use Rattle.array_meaning.specs.Overlap.{overlap}
@@ -97,3 +98,16 @@ outside-index = refl
 -- for k in 0..1048575 { }
 long_loop-units : units_of (alone (For 1 k (pos 0) (pos 1048575) ended)) ≡ 1048576
 long_loop-units = refl
+
+-- array a[2]; if a[0] { par { { par { { } } } } } else { par { { a[1] = 4; } } }
+abbrev under_if : ProgramTree
+under_if = record {
+  arrays = declared a (pos 2) ∷ [];
+  body = alone (If 1 (Read a (Number (pos 0))) (alone (Par 1 (beside (alone (Par 1 (beside ended no_more))) no_more))) (alone (Par 1 (beside (alone (assign (pos 1) (pos 4))) no_more))));
+}
+
+under_if-plan : plan_of under_if ≡ 0 ∷ 1 ∷ 0 ∷ []
+under_if-plan = refl
+
+under_if-entered : entered_of under_if ≡ false ∷ false ∷ true ∷ []
+under_if-entered = refl

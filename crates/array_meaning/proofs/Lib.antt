@@ -13,3 +13,6 @@ pub mod CellLemmas
 pub mod InsideLemmas
 pub mod BelowLemmas
 pub mod KnownLemmas
+pub mod EnteredLemmas
+pub mod EnterAlone
+pub mod NestingLemmas

@@ -10,7 +10,7 @@ use Rattle.array_meaning.specs.Members.{first_of, member_work, member_works}
 use Rattle.array_meaning.proofs.StepLemmas.{followed_by_assoc}
 
 -- a loop is cut anywhere
-turns_add : (body : ℤ → Steps) (low : ℤ) (a b : ℕ) → turns body low (a + b) ≡ followed_by (turns body low a) (turns body (low +ℤ pos a) b)
+pub turns_add : (body : ℤ → Steps) (low : ℤ) (a b : ℕ) → turns body low (a + b) ≡ followed_by (turns body low a) (turns body (low +ℤ pos a) b)
 turns_add body low zero b =
     let none : zero + b ≡ b = omega arith in
     let same : low +ℤ pos 0 ≡ low = omega (arith, ints) in

@@ -17,7 +17,7 @@ concat (p ∷ ps) = p ++ concat ps
 
 module _ (arrays : Arrays) (sizes : (name : List ℕ) → 0 < length_of arrays name) where
   -- what is apart from each is apart from all of them together
-  separate_join : (w : Bool) (a : Steps) (bs : List Steps) (c : ℕ) → IsSeparateFrom arrays a bs → changes_of arrays a c → Touches arrays w (walk arrays (join bs)) c → ⊥
+  pub separate_join : (w : Bool) (a : Steps) (bs : List Steps) (c : ℕ) → IsSeparateFrom arrays a bs → changes_of arrays a c → Touches arrays w (walk arrays (join bs)) c → ⊥
   separate_join w a [] c apart changed touched = touched
   separate_join w a (b ∷ bs) c apart changed touched =
       ⊎_elim

@@ -1,15 +1,16 @@
 -- The laws of the meaning.
-use Rattle.std.specs.Prelude.{◌≡◌, ◌↔◌, ℕ, ◌<◌, true, false, List, [], map, length, ℤ}
-use Rattle.array_tree.specs.Trees.{Par, Sequence, Sequences, ProgramTree}
+use Rattle.std.specs.Prelude.{◌≡◌, ◌↔◌, ℕ, ◌+◌, ◌<◌, true, false, List, [], map, length, ℤ}
+use Rattle.array_tree.specs.Trees.{Statement, Par, Sequence, Sequences, ProgramTree}
 use Rattle.array_meaning.specs.Stores.{Arrays, Vars, Store, HaveCells, at_cell}
 use Rattle.array_meaning.specs.Steps.{Steps, join, writes_of}
-use Rattle.array_meaning.specs.Work.{Work, loop, statement_work}
+use Rattle.array_meaning.specs.Work.{Work, loop, statement_work, sequence_work}
 use Rattle.array_meaning.specs.Touch.{IsApart, reads_of}
 use Rattle.array_meaning.specs.Overlap.{overlaps, overlap, IsClash, IsLeastClash}
 use Rattle.array_meaning.specs.Members.{team_works}
 use Rattle.array_meaning.specs.Sites.{branch_works, sequence_sites}
 use Rattle.array_meaning.specs.Pieces.{merged, piece_of, last_writes, HaveSameMembers}
-use Rattle.array_meaning.specs.Plans.{plan_of, sites_in, AreEarlier}
+use Rattle.array_meaning.specs.Plans.{plan_of, sites_in, AreEarlier, AreOutside, StayInside, Parents, repeated, statement_parents, sequence_parents, branches_parents, phases_parents}
+use Rattle.array_meaning.specs.Entered.{sequence_entered, branches_entered, loop_entered, DependsOnReads, branches_alone, team_alone}
 
 -- What steps write depends only on what they read: from two stores that agree on the cells they read, they write the
 -- same.
@@ -77,3 +78,44 @@ PlansAreRight = (program : ProgramTree) → IsPlanOf program (plan_of program)
 abbrev pub SitesArePlanned : Type 0
 SitesArePlanned = (body : Sequence) (vars : Vars)
     → length (sequence_sites body vars) ≡ sites_in body
+
+-- Of each site of the plan it is told whether the meaning enters it.
+abbrev pub EnteredSitesAreCounted : Type 0
+EnteredSitesAreCounted = (arrays : Arrays) (body : Sequence) (vars : Vars) (store : Store)
+    → length (sequence_entered arrays body vars store) ≡ sites_in body
+
+-- Which sites a part enters depends only on what it reads: from two stores that agree on these cells it enters the
+-- same.
+abbrev pub EnteredDependsOnReads : Type 0
+EnteredDependsOnReads =
+    (arrays : Arrays) → HaveCells arrays → (body : Sequence) (vars : Vars)
+    → DependsOnReads arrays (sequence_work body vars) (sequence_entered arrays body vars)
+
+-- So branches that are apart enter, each from the store of the `par`, what they enter one after another.
+abbrev pub BranchesEnterAlone : Type 0
+BranchesEnterAlone =
+    (arrays : Arrays) → HaveCells arrays → (branches : Sequences) (vars : Vars) (store : Store) →
+    IsApart arrays (branch_works branches vars)
+    → branches_entered arrays branches vars store ≡ branches_alone arrays branches vars store
+
+-- And so do the members of one phase: what the loop over all iterations enters.
+abbrev pub MembersEnterAlone : Type 0
+MembersEnterAlone = (arrays : Arrays) → HaveCells arrays
+    → (var : List ℕ) (low high : ℤ) (members : ℕ) (body : Sequence) (vars : Vars)
+    (store : Store) → 0 < members →
+    IsApart arrays (team_works var low high members (sequence_work body) vars)
+    → loop_entered arrays var low high (sequence_work body) (sequence_entered arrays body) vars store
+    ≡ team_alone arrays var low high members body vars store
+
+-- The sites of every part of a program are inside the construct around it or inside each other.
+pub record StayInsideParts : Type 0 where
+  pub statements : (s : Statement) → StayInside (statement_parents s)
+  pub sequences : (s : Sequence) → StayInside (sequence_parents s)
+  pub turns : (n : ℕ) (s : Sequence) → StayInside (repeated n (sequence_parents s))
+  pub branches : (bs : Sequences) → StayInside (branches_parents bs)
+  pub phases : (bs : Sequences) (n : ℕ) → StayInside (phases_parents bs n)
+
+-- So where parts follow one another, no site of a later one is inside one of an earlier.
+abbrev pub LaterPartsAreOutside : Type 0
+LaterPartsAreOutside = (part : Parents) → StayInside part → (around first n : ℕ) → around < first
+    → AreOutside first n (part around (first + n))

@@ -8,6 +8,7 @@ pub mod Members
 pub mod Sites
 pub mod Overlap
 pub mod Plans
+pub mod Entered
 pub mod Pieces
 pub mod Names
 pub mod Limits

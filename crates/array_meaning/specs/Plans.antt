@@ -1,6 +1,6 @@
 -- The plan of a program: the parent of each site, in the order in which the meaning enters them. Site s stands at
 -- place s - 1; the parent is the innermost construct around, 0 for none. Bounds are literals, so no store is needed.
-use Rattle.std.specs.Prelude.{ℕ, zero, suc, ◌+◌, ◌*◌, ◌<◌, List, [], ◌∷◌, ◌++◌, length}
+use Rattle.std.specs.Prelude.{◌≡◌, ℕ, zero, suc, ◌+◌, ◌*◌, ◌<◌, ◌≤◌, ◌⊎◌, List, [], ◌∷◌, ◌++◌, length}
 use Rattle.array_tree.specs.Trees.{Statement, Assign, For, If, Par, Team, Sequence, ended, followed, Sequences, no_more, beside, ProgramTree}
 use Rattle.array_meaning.specs.Work.{span}
 
@@ -78,3 +78,19 @@ abbrev mutual
 abbrev pub AreEarlier : ℕ → List ℕ → Type 0
 AreEarlier next [] = Unit {0}
 AreEarlier next (parent ∷ more) = (parent < next) × AreEarlier (next + 1) more
+
+-- Each of these parents is the construct around, or a site from this one on.
+abbrev pub AreInside : ℕ → ℕ → List ℕ → Type 0
+AreInside around first [] = Unit {0}
+AreInside around first (parent ∷ more) =
+    ((parent ≡ around) ⊎ (first ≤ parent)) × AreInside around first more
+
+-- None of these parents is one of the n sites from this one on.
+abbrev pub AreOutside : ℕ → ℕ → List ℕ → Type 0
+AreOutside first n [] = Unit {0}
+AreOutside first n (parent ∷ more) =
+    ((parent < first) ⊎ (first + n ≤ parent)) × AreOutside first n more
+
+-- The sites of a part are inside the construct around it or inside each other.
+abbrev pub StayInside : Parents → Type 0
+StayInside part = (around next : ℕ) → AreInside around next (part around next)

@@ -3,7 +3,7 @@
 //! The crate holds definitions and laws. No code here runs: each function's contract is a law, and its body is empty.
 #![tactic(auto)]
 
-ghost use Rattle.array_meaning.specs.Laws.{WritesDependOnReads, ArePiecesIndependent, AreBranchesIndependent, AreMembersIndependent, ApartIsTested, ClashesAreTested, LeastClashIsTold, PlansAreRight, SitesArePlanned};
+ghost use Rattle.array_meaning.specs.Laws.{WritesDependOnReads, ArePiecesIndependent, AreBranchesIndependent, AreMembersIndependent, ApartIsTested, ClashesAreTested, LeastClashIsTold, PlansAreRight, SitesArePlanned, EnteredSitesAreCounted, EnteredDependsOnReads, BranchesEnterAlone, MembersEnterAlone, StayInsideParts, LaterPartsAreOutside};
 
 /// What steps write depends only on what they read.
 pub fn writes_depend_on_reads()
@@ -48,4 +48,34 @@ pub fn plans_are_right()
 /// The sites that are checked for overlaps are as many as those of the plan.
 pub fn sites_are_planned()
     ensures { SitesArePlanned }
+{}
+
+/// Of each site of the plan it is told whether the meaning enters it.
+pub fn entered_sites_are_counted()
+    ensures { EnteredSitesAreCounted }
+{}
+
+/// Which sites a part enters depends only on what it reads.
+pub fn entered_depends_on_reads()
+    ensures { EnteredDependsOnReads }
+{}
+
+/// So branches that are apart enter what they enter one after another, each from the one store.
+pub fn branches_enter_alone()
+    ensures { BranchesEnterAlone }
+{}
+
+/// And so do the members of one phase of a `team`.
+pub fn members_enter_alone()
+    ensures { MembersEnterAlone }
+{}
+
+/// The sites of every part of a program are inside the construct around it or inside each other.
+pub fn parts_stay_inside()
+    ensures { StayInsideParts }
+{}
+
+/// Where parts follow one another, no site of a later one is inside one of an earlier.
+pub fn later_parts_are_outside()
+    ensures { LaterPartsAreOutside }
 {}

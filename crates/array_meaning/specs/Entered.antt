@@ -1,0 +1,97 @@
+-- Which sites the meaning enters. Both sides of an `if` have their sites in the plan, and the meaning enters those of one side.
+use Rattle.std.specs.Prelude.{◌≡◌, ℕ, zero, suc, ◌+◌, Bool, true, false, if◌then◌else◌, List, [], ◌∷◌, ◌++◌, length, replicate, ℤ, pos, ◌+ℤ◌}
+use Rattle.array_tree.specs.Trees.{Statement, Assign, For, If, Par, Team, Sequence, ended, followed, Sequences, no_more, beside, ProgramTree}
+use Rattle.array_meaning.specs.Values.{holds}
+use Rattle.array_meaning.specs.Stores.{Arrays, Vars, Store, arrays_of, value_of, at_cell}
+use Rattle.array_meaning.specs.Steps.{Steps, exec}
+use Rattle.array_meaning.specs.Work.{span, loop, statement_work, sequence_work, first_store}
+use Rattle.array_meaning.specs.Plans.{sites_in}
+use Rattle.array_meaning.specs.Touch.{reads_of}
+use Rattle.array_meaning.specs.Members.{start_of}
+
+-- Of each site of a part of a program, in the order of the plan, whether the meaning enters it from a store.
+abbrev pub Entering : Type 0
+Entering = Store → List Bool
+
+-- Of one part, and then of the next from the store that the first one leaves.
+abbrev pub entered_then : Arrays → Steps → Entering → Entering → Entering
+entered_then arrays steps first rest store = first store ++ rest (exec arrays steps store)
+
+-- Of so many turns.
+abbrev pub turns_entered : Arrays → (ℤ → Steps) → (ℤ → Entering) → ℤ → ℕ → Entering
+turns_entered arrays work body low zero store = []
+turns_entered arrays work body low (suc n) store = entered_then arrays (work low) (body low)
+    (turns_entered arrays work body (low +ℤ pos 1) n) store
+
+abbrev pub loop_entered : Arrays → List ℕ → ℤ → ℤ → (Vars → Steps) → (Vars → Entering) → Vars
+    → Entering
+loop_entered arrays var low high work body vars store =
+    turns_entered arrays (λ x. work ((var, x) ∷ vars)) (λ x. body ((var, x) ∷ vars)) low
+    (span low high) store
+
+-- Of an `if` those of the side that runs may be entered, and none of the other's.
+abbrev mutual
+  pub statement_entered : Arrays → Statement → Vars → Entering
+  statement_entered arrays (Assign line array index value) vars store = []
+  statement_entered arrays (For line var low high body) vars store =
+      loop_entered arrays var low high (sequence_work body) (sequence_entered arrays body) vars store
+  statement_entered arrays (If line cond then_block else_block) vars store =
+      if holds (value_of arrays vars cond store)
+      then sequence_entered arrays then_block vars store ++ replicate (sites_in else_block) false
+      else replicate (sites_in then_block) false ++ sequence_entered arrays else_block vars store
+  statement_entered arrays (Par line branches) vars store =
+      true ∷ branches_entered arrays branches vars store
+  statement_entered arrays (Team line var low high members phases) vars store =
+      true ∷ phases_entered arrays phases var low high vars store
+
+  pub sequence_entered : Arrays → Sequence → Vars → Entering
+  sequence_entered arrays ended vars store = []
+  sequence_entered arrays (followed first rest) vars store =
+      entered_then arrays (statement_work first vars) (statement_entered arrays first vars)
+      (sequence_entered arrays rest vars) store
+
+  -- Branches run from left to right.
+  pub branches_entered : Arrays → Sequences → Vars → Entering
+  branches_entered arrays no_more vars store = []
+  branches_entered arrays (beside first rest) vars store =
+      entered_then arrays (sequence_work first vars) (sequence_entered arrays first vars)
+      (branches_entered arrays rest vars) store
+
+  -- Phases run one after another, each a loop.
+  pub phases_entered : Arrays → Sequences → List ℕ → ℤ → ℤ → Vars → Entering
+  phases_entered arrays no_more var low high vars store = []
+  phases_entered arrays (beside first rest) var low high vars store =
+      entered_then arrays (loop var low high (sequence_work first) vars)
+      (loop_entered arrays var low high (sequence_work first) (sequence_entered arrays first) vars)
+      (phases_entered arrays rest var low high vars) store
+
+-- Of each site of a program, that of site s at place s - 1.
+abbrev pub entered_of : ProgramTree → List Bool
+entered_of program =
+    let arrays = arrays_of program.arrays in
+    sequence_entered arrays program.body [] (first_store arrays)
+
+-- It takes nothing of a store but the cells that steps read.
+abbrev pub DependsOnReads : Arrays → Steps → Entering → Type 0
+DependsOnReads arrays steps entering = (a b : Store) → length a ≡ length b
+    → ((cell : ℕ) → reads_of arrays steps cell → at_cell a cell ≡ at_cell b cell)
+    → entering a ≡ entering b
+
+-- What the branches enter, each from the one store.
+abbrev pub branches_alone : Arrays → Sequences → Vars → Entering
+branches_alone arrays no_more vars store = []
+branches_alone arrays (beside first rest) vars store =
+    sequence_entered arrays first vars store ++ branches_alone arrays rest vars store
+
+-- What so many of the m members enter in a phase, from member j on: each from the one store, over its own iterations.
+abbrev pub members_alone : Arrays → List ℕ → ℤ → ℤ → ℕ → Sequence → ℕ → ℕ → Vars → Entering
+members_alone arrays var low high m body j zero vars store = []
+members_alone arrays var low high m body j (suc k) vars store =
+    loop_entered arrays var (start_of low high m j) (start_of low high m (j + 1))
+    (sequence_work body) (sequence_entered arrays body) vars store
+    ++ members_alone arrays var low high m body (j + 1) k vars store
+
+-- What all members enter in a phase.
+abbrev pub team_alone : Arrays → List ℕ → ℤ → ℤ → ℕ → Sequence → Vars → Entering
+team_alone arrays var low high m body vars store =
+    members_alone arrays var low high m body 0 m vars store

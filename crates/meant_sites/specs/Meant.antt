@@ -1,0 +1,37 @@
+-- The accounts of a program's sites: where parts of its plan stand, and what is complete.
+use Rattle.std.specs.Prelude.{◌≡◌, ℕ, ◌+◌, ◌<◌, List, ◌++◌, length}
+use Rattle.transfer_table.specs.Plan.{Plan, IsPlan}
+use Rattle.transfer_table.specs.Table.{TableState}
+use Rattle.transfer_table.specs.Journal.{Reaches, IsComplete}
+use Rattle.transfer_table.specs.declared.entry.Entry.{Entry}
+use Rattle.site_accounts.specs.Accounts.{AreOverAs, IsSpan}
+use Rattle.array_tree.specs.Trees.{ProgramTree}
+use Rattle.array_meaning.specs.Plans.{plan_of, AreInside, AreOutside}
+use Rattle.array_meaning.specs.Entered.{entered_of}
+
+-- From the site s on the plan has the parents of a part inside the site `around`, and no site behind it is inside the part.
+pub record HasPartFrom (p : Plan) (around s : ℕ) (part : List ℕ) : Type 0 where
+  pub before : List ℕ
+  pub after : List ℕ
+  pub place : length before + 1 ≡ s
+  pub is : p.parents ≡ before ++ (part ++ after)
+  pub below : around < s
+  pub inside : AreInside around s part
+  pub behind : AreOutside s (length part) after
+
+-- The sites of a part are whole subtrees inside the site around it.
+abbrev pub PartsAreSpans : Type 0
+PartsAreSpans = (p : Plan) (around s : ℕ) (part : List ℕ) → HasPartFrom p around s part
+    → IsSpan p around s (length part)
+
+-- The whole program is such a part, inside the base.
+abbrev pub ProgramsAreParts : Type 0
+ProgramsAreParts = (program : ProgramTree) (p : Plan) → p.parents ≡ plan_of program
+    → HasPartFrom p 0 1 (plan_of program)
+
+-- A legal list at whose end each site of a program is over as the meaning enters it is complete.
+abbrev pub EnteredIsComplete : Type 0
+EnteredIsComplete = (program : ProgramTree) (p : Plan) (es : List Entry) (t : TableState)
+    → p.parents ≡ plan_of program → IsPlan p → Reaches p es t
+    → AreOverAs p es 1 (entered_of program)
+    → IsComplete p (entered_of program) es

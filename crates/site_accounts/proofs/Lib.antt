@@ -1,0 +1,4 @@
+pub mod Algebra
+pub mod Touches
+pub mod Ends
+pub mod Spans

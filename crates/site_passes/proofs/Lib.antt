@@ -1,0 +1,4 @@
+pub mod Counts
+pub mod Goes
+pub mod Jobs
+pub mod Fits

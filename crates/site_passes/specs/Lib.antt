@@ -1,0 +1,4 @@
+pub mod Works
+pub mod Passes
+pub mod Entering
+pub mod Right

@@ -1,0 +1,45 @@
+//! How a machine passes sites, where both sides of an `if` may have some: what it leaves behind, which sites a hart is told
+//! to skip, and which are still to be entered.
+//!
+//! The crate holds definitions and laws. No code here runs: each function's contract is a law, and its body is empty.
+#![tactic(auto)]
+
+ghost use Rattle.site_passes.specs.Works.{SitesArePassed};
+ghost use Rattle.site_passes.specs.Passes.{PassesAreWithin};
+ghost use Rattle.site_passes.specs.Right.{FitWorksMove};
+ghost use Rattle.site_passes.specs.Entering.{RestIsCounted, StepsPassSites, SuppliesPassSites, JobsEnterTheConstruct};
+
+/// A step passes what sites it takes from those that are left.
+pub fn sites_are_passed()
+    ensures { SitesArePassed }
+{}
+
+/// The sites that a hart is told of are some of those that are left.
+pub fn passes_are_within()
+    ensures { PassesAreWithin }
+{}
+
+/// Of each site that is left it is told whether it is still entered.
+pub fn rest_is_counted()
+    ensures { RestIsCounted }
+{}
+
+/// A step that hands out no construct passes only sites that aren't entered.
+pub fn steps_pass_sites()
+    ensures { StepsPassSites }
+{}
+
+/// A construct is entered with what it enters inside.
+pub fn supplies_pass_sites()
+    ensures { SuppliesPassSites }
+{}
+
+/// A construct that is handed out is entered, and inside it what its jobs enter, phase after phase.
+pub fn jobs_enter_the_construct()
+    ensures { JobsEnterTheConstruct }
+{}
+
+/// A step leaves fit works fit.
+pub fn fit_works_move()
+    ensures { FitWorksMove }
+{}

@@ -1,0 +1,162 @@
+-- A step that leaves the words: a look.
+use Rattle.std.proofs.Common.{◌≡◌, ℕ, ◌/◌, ◌%◌, ◌<◌, ◌≤◌, Bool, true, false, if◌then◌else◌, ◌==◌, List, length, set, slice_index, refl, sym, ap, ◌∙◌, subst, arith, ⊎_elim, length-set}
+use mathlib.Core.Option.{some}
+use lib.ListN.{get_elem?}
+use Rattle.std.proofs.lemmas.Bool.{eqb-true}
+use Rattle.std.proofs.lemmas.List.{set-get_or}
+use Rattle.atomic_table.proofs.Lists.{at_set}
+use Rattle.transfer_table.specs.Plan.{Plan, IsPlan, IsSite, parent}
+use Rattle.transfer_table.specs.Table.{TableState, row}
+use Rattle.transfer_table.specs.declared.entry.Stage.TheVariants.{Gone}
+use Rattle.transfer_table.proofs.Balance.{legal_wishes}
+use Rattle.hart_port.specs.PortView.{is_in, with_site, without}
+use Rattle.hart_port.specs.Words.{is_closed, flight_of}
+use Rattle.guest_counts.specs.Guests.{guests_in}
+use Rattle.wide_rule.specs.declared.view.View.{View}
+use Rattle.wide_rule.specs.declared.view.Marks.{Marks}
+use Rattle.wide_rule.specs.declared.view.Look.{Look}
+use Rattle.wide_rule.specs.declared.view.Doing.{Doing}
+use Rattle.wide_rule.specs.declared.view.Doing.TheVariants.{Idle}
+use Rattle.wide_rule.specs.Counts.{draws, numbered, load, guests}
+use Rattle.wide_rule.specs.Views.{glance_view, see_gone_view, see_empty_view, gone_marks}
+use Rattle.board_words.specs.Shown.{shown}
+use Rattle.wide_rule.specs.Rule.{Stands, Knows, KnowsSites, IsSeat, DoesRight}
+use Rattle.wide_rule.specs.Steps.{IsReady, MaySeeEmpty}
+use Rattle.wide_rule.specs.Laws.{St, after_step, Keeps}
+use Rattle.board_words.proofs.Shown.{shown-wishes, row-gone}
+use Rattle.board_words.proofs.Totals.{total-same}
+use Rattle.wide_rule.proofs.Loads.{load-same}
+use Rattle.board_words.proofs.Sets.{with_site-in, without-in}
+use Rattle.wide_rule.proofs.SiteWords.{fields, closed_gone}
+use Rattle.board_words.proofs.Places.{place_at}
+use Rattle.wide_rule.proofs.SiteSteps.{guests-load, sites_other, knows_other}
+
+-- a plan has at most 16 harts
+pub few_harts : (p : Plan) → IsPlan p → p.harts ≤ 16
+few_harts p plan = let few = plan.few_harts in omega arith
+
+-- so a site has few wishes
+pub few_wishes : (p : Plan) (s : St) (k : Stands p s) (x : ℕ) → IsSite p x → (shown k.journal k.table x).wishes ≤ 255
+few_wishes p s k x site = let w = shown-wishes p k.plan k.journal k.table k.legal x site in let l = legal_wishes p k.plan k.journal k.table k.legal x site in let few = few_harts p k.plan in omega (arith, l.0, l.1)
+
+-- the seat knows other sites, or has one more look, and no word has changed
+pub look_step : (p : Plan) (s : St) (k : Stands p s) (id : ℕ) (v : View) (m : Marks) (ls : List Look) (i n : ℕ) → get_elem? s.views id ≡ some v → IsSeat v → v.doing ≡ Idle → n ≡ slice_index s.words i
+    → KnowsSites p k.table v.hart m k.closing (guests p k.table s.views)
+    → Keeps p s k (after_step s i n id (record v { marks = m; looks = ls }))
+look_step p s k id v m ls i n at seat idle is knows =
+    let w : View = record v { marks = m; looks = ls } in
+    let me = (k.views id v at seat).itself in
+    let load_same : (y : ℕ) → load y (set s.views id w) ≡ load y s.views = λ y. load-same y s.views id v w at refl in
+    let flown : (y : ℕ) → k.closing y ≡ true → guests p k.table s.views y ≡ 0 → guests p k.table (set s.views id w) y ≡ 0 = λ y _ none. guests-load p k.table s.views (set s.views id w) y (load_same y) ∙ none in
+    let R : Doing → Type 0 = λ d. DoesRight p k.journal k.table w d in
+    let P : List ℕ → Type 0 = λ ws. Keeps p s k record { words = ws; homes = s.homes; views = set s.views id w } in
+    let same : s.words ≡ set s.words i n = sym (ap (set s.words i) is ∙ set-get_or s.words i 0) in
+    subst P same (
+      record {
+        journal = k.journal;
+        table = k.table;
+        made = k.made;
+        ended = k.ended;
+        closing = k.closing;
+        plan = k.plan;
+        wide = k.wide;
+        legal = k.legal;
+        clock = k.clock;
+        places = λ j f there. place_at f _ _ _ _ refl (total-same (draws j) s.views id v w at refl) (k.places j f there);
+        beyond = λ j l. let r = k.beyond j l in (r.0, total-same (draws j) s.views id v w at refl ∙ r.1);
+        sites = λ y site. rw (load_same y) (k.sites y site);
+        seats = λ h l. rw (total-same (numbered h) s.views id v w at refl) (k.seats h l);
+        first = total-same (numbered 0) s.views id v w at refl ∙ k.first;
+        unmade = k.unmade;
+        over = k.over;
+        views = λ j u there lt. ⊎_elim
+            (λ t. let Q : View → Type 0 = λ z. Knows p k.journal k.table z k.closing (guests p k.table (set s.views id w)) k.made k.ended in
+            subst Q t.1 (record {
+              itself = record { plan = me.plan; mine = me.mine; placed = me.placed; owner = me.owner; drawn = me.drawn; joined = me.joined };
+              does = subst R (sym idle) tt;
+              sites = sites_other p k.table v.hart m k.closing k.closing (guests p k.table s.views) (guests p k.table (set s.views id w)) (λ y z. z) flown knows;
+            }))
+            (λ t. knows_other p k.journal k.table u k.closing k.closing (guests p k.table s.views) (guests p k.table (set s.views id w)) k.made k.ended (λ y z. z) flown (k.views j u t.1 lt))
+            (at_set s.views id j w u there);
+        spent = λ j u there not. ⊎_elim (λ t. absurd (not (subst IsSeat t.1 seat))) (λ t. k.spent j u t.1 not) (at_set s.views id j w u there);
+      },
+      refl,
+      refl,
+    )
+
+-- ---- a look that only notes the word
+
+pub glance_keeps : (p : Plan) (s : St) (k : Stands p s) (id : ℕ) (v : View) (x : ℕ) → get_elem? s.views id ≡ some v → IsSeat v → IsReady v
+    → Keeps p s k (after_step s x (slice_index s.words x) id (glance_view x (slice_index s.words x) v))
+glance_keeps p s k id v x at seat ready = look_step p s k id v v.marks _ x _ at seat ready.0 refl (k.views id v at seat).sites
+
+-- ---- a look that sees a site gone
+
+sites_gone : (p : Plan) (t : TableState) (h : ℕ) (m : Marks) (c : ℕ → Bool) (f : ℕ → ℕ) (x : ℕ) → IsSite p x → (row t x).stage ≡ Gone → KnowsSites p t h m c f → KnowsSites p t h (gone_marks p x m) c f
+sites_gone p t h m c f x site gone k = by_case (is_in m.gone x) refl
+  where
+    inside : x < length m.gone
+    inside = let z = k.sized.gone in let high = site.1 in omega arith
+
+    seen : (y : ℕ) → is_in (with_site m.gone x) y ≡ true → IsSite p y × ((row t y).stage ≡ Gone)
+    seen y is = ⊎_elim (λ e. let Q : ℕ → Type 0 = λ q. IsSite p q × ((row t q).stage ≡ Gone) in subst Q (sym e) (site, gone)) (λ old. k.gone y old) (with_site-in m.gone x y is)
+
+    by_case : (b : Bool) → is_in m.gone x ≡ b → KnowsSites p t h (record m { gone = with_site m.gone x; empty = if b then m.empty else without m.empty (parent p x) }) c f
+    by_case true was = record {
+      sized = record { homes = k.sized.homes; closed = k.sized.closed; empty = k.sized.empty; gone = length-set m.gone x true ∙ k.sized.gone };
+      homes = k.homes;
+      homes_in = k.homes_in;
+      closed = k.closed;
+      empty = k.empty;
+      gone = seen;
+    }
+    by_case false was = record {
+      sized = record { homes = k.sized.homes; closed = k.sized.closed; empty = length-set m.empty (parent p x) false ∙ k.sized.empty; gone = length-set m.gone x true ∙ k.sized.gone };
+      homes = k.homes;
+      homes_in = k.homes_in;
+      closed = k.closed;
+      empty = λ y is. k.empty y (without-in m.empty (parent p x) y is).1;
+      gone = seen;
+    }
+
+pub see_gone_keeps : (p : Plan) (s : St) (k : Stands p s) (id : ℕ) (v : View) (x : ℕ) → get_elem? s.views id ≡ some v → IsSeat v → IsReady v → IsSite p x
+    → Keeps p s k (after_step s x (slice_index s.words x) id (see_gone_view x (slice_index s.words x) v))
+see_gone_keeps p s k id v x at seat ready site =
+    let n : ℕ = slice_index s.words x in
+    let know = (k.views id v at seat).sites in
+    let plan = (k.views id v at seat).itself.plan in
+    let Q : Plan → Type 0 = λ q. KnowsSites p k.table v.hart (if is_closed n then gone_marks q x v.marks else v.marks) k.closing (guests p k.table s.views) in
+    look_step p s k id v _ _ x n at seat ready.0 refl (subst Q (sym plan) (by_bit (is_closed n)
+    (λ closed. sites_gone p k.table v.hart v.marks k.closing (guests p k.table s.views) x site (row-gone p k.plan k.journal k.table k.legal x (closed_gone n (k.closing x) (load x s.views) (shown k.journal k.table x) (guests_in p k.table x) (few_wishes p s k x site) (k.sites x site) (eqb-true (n / 4 % 2) 1 closed))) know)
+    know))
+  where
+    by_bit : (b : Bool) → (b ≡ true → KnowsSites p k.table v.hart (gone_marks p x v.marks) k.closing (guests p k.table s.views)) → KnowsSites p k.table v.hart v.marks k.closing (guests p k.table s.views)
+        → KnowsSites p k.table v.hart (if b then gone_marks p x v.marks else v.marks) k.closing (guests p k.table s.views)
+    by_bit true new old = new refl
+    by_bit false new old = old
+
+-- ---- a look that sees the owner empty
+
+sites_empty : (p : Plan) (t : TableState) (h : ℕ) (m : Marks) (c : ℕ → Bool) (f : ℕ → ℕ) (x : ℕ) → is_in m.closed x ≡ true → f x ≡ 0 → KnowsSites p t h m c f → KnowsSites p t h (record m { empty = with_site m.empty x }) c f
+sites_empty p t h m c f x closed none k = record {
+  sized = record { homes = k.sized.homes; closed = k.sized.closed; empty = length-set m.empty x true ∙ k.sized.empty; gone = k.sized.gone };
+  homes = k.homes;
+  homes_in = k.homes_in;
+  closed = k.closed;
+  empty = λ y is. ⊎_elim (λ e. let Q : ℕ → Type 0 = λ q. (is_in m.closed q ≡ true) × (f q ≡ 0) in subst Q (sym e) (closed, none)) (λ old. k.empty y old) (with_site-in m.empty x y is);
+  gone = k.gone;
+}
+
+pub see_empty_keeps : (p : Plan) (s : St) (k : Stands p s) (id : ℕ) (v : View) → get_elem? s.views id ≡ some v → IsSeat v → MaySeeEmpty v
+    → Keeps p s k (after_step s v.owner (slice_index s.words v.owner) id (see_empty_view (slice_index s.words v.owner) v))
+see_empty_keeps p s k id v at seat may =
+    let x : ℕ = v.owner in let n : ℕ = slice_index s.words x in
+    let know = (k.views id v at seat).sites in
+    let site = know.homes_in x (know.closed x may.1).0 in
+    let f = (fields n (k.closing x) (load x s.views) (shown k.journal k.table x) (guests_in p k.table x) (few_wishes p s k x site) (k.sites x site)).shows in
+    look_step p s k id v _ _ x n at seat may.0.0 refl (by_bit (flight_of n == 0) (λ none. sites_empty p k.table v.hart v.marks k.closing (guests p k.table s.views) x may.1 (sym f ∙ eqb-true (flight_of n) 0 none) know) know)
+  where
+    by_bit : (b : Bool) → (b ≡ true → KnowsSites p k.table v.hart (record v.marks { empty = with_site v.marks.empty v.owner }) k.closing (guests p k.table s.views)) → KnowsSites p k.table v.hart v.marks k.closing (guests p k.table s.views)
+        → KnowsSites p k.table v.hart (if b then record v.marks { empty = with_site v.marks.empty v.owner } else v.marks) k.closing (guests p k.table s.views)
+    by_bit true new old = new refl
+    by_bit false new old = old

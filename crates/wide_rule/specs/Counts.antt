@@ -1,0 +1,66 @@
+-- Sums over the views of all seats: what they do at a site, and what they have drawn.
+use Rattle.std.specs.Prelude.{ℕ, ◌+◌, ◌==◌, if◌then◌else◌, List}
+use Rattle.transfer_table.specs.Plan.{Plan}
+use Rattle.transfer_table.specs.Table.{TableState}
+use Rattle.guest_counts.specs.Guests.{guests_in}
+use Rattle.board_words.specs.Counts.{total, one_if, draws_in}
+use Rattle.wide_rule.specs.declared.view.View.{View}
+use Rattle.wide_rule.specs.declared.view.Doing.{Doing}
+use Rattle.wide_rule.specs.declared.view.Doing.TheVariants.{Idle, Claiming, Crediting, Reserved, Leaving, Sealing}
+
+-- 1 for a view that has drawn the place and hasn't written its entry
+abbrev pub draws : ℕ → View → ℕ
+draws i v = draws_in v.drawn i
+
+-- 1 for the view of the hart
+abbrev pub numbered : ℕ → View → ℕ
+numbered h v = one_if (v.hart == h)
+
+-- what seats do at one site: how many are claiming it, sealing it, reserved to it and leaving it, and for how many harts they
+-- are crediting it
+pub record Load : Type 0 where
+  pub claims : ℕ
+  pub seals : ℕ
+  pub reserves : ℕ
+  pub leaves : ℕ
+  pub credits : ℕ
+
+abbrev pub no_load : Load
+no_load = record { claims = 0; seals = 0; reserves = 0; leaves = 0; credits = 0 }
+
+-- what a seat does at the site where it is busy
+abbrev pub weight : Doing → Load
+weight Idle = no_load
+weight (Claiming x) = record { claims = 1; seals = 0; reserves = 0; leaves = 0; credits = 0 }
+weight (Crediting x k) = record { claims = 0; seals = 0; reserves = 0; leaves = 0; credits = k }
+weight (Reserved x) = record { claims = 0; seals = 0; reserves = 1; leaves = 0; credits = 0 }
+weight (Leaving x) = record { claims = 0; seals = 0; reserves = 0; leaves = 1; credits = 0 }
+weight (Sealing x) = record { claims = 0; seals = 1; reserves = 0; leaves = 0; credits = 0 }
+
+-- the site where a seat is busy; 0 for none
+abbrev pub busy_at : Doing → ℕ
+busy_at Idle = 0
+busy_at (Claiming x) = x
+busy_at (Crediting x k) = x
+busy_at (Reserved x) = x
+busy_at (Leaving x) = x
+busy_at (Sealing x) = x
+
+-- what a seat does at the site
+abbrev pub part : Doing → ℕ → Load
+part d x = if busy_at d == x then weight d else no_load
+
+-- what all seats do at the site
+abbrev pub load : ℕ → List View → Load
+load x vs = record {
+  claims = total (λ v. (part v.doing x).claims) vs;
+  seals = total (λ v. (part v.doing x).seals) vs;
+  reserves = total (λ v. (part v.doing x).reserves) vs;
+  leaves = total (λ v. (part v.doing x).leaves) vs;
+  credits = total (λ v. (part v.doing x).credits) vs;
+}
+
+-- The guests that a site's word shows: the harts inside that aren't its home, and those that are reserved to it or leaving it.
+-- The latter are not inside: they are in the site's parent.
+abbrev pub guests : Plan → TableState → List View → ℕ → ℕ
+guests p t vs x = guests_in p t x + (load x vs).reserves + (load x vs).leaves

@@ -1,0 +1,37 @@
+-- The words of a board at its end.
+use Rattle.std.specs.Prelude.{◌≡◌, ℕ, ◌≤◌, ◌<◌, true, List, length, slice_index, slice_get, Some}
+use mathlib.Core.Option.{some}
+use lib.ListN.{get_elem?}
+use Rattle.transfer_table.specs.Plan.{Plan, IsSite, room}
+use Rattle.transfer_table.specs.Table.{TableState, row}
+use Rattle.transfer_table.specs.Journal.{Reaches}
+use Rattle.transfer_table.specs.Entry.{made_by}
+use Rattle.transfer_table.specs.Laws.{IsEntryOf}
+use Rattle.transfer_table.specs.declared.entry.Stage.TheVariants.{Gone}
+use Rattle.transfer_table.specs.declared.entry.Entry.{Entry}
+use Rattle.hart_port.specs.PortView.{is_in}
+use Rattle.wide_rule.specs.declared.view.View.{View}
+use Rattle.board_words.specs.declared.entries.Ended.{Ended}
+use Rattle.board_words.specs.Words.{journal_word, spelled}
+use Rattle.board_words.specs.Counts.{total, ended_as}
+use Rattle.board_words.specs.Places.{AreAt}
+
+-- the words have this journal, each entry at its place
+pub record Spells (p : Plan) (ws : List ℕ) (es : List Entry) : Type 0 where
+  pub count : slice_index ws 0 ≡ length es
+  pub few : length es ≤ room p
+  pub places : (i : ℕ) (e : Entry) → slice_get es i ≡ Some e
+      → (journal_word p ws i ≡ spelled e) × IsEntryOf p e
+
+-- all harts but 0 were joined into the view
+abbrev pub AllEnded : Plan → View → Type 0
+AllEnded p v = (h : ℕ) → 1 ≤ h → h < p.harts → 1 ≤ total (ended_as h) v.ended
+
+-- a legal list, in which hart 0 has the view's entries, and each ended hart its own; what was seen gone is gone
+pub record IsJournal (p : Plan) (v : View) (es : List Entry) : Type 0 where
+  pub table : TableState
+  pub legal : Reaches p es table
+  pub first : (made_by 0 es ≡ v.mine) × AreAt es v.mine v.places
+  pub others : (k : ℕ) (e : Ended) → get_elem? v.ended k ≡ some e
+      → (made_by e.hart es ≡ e.mine) × AreAt es e.mine e.places
+  pub gone : (x : ℕ) → is_in v.marks.gone x ≡ true → IsSite p x × ((row table x).stage ≡ Gone)

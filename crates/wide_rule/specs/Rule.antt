@@ -1,0 +1,153 @@
+-- What the words and the views stand for, between any two steps.
+use Rattle.std.specs.Prelude.{◌≡◌, ◌≢◌, ◌⊎◌, ℕ, ◌+◌, ◌*◌, ◌<◌, ◌≤◌, nat_le, Bool, true, false, List, [], length, slice_index, slice_get, Some, None}
+use Rattle.std.specs.Option.{is_some}
+use mathlib.Core.Option.{some}
+use lib.ListN.{get_elem?}
+use Rattle.atomic_table.specs.Table.{State}
+use Rattle.transfer_table.specs.Plan.{Plan, IsPlan, IsHart, IsSite, parent, site_count}
+use Rattle.transfer_table.specs.Table.{TableState, owner, row, is_gone, lives_with}
+use Rattle.transfer_table.specs.Journal.{Reaches}
+use Rattle.transfer_table.specs.Entry.{made_by}
+use Rattle.transfer_table.specs.declared.entry.Row.{Row}
+use Rattle.transfer_table.specs.declared.entry.Stage.TheVariants.{New, Live, Gone}
+use Rattle.transfer_table.specs.declared.entry.Entry.{Entry}
+use Rattle.transfer_table.specs.declared.entry.Entry.TheVariants.{Request, Yield, Unregister, Skip}
+use Rattle.hart_port.specs.PortView.{is_in}
+use Rattle.wide_rule.specs.declared.view.View.{View}
+use Rattle.wide_rule.specs.declared.view.Marks.{Marks}
+use Rattle.board_words.specs.declared.entries.Drawn.{Drawn}
+use Rattle.board_words.specs.declared.entries.Ended.{Ended}
+use Rattle.wide_rule.specs.declared.view.Doing.{Doing}
+use Rattle.wide_rule.specs.declared.view.Doing.TheVariants.{Idle, Claiming, Crediting, Reserved, Leaving, Sealing}
+use Rattle.guest_counts.specs.Guests.{guests_in}
+use Rattle.board_words.specs.Words.{width, journal_word, wish_unit, guest_unit}
+use Rattle.board_words.specs.Places.{IsPlace, AreAt, is_last}
+use Rattle.board_words.specs.Shown.{started, shown}
+use Rattle.board_words.specs.Counts.{total, one_if, ended_as}
+use Rattle.wide_rule.specs.Counts.{draws, numbered, Load, load, guests}
+use Rattle.wide_rule.specs.Views.{spent_view}
+
+-- ---- a site
+
+-- A site's word, from the row that it shows, its closing bit, what the seats do there, and how many harts are inside without
+-- being its home. The word has the claimed bit, twice the closing bit, four times the closed bit, 256 times the want and 65,536
+-- times the guests.
+pub record IsWideWord (word : ℕ) (closing : Bool) (c : Load) (r : Row) (inside : ℕ) : Type 0 where
+  pub want : ℕ
+  -- it is claimed where it isn't new or one seat is claiming it, and no two do
+  pub claimed : started r.stage + c.claims ≤ 1
+  -- a new site isn't closing
+  pub fresh : r.stage ≡ New → closing ≡ false
+  -- a gone site that was registered is closing
+  pub over : r.stage ≡ Gone → is_some r.home ≡ true → closing ≡ true
+  -- a site that isn't live has no guest: nobody is inside, on the way in, or leaving
+  pub idle : r.stage ≢ Live → inside + c.reserves + c.leaves ≡ 0
+  -- it is closed where it is gone and no seat is sealing it
+  pub sealed : c.seals ≤ one_if (is_gone r.stage)
+  -- the unmet wishes are the want, those for which a hart is reserved, and those that are not yet added to the want
+  pub wishes : want + c.reserves + c.credits ≡ r.wishes
+  pub word_is : word + 4 * c.seals ≡ started r.stage + c.claims + 2 * one_if closing
+      + 4 * one_if (is_gone r.stage) + wish_unit * want + guest_unit * (inside + c.reserves + c.leaves)
+
+-- ---- what a seat knows
+
+-- a seat that was not joined away
+abbrev pub IsSeat : View → Type 0
+IsSeat v = v.hart < v.plan.harts
+
+-- each set has a flag for the base and for each site
+pub record HasFlags (p : Plan) (m : Marks) : Type 0 where
+  pub homes : length m.homes ≡ site_count p + 1
+  pub closed : length m.closed ≡ site_count p + 1
+  pub empty : length m.empty ≡ site_count p + 1
+  pub gone : length m.gone ≡ site_count p + 1
+
+-- each child of the site is among those that were seen gone
+abbrev pub SawChildren : Plan → Marks → ℕ → Type 0
+SawChildren p m x = (c : ℕ) → IsSite p c → parent p c ≡ x → is_in m.gone c ≡ true
+
+module _ (p : Plan) (es : List Entry) (t : TableState) (v : View) where
+  -- what it is about
+  abbrev pub DoesRight : Doing → Type 0
+  DoesRight Idle = Unit {0}
+  DoesRight (Claiming x) =
+      IsSite p x × (v.owner ≡ parent p x) × ((row t x).stage ≡ New) × (v.drawn ≡ None)
+  DoesRight (Reserved x) =
+      IsSite p x × (v.owner ≡ parent p x) × ((row t x).stage ≡ Live) × (v.drawn ≡ None)
+  DoesRight (Crediting x k) = IsSite p x × is_last v.mine (Request v.hart x k)
+  DoesRight (Leaving x) = IsSite p x × is_last v.mine (Yield v.hart x)
+  DoesRight (Sealing x) = IsSite p x × ((shown es t x).stage ≡ Gone)
+      × (is_last v.mine (Unregister v.hart x) ⊎ is_last v.mine (Skip v.hart x))
+
+  -- who it is, and what it made
+  pub record KnowsItself (made : ℕ) (ended : List Ended) : Type 0 where
+    pub plan : v.plan ≡ p
+    pub mine : v.mine ≡ made_by v.hart es
+    pub placed : AreAt es v.mine v.places
+    pub owner : v.owner ≡ owner t v.hart
+    -- the entry that it is to write stands in the journal at its place, and is the last that it made
+    pub drawn : (d : Drawn) → v.drawn ≡ Some d
+        → (slice_get es d.place ≡ Some d.entry) × is_last v.mine d.entry
+    pub joined : v.hart ≡ 0 → (v.made ≡ made) × (v.ended ≡ ended)
+
+-- what it knows of the sites
+pub record KnowsSites (p : Plan) (t : TableState) (h : ℕ) (m : Marks) (closing : ℕ → Bool)
+    (guests_of : ℕ → ℕ) : Type 0 where
+  pub sized : HasFlags p m
+  pub homes : (x : ℕ) → IsSite p x → is_in m.homes x ≡ lives_with t x h
+  pub homes_in : (x : ℕ) → is_in m.homes x ≡ true → IsSite p x
+  pub closed : (x : ℕ) → is_in m.closed x ≡ true → (is_in m.homes x ≡ true) × (closing x ≡ true)
+  -- no reserve succeeds under the closing bit, so a site that was seen empty has no guest from then on
+  pub empty : (x : ℕ) → is_in m.empty x ≡ true → (is_in m.closed x ≡ true) × (guests_of x ≡ 0)
+  pub gone : (x : ℕ) → is_in m.gone x ≡ true → IsSite p x × ((row t x).stage ≡ Gone)
+
+pub record Knows (p : Plan) (es : List Entry) (t : TableState) (v : View) (closing : ℕ → Bool)
+    (guests_of : ℕ → ℕ) (made : ℕ) (ended : List Ended) : Type 0 where
+  pub itself : KnowsItself p es t v made ended
+  pub does : DoesRight p es t v v.doing
+  pub sites : KnowsSites p t v.hart v.marks closing guests_of
+
+-- ---- the rule
+
+-- The words and the views stand for a journal, a state of the table, how many seats were made, the harts that were joined
+-- away, and the closing bit of each site.
+pub record Stands (p : Plan) (s : State (Unit {0}) View) : Type 0 where
+  pub journal : List Entry
+  pub table : TableState
+  pub made : ℕ
+  pub ended : List Ended
+  pub closing : ℕ → Bool
+  pub plan : IsPlan p
+  pub wide : length s.words ≡ width p
+  -- the journal is legal, and leads to the state
+  pub legal : Reaches p journal table
+  -- the clock is the number of entries
+  pub clock : slice_index s.words 0 ≡ length journal
+  -- each place of the journal is written, or drawn by one view; behind it nothing is
+  pub places : (i : ℕ) (e : Entry) → slice_get journal i ≡ Some e
+      → IsPlace (journal_word p s.words i) (total (draws i) s.views) e
+  pub beyond : (i : ℕ) → length journal ≤ i
+      → (journal_word p s.words i ≡ 0) × (total (draws i) s.views ≡ 0)
+  -- each site's word shows its row, its guests, and what the seats do there
+  pub sites : (x : ℕ) → IsSite p x
+      → IsWideWord (slice_index s.words x) (closing x) (load x s.views) (shown journal table x)
+      (guests_in p table x)
+  -- each hart has one seat, or was joined away, or has not been made
+  pub seats : (h : ℕ) → IsHart p h → total (numbered h) s.views + total (ended_as h) ended
+      + one_if (nat_le made h) ≡ 1
+  pub first : total (numbered 0) s.views ≡ 1
+  pub unmade : (h : ℕ) → made ≤ h → made_by h journal ≡ []
+  pub over : (k : ℕ) (e : Ended) → get_elem? ended k ≡ some e
+      → (e.mine ≡ made_by e.hart journal) × AreAt journal e.mine e.places
+  -- each seat knows what stands, and a seat that was joined away knows nothing
+  pub views : (j : ℕ) (v : View) → get_elem? s.views j ≡ some v → IsSeat v
+      → Knows p journal table v closing (guests p table s.views) made ended
+  pub spent : (j : ℕ) (v : View) → get_elem? s.views j ≡ some v → ¬ IsSeat v → v ≡ spent_view
+
+-- ---- what the rule tells of every seat
+
+-- its owner is the base or a site of its plan, its sets have a flag for each site, and the base is no home
+pub record FitsPlan (v : View) : Type 0 where
+  pub owner : v.owner ≤ site_count v.plan
+  pub flags : HasFlags v.plan v.marks
+  pub base : is_in v.marks.homes 0 ≡ false

@@ -1,0 +1,69 @@
+//! What a seat knows. No value of these types is made: they are what contracts say of a seat. A
+//! clause reads an array as a list, of any length.
+use board_words::{Drawn, Ended};
+use transfer_table::{Entry, Plan};
+
+/// The kinds of step whose word is noted.
+pub enum LookKind {
+    /// The claim of a site.
+    Claim,
+    /// A load of a site's word.
+    Look,
+    /// The exchange by which a hart is reserved to a site.
+    Reserve,
+}
+
+/// A word that was read.
+pub struct Look {
+    pub site: u16,
+    pub kind: LookKind,
+    pub found: u64,
+}
+
+/// What a seat is about, between the steps of a call.
+pub enum Doing {
+    /// Nothing: no call is under way.
+    Idle,
+    /// It has claimed the site, and its Register is still to be made.
+    Claiming(u16),
+    /// It has made the Request of so many harts for the site, and is to add them to the site's want.
+    Crediting(u16, u8),
+    /// It is reserved to the site, and its Enter is still to be made.
+    Reserved(u16),
+    /// It has made its Yield of the site, and is to take itself from the site's guests.
+    Leaving(u16),
+    /// It has made its Unregister or its Skip of the site, and is to set the site's closed bit.
+    Sealing(u16),
+}
+
+/// The sets of sites that a seat knows of, each a list with a flag for the base and for each site.
+pub struct Marks {
+    /// The live sites whose home is this hart.
+    pub homes: [bool; 0],
+    /// Those of its homes that it closed.
+    pub closed: [bool; 0],
+    /// Those of these that it has seen without a guest since, and since it last saw a child gone.
+    pub empty: [bool; 0],
+    /// The sites that it has seen gone.
+    pub gone: [bool; 0],
+}
+
+/// What a seat knows.
+pub struct View {
+    pub plan: Plan,
+    pub hart: u8,
+    /// The site that holds the hart; 0 is the base.
+    pub owner: u16,
+    /// The entries that the hart made, in order.
+    pub mine: [Entry; 0],
+    /// The place of the journal that it drew for each of them.
+    pub places: [u64; 0],
+    pub drawn: Option<Drawn>,
+    pub doing: Doing,
+    pub marks: Marks,
+    /// The words that it read, in order.
+    pub looks: [Look; 0],
+    /// In hart 0's view alone: how many seats were made, and the harts that were joined into it.
+    pub made: u8,
+    pub ended: [Ended; 0],
+}
