@@ -1,5 +1,5 @@
 -- How the rows come about.
-use Rattle.std.proofs.Common.{◌≡◌, ◌<◌, ◌≤◌, ◌*◌, ◌+◌, ◌-◌, ◌/◌, ◌%◌, ℕ, true, List, [], ◌∷◌, map, length, get_or, set, sym, ap, subst, ◌∙◌, arith, inl, inr, refl}
+use Rattle.std.proofs.Common.{◌≡◌, ◌<◌, ◌≤◌, ◌*◌, ◌+◌, ◌-◌, ◌/◌, ◌%◌, ℕ, true, List, [], ◌∷◌, map, length, replicate, get_or, set, sym, ap, subst, ◌∙◌, arith, inl, inr, refl}
 use Rattle.std.proofs.lemmas.List.{get_or-map, get_or-replicate, get_or-set_same, get_or-set_other, length-map, length-set}
 use Rattle.std.proofs.lemmas.Bool.{cases_eq}
 use Rattle.std.proofs.Math.Seq.{map-set_same}
@@ -8,7 +8,7 @@ use Rattle.deque_rows.specs.declared.account.Log.{Log}
 use Rattle.deque_rows.specs.declared.hart.HartRows.{HartRows}
 use Rattle.deque_rows.specs.declared.ends.StealingEnd.{StealingEnd}
 use Rattle.deque_rows.specs.Account.{idle, blank}
-use Rattle.deque_rows.specs.Rows.{Kin, kin, share, home_logs, home_names, pass_logs, owner_log, row_at, place, AreAll, AreNew}
+use Rattle.deque_rows.specs.Rows.{Kin, kin, share, home_logs, home_names, pass_logs, owner_log, row_at, place, rooms, AreAll, AreNew, HasRooms}
 use Rattle.deque_rows.specs.Lines.{IsHome, IsAt, IsLine, Standing, standing, less, end_log, end_name}
 use Rattle.deque_rows.proofs.Places.{hart_of_row, mod_three, pick, hart_row, row_at-map}
 
@@ -41,6 +41,20 @@ begun harts rows count homes = (
 -- what stands as it did among the rows
 pub stands : (rows mid : List HartRows) (h : ℕ) (d : HartRows) → map standing mid ≡ map standing rows → standing (get_or mid h d) ≡ standing (get_or rows h d)
 stands rows mid h d same = sym (get_or-map_same standing mid h d) ∙ ap (λ l. get_or l h (standing d)) same ∙ get_or-map_same standing rows h d
+
+-- one hart's rows that changed take as many codes as before, and so do all
+pub rooms_kept : (rows mid : List HartRows) (h : ℕ) (d y : HartRows) → rooms y ≡ rooms (get_or mid h d) → map standing mid ≡ map standing rows → map rooms (set mid h y) ≡ map rooms rows
+rooms_kept rows mid h d y same stay =
+    let of : (l : List HartRows) → map rooms l ≡ map (λ (s : Standing). s.rooms) (map standing l) = λ l. sym (map_one (λ (s : Standing). s.rooms) standing rooms (λ r. refl) l) in
+    map-set_same rooms mid h y d same ∙ of mid ∙ ap (map (λ (s : Standing). s.rooms)) stay ∙ sym (of rows)
+
+-- rows that take so many codes each, and as many after
+pub have_rooms : (harts room : ℕ) (rows after : List HartRows) → map rooms after ≡ map rooms rows → ((h : ℕ) (d : HartRows) → h < harts → rooms (get_or rows h d) ≡ replicate 3 room)
+    → (h : ℕ) (d : HartRows) → h < harts → HasRooms room (get_or after h d)
+have_rooms harts room rows after same each h d there level is =
+    let l : level - 1 < 3 = omega (arith, is.0, is.1) in
+    let at : rooms (get_or after h d) ≡ replicate 3 room = sym (get_or-map_same rooms after h d) ∙ ap (λ z. get_or z h (rooms d)) same ∙ get_or-map_same rooms rows h d ∙ each h d there in
+    ap (λ z. get_or z (level - 1) 0) at ∙ get_or-replicate 3 (level - 1) room 0 l
 
 -- each row has lent an end, and the next hart gets these
 module _ (harts g : ℕ) (rows mid : List HartRows) (d0 y : HartRows) (ends : List StealingEnd)

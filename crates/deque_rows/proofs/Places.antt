@@ -47,6 +47,9 @@ room_after xs i y was code is there e =
 pub names_kept : (xs : List HomeEnd) (i : ℕ) (y was : HomeEnd) → was ≡ get_or xs i was → home_name_of y ≡ home_name_of was → map home_name_of (set xs i y) ≡ map home_name_of xs
 names_kept xs i y was is same = map-set_same home_name_of xs i y was (same ∙ ap home_name_of is)
 
+pub made_kept : (xs : List HomeEnd) (i : ℕ) (y was : HomeEnd) → was ≡ get_or xs i was → y.made ≡ was.made → map (λ (h : HomeEnd). h.made) (set xs i y) ≡ map (λ (h : HomeEnd). h.made) xs
+made_kept xs i y was is same = map-set_same (λ (h : HomeEnd). h.made) xs i y was (same ∙ ap (λ (h : HomeEnd). h.made) is)
+
 pub mod_three : (r : ℕ) → r % 3 < 3
 mod_three r = mod-lt r (omega arith)
 

@@ -5,7 +5,7 @@ use Rattle.deque_rows.specs.declared.account.Log.{Log}
 use Rattle.deque_rows.specs.declared.ends.StealingEnd.{StealingEnd}
 use Rattle.deque_rows.specs.declared.hart.HartRows.{HartRows}
 use Rattle.deque_rows.specs.Account.{blank}
-use Rattle.deque_rows.specs.Rows.{RowName, home_logs, bares, row_at}
+use Rattle.deque_rows.specs.Rows.{RowName, home_logs, bares, rooms, row_at}
 
 abbrev pub end_log : StealingEnd → Log
 end_log s = view s.pass
@@ -17,15 +17,22 @@ end_name s = stealer_deque s.stealer
 abbrev pub put : {X : Type 0} → List (List X) → ℕ → X → List (List X)
 put homes r x = slice_set homes (r / 3) (slice_set (slice_index_or homes (r / 3) []) (r % 3) x)
 
--- all that a hart has besides its own ends
+-- all that a hart has besides its own ends' logs and names
 pub record Standing : Type 0 where
   pub hart : ℕ
   pub harts : ℕ
   pub ends : List StealingEnd
   pub bares : List ℕ
+  pub rooms : List ℕ
 
 abbrev pub standing : HartRows → Standing
-standing r = record { hart = r.hart; harts = r.harts; ends = r.ends.items; bares = bares r }
+standing r = record {
+  hart = r.hart;
+  harts = r.harts;
+  ends = r.ends.items;
+  bares = bares r;
+  rooms = rooms r;
+}
 
 -- a log with one part fewer
 abbrev pub less : Log → Log
@@ -34,7 +41,13 @@ less v = record v { parts = v.parts - 1 }
 -- the rows of a hart before it has any stealing end, among so many harts
 abbrev pub IsHome : ℕ → ℕ → HartRows → Type 0
 IsHome harts hart r = (home_logs r ≡ replicate 3 (blank 64 true))
-    × (standing r ≡ record { hart = hart; harts = 0; ends = []; bares = replicate (3 * harts) 0 })
+    × (standing r ≡ record {
+      hart = hart;
+      harts = 0;
+      ends = [];
+      bares = replicate (3 * harts) 0;
+      rooms = rooms r;
+    })
 
 -- these are further stealing ends of all rows, in order
 abbrev pub IsLine : List (List RowName) → List StealingEnd → Type 0

@@ -31,6 +31,13 @@ pass_logs r = map (λ (s : StealingEnd). view s.pass) r.ends.items
 abbrev pub bares : HartRows → List ℕ
 bares r = r.bare.items
 
+-- how many codes each of its own rows takes in all, by level
+abbrev pub rooms : HartRows → List ℕ
+rooms r = map (λ (h : HomeEnd). h.made) r.own.items
+
+abbrev pub row_room : HartRows → ℕ → ℕ
+row_room r level = slice_index (rooms r) (level - 1)
+
 -- what this hart pushed to its own row of a level, popped there and kept; what it stole from a row, and how often it found it bare
 abbrev pub home_log : HartRows → ℕ → Log
 home_log r level = slice_index_or (home_logs r) (level - 1) idle
@@ -41,12 +48,13 @@ pass_log r hart level = slice_index_or (pass_logs r) (place hart level) idle
 abbrev pub bare : HartRows → ℕ → ℕ → ℕ
 bare r hart level = slice_index (bares r) (place hart level)
 
--- what no call changes: the hart, the harts whose rows it reaches, and which rows it has, with its parts in them
+-- what no call changes: the hart, the harts whose rows it reaches, which rows it has, with its parts in them, and how many codes its own take
 pub record Kin : Type 0 where
   pub hart : ℕ
   pub harts : ℕ
   pub home_names : List RowName
   pub home_shares : List (ℕ × List ℕ)
+  pub rooms : List ℕ
   pub pass_names : List RowName
   pub pass_parts : List ℕ
 
@@ -66,6 +74,7 @@ kin r = record {
   harts = r.harts;
   home_names = home_names r;
   home_shares = map share (home_logs r);
+  rooms = rooms r;
   pass_names = pass_names r;
   pass_parts = map (λ (v : Log). v.parts) (pass_logs r);
 }
@@ -109,3 +118,7 @@ pub record AreNew (harts : ℕ) (r : HartRows) : Type 0 where
   pub passes : (hart level : ℕ) → hart < harts → IsLevel level
       → pass_log r hart level ≡ blank 1 false
   pub bares : (hart level : ℕ) → hart < harts → IsLevel level → bare r hart level ≡ 0
+
+-- each of a hart's own rows takes so many codes in all
+abbrev pub HasRooms : ℕ → HartRows → Type 0
+HasRooms room r = (level : ℕ) → IsLevel level → row_room r level ≡ room

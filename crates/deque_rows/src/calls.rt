@@ -1,7 +1,7 @@
 //! What a hart does with its rows.
 ghost use Rattle.std.specs.Prelude.{◌≡◌, ℕ, ◌+◌, ◌-◌, ◌*◌, ◌<◌, ◌≤◌, length, slice_set, slice_index};
 ghost use Rattle.deque_rows.specs.Account.{Rose};
-ghost use Rattle.deque_rows.specs.Rows.{IsLevel, place, home_log, home_logs, pass_logs, bares, kin};
+ghost use Rattle.deque_rows.specs.Rows.{IsLevel, place, row_room, home_log, home_logs, pass_logs, bares, kin};
 ghost use Rattle.deque_rows.specs.Calls.{FoundBare, Pushes, PopGives, StealGives};
 
 use crate::hart::HartRows;
@@ -24,11 +24,11 @@ impl HartRows {
         self.hart
     }
 
-    /// How many further codes this hart's row of this level takes, from 1 to 3: 16,384 less the number of those that were
-    /// pushed to it.
+    /// How many further codes this hart's row of this level takes, from 1 to 3: those for which it was made, less the number
+    /// of those that were pushed to it.
     pub fn room(&self, level: u8) -> u32
         requires { IsLevel level }
-        ensures { result + length (home_log self.now level).pushed ≡ 16384 }
+        ensures { result + length (home_log self.now level).pushed ≡ row_room self.now level }
     {
         self.own[usize::from(level) - 1].room
     }
@@ -36,7 +36,7 @@ impl HartRows {
     /// Puts a code last in this hart's row of this level, which has room.
     pub fn push(&mut self, level: u8, code: u32)
         requires level { IsLevel level }
-        requires room { length (home_log self.old level).pushed < 16384 }
+        requires room { length (home_log self.old level).pushed < row_room self.old level }
         ensures kin { kin self.new ≡ kin self.old }
         ensures pushes { Pushes self.old level code self.new }
         ensures room { length (home_log self.new level).pushed

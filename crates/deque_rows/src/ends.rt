@@ -8,39 +8,42 @@ use crossbeam_deque::{Pass, Steal, Stealer, Worker};
 use std::alloc::{AllocError, Global};
 use std::sync::Wait;
 
-/// How many codes a row takes in all.
-pub(crate) const ROOM: u32 = 16_384;
-
 /// The home's end of a row.
 #[derive(Drop)]
 pub struct HomeEnd {
     pub(crate) worker: Worker<u32, Global, Log, Account>,
+    // How many codes the row takes in all.
+    pub(crate) made: u32,
+    // How many further codes it takes.
     pub(crate) room: u32,
     pub ghost lifo: { worker_flavor worker ≡ 1 },
     pub ghost home: { (worker_view worker).is_home ≡ true },
     pub ghost has_part: { 0 < (worker_view worker).parts },
-    pub ghost room_left: { room + length (worker_view worker).pushed ≡ 16384 },
+    pub ghost room_left: { room + length (worker_view worker).pushed ≡ made },
     pub ghost behind: { worker_index worker ≤ length (worker_view worker).pushed },
-    pub ghost wide: { 16384 ≤ worker_capacity worker },
+    pub ghost wide: { made ≤ worker_capacity worker },
 }
 
 impl HomeEnd {
-    /// The end of a new row.
-    pub(crate) fn new(alloc: Global) -> Result<HomeEnd, AllocError>
-        ensures { IfOk result (λ h. worker_view h.worker ≡ blank 64 true) }
+    /// The end of a new row, which takes so many codes in all.
+    pub(crate) fn new(alloc: Global, room: u32) -> Result<HomeEnd, AllocError>
+        ensures log { IfOk result (λ h. worker_view h.worker ≡ blank 64 true) }
+        ensures made { IfOk result (λ h. h.made ≡ room) }
     {
         Ok(HomeEnd {
-            worker: Worker::lifo_as(alloc, ROOM as usize)?,
-            room: ROOM,
+            worker: Worker::lifo_as(alloc, room as usize)?,
+            made: room,
+            room,
         })
     }
 
     /// Puts a code last.
     pub(crate) fn push(&mut self, code: u32)
-        requires { length (worker_view self.old.worker).pushed < 16384 }
+        requires { length (worker_view self.old.worker).pushed < self.old.made }
         ensures pushed { worker_view self.new.worker
             ≡ after_push (worker_view self.old.worker) (code ∷ []) }
         ensures same { worker_deque self.new.worker ≡ worker_deque self.old.worker }
+        ensures made { self.new.made ≡ self.old.made }
     {
         match self.worker.push_as::<Pushed>(code) {
             Ok(()) => self.room -= 1,
@@ -58,6 +61,7 @@ impl HomeEnd {
         ensures blank { IfOk result (λ end. view end.pass ≡ blank 1 false) }
         ensures of { IfOk result (λ end. stealer_deque end.stealer ≡ worker_deque self.old.worker) }
         ensures same { worker_deque self.new.worker ≡ worker_deque self.old.worker }
+        ensures made { self.new.made ≡ self.old.made }
     {
         let stealer = self.worker.stealer()?;
         let pass = self.worker.another::<Share>();
@@ -70,6 +74,7 @@ impl HomeEnd {
         ensures joined { worker_view self.new.worker
             ≡ joined (worker_view self.old.worker) (view end.pass) }
         ensures same { worker_deque self.new.worker ≡ worker_deque self.old.worker }
+        ensures made { self.new.made ≡ self.old.made }
     {
         let StealingEnd { stealer: _, pass } = end;
         self.worker.absorb::<Share>(pass);
@@ -81,6 +86,7 @@ impl HomeEnd {
         ensures tells { (items : List ℕ) × Tells (worker_view self.old.worker) items }
         ensures view { worker_view self.new.worker ≡ worker_view self.old.worker }
         ensures same { worker_deque self.new.worker ≡ worker_deque self.old.worker }
+        ensures made { self.new.made ≡ self.old.made }
     {
         self.worker.len_as::<Whole>();
     }
@@ -93,6 +99,7 @@ impl HomeEnd {
         ensures took { MatchOption result ⊤
             (λ code. Pops (worker_view self.old.worker) (code ∷ []) (worker_view self.new.worker)) }
         ensures same { worker_deque self.new.worker ≡ worker_deque self.old.worker }
+        ensures made { self.new.made ≡ self.old.made }
     {
         self.worker.pop_as::<Popped>()
     }

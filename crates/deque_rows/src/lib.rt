@@ -12,5 +12,5 @@ mod stolen;
 
 pub use account::Log;
 pub use hart::HartRows;
-pub use making::rows;
+pub use making::{ROOM, rows, rows_for};
 pub use stolen::Stolen;

@@ -1,6 +1,7 @@
 //! How the rows are made.
-ghost use Rattle.std.specs.Prelude.{◌≡◌, ℕ, ◌+◌, ◌-◌, ◌*◌, ◌<◌, ◌≤◌, length, map, slice_index_or, IfOk, vec_len};
-ghost use Rattle.deque_rows.specs.Rows.{RowName, AreAll, AreNew, kin, home_logs, home_names, owner_log};
+ghost use Rattle.std.specs.Prelude.{◌≡◌, ℕ, ◌+◌, ◌-◌, ◌*◌, ◌<◌, ◌≤◌, length, map, replicate, slice_index_or, IfOk, vec_len};
+ghost use Rattle.deque_rows.specs.Rows.{RowName, AreAll, AreNew, HasRooms, rooms, kin, home_logs, home_names, owner_log};
+ghost use Rattle.deque_rows.specs.declared.making.TheConstants.{ROOM};
 ghost use Rattle.deque_rows.specs.Lines.{IsHome, IsLine, less, standing};
 
 use crate::ends::{HomeEnd, StealingEnd};
@@ -8,8 +9,11 @@ use crate::hart::HartRows;
 use crate::lines::lend;
 use std::alloc::{AllocError, Global};
 
-/// The rows of so many harts, from 1 to 16: one for each hart and each level from 1 to 3, empty. It gives each hart's sight
-/// of all of them, in the order of the harts.
+/// How many codes a row takes in all, at most.
+pub const ROOM: u32 = 16_384;
+
+/// The rows of so many harts, from 1 to 16: one for each hart and each level from 1 to 3, empty, with room for 16,384 codes.
+/// It gives each hart's sight of all of them, in the order of the harts.
 pub fn rows(alloc: Global, harts: u8) -> Result<Vec<HartRows>, AllocError>
     requires { (1 ≤ harts) × (harts ≤ 16) }
     ensures count { IfOk result (λ rows. vec_len rows ≡ harts) }
@@ -17,8 +21,28 @@ pub fn rows(alloc: Global, harts: u8) -> Result<Vec<HartRows>, AllocError>
     ensures new { IfOk result
         (λ rows. (h : ℕ) (d : HartRows) → h < harts
         → AreNew harts (slice_index_or rows.items h d)) }
+    ensures rooms { IfOk result
+        (λ rows. (h : ℕ) (d : HartRows) → h < harts
+        → HasRooms ROOM (slice_index_or rows.items h d)) }
 {
-    let mut rows = homes(alloc, harts)?;
+    rows_for(alloc, harts, ROOM)
+}
+
+/// What `rows` gives, but with room for so many codes in each row, from 1 to 16,384. A row takes memory for its room at once,
+/// so rows that are as long as a program needs them are made sooner.
+pub fn rows_for(alloc: Global, harts: u8, room: u32) -> Result<Vec<HartRows>, AllocError>
+    requires harts { (1 ≤ harts) × (harts ≤ 16) }
+    requires room { (1 ≤ room) × (room ≤ ROOM) }
+    ensures count { IfOk result (λ rows. vec_len rows ≡ harts) }
+    ensures all { IfOk result (λ rows. AreAll (map kin rows.items)) }
+    ensures new { IfOk result
+        (λ rows. (h : ℕ) (d : HartRows) → h < harts
+        → AreNew harts (slice_index_or rows.items h d)) }
+    ensures rooms { IfOk result
+        (λ rows. (h : ℕ) (d : HartRows) → h < harts
+        → HasRooms room (slice_index_or rows.items h d)) }
+{
+    let mut rows = homes(alloc, harts, room)?;
     reach_all(alloc, harts, rows.as_mut_slice())?;
     Ok(rows)
 }
@@ -32,6 +56,7 @@ fn reach_all(alloc: Global, harts: u8, rows: &mut [HartRows]) -> Result<(), Allo
     ensures all { IfOk result (λ done. AreAll (map kin rows.new)) }
     ensures new { IfOk result
         (λ done. (h : ℕ) (d : HartRows) → h < harts → AreNew harts (slice_index_or rows.new h d)) }
+    ensures rooms { IfOk result (λ done. map rooms rows.new ≡ map rooms rows.old) }
 {
     for hart in 0..usize::from(harts) {
         let ends = line(alloc, rows)?;
@@ -57,28 +82,32 @@ impl HartRows {
 }
 
 // Each hart's own rows, with no stealing end.
-fn homes(alloc: Global, harts: u8) -> Result<Vec<HartRows>, AllocError>
+fn homes(alloc: Global, harts: u8, room: u32) -> Result<Vec<HartRows>, AllocError>
     requires { harts ≤ 16 }
     ensures count { IfOk result (λ rows. vec_len rows ≡ harts) }
     ensures homes { IfOk result
         (λ rows. (h : ℕ) (d : HartRows) → h < harts
         → IsHome harts h (slice_index_or rows.items h d)) }
+    ensures rooms { IfOk result
+        (λ rows. (h : ℕ) (d : HartRows) → h < harts
+        → rooms (slice_index_or rows.items h d) ≡ replicate 3 room) }
 {
     let mut rows = Vec::with_capacity(alloc, usize::from(harts))?;
     for hart in 0..harts {
-        rows.push(home(alloc, hart, harts)?)?;
+        rows.push(home(alloc, hart, harts, room)?)?;
     }
     Ok(rows)
 }
 
 // One hart's own rows, with no stealing end.
-fn home(alloc: Global, hart: u8, harts: u8) -> Result<HartRows, AllocError>
+fn home(alloc: Global, hart: u8, harts: u8, room: u32) -> Result<HartRows, AllocError>
     requires { (hart < harts) × (harts ≤ 16) }
-    ensures { IfOk result (IsHome harts hart) }
+    ensures home { IfOk result (IsHome harts hart) }
+    ensures rooms { IfOk result (λ r. rooms r ≡ replicate 3 room) }
 {
     let mut own = Vec::with_capacity(alloc, 3)?;
     for _ in 0..3usize {
-        own.push(HomeEnd::new(alloc)?)?;
+        own.push(HomeEnd::new(alloc, room)?)?;
     }
     Ok(HartRows {
         hart,

@@ -2,6 +2,7 @@
 use Rattle.std.specs.Prelude.{◌≡◌, ℕ, ◌*◌, List, [], ◌∷◌, ◌++◌, length, map, Option, Some, None, Result}
 use Rattle.sched_api.specs.Wishes.{wishes_after}
 use Rattle.sched_api.specs.declared.hearing.Told.{Told}
+use Rattle.work_agenda.specs.declared.agenda.TheConstants.{MOST_WISHES}
 use Rattle.work_agenda.specs.Agenda.{AgendaParts, TakesNext, PutsReady}
 use Rattle.sched_api.specs.declared.scheduler.Next.{Next}
 use Rattle.lithe_mutex.specs.Mutex.{Possession, Free, Held}
@@ -21,10 +22,6 @@ abbrev pub site_of_jobs : List JobParts → ℕ
 site_of_jobs [] = 0
 site_of_jobs (job ∷ jobs) = job.site
 
--- How many wishes there is room for, for each job: a piece is in one child at a time.
-abbrev pub wishes_per_job : ℕ
-wishes_per_job = 15
-
 -- The pool of jobs none of which is begun, in the order of their places.
 abbrev pub new_pool : List JobParts → PoolParts
 new_pool jobs = record {
@@ -33,7 +30,7 @@ new_pool jobs = record {
     ready = [];
     room = length jobs;
     unbegun = map Begin jobs;
-    wishes = record { sites = []; room = wishes_per_job * length jobs };
+    wishes = record { sites = []; room = MOST_WISHES };
   };
   book = open_book jobs;
 }

@@ -1,6 +1,6 @@
 //! What a hart does with its hand on a pool.
 ghost use Rattle.std.specs.Prelude.{◌≡◌, ◌≤◌, ◌+◌, length, IfSome, IfErr};
-ghost use Rattle.deque_rows.specs.Rows.{home_log};
+ghost use Rattle.deque_rows.specs.Rows.{home_log, row_room};
 ghost use Rattle.join_book.specs.Books.{IsFull};
 ghost use Rattle.forkjoin_sched.specs.Shared.{GivesBack};
 ghost use Rattle.forkjoin_sched.specs.HandCalls.{AnswersHand, IsStill, Offers, TakesReadyBy, LooksBy};
@@ -20,7 +20,8 @@ impl<'a, 'r, 'p, R: Wait + 'a> PoolHand<'a, 'r, 'p, R> {
     pub fn offer(&mut self, rt: &R)
         requires home { self.old.rows.now.hart ≡ self.old.home }
         requires room { length self.old.shared.now.jobs
-            + length (home_log self.old.rows.now self.old.level).pushed ≤ 16384 }
+            + length (home_log self.old.rows.now self.old.level).pushed
+            ≤ row_room self.old.rows.now self.old.level }
         ensures { Offers self.old self.new }
     {
         let site = self.shared.site();

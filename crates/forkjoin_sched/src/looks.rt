@@ -1,7 +1,7 @@
 //! What a hand does under the lock of its pool.
 ghost use Rattle.std.specs.Prelude.{◌≡◌, ◌+◌, ◌≤◌, ℕ, List, length, MatchOption};
 ghost use Rattle.work_agenda.specs.Agenda.{GivesReady};
-ghost use Rattle.deque_rows.specs.Rows.{IsLevel, home_log};
+ghost use Rattle.deque_rows.specs.Rows.{IsLevel, home_log, row_room};
 ghost use Rattle.forkjoin_sched.specs.declared.looks.Found.TheVariants.{HandedOut, Work};
 ghost use Rattle.forkjoin_sched.specs.Hands.{Sees, found_by, AnswersUnder, GivesReadyUnder, OffersUnder};
 
@@ -91,7 +91,8 @@ impl Looks {
         level: u8,
     )
         requires level { IsLevel level }
-        requires room { length slots.now + length (home_log rows.old level).pushed ≤ 16384 }
+        requires room { length slots.now + length (home_log rows.old level).pushed
+            ≤ row_room rows.old level }
         ensures { OffersUnder site level (length slots.now) (self.old, kept.old, rows.old)
             (self.new, kept.new, rows.new) }
     {

@@ -1,6 +1,6 @@
 //! How the jobs of a pool come to its home's row.
 ghost use Rattle.std.specs.Prelude.{◌≡◌, ◌+◌, ◌*◌, ◌≤◌, ◌<◌, ℕ, List, length};
-ghost use Rattle.deque_rows.specs.Rows.{IsLevel, home_log};
+ghost use Rattle.deque_rows.specs.Rows.{IsLevel, home_log, row_room};
 ghost use Rattle.forkjoin_sched.specs.Hands.{OffersJobs, code_at};
 
 use crate::pool::Pool;
@@ -25,14 +25,17 @@ pub(crate) fn offer_jobs<'p, R: Wait>(
     level: u8,
 )
     requires level { IsLevel level }
-    requires room { length slots.now + length (home_log rows.old level).pushed ≤ 16384 }
+    requires room { length slots.now + length (home_log rows.old level).pushed
+        ≤ row_room rows.old level }
     ensures { (places : List ℕ)
         × OffersJobs site level (length slots.now) pool.old rows.old places pool.new rows.new }
 {
     for place in (0..slots.len()).rev() {
         if let Some(job) = pool.take_last(place) {
-            rows.push(level, code_at(site, job.place));
+            let code = code_at(site, job.place);
+            // A hart that has the code finds the job in its slot.
             *slots[place].lock(rt) = Some(job);
+            rows.push(level, code);
         }
     }
 }

@@ -19,10 +19,7 @@ use sched_api::{Call, Hearing, Next, Scheduler, Told};
 use std::alloc::{AllocError, Global};
 use std::collections::VecDeque;
 use std::marker::Model;
-use work_agenda::Agenda;
-
-/// How many wishes there is room for, for each job: a piece is in one child at a time.
-const WISHES_PER_JOB: usize = 15;
+use work_agenda::{Agenda, MOST_WISHES};
 
 /// What a callback of a pool gives.
 #[derive(Drop)]
@@ -93,7 +90,7 @@ impl<'p> Pool<'p> {
         let site = jobs[0].site;
         let count = jobs.len();
         let unbegun = unbegun_work(alloc, &jobs)?;
-        let agenda = Agenda::new(alloc, count, WISHES_PER_JOB * count, unbegun)?;
+        let agenda = Agenda::new(alloc, count, MOST_WISHES, unbegun)?;
         let book = MutexState::new(alloc, 0, Book::new(alloc, jobs)?)?;
         Ok(Pool { site, agenda, book })
     }

@@ -47,10 +47,11 @@ impl<'p> SharedPool<'p> {
         let site = pool.site();
         let jobs = copy_jobs(alloc, pool.jobs())?;
         let slots = empty_slots(alloc, jobs.len())?;
+        let ready = pool.ready_count() as u64;
         Ok(SharedPool {
             site,
             lock: Mutex::new(Some(pool)),
-            ready: AtomicU64::new(0),
+            ready: AtomicU64::new(ready),
             slots,
             jobs,
         })

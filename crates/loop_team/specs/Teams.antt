@@ -13,6 +13,7 @@ use Rattle.lithe_barrier.specs.declared.state.Arrival.TheVariants.{Kept, Opened,
 use Rattle.sched_api.specs.Wishes.{wishes_after}
 use Rattle.sched_api.specs.declared.hearing.Told.{Told}
 use Rattle.sched_api.specs.declared.scheduler.Next.{Next}
+use Rattle.work_agenda.specs.declared.agenda.TheConstants.{MOST_WISHES}
 use Rattle.work_agenda.specs.Agenda.{AgendaParts, TakesNext, PutsReady, GivesReady, GivesUnbegun}
 use Rattle.step_eval.specs.Inside.Computed.{HasReached}
 use Rattle.step_eval.specs.Nests.{NestedParts, nested_of, phases_of, jobs_in, IsFitNest}
@@ -33,10 +34,6 @@ pub record TeamParts : Type 0 where
   -- the places of the phase that runs, or that ran last
   pub barrier : BookParts
   pub failed : Bool
-
--- How many wishes there is room for, for each member: it is in one child at a time.
-abbrev pub wishes_per_member : ℕ
-wishes_per_member = 15
 
 -- How many phases a construct has, and how many members.
 abbrev pub phases_in : NestedParts → ℕ
@@ -68,7 +65,7 @@ new_team nested jobs = record {
     ready = [];
     room = members_in nested;
     unbegun = map Begin jobs;
-    wishes = record { sites = []; room = wishes_per_member * members_in nested };
+    wishes = record { sites = []; room = MOST_WISHES };
   };
   opened = 0;
   barrier = open_book jobs;

@@ -167,12 +167,15 @@ impl<'p> SharedTeam<'p> {
         self.phase.store(phases, Ordering::SeqCst);
     }
 
-    // Takes the member of a place that is to begin this phase. None where another one stands there, or none.
+    // Takes the member of a place that is to begin this phase. None where another one stands there, which it leaves, or none.
     pub(crate) fn take_member<R: Wait>(&self, rt: &R, phase: u8, place: u8) -> Option<Job<'p>>
         ensures { IfSome result (λ job. (job.phase ≡ phase) × (job.place ≡ place)) }
     {
-        let job = taken_at(&mut *self.slots.get(usize::from(place))?.lock(rt), place)?;
-        if job.phase == phase { Some(job) } else { None }
+        taken_of(
+            &mut *self.slots.get(usize::from(place))?.lock(rt),
+            phase,
+            place,
+        )
     }
 }
 
@@ -187,6 +190,17 @@ fn taken_at<'p>(kept: &mut Option<Job<'p>>, place: u8) -> Option<Job<'p>>
 {
     match kept {
         Some(job) if job.place == place => kept.take(),
+        Some(_) => None,
+        None => None,
+    }
+}
+
+// Takes the job if it is of this phase and place.
+fn taken_of<'p>(kept: &mut Option<Job<'p>>, phase: u8, place: u8) -> Option<Job<'p>>
+    ensures { IfSome result (λ job. (job.phase ≡ phase) × (job.place ≡ place)) }
+{
+    match kept {
+        Some(job) if job.phase == phase && job.place == place => kept.take(),
         Some(_) => None,
         None => None,
     }

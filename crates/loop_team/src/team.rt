@@ -22,10 +22,7 @@ use std::collections::VecDeque;
 use std::marker::Model;
 use std::mem;
 use step_eval::{Nested, jobs_of};
-use work_agenda::Agenda;
-
-/// How many wishes there is room for, for each member: it is in one child at a time.
-const WISHES_PER_MEMBER: usize = 15;
+use work_agenda::{Agenda, MOST_WISHES};
 
 /// What a callback of a team gives.
 #[derive(Drop)]
@@ -103,11 +100,11 @@ impl<'p> Team<'p> {
         requires { kind_of (statement_of nested.construct) ≡ Some kind.Team }
         ensures { IfOk result (λ team. IsNew nested.entry team) }
     {
-        let store = MarkedStore::new(alloc, &nested.store)?;
+        let mut store = MarkedStore::new(alloc, &nested.store)?;
         let _phases = nested.phases();
         let members = usize::from(nested.members());
-        let Phase { barrier, unbegun } = phase_of(alloc, &nested, 0, &store)?;
-        let agenda = Agenda::new(alloc, members, WISHES_PER_MEMBER * members, unbegun)?;
+        let Phase { barrier, unbegun } = phase_of(alloc, &nested, 0, &mut store)?;
+        let agenda = Agenda::new(alloc, members, MOST_WISHES, unbegun)?;
         Ok(Team {
             alloc,
             nested,
@@ -191,7 +188,7 @@ impl<'p> Team<'p> {
         if self.failed || self.opened == phases {
             return Ok(());
         }
-        match phase_of(self.alloc, &self.nested, self.opened, &self.store) {
+        match phase_of(self.alloc, &self.nested, self.opened, &mut self.store) {
             Ok(Phase { barrier, unbegun }) => {
                 let _ = mem::replace(&mut self.barrier, barrier);
                 self.agenda.begin(unbegun);
@@ -271,11 +268,12 @@ fn phase_of<'p>(
     alloc: Global,
     nested: &Nested<'p>,
     phase: u8,
-    store: &MarkedStore,
+    store: &mut MarkedStore,
 ) -> Result<Phase<'p>, AllocError>
     requires phase { phase < phases_in nested.now }
-    requires reached { HasReached (nested_of nested.now) phase store.now }
-    ensures { IfOk result (λ next. IsPhase nested.now phase next) }
+    requires reached { HasReached (nested_of nested.now) phase store.old }
+    ensures phase { IfOk result (λ next. IsPhase nested.now phase next) }
+    ensures same { store.new ≡ store.old }
 {
     let start = store.to_store(alloc)?;
     let jobs = jobs_of(alloc, nested, phase, &start)?;

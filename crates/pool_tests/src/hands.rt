@@ -3,7 +3,7 @@ ghost use Rattle.std.specs.Prelude.{◌≡◌, ◌<◌, IfOk};
 
 use crate::pools::{TWO_OF_THREE, finds, gives_both, gives_nothing, has_room, pool_of, unblocked};
 use crate::rows::{lets_go, takes_both_ways};
-use array_jobs::Piece;
+use array_jobs::{Piece, copy_jobs};
 use array_tree::Program;
 use deque_rows::{HartRows, rows};
 use forkjoin_sched::{PoolHand, SharedPool};
@@ -146,6 +146,41 @@ fn contexts_go_first<'a, R: Wait + 'a>(
 #[test]
 fn a_hand_puts_contexts_back(rt: HostRuntime) -> Result<(), Fail> {
     assert!(rt; holds(&rt, rt.alloc(), Look::Contexts)?);
+    Ok(())
+}
+
+// A shared pool of the two branches, to which a context was put back before it was shared.
+fn shared_with_ready<'p>(alloc: Global, program: &'p Program) -> Result<SharedPool<'p>, Fail> {
+    let mut pool = pool_of(alloc, program)?;
+    let jobs = copy_jobs(alloc, pool.jobs())?;
+    if !unblocked(&mut pool, (), waiting(alloc, &jobs)?) {
+        return Err(Fail::new("there is no room"));
+    }
+    Ok(SharedPool::new(alloc, pool)?)
+}
+
+// What a hart finds of a context and both pieces.
+const CONTEXT_THEN_PIECES: &[Answer] = &[Answer::GoesOn, Answer::Begins(0), Answer::Begins(1)];
+
+// Puts the jobs up. Whether a context that was ready goes before them.
+fn context_goes_first<'a, R: Wait + 'a>(rt: &'a R, hand: &mut PoolHand<'a, '_, '_, R>) -> bool {
+    let offered = is_offered(rt, hand);
+    let found = finds(hand, rt, CONTEXT_THEN_PIECES);
+    offered && found
+}
+
+// The same of one that was ready before its pool was shared.
+fn ready_goes_first<R: Wait>(rt: &R, alloc: Global) -> Result<bool, Fail> {
+    let program = parsed(alloc, TWO_BRANCHES)?;
+    let shared = shared_with_ready(alloc, &program)?;
+    let mut rows = own_rows(alloc)?;
+    let mut hand = PoolHand::new(&shared, &mut rows, 0, 1);
+    Ok(context_goes_first(rt, &mut hand))
+}
+
+#[test]
+fn a_context_that_was_ready_before_goes_first(rt: HostRuntime) -> Result<(), Fail> {
+    assert!(rt; ready_goes_first(&rt, rt.alloc())?);
     Ok(())
 }
 

@@ -4,7 +4,7 @@ ghost use Rattle.deque_rows.specs.Rows.{AreAll, kin};
 
 use crate::moves::{pop_at, put_at, steal_at};
 use deque_rows::laws::settle;
-use deque_rows::{HartRows, Stolen, rows};
+use deque_rows::{HartRows, Stolen, rows, rows_for};
 use std::sync::Wait;
 use std::test::Fail;
 
@@ -50,6 +50,27 @@ fn the_home_pops_the_last_and_a_guest_steals_the_first(rt: HostRuntime) -> Resul
     assert!(rt; are_ends_kept(&rt, all.as_mut_slice()));
     assert!(rt; have_room(all.as_slice(), 1, [16_381, 16_384]));
     assert!(rt; are_rows_apart(&rt, all.as_mut_slice()));
+    settle(all);
+    Ok(())
+}
+
+// A row with room for three codes takes the first three of four, and no other for one that was popped.
+fn is_filled(rows: &mut [HartRows]) -> bool
+    requires { length rows.old ≡ 2 }
+    ensures { map kin rows.new ≡ map kin rows.old }
+{
+    put_at(rows, 1, 1, &[10, 11, 12, 13]);
+    let last = pop_at(rows, 1, 1) == Some(12);
+    put_at(rows, 1, 1, &[14]);
+    last && pop_at(rows, 1, 1) == Some(11)
+}
+
+#[test]
+fn a_row_takes_as_many_codes_as_it_was_made_for(rt: HostRuntime) -> Result<(), Fail> {
+    let mut all = rows_for(rt.alloc(), 2, 3)?;
+    assert!(rt; have_room(all.as_slice(), 1, [3, 3]));
+    assert!(rt; is_filled(all.as_mut_slice()));
+    assert!(rt; have_room(all.as_slice(), 1, [3, 0]));
     settle(all);
     Ok(())
 }

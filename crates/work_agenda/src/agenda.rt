@@ -9,6 +9,9 @@ use std::alloc::{AllocError, Global};
 use std::collections::VecDeque;
 use std::marker::Model;
 
+/// For how many wishes the scheduler of a construct has room: fifteen of each site that a plan may have.
+pub const MOST_WISHES: usize = 61_425;
+
 /// What a scheduler has for the harts that come to it: contexts that are ready to go on, contexts that are not begun,
 /// and the wishes of its children. They are handed out in this order, of each list the oldest first.
 #[derive(Drop)]

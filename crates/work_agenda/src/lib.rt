@@ -3,7 +3,7 @@
 
 mod agenda;
 
-pub use agenda::Agenda;
+pub use agenda::{Agenda, MOST_WISHES};
 
 #[cfg(test)]
 mod tests;

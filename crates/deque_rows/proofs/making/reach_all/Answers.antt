@@ -1,16 +1,16 @@
-use Rattle.std.proofs.Common.{◌≡◌, ◌<◌, ◌*◌, ◌-◌, ℕ, true, List, map, length, get_or, ap, subst, ◌∙◌, arith}
+use Rattle.std.proofs.Common.{◌≡◌, ◌<◌, ◌*◌, ◌-◌, ℕ, true, List, map, length, get_or, ap, subst, ◌∙◌, arith, refl}
 use Rattle.std.proofs.lemmas.List.{length-replicate}
 use Rattle.deque_rows.specs.declared.hart.HartRows.{HartRows}
 use Rattle.deque_rows.specs.Account.{blank}
 use Rattle.deque_rows.specs.Rows.{home_names, owner_log}
 use Rattle.deque_rows.specs.Lines.{IsAt, Standing}
-use Rattle.deque_rows.proofs.Makes.{begun, stands, reached_count, reached_owners, reached_ats, all_reached, all_new}
+use Rattle.deque_rows.proofs.Makes.{begun, rooms_kept, stands, reached_count, reached_owners, reached_ats, all_reached, all_new}
 use Rattle.deque_rows.proofs.making.reach_all.Goals as goal
 
 pub loop-hart-init : goal.loop-hart-init
 loop-hart-init c =
     let first = begun c.args.harts c.args.rows.now c.requires.count c.requires.homes in
-    (c.requires.count, first.0, first.1)
+    (c.requires.count, first.0, first.1, refl)
 
 pub line-requires-clause-parts : goal.line-requires-clause-parts
 line-requires-clause-parts c = λ r there. let i = c.loop-hart.invariant in let is = ap (λ (v : Rattle.deque_rows.specs.declared.account.Log.Log). v.parts) (i.1 r (omega (arith, there, i.0))) in let t = c.loop-hart-test.true in let e = c.from-hart-end.ensures in let f = c.requires.few in omega (arith, is, t, e, f)
@@ -35,6 +35,7 @@ loop-hart-preserved c =
       reached_count c.args.harts c.loop-hart.hart was mid c.index-rows-hart.result c.reach.new.self c.in_ok-ends.ends.items i.0 below i.1 i.2 e.less e.names e.standing e.ends t.logs t.names t.standing,
       reached_owners c.args.harts c.loop-hart.hart was mid c.index-rows-hart.result c.reach.new.self c.in_ok-ends.ends.items i.0 below i.1 i.2 e.less e.names e.standing e.ends t.logs t.names t.standing,
       reached_ats c.args.harts c.loop-hart.hart was mid c.index-rows-hart.result c.reach.new.self c.in_ok-ends.ends.items i.0 below i.1 i.2 e.less e.names e.standing e.ends t.logs t.names t.standing,
+      rooms_kept was mid c.loop-hart.hart c.index-rows-hart.result c.reach.new.self (ap (λ (s : Standing). s.rooms) t.standing) e.standing ∙ i.3,
     )
 
 pub returns-clause-all : goal.returns-clause-all

@@ -13,10 +13,10 @@ phase_of-requires-clause-reached c =
 
 pub invariant_of-result : goal.invariant_of-result
 invariant_of-result c =
-    let is : IsPhase c.args.nested 0 c.in_ok-barrier.field-0 = c.in_ok-barrier.ensures in
+    let is : IsPhase c.args.nested 0 c.in_ok-barrier.field-0 = c.in_ok-barrier.ensures.phase in
     record {
       fit = subst (λ (n : NestedParts). IsFitNest (nested_of n)) c.nested.view_is c.nested.invariant;
-      reached = subst (λ s. HasReached (nested_of c.args.nested) 0 s) (sym (c.in_ok-store.ensures ∙ ap (λ (n : NestedParts). fresh n.store) c.nested.view_is))
+      reached = subst (λ s. HasReached (nested_of c.args.nested) 0 s) (sym (c.phase_of.ensures.same ∙ c.in_ok-store.ensures ∙ ap (λ (n : NestedParts). fresh n.store) c.nested.view_is))
           (reached_none (nested_of c.args.nested));
       running = λ place at. is.jobs;
       in_order = (0, ap (λ a. a.unbegun) c.in_ok-agenda.ensures ∙ is.unbegun);
