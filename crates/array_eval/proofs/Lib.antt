@@ -4,3 +4,4 @@ pub mod ScopeLemmas
 pub mod TraceLemmas
 pub mod StartLemmas
 pub mod LayoutLemmas
+mod MarkLemmas

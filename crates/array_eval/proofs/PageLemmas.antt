@@ -1,11 +1,13 @@
 -- Cells on pages.
 use Rattle.std.proofs.Common.{inl, inr, ◌≡◌, ℕ, zero, suc, ◌+◌, ◌-◌, ◌*◌, ◌/◌, ◌%◌, ◌<◌, ◌≤◌, ◌≢◌, Bool, true, false, List, [], ◌∷◌, ◌++◌, length, set, take, drop, get_or, ℤ, pos, refl, sym, ap, ◌∙◌, arith, length-set}
-use Rattle.std.specs.Prelude.{All, replicate, Result, Ok, Err, OnOk, OnErr}
+use Rattle.std.specs.Ordering.{int_eq}
+use Rattle.std.specs.Prelude.{◌&&◌, All, replicate, Result, Ok, Err, OnOk, OnErr}
 use Rattle.std.proofs.Math.Nat.{div-add-mod, mod-lt}
 use Rattle.std.proofs.Math.Seq.{take-set-lt, take-append_seam, drop-append_seam, take-add}
 use Rattle.std.proofs.lemmas.List.{length-append, length-replicate, length-take, length-take-le, length-drop, take_all, take-replicate, drop-append-le, set-get_or, get_or_append_left, get_or-append-add, set-append_left, set-append_right, drop-set-lt, append_assoc, append-nil, take-append-drop, replicate-append-replicate, get_or-take, drop-replicate, take_more, drop-drop, drop-take, take-set-le, get_or-set_same, get_or-set_other}
 use Rattle.std.proofs.lemmas.Bool.{cases_lt, false≢true}
 use Rattle.std.proofs.lemmas.Grind.{div_ceil_times}
+use Rattle.array_eval.specs.Equal.{store_eq}
 use Rattle.array_eval.specs.Pages.{padded, cells_on, pages_for, ArePages, page_at, AreChanged, AreChangedPages}
 
 -- Each page has 64 cells.
@@ -372,3 +374,28 @@ one_changed changed before cells cell v all h =
           let other : number ≢ cell / 64 = λ e. false≢true (sym mark ∙ ap (λ n. get_or (set changed (cell / 64) true) n true) e ∙ get_or-set_same changed (cell / 64) true true there) in
           all.kept number (sym (get_or-set_other changed (cell / 64) number true true other) ∙ mark) ∙ sym (other_page cells cell number v other);
     }
+
+-- ---- comparing cells one after another
+
+and_assoc : (a b c : Bool) → (a && (b && c)) ≡ ((a && b) && c)
+and_assoc true b c = refl
+and_assoc false b c = refl
+
+and_true : (a : Bool) → (a && true) ≡ a
+and_true true = refl
+and_true false = refl
+
+one_after : (xs ys : List ℤ) (x y : ℤ) → length xs ≡ length ys → store_eq (xs ++ x ∷ []) (ys ++ y ∷ []) ≡ (store_eq xs ys && int_eq x y)
+one_after [] [] x y e = and_true (int_eq x y)
+one_after [] (b ∷ ys) x y e = absurd (omega (arith, e))
+one_after (a ∷ xs) [] x y e = absurd (omega (arith, e))
+one_after (a ∷ xs) (b ∷ ys) x y e = ap (λ r. int_eq a b && r) (one_after xs ys x y (omega (arith, e))) ∙ and_assoc (int_eq a b) (store_eq xs ys) (int_eq x y)
+
+-- one more is compared
+pub same_next : (a b : List ℤ) (i : ℕ) → i < length a → i < length b →
+    (store_eq (take i a) (take i b) && int_eq (get_or a i (pos 0)) (get_or b i (pos 0))) ≡ store_eq (take (i + 1) a) (take (i + 1) b)
+same_next a b i h k =
+    let long : length (take i a) ≡ length (take i b) = length-take-le i a (omega (arith, h)) ∙ sym (length-take-le i b (omega (arith, k))) in
+    sym (ap (λ xs. store_eq xs (take (i + 1) b)) (take_more a i (pos 0) h)
+    ∙ ap (λ ys. store_eq (take i a ++ get_or a i (pos 0) ∷ []) ys) (take_more b i (pos 0) k)
+    ∙ one_after (take i a) (take i b) (get_or a i (pos 0)) (get_or b i (pos 0)) long)

@@ -1,8 +1,9 @@
 //! Stores that know which of their cells were written.
-ghost use Rattle.std.specs.Prelude.{◌≡◌, ◌<◌, ◌≤◌, All, IfOk, [], length};
+ghost use Rattle.std.specs.Prelude.{◌≡◌, ◌+◌, ◌*◌, ◌<◌, ◌≤◌, All, IfOk, [], true, false, length, drop, replicate, slice_set};
 ghost use Rattle.array_meaning.specs.Pieces.{lays, last_writes};
 ghost use Rattle.array_eval.specs.Overlays.{cell_numbers};
-ghost use Rattle.array_eval.specs.Traces.{fresh, noted, noted_all, marked, marked_from, marks_in};
+ghost use Rattle.array_eval.specs.Pages.{cells_on_page, pages_for};
+ghost use Rattle.array_eval.specs.Traces.{fresh, noted, noted_all, marked, marked_from, marks_in, AreTouched, IsLaidTo};
 
 use crate::overlay::Overlay;
 use crate::page::CELLS;
@@ -17,14 +18,17 @@ use std::marker::Model;
 pub struct MarkedStore {
     cells: Vec<i64>,
     marks: Vec<bool>,
-    // What it was made from, and which of its pages were written since: a store that is taken shares the others.
+    // On which pages there may be marks: the others needn't be looked at.
+    touched: Vec<bool>,
+    // The store that was taken last, at first what it was made from, and which of its pages were written since: the next
+    // store that is taken shares the others.
     start: Store,
     changed: Vec<bool>,
 }
 
 impl Model for MarkedStore {
     ghost use Rattle.std.specs.Prelude.{◌≡◌, length};
-    ghost use Rattle.array_eval.specs.Traces.{Trace};
+    ghost use Rattle.array_eval.specs.Traces.{Trace, AreTouched};
     ghost use Rattle.array_eval.specs.Pages.{AreChanged};
 
     ghost Value = { Trace };
@@ -32,6 +36,7 @@ impl Model for MarkedStore {
     ghost view = { λ store. record { cells = store.cells.items; marks = store.marks.items } };
 
     ghost invariant = { λ store. (length store.cells.items ≡ length store.marks.items)
+        × AreTouched store.touched.items store.marks.items
         × AreChanged store.changed.items store.start store.cells.items };
 }
 
@@ -42,11 +47,14 @@ impl MarkedStore {
     {
         let cells = store.to_cells(alloc)?;
         let marks = vec![in alloc; false; cells.len()]?;
+        let pages = cells.len().div_ceil(CELLS);
+        let touched = vec![in alloc; false; pages]?;
         let start = store.copy()?;
-        let changed = vec![in alloc; false; cells.len().div_ceil(CELLS)]?;
+        let changed = vec![in alloc; false; pages]?;
         Ok(MarkedStore {
             cells,
             marks,
+            touched,
             start,
             changed,
         })
@@ -65,8 +73,8 @@ impl MarkedStore {
     {
         if cell < self.cells.len() {
             self.cells[cell] = value;
-            self.marks[cell] = true;
-            self.changed[cell / CELLS] = true;
+            mark(&mut self.marks, &mut self.touched, cell);
+            flag(&mut self.changed, cell / CELLS);
         }
     }
 
@@ -85,11 +93,16 @@ impl MarkedStore {
         }
     }
 
-    /// A store of these values. It shares with the one that this was made from each page of which no cell was written.
-    pub fn to_store(&self, alloc: Global) -> Result<Store, AllocError>
-        ensures { IfOk result (λ store. store ≡ self.now.cells) }
+    /// A store of these values. It shares with the one that was taken before, or else with the one that this was made
+    /// from, each page of which no cell was written since.
+    pub fn to_store(&mut self, alloc: Global) -> Result<Store, AllocError>
+        ensures values { IfOk result (λ store. store ≡ self.old.cells) }
+        ensures same { self.new ≡ self.old }
     {
-        self.start.changed_to(alloc, &self.cells, &self.changed)
+        let store = self.start.changed_to(alloc, &self.cells, &self.changed)?;
+        self.start = store.copy()?;
+        self.changed.fill(false);
+        Ok(store)
     }
 
     /// The cells that were written, each with its value. There must be at most 65,535 cells.
@@ -97,13 +110,13 @@ impl MarkedStore {
         requires { length self.now.cells < cell_numbers }
         ensures { IfOk result (λ overlay. overlay.pairs ≡ last_writes (marked self.now)) }
     {
-        let mut overlay = Overlay::roomy(alloc, count_marks(&self.marks))?;
-        lay_marked(&self.cells, &self.marks, &mut overlay);
+        let mut overlay = Overlay::roomy(alloc, count_marks(&self.marks, &self.touched))?;
+        lay_marked(&self.cells, &self.marks, &self.touched, &mut overlay);
         Ok(overlay)
     }
 
     /// Lays the cells that were written, each with its value, into an overlay of no cell. It takes no memory, and one
-    /// pass over the cells.
+    /// pass over the pages that were written.
     ///
     /// The overlay must have room for as many pairs as there are cells, and there must be at most 65,535 cells.
     pub fn lay_written(&self, overlay: &mut Overlay)
@@ -112,19 +125,59 @@ impl MarkedStore {
         requires room { length self.now.cells ≤ overlay.old.room }
         ensures { overlay.new.pairs ≡ last_writes (marked self.now) }
     {
-        lay_marked(&self.cells, &self.marks, overlay);
+        lay_marked(&self.cells, &self.marks, &self.touched, overlay);
+    }
+}
+
+// Sets a flag. One that is set isn't written again, since what lies beside it may be another thread's.
+fn flag(flags: &mut Vec<bool>, number: usize)
+    requires { number < length flags.old.items }
+    ensures { flags.new.items ≡ slice_set flags.old.items number true }
+{
+    if !flags[number] {
+        flags[number] = true;
+    }
+}
+
+// Marks a cell, and its page as touched.
+fn mark(marks: &mut Vec<bool>, touched: &mut Vec<bool>, cell: usize)
+    requires inside { cell < length marks.old.items }
+    requires touched { AreTouched touched.old.items marks.old.items }
+    ensures marks { marks.new.items ≡ slice_set marks.old.items cell true }
+    ensures touched { AreTouched touched.new.items marks.new.items }
+{
+    if !marks[cell] {
+        marks[cell] = true;
+        flag(touched, cell / CELLS);
     }
 }
 
 // How many cells are marked.
-#[tactic(auto, using(crate::proofs::TraceLemmas::marks_small, crate::proofs::TraceLemmas::marks_next))]
-fn count_marks(marks: &[bool]) -> u16
-    requires { length marks.now < cell_numbers }
+fn count_marks(marks: &[bool], touched: &[bool]) -> u16
+    requires small { length marks.now < cell_numbers }
+    requires touched { AreTouched touched.now marks.now }
     ensures { result ≡ marks_in marks.now }
 {
     let mut count = 0;
-    for mark in marks {
-        if *mark {
+    for number in 0..touched.len() {
+        if touched[number] {
+            count += count_page(marks, number);
+        }
+    }
+    count
+}
+
+// How many cells of a page are marked.
+fn count_page(marks: &[bool], number: usize) -> u16
+    requires small { length marks.now < cell_numbers }
+    requires there { cells_on_page * number < length marks.now }
+    ensures { result + marks_in (drop (cells_on_page * number + cells_on_page) marks.now)
+        ≡ marks_in (drop (cells_on_page * number) marks.now) }
+{
+    let first = CELLS * number;
+    let mut count = 0;
+    for cell in first..marks.len().min(first + CELLS) {
+        if marks[cell] {
             count += 1;
         }
     }
@@ -132,16 +185,33 @@ fn count_marks(marks: &[bool]) -> u16
 }
 
 // Lays the cells that are marked, each with its value.
-fn lay_marked(cells: &[i64], marks: &[bool], overlay: &mut Overlay)
+fn lay_marked(cells: &[i64], marks: &[bool], touched: &[bool], overlay: &mut Overlay)
     requires same { length cells.now ≡ length marks.now }
     requires small { length cells.now < cell_numbers }
+    requires touched { AreTouched touched.now marks.now }
     requires none { overlay.old.pairs ≡ [] }
     requires room { marks_in marks.now ≤ overlay.old.room }
     ensures { overlay.new.pairs ≡ last_writes (marked_from 0 cells.now marks.now) }
 {
-    for (cell, value) in cells.iter().enumerate() {
+    for number in 0..touched.len() {
+        if touched[number] {
+            lay_page(cells, marks, number, overlay);
+        }
+    }
+}
+
+// Lays the cells of a page that are marked, where those before it are laid.
+fn lay_page(cells: &[i64], marks: &[bool], number: usize, overlay: &mut Overlay)
+    requires same { length cells.now ≡ length marks.now }
+    requires small { length cells.now < cell_numbers }
+    requires there { cells_on_page * number < length marks.now }
+    requires laid { IsLaidTo cells.now marks.now (cells_on_page * number) overlay.old }
+    ensures { IsLaidTo cells.now marks.now (cells_on_page * number + cells_on_page) overlay.new }
+{
+    let first = CELLS * number;
+    for cell in first..cells.len().min(first + CELLS) {
         if marks[cell] {
-            overlay.append(cell as u16, *value);
+            overlay.append(cell as u16, cells[cell]);
         }
     }
 }

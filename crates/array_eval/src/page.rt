@@ -99,6 +99,20 @@ impl PartialEq for Page {
     ghost laws = { equal_laws (λ page. page) store_eq (λ a b. (store_decides a b).0) (λ a. (store_decides a a).1 refl) };
 
     fn eq(&self, other: &Page) -> bool {
-        self.cells() == other.cells()
+        are_same(self.cells(), other.cells())
     }
+}
+
+// Whether two pages have the same cells. It looks at them all, and doesn't end at the first that differ: so a compiler can
+// compare several at once.
+fn are_same(a: &[i64], b: &[i64]) -> bool
+    requires a { length a.now ≡ cells_on_page }
+    requires b { length b.now ≡ cells_on_page }
+    ensures { result ≡ store_eq a.now b.now }
+{
+    let mut same = true;
+    for cell in 0..CELLS {
+        same &= a[cell] == b[cell];
+    }
+    same
 }

@@ -9,14 +9,16 @@ use crate::scope::{LoopVar, Scope};
 use array_tree::Name;
 use std::alloc::{AllocError, Global};
 use std::marker::Model;
+use std::sync::Arc;
 
 /// The loop variables around a place in a program, with their values.
 ///
-/// Contracts see them as a list of pairs of a name and a value, the innermost loop's first.
+/// Contracts see them as a list of pairs of a name and a value, the innermost loop's first. A copy shares them all.
 #[derive(Debug, Drop)]
 pub struct Vars {
     alloc: Global,
-    bindings: Vec<Binding>,
+    // Copies share them. Where there are none, nothing is kept.
+    bindings: Option<Arc<Vec<Binding>>>,
 }
 
 /// A loop variable and its value.
@@ -28,11 +30,11 @@ struct Binding {
 
 impl Model for Vars {
     ghost use Rattle.std.specs.Prelude.{List, ℕ, ℤ};
-    ghost use Rattle.array_eval.specs.Bindings.{pairs_of};
+    ghost use Rattle.array_eval.specs.Bindings.{pairs_of, kept_in};
 
     ghost Value = { List (List ℕ × ℤ) };
 
-    ghost view = { λ vars. pairs_of vars.bindings.items };
+    ghost view = { λ vars. pairs_of (kept_in (λ kept. kept.items) vars.bindings) };
 }
 
 impl Vars {
@@ -42,7 +44,7 @@ impl Vars {
     {
         Vars {
             alloc,
-            bindings: Vec::new(alloc),
+            bindings: None,
         }
     }
 
@@ -52,27 +54,25 @@ impl Vars {
     {
         let mut bindings = Vec::new(alloc);
         append_scope(&mut bindings, scope)?;
-        Ok(Vars { alloc, bindings })
+        keep(alloc, bindings)
     }
 
     /// These variables with one more, the innermost.
     pub fn with(&self, name: &Name, value: i64) -> Result<Vars, AllocError>
         ensures { IfOk result (λ vars. vars ≡ (name.now, value) ∷ self.now) }
     {
-        let mut bindings = Vec::with_capacity(self.alloc, self.bindings.len().saturating_add(1))?;
+        let outer = self.bindings();
+        let mut bindings = Vec::with_capacity(self.alloc, outer.len().saturating_add(1))?;
         append_copy(&mut bindings, name, value)?;
-        append(&mut bindings, &self.bindings)?;
-        Ok(Vars {
-            alloc: self.alloc,
-            bindings,
-        })
+        append(&mut bindings, outer)?;
+        keep(self.alloc, bindings)
     }
 
     /// The value of the first variable with the name.
     pub fn get(&self, name: &Name) -> Option<i64>
         ensures { result ≡ bound_to self.now name.now }
     {
-        for binding in &self.bindings {
+        for binding in self.bindings() {
             if binding.name == *name {
                 return Some(binding.value);
             }
@@ -80,16 +80,28 @@ impl Vars {
         None
     }
 
-    /// Equal variables.
+    /// Equal variables, shared with these. It takes no memory of its own.
     pub fn copy(&self) -> Result<Vars, AllocError>
         ensures { IfOk result (λ vars. vars ≡ self.now) }
     {
-        let mut bindings = Vec::with_capacity(self.alloc, self.bindings.len())?;
-        append(&mut bindings, &self.bindings)?;
+        let bindings = match &self.bindings {
+            Some(kept) => Some(Arc::try_clone(kept)?),
+            None => None,
+        };
         Ok(Vars {
             alloc: self.alloc,
             bindings,
         })
+    }
+
+    // The variables, the innermost loop's first.
+    fn bindings(&self) -> &[Binding]
+        ensures { pairs_of result.now ≡ self.now }
+    {
+        match &self.bindings {
+            Some(kept) => kept.as_slice(),
+            None => &[],
+        }
     }
 }
 
@@ -107,7 +119,7 @@ impl PartialEq for Vars {
         ensures tested { result ≡ vars_eq self.now other.now }
         ensures same { IsTrue result ↔ (self.now ≡ other.now) }
     {
-        self.bindings == other.bindings
+        self.bindings() == other.bindings()
     }
 }
 
@@ -127,6 +139,16 @@ impl PartialEq for Binding {
     }
 }
 
+// These variables, kept so that copies share them.
+fn keep(alloc: Global, bindings: Vec<Binding>) -> Result<Vars, AllocError>
+    ensures { IfOk result (λ vars. vars ≡ pairs_of bindings.items) }
+{
+    Ok(Vars {
+        alloc,
+        bindings: Some(Arc::new(alloc, bindings)?),
+    })
+}
+
 // Appends copies of the variables of a scope.
 fn append_scope(bindings: &mut Vec<Binding>, scope: &Scope) -> Result<(), AllocError>
     ensures { OnOk result (pairs_of bindings.new.items ≡ pairs_of bindings.old.items
@@ -134,7 +156,7 @@ fn append_scope(bindings: &mut Vec<Binding>, scope: &Scope) -> Result<(), AllocE
 {
     match scope {
         Scope::Outermost => Ok(()),
-        Scope::Kept(vars) => append(bindings, &vars.bindings),
+        Scope::Kept(vars) => append(bindings, vars.bindings()),
         Scope::Turn { name, value, outer } => {
             append_copy(bindings, name, *value)?;
             append_scope(bindings, outer)

@@ -1,2 +1,3 @@
 pub mod Views
 pub mod Compared
+mod Bytes

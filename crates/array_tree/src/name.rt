@@ -74,8 +74,23 @@ impl PartialEq for Name {
     ghost laws = { partial_equiv_from_equiv nat_list_eq_equiv };
 
     fn eq(&self, other: &Name) -> bool {
-        self.digest == other.digest && self.bytes == other.bytes
+        self.digest == other.digest && are_same(&self.bytes, &other.bytes)
     }
+}
+
+// Whether bytes are the same. It looks at them all, and doesn't end at the first that differ: so a compiler can compare
+// several at once. Names whose digests are equal mostly are.
+fn are_same(a: &[u8], b: &[u8]) -> bool
+    ensures { result ≡ pointwise nat_eq a.now b.now }
+{
+    if a.len() != b.len() {
+        return false;
+    }
+    let mut same = true;
+    for place in 0..a.len() {
+        same &= a[place] == b[place];
+    }
+    same
 }
 
 // The digest of bytes: the 64-bit FNV-1a hash.

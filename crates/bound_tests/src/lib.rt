@@ -5,6 +5,8 @@
 #[cfg(test)]
 mod bounding;
 #[cfg(test)]
+mod paying;
+#[cfg(test)]
 mod settling;
 #[cfg(test)]
 mod touching;

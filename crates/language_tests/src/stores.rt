@@ -203,8 +203,9 @@ fn assign(alloc: Global, arrays: &Arrays, store: &mut MarkedStore) -> Result<(),
 }
 
 // Whether a store of four cells has 5 in its last cell.
-fn ends_with_five(alloc: Global, marked: &MarkedStore) -> Result<bool, AllocError>
-    requires { length marked.now.cells ≡ 4 }
+fn ends_with_five(alloc: Global, marked: &mut MarkedStore) -> Result<bool, AllocError>
+    requires { length marked.old.cells ≡ 4 }
+    ensures { marked.new ≡ marked.old }
 {
     let store = marked.to_store(alloc)?;
     Ok(store.get(3) == 5)
@@ -225,7 +226,7 @@ fn has_written(
 }
 
 // Whether a store of four cells knows that 0, 5 and 5 were written into all cells but cell 1.
-fn knows_what_was_written(alloc: Global, marked: &MarkedStore) -> Result<bool, AllocError> {
+fn knows_what_was_written(alloc: Global, marked: &mut MarkedStore) -> Result<bool, AllocError> {
     if marked.cells().len() != 4 {
         return Ok(false);
     }
@@ -241,7 +242,7 @@ fn a_store_knows_what_was_written(rt: HostRuntime) -> Result<(), Fail> {
     let mut marked = MarkedStore::new(alloc, &Store::zero(alloc, 4)?)?;
     supply(alloc, &mut marked)?;
     assign(alloc, &program.arrays, &mut marked)?;
-    assert!(rt; knows_what_was_written(alloc, &marked)?);
+    assert!(rt; knows_what_was_written(alloc, &mut marked)?);
     Ok(())
 }
 

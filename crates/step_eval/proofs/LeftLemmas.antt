@@ -51,6 +51,14 @@ left_positive w more = by w.work
     by (branch_of body) = omega arith
     by (member_of var low high body) = omega arith
 
+-- Without its first work it has fewer steps left.
+pub left_dropped : (w : WorkAt) (more : List WorkAt) → rest_left more < rest_left (w ∷ more)
+left_dropped w more = by w.work
+  where
+    by : (work : WorkTree) → rest_left more < work_left work + rest_left more
+    by (branch_of body) = omega arith
+    by (member_of var low high body) = omega arith
+
 -- a construct leaves nothing but the statements after it
 work_passes : (arrays : Arrays) (store : Store) (w : WorkTree) (vars : Vars) (more : List WorkAt) (c : Statement) → construct_of w ≡ Some c →
     rest_left (moved arrays store w vars ++ more) ≡ rest_left (at w vars ∷ more) - 1

@@ -12,3 +12,4 @@ pub mod MachineLemmas
 pub mod ShapeLemmas
 pub mod PhaseLemmas
 pub mod ComputeLemmas
+mod GoLemmas

@@ -1,5 +1,5 @@
 -- A step keeps a machine right.
-use Rattle.std.proofs.Common.{◌≡◌, ℕ, ◌+◌, ◌*◌, Bool, true, false, cond, List, [], ◌∷◌, ◌++◌, length, None, pos, ◌+ℤ◌, ◌<ℤ◌, refl, sym, ap, ◌∙◌, arith}
+use Rattle.std.proofs.Common.{◌≡◌, ℕ, ◌+◌, ◌*◌, Bool, true, false, cond, List, [], ◌∷◌, ◌++◌, length, None, pos, ◌+ℤ◌, ◌<ℤ◌, refl, sym, ap, subst, ◌∙◌, arith}
 use Rattle.std.specs.Prelude.{◌&&◌, int_lt}
 use Rattle.std.proofs.lemmas.Int.{ints}
 use Rattle.std.proofs.lemmas.List.{length-replicate}
@@ -17,16 +17,16 @@ use Rattle.array_meaning.proofs.LastLemmas.{lays_append}
 use Rattle.array_meaning.proofs.MergeLemmas.{supplied}
 use Rattle.array_jobs.specs.Works.{WorkTree, branch_of, member_of, steps_of, statements_of, sites_of}
 use Rattle.array_jobs.specs.Jobs.{JobTree, IsFit}
-use Rattle.array_eval.specs.Traces.{Trace, fresh, noted_all, marked}
+use Rattle.array_eval.specs.Traces.{Trace, fresh, noted_all, marked, traced}
 use Rattle.array_meaning.proofs.BelowLemmas.{AreBelow}
 use Rattle.array_eval.proofs.TraceLemmas.{cells_after, marked_after, none_marked, length_marks}
-use Rattle.step_eval.specs.Rest.{WorkAt, at, rest_steps, rest_sites, instead}
+use Rattle.step_eval.specs.Rest.{WorkAt, at, rest_steps, rest_sites, instead, AreFit}
 use Rattle.step_eval.specs.Moves.{moved, moved_writes, moved_sites}
 use Rattle.step_eval.specs.Machines.{IsRight, construct_of}
 use Rattle.step_eval.proofs.LeftLemmas.{span_times}
 use Rattle.step_eval.proofs.FitParts.{no_sites}
 use Rattle.step_eval.proofs.FitMoves.{fit_moved}
-use Rattle.step_eval.proofs.WriteLemmas.{rising_marked, last_writes_rising, moved_below}
+use Rattle.step_eval.proofs.WriteLemmas.{rising_marked, last_writes_rising, moved_below, steps_below}
 
 -- ---- sites
 
@@ -193,4 +193,33 @@ right_fresh job fit =
       fit = (fit, tt);
       cells = refl;
       marks = length-replicate (length job.store) false;
+    }
+
+-- ---- a whole work
+
+-- A work that comes to no site and is run whole keeps a machine right, without it.
+pub right_run : (job : JobTree) (w : WorkAt) (more : List WorkAt) (store : Trace) (next : ℕ) → sites_of w.work ≡ 0 → IsRight job (w ∷ more) store next →
+    IsRight job more (traced (arrays_of job.arrays) (steps_of w.work w.vars) store) next
+right_run job w more store next none right =
+    let arrays = arrays_of job.arrays in
+    let steps = steps_of w.work w.vars in
+    let ws = writes_of arrays steps store.cells in
+    let now = noted_all ws store in
+    let left = rest_steps more in
+    let cells = right.cells in
+    let below : AreBelow (length store.cells) ws = steps_below (instead job next w) right.fit.0 store.cells (cells ∙ right.fit.0.cells) in
+    let laid : marked now ≡ lays ws (marked store) = marked_after ws store below (cells ∙ sym right.marks) in
+    let passed : next + sites_of w.work ≡ next = omega (arith, none) in
+    record {
+      writes = last_of_both now (writes_of arrays left now.cells)
+          ∙ ap (lays (writes_of arrays left now.cells)) laid
+          ∙ ap (λ s. lays (writes_of arrays left s) (lays ws (marked store))) (cells_after ws store)
+          ∙ sym (lays_append ws (writes_of arrays left (after ws store.cells)) (marked store))
+          ∙ ap (λ x. lays x (marked store)) (sym (writes_followed_by arrays steps left store.cells))
+          ∙ sym (last_of_both store (writes_of arrays (followed_by steps left) store.cells))
+          ∙ right.writes;
+      sites = (let all = right.sites in omega (arith, none, all));
+      fit = subst (λ n. AreFit job n more) passed right.fit.1;
+      cells = ap length (cells_after ws store) ∙ length_after ws store.cells ∙ cells;
+      marks = length_marks ws store ∙ right.marks;
     }

@@ -81,13 +81,19 @@ work_below arrays n (branch_of (followed first rest)) vars cells h =
     statement_below arrays n first vars cells (first_below arrays n (statement_work first vars) (sequence_work rest vars) cells h)
 work_below arrays n (member_of var low high body) vars cells h = tt
 
--- What a step of a fit work writes lies inside a store that has the arrays' cells.
-pub moved_below : (job : JobTree) → IsFit job → (cells : Store) → length cells ≡ cells_of (arrays_of job.arrays) →
-    AreBelow (length cells) (moved_writes (arrays_of job.arrays) cells job.work job.vars)
-moved_below job fit cells e =
+-- What a fit work writes lies inside a store that has the arrays' cells.
+pub steps_below : (job : JobTree) → IsFit job → (cells : Store) → length cells ≡ cells_of (arrays_of job.arrays) →
+    AreBelow (length cells) (writes_of (arrays_of job.arrays) (steps_of job.work job.vars) cells)
+steps_below job fit cells e =
     let arrays = arrays_of job.arrays in
     let steps = steps_of job.work job.vars in
     let visited : are_known (names_in arrays) (walk arrays steps) ≡ true
     = rw (names_in_of job.arrays) (known arrays (names_of job.arrays) (names_around job.vars) job.work job.vars fit.known_names) in
     let below = writes_below arrays (sized job fit).each steps cells visited fit.indices in
-    rw e (work_below arrays (cells_of arrays) job.work job.vars cells below)
+    rw e below
+
+-- So does what a step of it writes.
+pub moved_below : (job : JobTree) → IsFit job → (cells : Store) → length cells ≡ cells_of (arrays_of job.arrays) →
+    AreBelow (length cells) (moved_writes (arrays_of job.arrays) cells job.work job.vars)
+moved_below job fit cells e =
+    work_below (arrays_of job.arrays) (length cells) job.work job.vars cells (steps_below job fit cells e)

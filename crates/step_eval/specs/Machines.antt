@@ -1,5 +1,5 @@
 -- Machines, and what their calls do.
-use Rattle.std.specs.Prelude.{◌≡◌, ℕ, ◌+◌, ◌-◌, List, [], ◌∷◌, ◌++◌, Bool, true, false, Option, Some, None, IsSome, length}
+use Rattle.std.specs.Prelude.{◌≡◌, ℕ, ◌+◌, ◌-◌, ◌<◌, List, [], ◌∷◌, ◌++◌, Bool, true, false, Option, Some, None, IsSome, length}
 use Rattle.contexts.specs.Machine.{Work}
 use Rattle.contexts.specs.declared.machine.Step.{Step}
 use Rattle.contexts.specs.declared.machine.Step.TheVariants as step
@@ -157,3 +157,21 @@ AreAwaited machine written = AreAwaitedBy (next_nest machine) written
 pub record IsFinished (machine : Progress) : Type 0 where
   pub stage : machine.stage ≡ Going
   pub rest : machine.rest ≡ []
+
+-- Where a machine has gone, by the answer. Each time it is the same job, and the type keeps that the machine writes what
+-- the job writes. More: it goes on, with less left. Nest: it has come to the construct that is handed out, and awaits
+-- what that writes. Finished: nothing is left. NoMemory: the machine is failed.
+abbrev pub HasGone : Progress → Step NestedParts → Progress → Type 0
+HasGone before step.More after =
+    (after.job ≡ before.job) × (after.stage ≡ Going)
+    × (left_of after.stage after.rest < left_of before.stage before.rest)
+HasGone before (step.Nest nested) after =
+    (after.job ≡ before.job) × (after.stage ≡ Awaiting) × (next_nest after ≡ Some (nested_of nested))
+    × (left_of after.stage after.rest < left_of before.stage before.rest)
+HasGone before step.Finished after = (after.job ≡ before.job) × IsFinished after
+HasGone before step.NoMemory after = after.stage ≡ Failed
+
+-- A machine has gone on, or it stands as it stood.
+abbrev pub HasGoneOn : Bool → Progress → Progress → Type 0
+HasGoneOn false before after = after ≡ before
+HasGoneOn true before after = HasGone before step.More after

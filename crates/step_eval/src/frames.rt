@@ -7,11 +7,12 @@ ghost use Rattle.step_eval.specs.declared.frames.Frame.TheVariants.{Statements, 
 ghost use Rattle.step_eval.specs.Moves.{begun, begun_writes};
 ghost use Rattle.step_eval.specs.Nests.{is_construct};
 ghost use Rattle.step_eval.specs.Machines.{construct_of, next_construct};
-ghost use Rattle.step_eval.specs.Inside.Frames.{statements_from, works_in, works_of, works_with, vars_in, IsMore, IsStacked, IsStackedWith, IsEnded, AreAll, HasBegun, HaveMoved, Went, HasTurned, HasPassed, IsBehind, IsConstruct, IsConstructAt};
+ghost use Rattle.step_eval.specs.Inside.Frames.{statements_from, works_in, works_of, works_with, vars_in, IsMore, IsStacked, IsStackedWith, IsEnded, AreAll, HasBegun, HaveMoved, Went, HasTurned, HasPassed, IsBehind, IsConstruct, IsConstructAt, HaveRun, Ran};
 
-use array_eval::{Layout, LoopVar, MarkedStore, Scope, Vars, evaluate, run_assign};
+use array_eval::{Layout, LoopVar, MarkedStore, Scope, Vars, evaluate, run_assign, run_loop};
 use array_jobs::Work;
 use array_tree::{Block, Name, Stmt};
+use site_counts::sites_in_block;
 use std::alloc::{AllocError, Global};
 
 /// A work that is still to be run.
@@ -122,6 +123,28 @@ impl<'p> Frames<'p> {
         }
     }
 
+    /// Runs the loop that is next to its end, with no step between its turns, if it comes to no site; false where that isn't so.
+    #[inline(always)]
+    pub(crate) fn run_through(
+        &mut self,
+        layout: &Layout,
+        around: &Vars,
+        store: &mut MarkedStore,
+    ) -> bool
+        requires { IsStacked self.old }
+        ensures ran { Ran layout.now result (works_of self.old around.now) store.old
+            (works_of self.new around.now) store.new }
+        ensures stacked { IsStacked self.new }
+    {
+        match self.top {
+            Some(Frame::Turns { body, next, high }) if sites_in_block(body) == 0 => {
+                self.run_turns(layout, around, store, body, next, high);
+                true
+            }
+            _ => false,
+        }
+    }
+
     /// Passes the construct that is next. It has been run by others.
     pub(crate) fn pass(&mut self)
         requires { IsSome (next_construct (works_of self.old [])) }
@@ -210,6 +233,32 @@ impl<'p> Frames<'p> {
             }
         }
         Ok(())
+    }
+
+    // Runs the turns of the loop on top, and takes it off.
+    fn run_turns(
+        &mut self,
+        layout: &Layout,
+        around: &Vars,
+        store: &mut MarkedStore,
+        body: &'p Block,
+        next: i64,
+        high: i64,
+    )
+        requires { IsStackedWith (Turns body next high) self.old }
+        ensures ran { HaveRun layout.now (works_with (Turns body.entry next high) self.old around.now)
+            store.old (works_of self.new around.now) store.new }
+        ensures stacked { IsStacked self.new }
+    {
+        if let Some(var) = self.vars.pop() {
+            let outer = Scope::Kept(around);
+            let scope = Scope::Stack {
+                vars: &self.vars,
+                outer: &outer,
+            };
+            run_loop(layout, body, var.name, next, high, &scope, store);
+            self.end();
+        }
     }
 
     // Begins a statement that is no construct, with the rest of its block behind it.

@@ -1,11 +1,12 @@
 //! Machines that run a job a step at a time.
-ghost use Rattle.std.specs.Prelude.{◌≡◌, ◌<◌, false, IfOk, IfErr, OnOk, OnErr};
+ghost use Rattle.std.specs.Prelude.{◌≡◌, ◌≢◌, ◌<◌, false, IfOk, IfErr, OnOk, OnErr};
 ghost use Rattle.contexts.specs.Machine.{Steps};
+ghost use Rattle.contexts.specs.declared.machine.Step.TheVariants.{More};
 ghost use Rattle.array_tree.specs.Trees.{statement_of};
 ghost use Rattle.array_jobs.specs.Jobs.{job_of};
 ghost use Rattle.step_eval.specs.declared.stage.Stage.TheVariants.{Awaiting, Failed};
-ghost use Rattle.step_eval.specs.Machines.{Progress, IsRight, fresh_machine, is_awaiting, to_do, left_of, Advances, HasMoved, AreAwaited, IsFinished};
-ghost use Rattle.step_eval.specs.Inside.Frames.{works_of, IsStacked, IsMore};
+ghost use Rattle.step_eval.specs.Machines.{Progress, IsRight, fresh_machine, is_awaiting, to_do, left_of, Advances, HasMoved, HasGone, HasGoneOn, AreAwaited, IsFinished};
+ghost use Rattle.step_eval.specs.Inside.Frames.{works_of, IsStacked, IsMore, Ran};
 ghost use Rattle.step_eval.specs.Inside.Parts.{while_going, Advanced, IsLayoutOf, IsHandedOut, IsConstructNext, stage_by, sites_seen};
 
 use crate::frames::Frames;
@@ -98,6 +99,45 @@ impl<'p> StepMachine<'p> {
         self.store.merge(written);
         self.stage = Stage::Going;
         Ok(())
+    }
+
+    /// Goes on to the next construct or to the end, step by step but for the loops that come to no site: each is run to
+    /// its end at once. It never answers More.
+    pub fn go(&mut self) -> Step<Nested<'p>>
+        requires { is_awaiting self.old.stage ≡ false }
+        ensures gone { HasGone self.old result self.new }
+        ensures whole { result ≢ More }
+    {
+        loop {
+            match self.go_on() {
+                Step::More => {}
+                step => return step,
+            }
+        }
+    }
+
+    // Runs the loop that is next, if it comes to no site, or else does one step.
+    fn go_on(&mut self) -> Step<Nested<'p>>
+        requires { is_awaiting self.old.stage ≡ false }
+        ensures { HasGone self.old result self.new }
+    {
+        if self.run_through() {
+            Step::More
+        } else {
+            self.step()
+        }
+    }
+
+    // Runs the loop that is next to its end, if it comes to no site; false where that isn't so.
+    fn run_through(&mut self) -> bool
+        ensures { HasGoneOn result self.old self.new }
+    {
+        match self.stage {
+            Stage::Going => {
+                run_loop_of(&self.job, &self.layout, &mut self.frames, &mut self.store)
+            }
+            _ => false,
+        }
     }
 
     /// The job with what it wrote. The last step must have been Finished. It takes no memory.
@@ -210,21 +250,33 @@ fn advance<'p>(
     }
 }
 
+// Runs the loop that is next to its end, if it comes to no site; false where that isn't so.
+#[inline(always)]
+fn run_loop_of(job: &Job, layout: &Layout, frames: &mut Frames, store: &mut MarkedStore) -> bool
+    requires { IsStacked frames.old }
+    ensures ran { Ran layout.now result (works_of frames.old job.now.vars) store.old
+        (works_of frames.new job.now.vars) store.new }
+    ensures stacked { IsStacked frames.new }
+{
+    frames.run_through(layout, &job.vars, store)
+}
+
 // Hands out the construct that is next, with what its pieces start from.
 #[inline(never)]
 fn hand_out<'p>(
     alloc: Global,
     job: &Job<'p>,
     frames: &Frames<'p>,
-    store: &MarkedStore,
+    store: &mut MarkedStore,
     next: u16,
     construct: &'p Stmt,
 ) -> Result<Nested<'p>, AllocError>
-    requires right { IsRight (job_of job.now) (works_of frames.now job.now.vars) store.now next }
+    requires right { IsRight (job_of job.now) (works_of frames.now job.now.vars) store.old next }
     requires construct { IsConstructNext (statement_of construct.now)
         (works_of frames.now job.now.vars) }
-    ensures { IfOk result (IsHandedOut
-        (while_going job.now (works_of frames.now job.now.vars) store.now next)) }
+    ensures handed_out { IfOk result (IsHandedOut
+        (while_going job.now (works_of frames.now job.now.vars) store.old next)) }
+    ensures same { store.new ≡ store.old }
 {
     Ok(Nested {
         arrays: job.arrays,

@@ -97,7 +97,8 @@ fn weigh_blocks(blocks: &Blocks) -> Weight {
     weight
 }
 
-// The same of a statement. Both sides of an `if` count, since the walk goes through both.
+// The same of a statement. Both sides of an `if` count, since the walk goes through both. What stands in a loop or a team
+// with no turn doesn't, since the walk doesn't go there: to look into it could cost more than the walk.
 #[cycle(weigh)]
 fn weigh_statement(statement: &Stmt) -> Weight {
     match statement {
@@ -107,7 +108,10 @@ fn weigh_statement(statement: &Stmt) -> Weight {
             high,
             body,
             ..
-        } => weigh_block(body).and_one().times(span(*low, *high)),
+        } => match span(*low, *high) {
+            0 => Weight::none().and_one(),
+            turns => weigh_block(body).and_one().times(turns),
+        },
         Stmt::If {
             then_block,
             else_block,
@@ -121,6 +125,9 @@ fn weigh_statement(statement: &Stmt) -> Weight {
             high,
             phases,
             ..
-        } => weigh_blocks(phases).and_one().times(span(*low, *high)),
+        } => match span(*low, *high) {
+            0 => Weight::none().and_one(),
+            turns => weigh_blocks(phases).and_one().times(turns),
+        },
     }
 }

@@ -7,8 +7,8 @@ use Rattle.array_tree.specs.declared.tree.Stmt.{Stmt}
 use Rattle.array_tree.specs.Trees.{Statement, Sequence, sequence, statement_of, sequence_of}
 use Rattle.array_meaning.specs.Stores.{Arrays, Vars}
 use Rattle.array_eval.specs.Views.{stacked}
-use Rattle.array_eval.specs.Traces.{Trace, noted_all}
-use Rattle.array_jobs.specs.Works.{WorkTree, branch_of, member_of}
+use Rattle.array_eval.specs.Traces.{Trace, noted_all, traced}
+use Rattle.array_jobs.specs.Works.{WorkTree, branch_of, member_of, steps_of, sites_of}
 use Rattle.step_eval.specs.declared.frames.Frame.{Frame}
 use Rattle.step_eval.specs.declared.frames.Frame.TheVariants.{Statements, Turns}
 use Rattle.step_eval.specs.declared.frames.Frames.{Frames}
@@ -132,3 +132,20 @@ IsConstruct construct frames =
 abbrev pub IsConstructAt : Option (Bor Stmt) → Block → ℕ → Type 0
 IsConstructAt construct block place =
     seen construct ≡ construct_of (branch_of (statements_from block place))
+
+-- The first of these works was run whole.
+abbrev pub HaveRun : Arrays → List WorkAt → Trace → List WorkAt → Trace → Type 0
+HaveRun arrays [] store after store_after = ⊥
+HaveRun arrays (w ∷ more) store after store_after =
+    (after ≡ more) × (store_after ≡ traced arrays (steps_of w.work w.vars) store)
+
+-- The first of these works comes to no site.
+abbrev pub HasNoSite : List WorkAt → Type 0
+HasNoSite [] = ⊥
+HasNoSite (w ∷ more) = sites_of w.work ≡ 0
+
+-- Whether the first work, which then comes to no site, was run whole. If not, nothing has changed.
+abbrev pub Ran : Arrays → Bool → List WorkAt → Trace → List WorkAt → Trace → Type 0
+Ran arrays false works store after store_after = (after ≡ works) × (store_after ≡ store)
+Ran arrays true works store after store_after =
+    HasNoSite works × HaveRun arrays works store after store_after

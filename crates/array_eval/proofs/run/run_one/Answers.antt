@@ -18,4 +18,4 @@ returns-clause-whole c =
     ∙ ap long c.in_ok-store.ensures ∙ ap length c.in_ok-zero.ensures ∙ length-replicate c.cells.result (pos 0) ∙ c.cells.ensures.cells
     ∙ ap cells_of c.in_ok-layout.ensures in
     IfOk-weaker c.to_store.result (λ store. store ≡ c.run_block.new.store.cells) (λ store. length store ≡ cells_of arrays)
-    (λ store e. ap length e ∙ left) c.to_store.ensures
+    (λ store e. ap length e ∙ left) c.to_store.ensures.values

@@ -1,4 +1,4 @@
-use Rattle.std.proofs.Common.{true, w64, to_z, of_z, sym, ◌∙◌, arith, length-set}
+use Rattle.std.proofs.Common.{true, w64, to_z, of_z, length, sym, ap, ◌∙◌, arith, length-set}
 use Rattle.array_eval.proofs.PageLemmas.{one_changed}
 use Rattle.array_eval.proofs.marked_store.MarkedStore.write.Goals as goal
 
@@ -9,6 +9,7 @@ invariant_of-self c =
     let value = to_z w64 (of_z w64 c.args.value) in
     let test = c.if-cell-len.true in
     let many = c.len.ensures in (
-      length-set inside.cells.items cell value ∙ c.self.invariant.0 ∙ sym (length-set inside.marks.items cell true),
-      one_changed inside.changed.items inside.start inside.cells.items cell value c.self.invariant.1 (omega (arith, test, many)),
+      length-set inside.cells.items cell value ∙ c.self.invariant.0 ∙ sym (length-set inside.marks.items cell true) ∙ sym (ap length c.mark.ensures.marks),
+      c.mark.ensures.touched,
+      rw c.flag.ensures (one_changed inside.changed.items inside.start inside.cells.items cell value c.self.invariant.2 (omega (arith, test, many))),
     )

@@ -8,8 +8,10 @@ use Rattle.array_eval.proofs.vars.VarsPartialEq.eq.Goals as goal
 
 pub returns-clause-tested : goal.returns-clause-tested
 returns-clause-tested c =
-    c.eq.ensures ∙ sym (pointwise-map pair_of binding_eq c.self.inside.bindings.items c.other.inside.bindings.items)
-    ∙ ap (λ a. vars_eq a (pairs_of c.other.inside.bindings.items)) c.self.view_is ∙ ap (vars_eq c.args.self.now) c.other.view_is
+    let a = c.bindings.result.now in
+    let b = c.bindings-2.result.now in
+    c.eq.ensures ∙ sym (pointwise-map pair_of binding_eq a b)
+    ∙ ap (λ vars. vars_eq vars (pairs_of b)) c.bindings.ensures ∙ ap (vars_eq c.args.self.now) c.bindings-2.ensures
 
 pub returns-clause-same : goal.returns-clause-same
 returns-clause-same c =

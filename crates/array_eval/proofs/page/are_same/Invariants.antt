@@ -1,0 +1,7 @@
+use Rattle.std.proofs.Common.{◌≡◌, take}
+use Rattle.array_eval.specs.Equal.{store_eq}
+use Rattle.array_eval.proofs.page.are_same.Given as goal
+
+-- the cells so far are the same
+abbrev pub invariant-loop-cell : goal.invariant-loop-cell
+invariant-loop-cell l = l.same ≡ store_eq (take l.cell l.a) (take l.cell l.b)
