@@ -1,20 +1,24 @@
 -- What the harts of a run have done together.
-use Rattle.std.proofs.Common.{◌≡◌, ◌<◌, ◌+◌, ◌∙◌, ℕ, zero, suc, false, List, [], ◌∷◌, ◌-◌, length, reverse, map, get_or, slice_get, slice_set, slice_index_or, Option, Some, IfSome, ap, sym, subst, refl, arith}
+use Rattle.std.proofs.Common.{◌≡◌, ◌<◌, ◌≤◌, ◌+◌, ◌∙◌, ◌==◌, ℕ, zero, suc, false, cond, if◌then◌else◌, List, [], ◌∷◌, ◌-◌, length, reverse, map, get_or, slice_get, slice_set, slice_index_or, Option, Some, IfSome, ap, sym, subst, refl, arith}
 use Rattle.std.specs.List.{AllZip}
 use Rattle.std.proofs.lemmas.List.{get_or-map, length-map, length-reverse, get_or-reverse}
 use Rattle.std.proofs.lemmas.List.Elements.{AllZip-get_or}
 use Rattle.atomic_table.specs.Seated.{TableId}
-use Rattle.transfer_table.specs.Plan.{Plan, IsPlan, IsSite, parent, site_count}
-use Rattle.transfer_table.specs.Journal.{IsComplete}
+use Rattle.transfer_table.specs.Plan.{Plan, IsPlan, IsHart, IsSite, parent, site_count}
+use Rattle.transfer_table.specs.Journal.{AllGone, IsComplete, all_meant}
+use Rattle.transfer_table.specs.Entry.{site_of, is_register, registers, covers, skips_over}
 use Rattle.transfer_table.specs.declared.entry.Entry.{Entry}
+use Rattle.transfer_table.proofs.Balance.{legal_entries}
 use Rattle.transfer_table.proofs.Lists.{replicate_at}
+use Rattle.transfer_table.proofs.Meant.{gone_came, all_are_meant}
 use Rattle.board_rule.specs.declared.view.View.{View}
 use Rattle.word_board.specs.declared.seat.HartSeat.{HartSeat}
 use Rattle.word_board.specs.PortViews.{port_view, table_name}
-use Rattle.word_board.specs.Seats.{IsNewSeat, AreSeats, AreAll, SawGone, IsJournalOf}
+use Rattle.word_board.specs.Seats.{IsNewSeat, AreSeats, AreAll, SawGone, MadeRegister, IsJournalOf}
 use Rattle.word_board.proofs.Names.{same_table}
 use Rattle.array_jobs.specs.Jobs.{JobParts}
 use Rattle.array_jobs.specs.PieceParts.{PieceParts}
+use Rattle.word_board.proofs.Makers.{maker, none_made, all_gone}
 use Rattle.hart_loop.specs.Harts.{StartsIn, IsSameHart, TopSitesSeenGone, HasRun, AreBack, Member, AllStart, HaveRun, AreTheSame}
 
 -- ---- seats
@@ -27,6 +31,11 @@ new_starts z p n h q new = record {
   inner = λ s inner. ap (λ (v : View). get_or v.marks.homes s false) new.view ∙ replicate_at (site_count p + 1) s false;
 }
 
+-- one seat of these
+some_seat : (qs : List HartSeat) → 0 < length qs → HartSeat
+some_seat [] some = absurd (omega (arith, some))
+some_seat (q ∷ qs) some = q
+
 -- seats of harts that are back are all seats of the board
 pub all_seats : (z : TableId) (p : Plan) (qs : List HartSeat) → AreBack (table_name z) p qs → AreAll z p qs
 all_seats z p qs back = record {
@@ -36,14 +45,23 @@ all_seats z p qs back = record {
   harts = λ h d below. (back.each h d below).hart;
 }
 
--- the journal of a board whose harts are back is complete
-pub complete_journal : (z : TableId) (p plan : Plan) (qs : List HartSeat) (es : List Entry) → p ≡ plan → AreBack (table_name z) p qs → IsPlan p → IsJournalOf p qs es → IsComplete plan es
+-- the journal of a board whose harts are back is complete, and all sites came
+pub complete_journal : (z : TableId) (p plan : Plan) (qs : List HartSeat) (es : List Entry) → p ≡ plan → AreBack (table_name z) p qs → IsPlan p → IsJournalOf p qs es → IsComplete plan (all_meant plan) es
 complete_journal z p plan qs es same back is_plan journal =
     let some : 0 < length qs = omega (arith, back.count, is_plan.some_hart) in
     let first : (d : HartSeat) → (port_view (get_or qs 0 d)).plan ≡ p = λ d. (back.each 0 d some).plan in
     let seen : (x : ℕ) → IsSite p x → parent p x ≡ 0 → SawGone qs x = λ x site top.
     (0, some, λ d. back.gone d x (subst (λ (r : Plan). IsSite r x) (sym (first d)) site) (subst (λ (r : Plan). parent r x ≡ 0) (sym (first d)) top)) in
-    subst (λ (r : Plan). IsComplete r es) same (journal.complete seen)
+    let gone : AllGone p journal.table = all_gone p is_plan es journal.table journal.legal (λ x site top. (journal.gone x (seen x site top)).1) in
+    let entries = legal_entries p is_plan es journal.table journal.legal in
+    let inside : (h : ℕ) → IsHart p h → h < length qs = λ h is. omega (arith, is, back.count) in
+    let none : (x : ℕ) → skips_over p x es ≡ 0 = λ x. none_made (λ e. cond {A = ℕ} (covers p e x) 1 0) p es entries (λ h is.
+    let d = some_seat qs some in ap (skips_over p x) (journal.each h d is) ∙ (back.each h d (inside h is)).skipped p x) in
+    let made : (x : ℕ) → IsSite p x → MadeRegister qs x = λ x site.
+    let came = gone_came p es journal.table is_plan journal.legal x site (gone x site) (none x) in
+    let by = maker (λ e. cond {A = ℕ} (if site_of e == x then is_register e else false) 1 0) p es entries (omega (arith, came)) in
+    (by.0, inside by.0 by.1, λ d. subst (λ (l : List Entry). 1 ≤ registers x l) (journal.each by.0 d by.1) by.2) in
+    subst (λ (r : Plan). IsComplete r (all_meant r) es) same (journal.complete (all_meant p) seen (λ x site. (λ is. made x site, λ is. all_are_meant p x site)))
 
 -- ---- harts
 
@@ -147,6 +165,7 @@ module _ {R S : Type 0} where
               plan = kept.plan ∙ ap (λ (v : View). v.plan) new.view;
               hart = kept.hart ∙ ap (λ (v : View). v.hart) new.view;
               table = kept.table ∙ ap table_name new.board;
+              skipped = λ q s. kept.skipped q s ∙ ap (λ (v : View). skips_over q s v.mine) new.view;
             };
         gone = first_gone ys (omega (arith, some, as_many xs ys same)) gone;
       }

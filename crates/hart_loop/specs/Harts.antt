@@ -2,6 +2,7 @@
 use Rattle.std.specs.Prelude.{◌≡◌, ◌<◌, ℕ, true, List, length, slice_index_or, Option, Some, IfSome, All}
 use Rattle.std.specs.List.{AllZip}
 use Rattle.transfer_table.specs.Plan.{Plan, IsSite, parent}
+use Rattle.transfer_table.specs.Entry.{skips_over}
 use Rattle.hart_port.specs.PortView.{PortView, is_in}
 use Rattle.site_steps.specs.Back.{IsSettled}
 use Rattle.array_jobs.specs.Jobs.{JobParts}
@@ -9,7 +10,7 @@ use Rattle.array_jobs.specs.PieceParts.{PieceParts}
 use Rattle.word_board.specs.declared.seat.HartSeat.{HartSeat}
 use Rattle.word_board.specs.PortViews.{port_view}
 use Rattle.word_board.specs.declared.port.WordPort.{WordPort}
-use Rattle.waiting_port.specs.declared.waiting.WaitingPort.{WaitingPort}
+use Rattle.site_steps.specs.declared.waiting.WaitingPort.{WaitingPort}
 use Rattle.hart_tools.specs.Kins.{ToolKins}
 use Rattle.hart_loop.specs.declared.hart.Hart.{Hart}
 
@@ -19,17 +20,19 @@ pub record StartsIn (p : Plan) (v : PortView) : Type 0 where
   pub base : v.owner ≡ 0
   pub inner : IsSettled v
 
--- it is this hart, of the table of this name and of the plan
+-- it is this hart, of the table of this name and of the plan, and it has skipped no site
 pub record IsAt (name : List ℕ) (p : Plan) (h : ℕ) (v : PortView) : Type 0 where
   pub plan : v.plan ≡ p
   pub hart : v.hart ≡ h
   pub table : v.table ≡ name
+  pub skipped : (q : Plan) (s : ℕ) → skips_over q s v.mine ≡ 0
 
--- it is a hart of the same number, of the same table and plan
+-- it is a hart of the same number, of the same table and plan, and has skipped no more sites
 pub record IsSameHart (v after : PortView) : Type 0 where
   pub plan : after.plan ≡ v.plan
   pub hart : after.hart ≡ v.hart
   pub table : after.table ≡ v.table
+  pub skipped : (q : Plan) (s : ℕ) → skips_over q s after.mine ≡ skips_over q s v.mine
 
 -- the hart has seen each top site gone
 abbrev pub TopSitesSeenGone : PortView → Type 0
@@ -44,8 +47,8 @@ pub record HasRun (v : PortView) (tools : ToolKins) (job : Option JobParts) (aft
   pub gone : (j : JobParts) → job ≡ Some j → TopSitesSeenGone after
   pub piece : (j : JobParts) → job ≡ Some j → IfSome made (λ k. k.job ≡ j)
 
--- of the seats of harts that have done their parts, on the table of this name: that of hart h is at place h, and the first
--- hart has seen each top site gone
+-- of the seats of harts that have done their parts, on the table of this name: that of hart h is at place h, no hart has skipped
+-- a site, and the first hart has seen each top site gone
 pub record AreBack (name : List ℕ) (p : Plan) (qs : List HartSeat) : Type 0 where
   pub count : length qs ≡ p.harts
   pub each : (h : ℕ) (d : HartSeat) → h < length qs

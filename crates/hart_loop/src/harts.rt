@@ -196,7 +196,7 @@ impl<'a, 'p, S: InDirectory<'p>> Resources for HartSchedulers<'a, 'p, S> {
         ensures finished { result ≡ Finished → IsFinished running.new }
         ensures tools { self.new.tools ≡ self.old.tools }
     {
-        running.step()
+        running.machine().go()
     }
 
     fn supply(

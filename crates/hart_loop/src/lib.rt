@@ -1,8 +1,8 @@
-//! Runs of accepted programs on several harts.
+//! Runs of accepted programs.
 //!
-//! `run_harts` runs a program on the harts of its plan, each on a thread. `HartSchedulers` is what one of them has to work with:
-//! the schedulers stand behind locks, and a directory tells where. `work` is what one hart does from start to end, for any
-//! port that waits.
+//! `run_alone` runs a program on one hart, and `run_harts` on the harts of its plan, each on a thread. `HartSchedulers` is what
+//! one of several harts has to work with: the schedulers stand behind locks, and a directory tells where. `work` is what one of
+//! them does from start to end, for any port that waits.
 #![tactic(auto)]
 
 mod hart;
@@ -17,4 +17,6 @@ pub use hart::{Hart, work};
 pub use hart_site::HartSite;
 pub use harts::HartSchedulers;
 pub use in_directory::InDirectory;
+pub use lone_hart::{Journal, Outcome, run_alone};
 pub use several::run_harts;
+pub use word_board::Closed;

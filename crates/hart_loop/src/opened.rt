@@ -7,7 +7,7 @@ ghost use Rattle.hart_loop.specs.Openings.{IsMadeOf, on_shelf, IsSharedPoolOf};
 use crate::in_directory::InDirectory;
 use array_eval::Overlay;
 use forkjoin_sched::SharedPool;
-use hart_tools::Tools;
+use hart_tools::{Grip, Tools};
 use lone_hart::{open_pool, take_from_pool};
 use loop_team::{SharedTeam, Team};
 use site_directory::{SharedSite, SiteLine};
@@ -72,7 +72,8 @@ impl<'a, 'p, S: InDirectory<'p>> OpenSite<'a, 'p, S> {
     }
 
     /// What the construct writes: what all pieces wrote, where the scheduler is handed out and has the jobs that it was made
-    /// with, and else what this hart computes by itself. Where a piece found no memory, the answer is want of memory.
+    /// with, and else what this hart computes by itself. Where a piece found no memory, the answer is want of memory,
+    /// whatever is taken out.
     pub fn take<R: Wait>(
         self,
         rt: &R,
@@ -127,7 +128,7 @@ fn publish<'a, S: Drop>(lines: &mut [SiteLine<'a, S>], site: u16, shared: Box<S>
     }
 }
 
-// What a `par` writes whose pool is full.
+// What a `par` writes whose pool is full. Where a piece has failed, so has the construct, whatever is taken out.
 fn take_pool<'b, 'p, R: Wait + 'b>(
     rt: &'b R,
     alloc: Global,
@@ -143,7 +144,12 @@ fn take_pool<'b, 'p, R: Wait + 'b>(
     ensures tools { tools.new ≡ tools.old }
 {
     if let Some(place) = tools.pool_place(shared, home, level) {
-        if let Some(pool) = tools.take_pool(rt, place) {
+        let has_failed = tools.has_failed(rt, Grip::Pool(place));
+        let taken = tools.take_pool(rt, place);
+        if has_failed {
+            return Err(AllocError);
+        }
+        if let Some(pool) = taken {
             if pool.jobs() == shared.jobs() {
                 return take_from_pool(nested, pool);
             }
@@ -152,7 +158,7 @@ fn take_pool<'b, 'p, R: Wait + 'b>(
     compute(alloc, nested)
 }
 
-// What a `team` writes that is over.
+// What a `team` writes that is over. Where a piece has failed, so has the construct, whatever is taken out.
 fn take_team<'b, 'p, R: Wait + 'b>(
     rt: &'b R,
     alloc: Global,
@@ -165,7 +171,12 @@ fn take_team<'b, 'p, R: Wait + 'b>(
     ensures tools { tools.new ≡ tools.old }
 {
     if let Some(place) = tools.team_place(shared) {
-        if let Some(team) = tools.take_team(rt, place) {
+        let has_failed = tools.has_failed(rt, Grip::Team(place));
+        let taken = tools.take_team(rt, place);
+        if has_failed {
+            return Err(AllocError);
+        }
+        if let Some(team) = taken {
             if *team.nested() == *nested {
                 return team.take_all();
             }

@@ -4,11 +4,12 @@ ghost use Rattle.array_tree.specs.Trees.{program_of};
 ghost use Rattle.array_meaning.specs.Work.{final_store};
 ghost use Rattle.array_jobs.specs.Jobs.{job_of};
 ghost use Rattle.array_jobs.specs.Bodies.{body_of};
-ghost use Rattle.transfer_table.specs.Journal.{IsComplete};
+ghost use Rattle.transfer_table.specs.Plan.{most_entries};
+ghost use Rattle.transfer_table.specs.Journal.{IsComplete, all_meant};
 ghost use Rattle.word_board.specs.PortViews.{port_view, table_name};
 ghost use Rattle.word_board.specs.Seats.{AreSeats};
 ghost use Rattle.word_board.specs.Of.{IsOf};
-ghost use Rattle.lone_hart.specs.Journals.{entries_in};
+ghost use Rattle.lone_hart.specs.Journals.{entries_in, IsBoard};
 ghost use Rattle.deque_rows.specs.Rows.{kin as rows_kin};
 ghost use Rattle.claim_words.specs.Seats.{kin as seat_kin};
 ghost use Rattle.hart_tools.specs.Stocks.{AreTools};
@@ -19,7 +20,7 @@ use crate::harts::HartSchedulers;
 use array_jobs::{Job, Piece, body_job};
 use base_sched::Base;
 use deque_rows::laws::settle;
-use deque_rows::{HartRows, rows};
+use deque_rows::{HartRows, ROOM, rows_for};
 use disjoint_check::Accepted;
 use hart_tools::{Claims, tools_of};
 use lone_hart::{Journal, Outcome, store_after};
@@ -28,19 +29,18 @@ use loop_team::laws::claimed;
 use once_cell::race::OnceBox;
 use outside_io::Gate;
 use site_directory::{SharedSite, cells, lines};
-use site_steps::SiteTree;
+use site_steps::{SiteTree, WaitingPort};
 use std::alloc::{AllocError, Global};
 use std::sync::{Mutex, Wait};
 use std::thread;
 use std::thread::Threads;
-use waiting_port::WaitingPort;
 use word_board::{HartSeat, WordBoard, WordPort};
 
 /// Runs an accepted program on the harts of its plan, at least two, each on a thread. It waits until all of them are back.
 ///
-/// The store is that of the one-thread meaning, and the journal is complete for the plan: every transfer is legal,
-/// and every site came and went. Where memory is wanting anywhere, the whole run answers that. A hart that
-/// has taken a piece passes the gate before its first step.
+/// The store is that of the one-thread meaning, and the journal, which is that of a closed board, is complete for the plan and
+/// all its sites: every transfer is legal, and every site came and went. Where memory is wanting anywhere, the whole run answers
+/// that. A hart that has taken a piece passes the gate before its first step.
 pub fn run_harts<R: Threads + Wait + Sync, G: Gate>(
     rt: &R,
     alloc: Global,
@@ -51,8 +51,10 @@ pub fn run_harts<R: Threads + Wait + Sync, G: Gate>(
     ensures store { IfOk result
         (λ outcome. outcome.store ≡ final_store (program_of accepted.now.program)) }
     ensures journal { IfOk result
-        (λ outcome. IsComplete accepted.now.plan (entries_in outcome.journal)) }
-    ensures short { IfOk result (λ outcome. length (entries_in outcome.journal) ≤ 65535) }
+        (λ outcome. IsComplete accepted.now.plan (all_meant accepted.now.plan)
+        (entries_in outcome.journal)) }
+    ensures board { IfOk result (λ outcome. IsBoard outcome.journal) }
+    ensures short { IfOk result (λ outcome. length (entries_in outcome.journal) ≤ most_entries) }
 {
     let plan = accepted.plan();
     let tree = SiteTree::new(alloc, plan)?;
@@ -98,7 +100,10 @@ fn run_on_board<'x, 'p: 'x, R: Threads + Wait + Sync, F: Fn(u8, u16, u8, u8) + S
         claims,
     } = stock;
     settle_all(words, rows, claims);
-    Ok((piece, seats))
+    match piece {
+        Some(piece) => Ok((piece, seats)),
+        None => Err(AllocError),
+    }
 }
 
 /// What a run has for its harts, for each of them in their order.
@@ -112,7 +117,8 @@ struct Stock {
     claims: Vec<ClaimSeat>,
 }
 
-// What a run has for the harts of these seats, and the words of its claims.
+// What a run has for the harts of these seats, and the words of its claims. A row has room for the codes of all pieces of the
+// program, of which each is pushed once at most, so that no more memory is made ready for it than may be of use.
 fn lend(
     alloc: Global,
     accepted: &Accepted<'_>,
@@ -125,7 +131,7 @@ fn lend(
 {
     let harts = accepted.plan().harts();
     let (words, claims) = Claims::new(alloc, accepted, harts)?;
-    let rows = rows(alloc, harts)?;
+    let rows = rows_for(alloc, harts, accepted.pieces().clamp(1, ROOM))?;
     let stock = Stock {
         seats,
         rows,
@@ -142,7 +148,8 @@ fn settle_all(words: Claims, rows: Vec<HartRows>, claims: Vec<ClaimSeat>)
     claimed(words.into_table(), claims);
 }
 
-// Runs all harts with what they are lent, the first of them with the program's body. Its piece, and what the harts gave back.
+// Runs all harts with what they are lent, the first of them with the program's body. Its piece, unless memory was wanting there,
+// and what the harts gave back.
 fn run_lent<'x, 'p: 'x, R: Threads + Wait + Sync, F: Fn(u8, u16, u8, u8) + Sync>(
     rt: &'x R,
     alloc: Global,
@@ -152,7 +159,7 @@ fn run_lent<'x, 'p: 'x, R: Threads + Wait + Sync, F: Fn(u8, u16, u8, u8) + Sync>
     board: &'x WordBoard,
     words: &'x Claims,
     stock: Stock,
-) -> Result<(Piece<'p>, Stock), AllocError>
+) -> Result<(Option<Piece<'p>>, Stock), AllocError>
     requires callable { F.IsAlwaysCallable pass.now }
     requires plan { board.now.plan ≡ tree.now }
     requires count { vec_len stock.seats ≡ board.now.plan.harts }
@@ -160,8 +167,8 @@ fn run_lent<'x, 'p: 'x, R: Threads + Wait + Sync, F: Fn(u8, u16, u8, u8) + Sync>
     requires claims { vec_len stock.claims ≡ board.now.plan.harts }
     requires seats { AreSeats board.now.table.shared.table_id board.now.plan stock.seats.items }
     requires tools { AreTools words.now.table stock.rows.items stock.claims.items }
-    ensures piece { IfOk result
-        (λ back. job_of back.0.job ≡ body_of (program_of accepted.now.program)) }
+    ensures piece { IfOk result (λ back. IfSome back.0
+        (λ piece. job_of piece.job ≡ body_of (program_of accepted.now.program))) }
     ensures seats { IfOk result
         (λ back. AreBack (table_name board.now.table.shared.table_id) board.now.plan
         back.1.seats.items) }
@@ -177,7 +184,8 @@ fn run_lent<'x, 'p: 'x, R: Threads + Wait + Sync, F: Fn(u8, u16, u8, u8) + Sync>
     )
 }
 
-// Runs all harts on these cells, the first of them with this job. Its piece, and what the harts gave back.
+// Runs all harts on these cells, the first of them with this job. Its piece, unless memory was wanting there, and what the harts
+// gave back.
 fn run_on<'x, 'p: 'x, R: Threads + Wait + Sync, F: Fn(u8, u16, u8, u8) + Sync>(
     rt: &'x R,
     alloc: Global,
@@ -189,7 +197,7 @@ fn run_on<'x, 'p: 'x, R: Threads + Wait + Sync, F: Fn(u8, u16, u8, u8) + Sync>(
     base: &'x Mutex<Base>,
     cells: &'x [OnceBox<SharedSite<'p>>],
     job: Job<'p>,
-) -> Result<(Piece<'p>, Stock), AllocError>
+) -> Result<(Option<Piece<'p>>, Stock), AllocError>
     requires callable { F.IsAlwaysCallable pass.now }
     requires plan { board.now.plan ≡ tree.now }
     requires count { vec_len stock.seats ≡ board.now.plan.harts }
@@ -197,7 +205,7 @@ fn run_on<'x, 'p: 'x, R: Threads + Wait + Sync, F: Fn(u8, u16, u8, u8) + Sync>(
     requires claims { vec_len stock.claims ≡ board.now.plan.harts }
     requires seats { AreSeats board.now.table.shared.table_id board.now.plan stock.seats.items }
     requires tools { AreTools words.now.table stock.rows.items stock.claims.items }
-    ensures piece { IfOk result (λ back. back.0.job ≡ job.entry) }
+    ensures piece { IfOk result (λ back. IfSome back.0 (λ piece. piece.job ≡ job.entry)) }
     ensures seats { IfOk result
         (λ back. AreBack (table_name board.now.table.shared.table_id) board.now.plan
         back.1.seats.items) }
@@ -205,9 +213,7 @@ fn run_on<'x, 'p: 'x, R: Threads + Wait + Sync, F: Fn(u8, u16, u8, u8) + Sync>(
         (λ back. AreTools words.now.table back.1.rows.items back.1.claims.items) }
 {
     let mut harts = crew(rt, alloc, board, words, stock, base, cells)?;
-    let Some(piece) = run_crew(rt, alloc, pass, tree, harts.as_mut_slice(), job) else {
-        return Err(AllocError);
-    };
+    let piece = run_crew(rt, alloc, pass, tree, harts.as_mut_slice(), job);
     Ok((piece, stock_of(alloc, harts)?))
 }
 
@@ -308,10 +314,12 @@ fn run_each<'x, 'p: 'x, R: Threads + Wait + Sync, F: Fn(u8, u16, u8, u8) + Sync>
     requires starts { AllStart tree.now harts.old }
     ensures { HaveRun harts.old harts.new }
 {
+    // As many parts as harts: the harts of one part run one after another, and each waits for all others.
+    let parts = harts.len().max(1);
     thread::for_each_mut(
         rt,
         harts,
-        4,
+        parts,
         &|_, hart| work(rt, alloc, tree, pass, (), hart),
     );
 }

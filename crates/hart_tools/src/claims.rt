@@ -16,6 +16,8 @@ struct SiteRows {
     level: u8,
     // The claim row of a `team`'s first phase.
     first: u16,
+    // How many phases the `team` has; none of a `par`.
+    phases: u8,
 }
 
 /// The claim words of a run: one row for each phase of each `team`, in the order of the sites and then of the phases.
@@ -52,7 +54,7 @@ impl Claims {
         ensures { ForSome result (λ row. RowsFit self.now.table.counts.items row nested.now) }
     {
         let rows = rows_of(&self.sites, nested.site)?;
-        if rows_fit(&self.table, rows.first, nested) {
+        if rows.phases == nested.phases() && rows_fit(&self.table, rows.first, nested) {
             Some(rows.first)
         } else {
             None
@@ -100,7 +102,11 @@ fn site_rows(
         let (members, phases) = accepted.shape(place + 1);
         let first = counts.len() as u16;
         add_rows(counts, members, phases)?;
-        sites.push(SiteRows { level, first })?;
+        sites.push(SiteRows {
+            level,
+            first,
+            phases,
+        })?;
     }
     Ok(sites)
 }

@@ -2,7 +2,7 @@
 ghost use Rattle.std.specs.Prelude.{◌≡◌, IsTrue, ◌+◌, ◌≤◌, length};
 ghost use Rattle.transfer_table.specs.Plan.{IsSite, parent as parent_of};
 ghost use Rattle.hart_port.specs.PortView.{IsPortView};
-ghost use Rattle.deque_rows.specs.Rows.{IsLevel, home_log, kin};
+ghost use Rattle.deque_rows.specs.Rows.{IsLevel, home_log, row_room, kin};
 ghost use Rattle.hart_tools.specs.Places.{PoolFits};
 ghost use Rattle.hart_tools.specs.Trials.{HasTried, pool_tells, pool_trial};
 
@@ -105,7 +105,8 @@ fn job_of<'p>(next: Next<PoolWork<'p>>) -> Option<Next<Job<'p>>>
 /// Whether the hart's row of this level has room for so many codes.
 pub fn has_room(rows: &HartRows, level: u8, count: usize) -> bool
     requires { IsLevel level }
-    ensures { IsTrue result → count + length (home_log rows.now level).pushed ≤ 16384 }
+    ensures { IsTrue result
+        → count + length (home_log rows.now level).pushed ≤ row_room rows.now level }
 {
     count <= rows.room(level) as usize
 }

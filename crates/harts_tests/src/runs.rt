@@ -120,7 +120,8 @@ fn is_complete<R: Threads + Wait + Sync>(
 {
     let accepted = check(alloc, program, harts)?;
     let outcome = run_harts(rt, alloc, &accepted, &OpenGate)?;
-    Ok(first_fault(alloc, accepted.plan(), outcome.journal.entries())?.is_none())
+    let all = vec![in alloc; true; accepted.plan().sites() as usize]?;
+    Ok(first_fault(alloc, accepted.plan(), &all, outcome.journal.entries())?.is_none())
 }
 
 #[test]

@@ -20,14 +20,13 @@ use sample_programs::{
     BOTH_BRANCHES, BOTH_PHASES, TWO_BRANCHES, TWO_PHASES, first_construct, parsed,
 };
 use site_directory::{SharedSite, SiteLine, cells, lines};
-use site_steps::SiteTree;
+use site_steps::{SiteTree, WaitingPort};
 use std::alloc::Global;
 use std::sync::{Mutex, Wait};
 use std::test::Fail;
 use std::thread;
 use std::thread::Threads;
 use transfer_table::{Plan, first_fault};
-use waiting_port::WaitingPort;
 
 // A hart in the base, by a port on the ledger.
 fn hart<'x, 'p: 'x, R: Threads + Wait + Sync>(
@@ -95,10 +94,12 @@ fn run_each<'x, 'p: 'x, R: Threads + Wait + Sync, F: Fn(u8, u16, u8, u8) + Sync>
     requires callable { F.IsAlwaysCallable pass.now }
     requires starts { All (λ hart. StartsIn tree.now hart.port.port.view) harts.old }
 {
+    // As many parts as harts: the harts of one part run one after another, and each waits for all others.
+    let parts = harts.len().max(1);
     thread::for_each_mut(
         rt,
         harts,
-        4,
+        parts,
         &|_, hart| work(rt, alloc, tree, pass, rt, hart),
     );
 }
@@ -182,7 +183,8 @@ fn is_complete(alloc: Global, plan: &Plan, ledger: Ledger) -> Result<bool, Fail>
     if entries.as_slice().len() > 65_535 {
         return Err(Fail::new("more entries than any plan allows"));
     }
-    Ok(first_fault(alloc, plan, entries.as_slice())?.is_none())
+    let all = vec![in alloc; true; plan.sites() as usize]?;
+    Ok(first_fault(alloc, plan, &all, entries.as_slice())?.is_none())
 }
 
 // Whether harts over locked ports write these cells, and their ledger is a complete journal.

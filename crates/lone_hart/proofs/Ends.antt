@@ -1,14 +1,20 @@
--- Where the hart is back in the base and each top site is over, every site is gone.
-use Rattle.std.proofs.Common.{◌≡◌, ℕ, zero, suc, ◌≤◌, ◌*◌, ◌-◌, true, List, length, refl, sym, ◌∙◌, subst, arith, inl, inr}
+-- Where the hart is back in the base and each top site is over, every site is gone; and where none was skipped, every site came
+-- and went.
+use Rattle.std.proofs.Common.{◌≡◌, ℕ, zero, suc, ◌<◌, ◌≤◌, ◌*◌, ◌-◌, Bool, true, false, not, nat_le, ◌&&◌, if◌then◌else◌, List, length, replicate, refl, sym, ap, ◌∙◌, subst, arith, inl, inr}
+use Rattle.std.specs.Option.{is_some}
 use Rattle.std.proofs.lemmas.Bool.{cases_eq}
 use Rattle.std.proofs.lemmas.Nat.{mul-le}
+use Rattle.std.proofs.lemmas.List.{get_or-replicate}
 use Rattle.transfer_table.specs.Plan.{Plan, IsPlan, IsSite, parent, site_count}
-use Rattle.transfer_table.specs.Table.{TableState, row}
-use Rattle.transfer_table.specs.Journal.{Reaches, AllGone, IsComplete}
+use Rattle.transfer_table.specs.Table.{TableState, row, is_gone}
+use Rattle.transfer_table.specs.Journal.{Reaches, AllGone, AreMeant, IsComplete, is_meant, all_meant}
+use Rattle.transfer_table.specs.Entry.{registers, skips_over}
+use Rattle.transfer_table.specs.declared.entry.Stage.{Stage}
 use Rattle.transfer_table.specs.declared.entry.Entry.{Entry}
 use Rattle.transfer_table.specs.declared.entry.Stage.TheVariants.{Gone}
+use Rattle.transfer_table.proofs.Balance.{rows_tell}
 use Rattle.transfer_table.proofs.Stages.{legal_children}
-use Rattle.transfer_table.proofs.Bounds.{legal_length}
+use Rattle.transfer_table.proofs.Meant.{all_came}
 use Rattle.hart_port.specs.PortView.{PortView}
 use Rattle.site_steps.specs.Back.{ChildrenOver}
 use Rattle.site_steps.proofs.Overs.{over_gone}
@@ -28,14 +34,10 @@ all_gone h t plan reached home alone over = λ s site. go s s (omega arith) site
         ]
 
 -- so its entries are a complete journal
-pub complete : (p : Plan) (h : PortView) (t : TableState) (es : List Entry) → IsPlan p → h.plan ≡ p → es ≡ h.mine → Reaches h.plan h.mine t → h.owner ≡ 0 → h.alone ≡ true → ChildrenOver h → IsComplete p es
-complete p h t es plan same entries reached home alone over =
-    subst (λ (q : Plan). IsComplete q es) same
-    (subst (λ (xs : List Entry). IsComplete h.plan xs) (sym entries) (t, reached, all_gone h t (subst IsPlan (sym same) plan) reached home alone over))
-
--- a legal journal is short
-pub few_entries : (p : Plan) → IsPlan p → (es : List Entry) (t : TableState) → Reaches p es t → length es ≤ 65535
-few_entries p plan es t is =
-    let short : length es ≤ site_count p * (3 * p.harts - 1) = legal_length p plan es t is in
-    let most : site_count p * (3 * p.harts - 1) ≤ 4095 * 11 = mul-le (site_count p) (3 * p.harts - 1) 4095 11 plan.few_sites (omega (arith, plan.few_harts)) in
-    omega (arith, short, most)
+pub complete : (p : Plan) (h : PortView) (t : TableState) (es : List Entry) → IsPlan p → h.plan ≡ p → es ≡ h.mine → Reaches h.plan h.mine t → h.owner ≡ 0 → h.alone ≡ true → ChildrenOver h
+    → ((s : ℕ) → skips_over h.plan s h.mine ≡ 0) → IsComplete p (all_meant p) es
+complete p h t es plan same entries reached home alone over none =
+    let is = subst IsPlan (sym same) plan in
+    let gone = all_gone h t is reached home alone over in
+    subst (λ (q : Plan). IsComplete q (all_meant q) es) same
+    (subst (λ (xs : List Entry). IsComplete h.plan (all_meant h.plan) xs) (sym entries) (t, reached, gone, all_came h.plan h.mine t is reached gone (λ s site. none s)))

@@ -7,3 +7,13 @@ use Rattle.lone_hart.specs.declared.outcome.Journal.TheVariants.{Listed, Board}
 abbrev pub entries_in : Journal → List Entry
 entries_in (Listed entries) = entries
 entries_in (Board entries) = entries
+
+-- the list that a single hart kept
+abbrev pub IsListed : Journal → Type 0
+IsListed (Listed entries) = Unit {0}
+IsListed (Board entries) = ⊥
+
+-- the journal of a closed board
+abbrev pub IsBoard : Journal → Type 0
+IsBoard (Listed entries) = ⊥
+IsBoard (Board entries) = Unit {0}

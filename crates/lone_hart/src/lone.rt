@@ -97,7 +97,7 @@ impl<'p> Resources for LoneSchedulers<'p> {
             (IsAwaitingWrites running.new) (running.new.job ≡ running.old.job) }
         ensures finished { result ≡ Finished → IsFinished running.new }
     {
-        running.step()
+        running.machine().go()
     }
 
     fn supply(

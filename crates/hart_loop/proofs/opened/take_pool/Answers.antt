@@ -18,10 +18,10 @@ same_jobs (x ∷ xs) (y ∷ ys) h =
 
 pub take_from_pool-requires-clause-of : goal.take_from_pool-requires-clause-of
 take_from_pool-requires-clause-of g c =
-    let told : pointwise (λ x y. job_eq (job_of x) (job_of y)) c.jobs.result.now c.jobs-in-Some-take_pool.result.now ≡ true = sym c.eq.ensures ∙ c.if-eq.true in
-    let same : map job_of c.jobs.result.now ≡ map job_of c.jobs-in-Some-take_pool.result.now = same_jobs c.jobs.result.now c.jobs-in-Some-take_pool.result.now told in
+    let told : pointwise (λ x y. job_eq (job_of x) (job_of y)) c.jobs.result.now c.jobs-in-Some-taken.result.now ≡ true = sym c.eq.ensures ∙ c.if-eq.true in
+    let same : map job_of c.jobs.result.now ≡ map job_of c.jobs-in-Some-taken.result.now = same_jobs c.jobs.result.now c.jobs-in-Some-taken.result.now told in
     record {
       fit = c.requires.fit;
       one_phase = c.requires.one_phase;
-      jobs = ap (map job_of) (sym c.jobs.ensures) ∙ same ∙ ap (map job_of) c.jobs-in-Some-take_pool.ensures ∙ c.requires.jobs;
+      jobs = ap (map job_of) (sym c.jobs.ensures) ∙ same ∙ ap (map job_of) c.jobs-in-Some-taken.ensures ∙ c.requires.jobs;
     }

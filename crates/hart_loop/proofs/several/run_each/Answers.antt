@@ -1,7 +1,7 @@
 use Rattle.std.proofs.Common.{arith, rules}
 use denote.Param.Send.{sendable}
 use Rattle.word_board.proofs.port.WordPort.TheSendSync as WordPortCrosses
-use Rattle.waiting_port.proofs.waiting.WaitingPort.TheSendSync as WaitingPortCrosses
+use Rattle.site_steps.proofs.waiting.WaitingPort.TheSendSync as WaitingPortCrosses
 use Rattle.hart_loop.proofs.Crews.{zip_all}
 use Rattle.hart_loop.proofs.Crossings.{hart_send}
 use Rattle.hart_loop.proofs.several.run_each.Goals as goal

@@ -1,7 +1,7 @@
 use Rattle.std.proofs.Common.{◌≡◌, ◌∙◌}
 use Rattle.array_tree.specs.Trees.{program_of}
 use Rattle.hart_loop.proofs.Crews.{all_seats, complete_journal}
-use Rattle.lone_hart.proofs.Ends.{few_entries}
+use Rattle.transfer_table.proofs.Bounds.{few_entries}
 use Rattle.hart_loop.proofs.several.run_harts.Goals as goal
 
 pub close-requires : goal.close-requires

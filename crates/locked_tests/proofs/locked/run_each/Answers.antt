@@ -1,7 +1,7 @@
 -- A hart that moves by a locked port may go to a thread of its own.
 use denote.Param.Send.{sendable}
 use Rattle.hart_port.proofs.locked.LockedPort.TheSendSync as LockedPortCrosses
-use Rattle.waiting_port.proofs.waiting.WaitingPort.TheSendSync as WaitingPortCrosses
+use Rattle.site_steps.proofs.waiting.WaitingPort.TheSendSync as WaitingPortCrosses
 use Rattle.hart_loop.proofs.Crossings.{hart_send}
 use Rattle.locked_tests.proofs.locked.run_each.Goals as goal
 

@@ -1,9 +1,11 @@
 -- The body is the program's, and the hart has come back from it to the base.
-use Rattle.std.proofs.Common.{◌≡◌, ◌≤◌, List, true, length, sym, ap, ◌∙◌, subst}
+use Rattle.std.proofs.Common.{◌≡◌, ℕ, ◌≤◌, List, true, length, sym, ap, ◌∙◌, subst}
 use Rattle.array_tree.specs.Trees.{program_of}
 use Rattle.transfer_table.specs.Plan.{IsPlan}
+use Rattle.transfer_table.specs.Entry.{skips_over}
 use Rattle.transfer_table.specs.declared.entry.Entry.{Entry}
-use Rattle.lone_hart.proofs.Ends.{complete, few_entries}
+use Rattle.transfer_table.proofs.Bounds.{few_entries}
+use Rattle.lone_hart.proofs.Ends.{complete}
 use Rattle.lone_hart.proofs.run.run_alone.Goals as goal
 
 pub returns-clause-store : goal.returns-clause-store
@@ -20,7 +22,8 @@ returns-clause-journal c =
     let alone : port.view.alone ≡ true = rest.alone ∙ run.alone ∙ ap (λ p. p.view.alone) first in
     let home : port.view.owner ≡ 0 = rest.owner ∙ run.owner ∙ ap (λ p. p.view.owner) first in
     let is_plan : IsPlan c.args.accepted.now.plan = subst IsPlan (c.tree.view_is ∙ c.in_ok-tree.ensures ∙ accepted) c.tree.invariant.plan in
-    complete c.args.accepted.now.plan port.view port.state c.finish.result is_plan plan c.finish.ensures.entries c.finish.ensures.legal home alone c.sweep_children.ensures.over
+    let none : (s : ℕ) → skips_over port.view.plan s port.view.mine ≡ 0 = λ s. rest.skipped port.view.plan s ∙ run.skipped port.view.plan s ∙ ap (λ p. skips_over port.view.plan s p.view.mine) first in
+    complete c.args.accepted.now.plan port.view port.state c.finish.result is_plan plan c.finish.ensures.entries c.finish.ensures.legal home alone c.sweep_children.ensures.over none
 
 pub returns-clause-short : goal.returns-clause-short
 returns-clause-short c =
