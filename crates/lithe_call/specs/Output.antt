@@ -1,7 +1,7 @@
 -- What a command writes, and the status that it then has.
 use Rattle.std.specs.Prelude.{◌≡◌, ℕ, ◌≤◌, List, length, ◌++◌}
 use Rattle.transfer_table.specs.Plan.{Plan}
-use Rattle.transfer_table.specs.Journal.{IsComplete}
+use Rattle.transfer_table.specs.Journal.{IsComplete, all_meant}
 use Rattle.transfer_table.specs.declared.entry.Entry.{Entry}
 use Rattle.journal_text.specs.JournalText.{journal_text}
 use Rattle.array_tree.specs.Trees.{ProgramTree}
@@ -25,16 +25,17 @@ use Rattle.lithe_call.specs.declared.status.Status.TheVariants.{Done, Refused}
 abbrev pub output_text : ProgramTree → Plan → Store → List Entry → List ℕ
 output_text program plan store journal = array_text program store ++ journal_text plan journal
 
--- `run` writes the arrays as the one-thread meaning leaves them, and a journal that is complete for the program's plan
+-- `run` writes the arrays as the one-thread meaning leaves them, and a journal that is complete for the program's
+-- plan and all its sites
 pub record IsRunOutput (program : ProgramTree) (harts : ℕ) (text : List ℕ) : Type 0 where
   pub journal : List Entry
-  pub complete : IsComplete (table_plan program harts) journal
+  pub complete : IsComplete (table_plan program harts) (all_meant (table_plan program harts)) journal
   pub whole : text ≡ output_text program (table_plan program harts) (final_store program) journal
 
 -- `make` writes the summary of such a run
 pub record IsSummary (program : ProgramTree) (harts : ℕ) (text : List ℕ) : Type 0 where
   pub journal : List Entry
-  pub complete : IsComplete (table_plan program harts) journal
+  pub complete : IsComplete (table_plan program harts) (all_meant (table_plan program harts)) journal
   pub whole : text ≡ summary_text (table_plan program harts) (final_store program) journal
 
 -- `solo` writes the arrays alone; an audit doesn't run a program

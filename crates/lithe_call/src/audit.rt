@@ -66,7 +66,8 @@ fn verdict(alloc: Global, harts: u8, first: &[u8], second: &[u8]) -> Result<Verd
         Ok(accepted) => accepted,
         Err(fault) => return Err(refusal(alloc, &program, fault)),
     };
-    match audit(alloc, &accepted, second) {
+    let all = vec![in alloc; true; accepted.plan().sites() as usize]?;
+    match audit(alloc, &accepted, &all, second) {
         Ok(verdict) => Ok(verdict),
         Err(fault) => Err(text_fault(alloc, fault)),
     }

@@ -11,7 +11,8 @@ ghost use Rattle.lithe_call.specs.Lines.{TellsSyntax, TellsRefusal};
 ghost use Rattle.array_meaning.specs.Bounds.{most_bytes};
 ghost use Rattle.array_meaning.specs.Work.{final_store};
 ghost use Rattle.array_eval.specs.ArrayText.{array_text};
-ghost use Rattle.transfer_table.specs.Journal.{IsComplete};
+ghost use Rattle.transfer_table.specs.Plan.{most_entries};
+ghost use Rattle.transfer_table.specs.Journal.{IsComplete, all_meant};
 ghost use Rattle.lone_hart.specs.Journals.{entries_in};
 
 use crate::command::harts;
@@ -165,8 +166,9 @@ fn outcome<R: Threads + Wait + Sync, G: Gate>(
     ensures store { IfOk result
         (λ outcome. outcome.store ≡ final_store (program_of accepted.now.program)) }
     ensures journal { IfOk result
-        (λ outcome. IsComplete accepted.now.plan (entries_in outcome.journal)) }
-    ensures short { IfOk result (λ outcome. length (entries_in outcome.journal) ≤ 65535) }
+        (λ outcome. IsComplete accepted.now.plan (all_meant accepted.now.plan)
+        (entries_in outcome.journal)) }
+    ensures short { IfOk result (λ outcome. length (entries_in outcome.journal) ≤ most_entries) }
 {
     if accepted.plan().harts() == 1 {
         run_alone(alloc, accepted)

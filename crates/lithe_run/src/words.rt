@@ -1,4 +1,6 @@
 //! The words of the command line.
+ghost use Rattle.std.specs.Prelude.{◌≡◌, drop};
+
 use std::alloc::AllocFailed;
 use std::env;
 use std::io::{Error, ErrorKind};
@@ -44,8 +46,19 @@ impl<T: Drop> From<AllocFailed<T>> for NoWords {
 /// The words of the command line, without the program's name.
 pub fn words_of<R: Env + AllocGlobal>(rt: &R) -> Result<Vec<String>, NoWords> {
     let mut words = Vec::new(rt.alloc());
-    for word in env::args(rt)?.skip(1) {
+    for word in env::args(rt)? {
         words.push(word)?;
     }
-    Ok(words)
+    Ok(without_name(words))
+}
+
+// All words but the first, which is the program's name, in their order.
+fn without_name(words: Vec<String>) -> Vec<String>
+    ensures rest { result.items ≡ drop 1 words.items }
+{
+    let mut words = words;
+    if !words.is_empty() {
+        let _ = words.remove(0);
+    }
+    words
 }

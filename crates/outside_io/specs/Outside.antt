@@ -35,6 +35,13 @@ Reads left faults buf (fill.Got count) left' faults' =
 Reads left faults buf fill.End left' faults' = Gives left [] left' × IsAtEnd left'
 Reads left faults buf fill.Failed left' faults' = Rose faults faults' × Gives left [] left'
 
+-- the stream that a sink writes to, where it tells what it holds, took what the sink took, and nothing with a fault
+abbrev pub PutInto : Option (List ℕ) → List ℕ → Put → Option (List ℕ) → Type 0
+PutInto None piece answer after = Unit {0}
+PutInto (Some before) piece answer None = ⊥
+PutInto (Some before) piece (put.Took count) (Some after) = after ≡ before ++ take count piece
+PutInto (Some before) piece put.Failed (Some after) = after ≡ before
+
 -- what one write did, in the same way
 abbrev pub Writes : Option (List ℕ) → ℕ → List ℕ → Put → Option (List ℕ) → ℕ → Type 0
 Writes taken faults piece (put.Took count) taken' faults' =

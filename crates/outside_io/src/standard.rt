@@ -1,5 +1,6 @@
 //! Streams of the standard library, as those of the system.
-ghost use Rattle.std.specs.Prelude.{◌≡◌, None};
+ghost use Rattle.std.specs.Prelude.{◌≡◌, ◌<◌, ◌≤◌, None, length};
+ghost use Rattle.outside_io.specs.Outside.{Writes, PutInto};
 
 use crate::{Fill, Put, Sink, Source};
 use std::io::{Read, Write};
@@ -47,7 +48,7 @@ impl<I: Read + Drop> Source for StdSource<I> {
     }
 }
 
-/// A stream to write to. A write that takes nothing is a fault. Contracts see the count of faults alone.
+/// A stream to write to. A write that takes nothing is a fault. Contracts see the stream and the count of faults.
 #[derive(Drop)]
 pub struct StdSink<O> {
     output: O,
@@ -57,15 +58,15 @@ pub struct StdSink<O> {
 impl<O> Model for StdSink<O> {
     ghost use Rattle.std.specs.Prelude.{ℕ};
 
-    ghost Value = { ℕ };
+    ghost Value = { O × ℕ };
 
-    ghost view = { λ sink. sink.faults };
+    ghost view = { λ sink. (sink.output, sink.faults) };
 }
 
 impl<O: Write + Drop> StdSink<O> {
     /// A sink over the stream, which hasn't failed yet.
     pub fn new(output: O) -> StdSink<O>
-        ensures { result ≡ 0 }
+        ensures { result ≡ (output, 0) }
     {
         StdSink { output, faults: 0 }
     }
@@ -74,9 +75,14 @@ impl<O: Write + Drop> StdSink<O> {
 impl<O: Write + Drop> Sink for StdSink<O> {
     ghost taken = { λ _. None };
 
-    ghost faults = { λ faults. faults };
+    ghost faults = { λ sink. sink.1 };
 
-    fn write(&mut self, piece: &[u8]) -> Put {
+    fn write(&mut self, piece: &[u8]) -> Put
+        requires { 0 < length piece.now }
+        ensures count { self.old.1 ≤ self.new.1 }
+        ensures does { Writes None self.old.1 piece.now result None self.new.1 }
+        ensures bytes { PutInto (O.contents self.old.0) piece.now result (O.contents self.new.0) }
+    {
         match self.output.write(piece) {
             Ok(count) if count > 0 => Put::Took(count),
             _ => {

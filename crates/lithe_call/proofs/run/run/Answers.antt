@@ -1,6 +1,6 @@
 use Rattle.std.proofs.Common.{◌≡◌, ◌∙◌, ◌++◌, length, ap, sym, subst}
 use Rattle.transfer_table.specs.Plan.{Plan}
-use Rattle.transfer_table.specs.Journal.{IsComplete}
+use Rattle.transfer_table.specs.Journal.{IsComplete, all_meant}
 use Rattle.journal_text.specs.JournalText.{journal_text}
 use Rattle.array_tree.specs.declared.tree.Program.{Program}
 use Rattle.array_tree.specs.Trees.{program_of, declarations_of}
@@ -35,7 +35,7 @@ returns g c =
     ∙ ap (array_text program) c.in_ok-outcome.ensures.store in
     record {
       journal = journal;
-      complete = subst (λ (p : Plan). IsComplete p journal) told c.in_ok-outcome.ensures.journal;
+      complete = subst (λ (p : Plan). IsComplete p (all_meant p) journal) told c.in_ok-outcome.ensures.journal;
       whole = c.in_ok-extend_from_slice.ensures.items ∙ ap (λ text. text ++ c.deref.result.now) text
           ∙ ap (λ rest. array_text program (final_store program) ++ rest) lines;
     }
