@@ -1,0 +1,4 @@
+pub mod Allowed
+pub mod Split
+pub mod Gathers
+pub mod Ports

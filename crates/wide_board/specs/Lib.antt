@@ -1,0 +1,5 @@
+pub mod Plays
+pub mod Of
+pub mod Calls
+pub mod Seats
+pub mod PortViews

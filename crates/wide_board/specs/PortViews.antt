@@ -1,0 +1,25 @@
+-- What a port over the board has of its hart.
+use Rattle.std.specs.Prelude.{ℕ, false, List}
+use Rattle.hart_port.specs.PortView.{PortView}
+use Rattle.word_board.specs.PortViews.{table_name}
+use Rattle.wide_rule.specs.declared.view.View.{View}
+use Rattle.wide_board.specs.declared.seat.WideSeat.{WideSeat}
+
+-- a view, of a hart that shares the table of this name
+abbrev pub shared_view : List ℕ → View → PortView
+shared_view name v = record {
+  plan = v.plan;
+  hart = v.hart;
+  owner = v.owner;
+  mine = v.mine;
+  homes = v.marks.homes;
+  closed = v.marks.closed;
+  empty = v.marks.empty;
+  gone = v.marks.gone;
+  alone = false;
+  table = name;
+}
+
+-- the seat's view
+abbrev pub port_view : WideSeat → PortView
+port_view q = shared_view (table_name q.seat.table_id) q.seat.me.0

@@ -1,0 +1,71 @@
+//! The seats of a new board.
+ghost use Rattle.std.specs.Prelude.{◌≡◌, ◌+◌, ◌<◌, ◌≤◌, IfOk, vec_len};
+ghost use Rattle.wide_board.specs.Seats.{AreSeats};
+
+use crate::board::WideBoard;
+use crate::plays::Deal;
+use crate::seat::WideSeat;
+use atomic_table::Table;
+use std::alloc::{AllocError, Global};
+use transfer_table::Plan;
+
+impl WideBoard {
+    /// The board, and a seat for each hart, in order. It has a word for each site and for each entry
+    /// that a legal journal may have.
+    pub fn new(alloc: Global, plan: &Plan) -> Result<(WideBoard, Vec<WideSeat>), AllocError>
+        ensures plan { IfOk result (λ r. r.0.plan ≡ plan.now) }
+        ensures seats { IfOk result
+            (λ r. (vec_len r.1 ≡ plan.now.harts)
+            × AreSeats r.0.table.shared.table_id plan.now r.1.items) }
+    {
+        let sites = plan.sites();
+        let harts = plan.harts();
+        let width = 1 + sites as usize + sites as usize * (3 * harts as usize - 1);
+        let words = vec![in alloc; 0; width]?;
+        let own = plan.copy(alloc)?;
+        let mut seats = Vec::with_capacity(alloc, harts as usize)?;
+        let (table, seat) = Table::of_words(alloc, words.as_slice(), plan)?;
+        seats.push(WideSeat {
+            seat,
+            hart: 0,
+            owner: 0,
+        })?;
+        let board = WideBoard {
+            table,
+            plan: own,
+            sites,
+        };
+        deal(&board, &mut seats, harts)?;
+        Ok((board, seats))
+    }
+}
+
+// Splits the seats of the harts from 1 on off the first.
+fn deal(board: &WideBoard, seats: &mut Vec<WideSeat>, harts: u8) -> Result<(), AllocError>
+    requires count { (vec_len seats.old ≡ 1) × (harts ≡ board.now.plan.harts) }
+    requires seats { AreSeats board.now.table.shared.table_id board.now.plan seats.old.items }
+    ensures { IfOk result (λ _. (vec_len seats.new ≡ harts)
+        × AreSeats board.now.table.shared.table_id board.now.plan seats.new.items) }
+{
+    for hart in 1..harts {
+        next_seat(board, seats, hart)?;
+    }
+    Ok(())
+}
+
+// Splits the next hart's seat off the first.
+fn next_seat(board: &WideBoard, seats: &mut Vec<WideSeat>, hart: u8) -> Result<(), AllocError>
+    requires count { (vec_len seats.old ≡ hart) × (0 < hart) × (hart < board.now.plan.harts) }
+    requires seats { AreSeats board.now.table.shared.table_id board.now.plan seats.old.items }
+    ensures { IfOk result (λ _. (vec_len seats.new ≡ hart + 1)
+        × AreSeats board.now.table.shared.table_id board.now.plan seats.new.items) }
+{
+    let first = &mut seats[0];
+    let seat = board.table.shared.split_seat::<Deal>(&mut first.seat);
+    seats.push(WideSeat {
+        seat,
+        hart,
+        owner: 0,
+    })?;
+    Ok(())
+}

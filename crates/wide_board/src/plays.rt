@@ -1,0 +1,167 @@
+//! The kinds of step. `specs/Plays.antt` says what each tells its seat, and there the word that was
+//! found is noted: a kind can't tell another.
+ghost use Rattle.std.specs.Prelude.{ℕ};
+
+use atomic_table::{Join, Play, Split};
+use std::marker::{Brand, PhantomData};
+use wide_rule::View;
+
+/// Sets a site's claimed bit.
+pub(crate) struct Claim;
+
+impl Play<(), View> for Claim {
+    ghost use Rattle.wide_board.specs.Plays.{claims};
+
+    ghost then = { claims };
+}
+
+/// Makes the Register of the site that is claimed. Its place is inside the journal, and of that site
+/// the hart had made neither Register nor Request.
+pub(crate) struct MakeRegister;
+
+impl Play<(), View> for MakeRegister {
+    ghost use Rattle.wide_board.specs.Plays.{makes_register};
+
+    ghost then = { makes_register };
+}
+
+/// Makes the Skip of the site that is claimed.
+pub(crate) struct MakeSkip;
+
+impl Play<(), View> for MakeSkip {
+    ghost use Rattle.wide_board.specs.Plays.{makes_skip};
+
+    ghost then = { makes_skip };
+}
+
+/// How many harts a request asks for. Each call of `request` picks it.
+pub(crate) trait Asked {
+    ghost count: { ℕ };
+}
+
+impl Asked for Brand {
+    ghost count = { 0 };
+}
+
+/// Makes a Request of the owner.
+pub(crate) struct MakeRequest<A: Asked> {
+    of: PhantomData<A>,
+}
+
+impl<A: Asked> Play<(), View> for MakeRequest<A> {
+    ghost use Rattle.wide_board.specs.Plays.{makes_request};
+
+    ghost then = { makes_request A.count };
+}
+
+/// Makes the Enter of the site that the hart is reserved to.
+pub(crate) struct MakeEnter;
+
+impl Play<(), View> for MakeEnter {
+    ghost use Rattle.wide_board.specs.Plays.{makes_enter};
+
+    ghost then = { makes_enter };
+}
+
+/// Makes a Yield of the owner.
+pub(crate) struct MakeYield;
+
+impl Play<(), View> for MakeYield {
+    ghost use Rattle.wide_board.specs.Plays.{makes_yield};
+
+    ghost then = { makes_yield };
+}
+
+/// Makes an Unregister of the owner.
+pub(crate) struct MakeUnregister;
+
+impl Play<(), View> for MakeUnregister {
+    ghost use Rattle.wide_board.specs.Plays.{makes_unregister};
+
+    ghost then = { makes_unregister };
+}
+
+/// Writes the entry at its place.
+pub(crate) struct Jot;
+
+impl Play<(), View> for Jot {
+    ghost use Rattle.wide_board.specs.Plays.{jots};
+
+    ghost then = { jots };
+}
+
+/// What follows an entry on its site's word: a credit, a leave or a seal.
+pub(crate) struct Follow;
+
+impl Play<(), View> for Follow {
+    ghost use Rattle.wide_board.specs.Plays.{follows};
+
+    ghost then = { follows };
+}
+
+/// Looks at a site.
+pub(crate) struct Glance;
+
+impl Play<(), View> for Glance {
+    ghost use Rattle.wide_board.specs.Plays.{glances};
+
+    ghost then = { glances };
+}
+
+/// Looks whether a site is gone.
+pub(crate) struct SeeGone;
+
+impl Play<(), View> for SeeGone {
+    ghost use Rattle.wide_board.specs.Plays.{sees_gone};
+
+    ghost then = { sees_gone };
+}
+
+/// Looks whether the owner has a guest.
+pub(crate) struct SeeEmpty;
+
+impl Play<(), View> for SeeEmpty {
+    ghost use Rattle.wide_board.specs.Plays.{sees_empty};
+
+    ghost then = { sees_empty };
+}
+
+/// Takes one from a site's want and adds one to its guests, if the word is the one that was read.
+pub(crate) struct Reserve;
+
+impl Play<(), View> for Reserve {
+    ghost use Rattle.wide_board.specs.Plays.{reserves};
+
+    ghost then = { reserves };
+}
+
+/// Sets the owner's closing bit.
+pub(crate) struct Shut;
+
+impl Play<(), View> for Shut {
+    ghost use Rattle.wide_board.specs.Plays.{shuts};
+
+    ghost then = { shuts };
+}
+
+/// Hart 0's seat makes the next hart's.
+pub(crate) struct Deal;
+
+impl Split<View> for Deal {
+    ghost use Rattle.wide_rule.specs.Views.{split_left, split_right};
+
+    ghost left = { split_left };
+
+    ghost right = { split_right };
+}
+
+/// Hart 0's seat takes in another hart's.
+pub(crate) struct Gather;
+
+impl Join<View> for Gather {
+    ghost use Rattle.wide_rule.specs.Views.{joined_view, spent_view};
+
+    ghost both = { joined_view };
+
+    ghost spent = { spent_view };
+}
