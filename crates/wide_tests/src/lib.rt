@@ -1,0 +1,21 @@
+//! Tests of harts that share a table on the wide board.
+//!
+//! They stand apart since a crate is proved a second time with its tests.
+#![tactic(auto)]
+
+#[cfg(test)]
+mod below;
+#[cfg(test)]
+mod calls;
+#[cfg(test)]
+mod refusals;
+#[cfg(test)]
+mod roaming;
+#[cfg(test)]
+mod row;
+#[cfg(test)]
+mod seats;
+#[cfg(test)]
+mod skips;
+#[cfg(test)]
+mod threads;
