@@ -1,0 +1,41 @@
+-- The laws of stays, for every plan and every list of entries.
+use Rattle.std.specs.Prelude.{◌≡◌, ℕ, ◌+◌, ◌≤◌, List, [], ◌∷◌, length, take, Some, None}
+use Rattle.std.specs.List.{filter}
+use Rattle.transfer_table.specs.Plan.{Plan, IsPlan, IsHart, IsSite}
+use Rattle.transfer_table.specs.Table.{TableState, owner, row}
+use Rattle.transfer_table.specs.Journal.{Reaches}
+use Rattle.transfer_table.specs.Laws.{IsWithin}
+use Rattle.transfer_table.specs.declared.entry.Entry.{Entry}
+use Rattle.journal_picture.specs.declared.stay.Stay.{Stay}
+use Rattle.journal_picture.specs.Stays.{stays_of, has_place}
+
+-- of the hart's stays this one has the place, and no other
+abbrev pub IsOnlyAt : Plan → List Entry → ℕ → ℕ → Stay → Type 0
+IsOnlyAt p es h k stay = filter (has_place k) (stays_of p h es) ≡ stay ∷ []
+
+-- Where the first k entries lead to a state, each hart is in exactly one of its stays at place k, and that is at the site that
+-- holds the hart in this state. What is said of all k is said of each place of a legal list.
+abbrev pub OneStayAtEachPlace : Type 0
+OneStayAtEachPlace = (p : Plan) (es : List Entry) (k : ℕ) (t : TableState) → IsPlan p
+    → k ≤ length es → Reaches p (take k es) t → (h : ℕ) → IsHart p h
+    → (stay : Stay) × IsOnlyAt p es h k stay × (stay.hart ≡ h) × (stay.site ≡ owner t h)
+
+-- The first of these stays begins at this place, and each other one at the place behind the last one of the stay before it. None
+-- ends before it begins, and only the last one has no end.
+abbrev pub FollowFrom : ℕ → List Stay → Type 0
+FollowFrom k [] = ⊥
+FollowFrom k (stay ∷ []) = (stay.first ≡ k) × (stay.last ≡ None)
+FollowFrom k (stay ∷ next ∷ more) = (stay.first ≡ k)
+    × ((last : ℕ) × (stay.last ≡ Some last) × (k ≤ last) × FollowFrom (last + 1) (next ∷ more))
+
+abbrev pub StaysFollowOneAnother : Type 0
+StaysFollowOneAnother = (p : Plan) (es : List Entry) (h : ℕ) → FollowFrom 0 (stays_of p h es)
+
+-- Where the first k entries lead to a state, and a stay at a site has place k: the site has a home then, and the home's stay at
+-- this place is at the site or at a descendant of it.
+abbrev pub GuestsAreWithTheHome : Type 0
+GuestsAreWithTheHome = (p : Plan) (es : List Entry) (k : ℕ) (t : TableState) → IsPlan p
+    → k ≤ length es → Reaches p (take k es) t → (h : ℕ) → IsHart p h
+    → (stay : Stay) → IsOnlyAt p es h k stay → IsSite p stay.site
+    → (home : ℕ) × (homes : Stay) × ((row t stay.site).home ≡ Some home)
+    × IsOnlyAt p es home k homes × IsWithin p stay.site homes.site
