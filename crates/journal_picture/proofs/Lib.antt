@@ -1,2 +1,4 @@
 pub mod Places
 pub mod LawsHold
+pub mod Turns
+pub mod Written

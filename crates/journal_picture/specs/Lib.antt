@@ -1,2 +1,4 @@
 pub mod Stays
 pub mod Laws
+pub mod Drawn
+pub mod TextPicture

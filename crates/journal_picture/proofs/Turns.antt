@@ -1,0 +1,44 @@
+-- One turn of a loop that counts.
+use Rattle.std.proofs.Common.{◌≡◌, ◌∙◌, ℕ, zero, suc, ◌+◌, ◌-◌, ◌*◌, ◌<◌, ◌≤◌, ◌==◌, cond, Bool, true, false, List, [], ◌∷◌, ◌++◌, length, drop, replicate, refl, sym, ap, subst, arith}
+use Rattle.transfer_table.specs.Plan.{Plan, parent}
+use Rattle.transfer_table.specs.declared.entry.Entry.{Entry}
+use Rattle.journal_picture.specs.Stays.{stays_of}
+use Rattle.std.specs.Fmt.{decimal}
+use Rattle.std.proofs.lemmas.List.{drop_more}
+use Rattle.transfer_table.specs.declared.entry.Entry.TheVariants.{Enter}
+use Rattle.journal_picture.specs.TextPicture.{band_text, bands_text, cell, lanes_of, numbers_text, sites_of, steps_up}
+
+-- what a function of what is left gives, where one more is left
+one_more : {A : Type 0} (f : ℕ → A) (n i : ℕ) → i < n → f (n - i) ≡ f (suc (n - (i + 1)))
+one_more f n i lt = ap f (omega arith)
+
+pub replicate_more : {A : Type 0} (n i : ℕ) (x : A) → i < n → replicate (n - i) x ≡ x ∷ replicate (n - (i + 1)) x
+replicate_more n i x lt = one_more (λ k. replicate k x) n i lt
+
+pub bands_more : (faulty : Bool) (es : List Entry) (lanes : List (List ℕ)) (n i : ℕ) → i < n
+    → bands_text faulty es lanes i (n - i) ≡ band_text faulty es lanes (14 * i) ++ bands_text faulty es lanes (i + 1) (n - (i + 1))
+bands_more faulty es lanes n i lt = one_more (λ k. bands_text faulty es lanes i k) n i lt
+
+pub lanes_more : (p : Plan) (es : List Entry) (n i : ℕ) → i < n
+    → lanes_of p es i (n - i) ≡ sites_of (length es) (stays_of p i es) ∷ lanes_of p es (i + 1) (n - (i + 1))
+lanes_more p es n i lt = one_more (λ k. lanes_of p es i k) n i lt
+
+base_steps : (p : Plan) (n : ℕ) → steps_up p n 0 ≡ 0
+base_steps p zero = refl
+base_steps p (suc n) = refl
+
+-- from the base no step is left
+pub steps_none : (p : Plan) (n at : ℕ) → at ≡ 0 → steps_up p n at ≡ 0
+steps_none p n at e = ap (steps_up p n) e ∙ base_steps p n
+
+pub steps_more : (p : Plan) (n i at : ℕ) → i < n → (at ≡ 0 → ⊥) → steps_up p (n - i) at ≡ 1 + steps_up p (n - (i + 1)) (parent p at)
+steps_more p n i at lt up = one_more (λ k. steps_up p k at) n i lt ∙ by (at == 0) refl
+  where
+    by : (b : Bool) → (at == 0) ≡ b → cond b 0 (1 + steps_up p (n - (i + 1)) (parent p at)) ≡ 1 + steps_up p (n - (i + 1)) (parent p at)
+    by false same = refl
+    by true same = absurd (up (grind arith))
+
+pub numbers_more : (at i : ℕ) (es : List Entry) → i < length es → numbers_text (at + i) (drop i es) ≡ cell (decimal (at + i)) ++ numbers_text (at + (i + 1)) (drop (i + 1) es)
+numbers_more at i es lt =
+    ap (numbers_text (at + i)) (drop_more es i (Enter 0 0) lt)
+    ∙ ap (λ k. cell (decimal (at + i)) ++ numbers_text k (drop (i + 1) es)) (omega arith)

@@ -1,0 +1,57 @@
+//! What is drawn of a list of entries.
+ghost use Rattle.std.specs.Prelude.{◌≡◌, ◌<◌, ◌^◌, ◌≤◌, IfOk, length};
+ghost use Rattle.transfer_table.specs.Plan.{IsPlan};
+ghost use Rattle.transfer_table.specs.Table.{first_state, admit_of};
+ghost use Rattle.journal_picture.specs.Drawn.{before, fault_of, or_same, state_from, state_after};
+
+use std::alloc::{AllocError, Global};
+use transfer_table::{Board, Entry, Fault, Plan, first_fault};
+
+/// The first fault of the list, where all sites of the plan are meant to be entered.
+pub(crate) fn fault_of(
+    alloc: Global,
+    plan: &Plan,
+    list: &[Entry],
+) -> Result<Option<Fault>, AllocError>
+    requires { length list.now < 2 ^ 32 }
+    ensures { IfOk result (λ fault. fault ≡ fault_of plan.now list.now) }
+{
+    let all = vec![in alloc; true; plan.sites() as usize]?;
+    first_fault(alloc, plan, &all, list)
+}
+
+/// The entries before the fault, if there is one.
+pub(crate) fn before(fault: Option<Fault>, list: &[Entry]) -> &[Entry]
+    ensures same { result.now ≡ before fault list.now }
+    ensures short { length result.now ≤ length list.now }
+{
+    match fault {
+        None => list,
+        Some(fault) => {
+            let place = fault.place as usize;
+            if place < list.len() { &list[..place] } else { list }
+        }
+    }
+}
+
+/// The table after the entries. One that is refused changes nothing.
+pub(crate) fn board_after(alloc: Global, plan: &Plan, list: &[Entry]) -> Result<Board, AllocError>
+    ensures { IfOk result (λ board.
+        board ≡ record { plan = plan.now; state = state_after plan.now list.now }) }
+{
+    let mut board = Board::new(alloc, plan)?;
+    for entry in list {
+        admit(&mut board, *entry);
+    }
+    Ok(board)
+}
+
+// Admits the entry, or leaves the table as it is.
+fn admit(board: &mut Board, entry: Entry)
+    ensures { board.new ≡ record {
+      plan = board.old.plan;
+      state = or_same board.old.state (admit_of board.old.plan board.old.state entry);
+    } }
+{
+    let _ = board.admit(entry);
+}

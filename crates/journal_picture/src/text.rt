@@ -1,0 +1,246 @@
+//! The picture in text.
+ghost use Rattle.std.specs.Prelude.{◌≡◌, ◌≤◌, ◌++◌, ◌*◌, ◌+◌, IfOk, OnOk, length, take, drop, string_bytes, true};
+ghost use Rattle.transfer_table.specs.Plan.{site_count};
+ghost use Rattle.journal_picture.specs.TextPicture.{band_count, band_text, bands_text, deed, deeds_line, deeds_text, lanes_text, mark_text, numbers_line, numbers_text, shown_text, sites_text, text_of, text_picture};
+ghost use Rattle.journal_picture.specs.Drawn.{state_after};
+
+use crate::drawn::{before, board_after, fault_of};
+use crate::lanes::{Lane, lanes_of};
+use crate::shape::Shape;
+use crate::tree::write_tree;
+use crate::words::{site_name, write_cell};
+use std::alloc::{AllocError, Global};
+use transfer_table::{Board, Entry, Plan};
+
+/// The picture of the list in text, up to its first fault, with the tree of the sites, which have these shapes, and what is told
+/// of the list at its end. The list has at most 65,535 entries.
+pub fn text_picture(
+    alloc: Global,
+    plan: &Plan,
+    shapes: &[Shape],
+    list: &[Entry],
+    told: &[u8],
+) -> Result<Vec<u8>, AllocError>
+    requires few { length list.now ≤ 65535 }
+    requires shapes { length shapes.now ≡ site_count plan.now }
+    ensures { IfOk result
+        (λ text. text.items ≡ text_picture plan.now shapes.now list.now told.now) }
+{
+    let fault = fault_of(alloc, plan, list)?;
+    let drawn = before(fault, list);
+    text_of(alloc, plan, shapes, drawn, fault.is_some(), told)
+}
+
+// The picture of these entries, at whose end there is a fault or none.
+fn text_of(
+    alloc: Global,
+    plan: &Plan,
+    shapes: &[Shape],
+    list: &[Entry],
+    faulty: bool,
+    told: &[u8],
+) -> Result<Vec<u8>, AllocError>
+    requires few { length list.now ≤ 65535 }
+    requires shapes { length shapes.now ≡ site_count plan.now }
+    ensures { IfOk result
+        (λ text. text.items ≡ text_of plan.now shapes.now list.now faulty told.now) }
+{
+    let lanes = lanes_of(alloc, plan, list)?;
+    let board = board_after(alloc, plan, list)?;
+    let mut text = String::new(alloc);
+    write_shown(alloc, &mut text, &board, shapes, list, &lanes, faulty)?;
+    let mut bytes = text.into_bytes();
+    bytes.extend_from_slice(told)?;
+    Ok(bytes)
+}
+
+// Adds the bands, the tree and the legend.
+fn write_shown(
+    alloc: Global,
+    text: &mut String,
+    board: &Board,
+    shapes: &[Shape],
+    list: &[Entry],
+    lanes: &[Lane],
+    faulty: bool,
+) -> Result<(), AllocError>
+    requires few { length list.now ≤ 65535 }
+    requires shapes { length shapes.now ≡ site_count board.now.plan }
+    ensures { OnOk result (string_bytes text.new ≡ string_bytes text.old
+        ++ shown_text board.now.plan board.now.state shapes.now list.now lanes.now faulty) }
+{
+    write_bands(alloc, text, list, lanes, faulty)?;
+    write_tree(text, board, shapes)?;
+    text.push_str("\nreg registers a site, req requests harts, unreg unregisters the site\n")
+}
+
+// Adds all bands.
+fn write_bands(
+    alloc: Global,
+    text: &mut String,
+    list: &[Entry],
+    lanes: &[Lane],
+    faulty: bool,
+) -> Result<(), AllocError>
+    requires few { length list.now ≤ 65535 }
+    ensures { OnOk result (string_bytes text.new ≡ string_bytes text.old
+        ++ bands_text faulty list.now lanes.now 0 (band_count (length list.now))) }
+{
+    let count = band_count(list.len());
+    for band in 0..count {
+        write_band(alloc, text, list, lanes, faulty, 14 * band)?;
+    }
+    Ok(())
+}
+
+// How many bands so many entries have.
+fn band_count(entries: usize) -> usize
+    requires { entries ≤ 65535 }
+    ensures same { result ≡ band_count entries }
+    ensures few { result ≤ 65535 }
+{
+    if entries == 0 { 1 } else { (entries + 13) / 14 }
+}
+
+// Adds the band of the entry at a place and those that follow.
+fn write_band(
+    alloc: Global,
+    text: &mut String,
+    list: &[Entry],
+    lanes: &[Lane],
+    faulty: bool,
+    at: usize,
+) -> Result<(), AllocError>
+    requires few { at ≤ 1000000 }
+    ensures { OnOk result (string_bytes text.new ≡ string_bytes text.old
+        ++ band_text faulty list.now lanes.now at) }
+{
+    let shown = window(list, at, 14);
+    let last = list.len() <= at + 14;
+    write_numbers_line(alloc, text, faulty, last, at, shown)?;
+    write_deeds_line(text, shown)?;
+    write_lanes(alloc, text, at, lanes)?;
+    text.push_str("\n")
+}
+
+// Adds the line of the entries' numbers.
+fn write_numbers_line(
+    alloc: Global,
+    text: &mut String,
+    faulty: bool,
+    last: bool,
+    at: usize,
+    shown: &[Entry],
+) -> Result<(), AllocError>
+    requires few { at ≤ 1000000 }
+    requires shown { length shown.now ≤ 14 }
+    ensures { OnOk result (string_bytes text.new ≡ string_bytes text.old
+        ++ numbers_line faulty last at shown.now) }
+{
+    text.push_str("   entry")?;
+    write_numbers(alloc, text, at, shown)?;
+    write_mark(text, faulty, last)?;
+    text.push_str("\n")
+}
+
+// Adds the line of what the entries do.
+fn write_deeds_line(text: &mut String, shown: &[Entry]) -> Result<(), AllocError>
+    ensures { OnOk result (string_bytes text.new ≡ string_bytes text.old ++ deeds_line shown.now) }
+{
+    text.push_str("        ")?;
+    write_deeds(text, shown)?;
+    text.push_str("\n")
+}
+
+// At most so many items, from a place on.
+fn window<T>(items: &[T], at: usize, most: usize) -> &[T]
+    ensures same { result.now ≡ take most (drop at items.now) }
+    ensures few { length result.now ≤ most }
+{
+    if at >= items.len() {
+        return &items[items.len()..];
+    }
+    let rest = &items[at..];
+    if most >= rest.len() { rest } else { &rest[..most] }
+}
+
+// Adds the numbers of the entries, the first of which has this one.
+fn write_numbers(
+    alloc: Global,
+    text: &mut String,
+    at: usize,
+    shown: &[Entry],
+) -> Result<(), AllocError>
+    requires few { at ≤ 1000000 }
+    requires shown { length shown.now ≤ 14 }
+    ensures { OnOk result (string_bytes text.new ≡ string_bytes text.old ++ numbers_text at shown.now) }
+{
+    for i in 0..shown.len() {
+        let number = at + i;
+        let number = format!(in alloc; "{number}")?;
+        write_cell(text, number.as_str())?;
+    }
+    Ok(())
+}
+
+// Adds the mark of a fault, if there is one, behind the last entry.
+fn write_mark(text: &mut String, faulty: bool, last: bool) -> Result<(), AllocError>
+    ensures { OnOk result (string_bytes text.new ≡ string_bytes text.old ++ mark_text faulty last) }
+{
+    if !faulty {
+        return Ok(());
+    }
+    if last { write_cell(text, "fault") } else { Ok(()) }
+}
+
+// Adds what the entries do.
+fn write_deeds(text: &mut String, shown: &[Entry]) -> Result<(), AllocError>
+    ensures { OnOk result (string_bytes text.new ≡ string_bytes text.old ++ deeds_text shown.now) }
+{
+    for entry in shown {
+        write_cell(text, deed(*entry))?;
+    }
+    Ok(())
+}
+
+// What the entry does, in a short word.
+fn deed(entry: Entry) -> &'static str
+    ensures { result.now ≡ deed entry }
+{
+    match entry {
+        Entry::Register { .. } => "reg",
+        Entry::Request { .. } => "req",
+        Entry::Enter { .. } => "enter",
+        Entry::Yield { .. } => "yield",
+        Entry::Unregister { .. } => "unreg",
+        Entry::Skip { .. } => "skip",
+    }
+}
+
+// Adds the lines of the harts.
+fn write_lanes(
+    alloc: Global,
+    text: &mut String,
+    at: usize,
+    lanes: &[Lane],
+) -> Result<(), AllocError>
+    ensures { OnOk result (string_bytes text.new ≡ string_bytes text.old ++ lanes_text at 0 lanes.now) }
+{
+    for (hart, lane) in lanes.iter().enumerate() {
+        write!(text, "h{hart}")?;
+        write_sites(alloc, text, window(lane.sites(), at, 15))?;
+        text.push_str("\n")?;
+    }
+    Ok(())
+}
+
+// Adds the names of sites.
+fn write_sites(alloc: Global, text: &mut String, sites: &[u16]) -> Result<(), AllocError>
+    ensures { OnOk result (string_bytes text.new ≡ string_bytes text.old ++ sites_text sites.now) }
+{
+    for site in sites {
+        let name = site_name(alloc, *site)?;
+        write_cell(text, name.as_str())?;
+    }
+    Ok(())
+}
