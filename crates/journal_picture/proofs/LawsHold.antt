@@ -1,17 +1,15 @@
 -- The laws of stays hold.
-use Rattle.std.proofs.Common.{◌≡◌, ◌∙◌, ◌≤◌, ℕ, ◌+◌, List, [], ◌∷◌, length, take, Some, sym, ap, subst, arith, inl, inr}
-use Rattle.std.specs.List.{filter}
-use Rattle.transfer_table.specs.Plan.{Plan, IsPlan, IsHart, IsSite}
+use Rattle.std.proofs.Common.{◌≡◌, ◌∙◌, ◌≤◌, ℕ, List, [], ◌∷◌, length, take, Some, sym, ap, subst, arith, inl, inr}
+use Rattle.transfer_table.specs.Plan.{Plan, IsPlan, IsSite}
 use Rattle.transfer_table.specs.Table.{TableState, owner, row, first_state}
 use Rattle.transfer_table.specs.Journal.{Reaches}
 use Rattle.transfer_table.specs.Laws.{IsWithin, IsBaseOrLive}
 use Rattle.transfer_table.specs.declared.entry.Entry.{Entry}
-use Rattle.transfer_table.specs.declared.entry.Stage.TheVariants.{Live}
 use Rattle.transfer_table.proofs.Lists.{replicate_at}
 use Rattle.transfer_table.proofs.Positions.{fits_first}
 use Rattle.transfer_table.proofs.LawsHold.{harts_are_conserved, homes_stay_inside}
 use Rattle.journal_picture.specs.declared.stay.Stay.{Stay}
-use Rattle.journal_picture.specs.Stays.{stays_of, stays_from, has_place}
+use Rattle.journal_picture.specs.Stays.{stays_from}
 use Rattle.journal_picture.specs.Laws.{IsOnlyAt, OneStayAtEachPlace, GuestsAreWithTheHome}
 use Rattle.journal_picture.proofs.Places.{Only, place_only}
 

@@ -1,9 +1,9 @@
 -- The stays of a hart: which of them has a place, and how they follow one another.
-use Rattle.std.proofs.Common.{◌≡◌, ◌≢◌, ◌∙◌, ℕ, zero, suc, ◌+◌, ◌≤◌, ◌<◌, ◌==◌, Bool, true, false, nat_le, ◌&&◌, cond, List, [], ◌∷◌, ◌++◌, length, take, Option, Some, None, Result, Ok, Err, refl, sym, ap, subst, arith}
+use Rattle.std.proofs.Common.{◌≡◌, ◌≢◌, ◌∙◌, ℕ, zero, suc, ◌+◌, ◌≤◌, ◌<◌, ◌==◌, true, false, List, [], ◌∷◌, ◌++◌, length, take, Option, Some, None, Result, Ok, Err, refl, sym, ap, subst, arith}
 use Rattle.std.specs.List.{filter}
 use Rattle.std.proofs.lemmas.Bool.Decides.{nat_tests}
-use Rattle.transfer_table.specs.Plan.{Plan, IsPlan, IsHart, parent}
-use Rattle.transfer_table.specs.Table.{TableState, owner, admit_of, effect_of, first_state}
+use Rattle.transfer_table.specs.Plan.{Plan, parent}
+use Rattle.transfer_table.specs.Table.{TableState, owner, admit_of}
 use Rattle.transfer_table.specs.Allowed.{IsAllowed}
 use Rattle.transfer_table.specs.Causes.{cause_if}
 use Rattle.transfer_table.specs.Entry.{hart_of}
@@ -15,7 +15,7 @@ use Rattle.transfer_table.proofs.Admits.{admitted}
 use Rattle.transfer_table.proofs.Positions.{Fits, fits_effect}
 use Rattle.transfer_table.proofs.Effects.{at_hart, owner_after}
 use Rattle.journal_picture.specs.declared.stay.Stay.{Stay}
-use Rattle.journal_picture.specs.Stays.{goes_to, site_after, first_after, ended, stays_from, is_up_to, has_place}
+use Rattle.journal_picture.specs.Stays.{goes_to, site_after, first_after, ended, stays_from, has_place}
 use Rattle.journal_picture.specs.Laws.{FollowFrom}
 
 -- ---- the table moves a hart where its entry takes it
@@ -93,7 +93,7 @@ first_only p h s first k j (e ∷ es) from to = step (goes_to p h e) (first_only
     step (Some o) same = (
       stay_of h s first (Some k),
       keeps j (stay_of h s first (Some k)) (stays_from p h o (k + 1) (k + 1) es) (closed_has j h s first k from to)
-      ∙ ap (λ (more : List Stay). stay_of h s first (Some k) ∷ more) (none_later p h o (k + 1) (k + 1) j es (omega arith) (omega arith)),
+          ∙ ap (λ (more : List Stay). stay_of h s first (Some k) ∷ more) (none_later p h o (k + 1) (k + 1) j es (omega arith) (omega arith)),
       refl,
       refl,
     )
@@ -112,10 +112,12 @@ place_only p h first k (suc n) (e ∷ es) t u fits from short is =
     begins : (g : Option ℕ) → first_after first k g ≤ k + 1
     begins None = omega arith
     begins (Some o) = omega arith
+
     step : (g : Option ℕ) → Only (k + suc n) (stays_from p h (site_after (owner t h) g) (first_after first k g) (k + 1) es) h (owner u h)
         → Only (k + suc n) (ended h (owner t h) first k g ++ stays_from p h (site_after (owner t h) g) (first_after first k g) (k + 1) es) h (owner u h)
     step None is = is
     step (Some o) is = (is.0, drops (k + suc n) (stay_of h (owner t h) first (Some k)) (stays_from p h o (k + 1) (k + 1) es) (earlier_hasnt (k + suc n) h (owner t h) first k (omega arith)) ∙ is.1, is.2, is.3)
+
     go : (r : Result TableState NotAdmitted) → admit_of p t e ≡ r → and_then (λ v. replay_from p v (take n es)) r ≡ Ok u
         → ((v : TableState) → admit_of p t e ≡ Ok v → replay_from p v (take n es) ≡ Ok u → Only (k + 1 + n) (stays_from p h (owner v h) (first_after first k (goes_to p h e)) (k + 1) es) h (owner u h))
         → Only (k + suc n) (stays_from p h (owner t h) first k (e ∷ es)) h (owner u h)

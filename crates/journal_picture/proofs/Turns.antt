@@ -1,11 +1,13 @@
 -- One turn of a loop that counts.
-use Rattle.std.proofs.Common.{◌≡◌, ◌∙◌, ℕ, zero, suc, ◌+◌, ◌-◌, ◌*◌, ◌<◌, ◌≤◌, ◌==◌, cond, Bool, true, false, List, [], ◌∷◌, ◌++◌, length, drop, replicate, refl, sym, ap, subst, arith}
+use Rattle.std.proofs.Common.{◌≡◌, ◌∙◌, ℕ, zero, suc, ◌+◌, ◌-◌, ◌*◌, ◌<◌, ◌==◌, cond, Bool, true, false, List, ◌∷◌, ◌++◌, length, drop, replicate, refl, ap, arith}
 use Rattle.transfer_table.specs.Plan.{Plan, parent}
 use Rattle.transfer_table.specs.declared.entry.Entry.{Entry}
 use Rattle.journal_picture.specs.Stays.{stays_of}
 use Rattle.std.specs.Fmt.{decimal}
 use Rattle.std.proofs.lemmas.List.{drop_more}
 use Rattle.transfer_table.specs.declared.entry.Entry.TheVariants.{Enter}
+use Rattle.journal_picture.specs.declared.shape.Shape.{Shape}
+use Rattle.journal_picture.specs.SvgPicture.{lane_svg, lanes_svg, stay_count}
 use Rattle.journal_picture.specs.TextPicture.{band_text, bands_text, cell, lanes_of, numbers_text, sites_of, steps_up}
 
 -- what a function of what is left gives, where one more is left
@@ -42,3 +44,11 @@ pub numbers_more : (at i : ℕ) (es : List Entry) → i < length es → numbers_
 numbers_more at i es lt =
     ap (numbers_text (at + i)) (drop_more es i (Enter 0 0) lt)
     ∙ ap (λ k. cell (decimal (at + i)) ++ numbers_text k (drop (i + 1) es)) (omega arith)
+
+pub svg_lanes_more : (p : Plan) (shapes : List Shape) (es : List Entry) (folded : Bool) (n i : ℕ) → i < n
+    → lanes_svg p shapes es folded i (n - i) ≡ lane_svg p shapes es folded i ++ lanes_svg p shapes es folded (i + 1) (n - (i + 1))
+svg_lanes_more p shapes es folded n i lt = one_more (λ k. lanes_svg p shapes es folded i k) n i lt
+
+pub count_more : (p : Plan) (es : List Entry) (n i : ℕ) → i < n
+    → stay_count p es i (n - i) ≡ length (stays_of p i es) + stay_count p es (i + 1) (n - (i + 1))
+count_more p es n i lt = one_more (λ k. stay_count p es i k) n i lt

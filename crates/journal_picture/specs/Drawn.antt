@@ -1,5 +1,5 @@
 -- What is drawn of a list of entries: those before its first fault, and the state to which they lead.
-use Rattle.std.specs.Prelude.{ℕ, Bool, List, [], ◌∷◌, take, Option, Some, None, Result, Ok, Err}
+use Rattle.std.specs.Prelude.{Bool, List, [], ◌∷◌, take, Option, Some, None, Result, Ok, Err}
 use Rattle.std.specs.Option.{is_some}
 use Rattle.transfer_table.specs.Plan.{Plan}
 use Rattle.transfer_table.specs.Table.{TableState, admit_of, first_state}

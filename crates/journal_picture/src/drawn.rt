@@ -29,7 +29,11 @@ pub(crate) fn before(fault: Option<Fault>, list: &[Entry]) -> &[Entry]
         None => list,
         Some(fault) => {
             let place = fault.place as usize;
-            if place < list.len() { &list[..place] } else { list }
+            if place < list.len() {
+                &list[..place]
+            } else {
+                list
+            }
         }
     }
 }

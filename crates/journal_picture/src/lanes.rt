@@ -55,10 +55,11 @@ fn lane_of(alloc: Global, stays: &[Stay], end: usize) -> Result<Lane, AllocError
     Ok(Lane { sites })
 }
 
-// How many places the stay has.
-fn places_of(stay: Stay, end: usize) -> usize
+/// How many places the stay has, in a list whose last place is this.
+pub(crate) fn places_of(stay: Stay, end: usize) -> usize
     requires { end ≤ 65535 }
-    ensures { result ≡ places_of end stay }
+    ensures same { result ≡ places_of end stay }
+    ensures few { result ≤ 4294967296 }
 {
     let last = match stay.last {
         None => end,

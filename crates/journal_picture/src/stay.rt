@@ -1,5 +1,5 @@
 //! Where a hart was, and from when to when.
-ghost use Rattle.std.specs.Prelude.{◌≡◌, ◌≤◌, IfOk, length};
+ghost use Rattle.std.specs.Prelude.{◌≡◌, ◌≤◌, ◌+◌, IfOk, length, vec_len};
 ghost use Rattle.transfer_table.specs.Plan.{Plan};
 ghost use Rattle.journal_picture.specs.Stays.{goes_to, stays_of};
 
@@ -27,7 +27,8 @@ pub fn stays_of(
     list: &[Entry],
 ) -> Result<Vec<Stay>, AllocError>
     requires { length list.now ≤ 65535 }
-    ensures { IfOk result (λ stays. stays.items ≡ stays_of plan.now hart list.now) }
+    ensures stays { IfOk result (λ stays. stays.items ≡ stays_of plan.now hart list.now) }
+    ensures few { IfOk result (λ stays. vec_len stays ≤ length list.now + 1) }
 {
     let mut stays = Vec::new(alloc);
     let (mut site, mut first) = (0u16, 0u32);
@@ -61,7 +62,11 @@ fn goes_to(plan: &Plan, hart: u8, entry: Entry) -> Option<u16>
             if mover == hart { Some(site) } else { None }
         }
         Entry::Yield { hart: mover, site } | Entry::Unregister { hart: mover, site } => {
-            if mover == hart { Some(plan.parent(site)) } else { None }
+            if mover == hart {
+                Some(plan.parent(site))
+            } else {
+                None
+            }
         }
         Entry::Request { .. } | Entry::Skip { .. } => None,
     }

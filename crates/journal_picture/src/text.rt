@@ -161,7 +161,11 @@ fn window<T>(items: &[T], at: usize, most: usize) -> &[T]
         return &items[items.len()..];
     }
     let rest = &items[at..];
-    if most >= rest.len() { rest } else { &rest[..most] }
+    if most >= rest.len() {
+        rest
+    } else {
+        &rest[..most]
+    }
 }
 
 // Adds the numbers of the entries, the first of which has this one.
@@ -190,7 +194,11 @@ fn write_mark(text: &mut String, faulty: bool, last: bool) -> Result<(), AllocEr
     if !faulty {
         return Ok(());
     }
-    if last { write_cell(text, "fault") } else { Ok(()) }
+    if last {
+        write_cell(text, "fault")
+    } else {
+        Ok(())
+    }
 }
 
 // Adds what the entries do.
@@ -203,8 +211,8 @@ fn write_deeds(text: &mut String, shown: &[Entry]) -> Result<(), AllocError>
     Ok(())
 }
 
-// What the entry does, in a short word.
-fn deed(entry: Entry) -> &'static str
+/// What the entry does, in a short word.
+pub(crate) fn deed(entry: Entry) -> &'static str
     ensures { result.now ≡ deed entry }
 {
     match entry {

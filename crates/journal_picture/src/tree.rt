@@ -16,7 +16,7 @@ pub(crate) fn write_tree(
     shapes: &[Shape],
 ) -> Result<(), AllocError>
     requires { length shapes.now ≡ site_count board.now.plan }
-    ensures { OnOk result (string_bytes text.new ≡ string_bytes text.old 
+    ensures { OnOk result (string_bytes text.new ≡ string_bytes text.old
         ++ tree_text board.now.plan board.now.state shapes.now) }
 {
     text.push_str("base\n")?;
@@ -37,12 +37,7 @@ fn write_sites(text: &mut String, board: &Board, shapes: &[Shape]) -> Result<(),
 }
 
 // Adds the line of a site.
-fn write_site(
-    text: &mut String,
-    board: &Board,
-    site: u16,
-    shape: Shape,
-) -> Result<(), AllocError>
+fn write_site(text: &mut String, board: &Board, site: u16, shape: Shape) -> Result<(), AllocError>
     requires { IsSite board.now.plan site }
     ensures { OnOk result (string_bytes text.new ≡ string_bytes text.old
         ++ site_line (depth_of board.now.plan site) site shape (row board.now.state site)) }

@@ -1,4 +1,4 @@
-use Rattle.std.proofs.Common.{◌≡◌, ◌+◌, ◌-◌, ◌<◌, arith, rules, sym}
+use Rattle.std.proofs.Common.{◌≡◌, ◌+◌, ◌-◌, arith, rules}
 use Rattle.transfer_table.specs.Plan.{parent}
 use Rattle.journal_picture.specs.TextPicture.{steps_up}
 use Rattle.journal_picture.proofs.Turns.{steps_more, steps_none}
@@ -12,5 +12,5 @@ returns-then-at-eq0-clause-same c =
 pub loop-i-preserved : goal.loop-i-preserved
 loop-i-preserved c =
     let more : steps_up c.args.plan.now (c.args.site - c.loop-i._i) c.loop-i.at ≡ 1 + steps_up c.args.plan.now (c.args.site - (c.loop-i._i + 1)) (parent c.args.plan.now c.loop-i.at) =
-        steps_more c.args.plan.now c.args.site c.loop-i._i c.loop-i.at (search rules) (search rules) in
+    steps_more c.args.plan.now c.args.site c.loop-i._i c.loop-i.at (search rules) (search rules) in
     grind (arith, more, c.loop-i.invariant.0, c.loop-i.invariant.1, c.parent-at.ensures.same)

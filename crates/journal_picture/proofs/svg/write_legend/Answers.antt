@@ -1,0 +1,15 @@
+use Rattle.std.proofs.Common.{◌+◌, string_bytes}
+use Rattle.std.specs.Prelude.{codes}
+use Rattle.journal_picture.specs.SvgPicture.{swatches_svg, words_svg}
+use Rattle.journal_picture.proofs.Written.{on_three}
+use Rattle.journal_picture.proofs.svg.write_legend.Goals as goal
+
+pub returns : goal.returns
+returns c =
+    let y = c.args.y in
+    let old = string_bytes c.args.text.now in
+    let first = string_bytes c.push_str.new.self in
+    let second = string_bytes c.write_swatches.new.text in
+    let third = string_bytes c.write_words.new.text in
+    on_three c.write_words.result old first second third (codes "<g text-anchor='start'>\n") (swatches_svg y) (words_svg (y + 13) (y + 38))
+    c.in_ok-push_str.ensures.bytes c.in_ok-write_swatches.ensures c.write_words.ensures

@@ -1,0 +1,9 @@
+//! Tests of the pictures, by public calls alone.
+#![tactic(auto)]
+
+#[cfg(test)]
+mod longest;
+#[cfg(test)]
+mod pictures;
+#[cfg(test)]
+mod stays;

@@ -1,0 +1,82 @@
+//! The longest journal that is legal.
+use journal_picture::{Kind, Shape, svg_picture, text_picture};
+use std::alloc::{AllocError, Global};
+use std::test::Fail;
+use transfer_table::{Entry, Plan};
+
+// No picture is longer, in bytes.
+const MOST: usize = 2_000_000;
+
+// Adds all entries that one site can have with four harts.
+fn add_site(list: &mut Vec<Entry>, site: u16) -> Result<(), AllocError> {
+    list.push(Entry::Register { hart: 0, site })?;
+    for _ in 0..3u8 {
+        list.push(Entry::Request {
+            hart: 0,
+            site,
+            count: 1,
+        })?;
+    }
+    for hart in 1..4u8 {
+        list.push(Entry::Enter { hart, site })?;
+    }
+    for hart in 1..4u8 {
+        list.push(Entry::Yield { hart, site })?;
+    }
+    list.push(Entry::Unregister { hart: 0, site })?;
+    Ok(())
+}
+
+// The entries of 4,095 sites one after another.
+fn longest(alloc: Global) -> Result<Vec<Entry>, AllocError> {
+    let mut list = Vec::new(alloc);
+    for site in 1..4096u16 {
+        add_site(&mut list, site)?;
+    }
+    Ok(list)
+}
+
+// Each site is a pool of the first line.
+fn shapes(alloc: Global) -> Result<Vec<Shape>, AllocError> {
+    vec![in alloc; Shape {
+        kind: Kind::Pool,
+        line: 1
+    }; 4095]
+}
+
+// How many lines of the text are a bar: each begins with `<rect x='` but those of the legend, which are three.
+fn bars(text: &[u8]) -> usize {
+    let mut count = 0usize;
+    for line in text.split(|byte| *byte == b'\n') {
+        if line.starts_with(b"<rect x='") {
+            count = count.saturating_add(1);
+        }
+    }
+    count.saturating_sub(3)
+}
+
+#[test]
+fn the_longest_journal_has_4096_bars(rt: HostRuntime) -> Result<(), Fail> {
+    let alloc = rt.alloc();
+    let plan = Plan::new(alloc, 4, &[0; 4095])?;
+    let list = longest(alloc)?;
+    assert_eq!(rt; list.len(), 45_045);
+    let text = svg_picture(alloc, &plan, &shapes(alloc)?, &list, b"legal 45045\n")?;
+    let fits = text.len() <= MOST && bars(&text) == 4096;
+    assert!(rt; fits);
+    Ok(())
+}
+
+#[test]
+fn the_longest_journal_fits_as_text(rt: HostRuntime) -> Result<(), Fail> {
+    let alloc = rt.alloc();
+    let plan = Plan::new(alloc, 4, &[0; 4095])?;
+    let list = longest(alloc)?;
+    assert_eq!(rt; list.len(), 45_045);
+    let shapes = shapes(alloc)?;
+    assert_eq!(rt; shapes.len(), plan.sites() as usize);
+    let text = text_picture(alloc, &plan, &shapes, &list, b"legal 45045\n")?;
+    let fits = 1_700_000 <= text.len() && text.len() <= MOST;
+    assert!(rt; fits);
+    Ok(())
+}
