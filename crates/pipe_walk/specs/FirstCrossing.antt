@@ -1,0 +1,29 @@
+-- The first crossing of two pieces of a site.
+use Rattle.std.specs.Prelude.{List, [], ◌∷◌, Option, None}
+use Rattle.std.specs.Option.{option_map, option_or}
+use Rattle.array_tree.specs.Trees.{ProgramTree}
+use Rattle.array_meaning.specs.Stores.{Arrays, cells_of}
+use Rattle.array_meaning.specs.Sites.{Site}
+use Rattle.phase_order.specs.Crossings.{IsFirstCrossing}
+use Rattle.phase_order.specs.Tests.{crossing}
+use Rattle.pipe_walk.specs.declared.fault.PipeFault.{PipeFault}
+use Rattle.pipe_walk.specs.declared.fault.PipeFault.TheVariants.{Crossing, Memory}
+
+-- What a fault tells of a program. Want of memory tells nothing.
+abbrev pub IsFaultOf : ProgramTree → PipeFault → Type 0
+IsFaultOf program (Crossing line cell) = IsFirstCrossing program line cell
+IsFaultOf program Memory = Unit {0}
+
+-- The fault of a site: its construct's line, and the least cell on which two of its pieces cross.
+abbrev pub site_crossing : Arrays → Site → Option PipeFault
+site_crossing arrays site =
+    option_map (Crossing site.line) (crossing arrays (cells_of arrays) site.rounds)
+
+-- The fault of the first of the sites that has one.
+abbrev pub first_crossing : Arrays → List Site → Option PipeFault
+first_crossing arrays [] = None
+first_crossing arrays (site ∷ more) = option_or (site_crossing arrays site) (first_crossing arrays more)
+
+-- What was found, or else the first crossing of sites.
+abbrev pub or_crossing : Arrays → List Site → Option PipeFault → Option PipeFault
+or_crossing arrays sites found = option_or found (first_crossing arrays sites)

@@ -1,0 +1,4 @@
+pub mod Members
+pub mod Owners
+pub mod Tables
+pub mod Marks

@@ -1,0 +1,70 @@
+-- What is kept of cells as the phases of a construct are walked through.
+-- Only the private contracts and the proofs of this crate need these.
+use Rattle.std.specs.Prelude.{◌≡◌, ℕ, ◌<◌, false, ◌||◌, List, length, replicate, max, slice_index_or, slice_set}
+use Rattle.array_meaning.specs.Stores.{Arrays, cells_of}
+use Rattle.pipe_walk.specs.declared.touch.Touch.{Touch}
+use Rattle.pipe_walk.specs.declared.past.Past.{Past}
+use Rattle.pipe_walk.specs.Inside.Members.{joined, untouched, touch_in, starts_below, last_of}
+use Rattle.pipe_walk.specs.Inside.Owners.{owners_from}
+
+-- No phase was before.
+abbrev pub no_past : Past
+no_past = record { toucher = 0; changer = 0; crossed = false }
+
+-- With one more phase, in which this is done to the cell.
+abbrev pub passed : Past → Touch → Past
+passed past touch = record {
+  toucher = max past.toucher (max (last_of touch.read) (last_of touch.changed));
+  changer = max past.changer (last_of touch.changed);
+  crossed = past.crossed
+      || (starts_below past.toucher touch.changed || starts_below past.changer touch.read);
+}
+
+-- What contracts see of a table. Of the phase at hand: for each cell what is done to it by static indexes, and for each
+-- array what is done to all its cells by dynamic ones. Of those before: what they did to each cell. And the array of each
+-- cell.
+pub record TableParts : Type 0 where
+  pub cells : List Touch
+  pub everywhere : List Touch
+  pub past : List Past
+  pub owners : List ℕ
+
+-- The phases before, at a cell.
+abbrev pub past_in : List Past → ℕ → Past
+past_in list cell = slice_index_or list cell no_past
+
+-- What is done to a cell in the phase at hand, by static and by dynamic indexes.
+abbrev pub touch_at : TableParts → ℕ → Touch
+touch_at table cell =
+    joined (touch_in table.cells cell) (touch_in table.everywhere (slice_index_or table.owners cell 0))
+
+-- With more done at a place.
+abbrev pub added : ℕ → Touch → List Touch → List Touch
+added place more list = slice_set list place (joined more (touch_in list place))
+
+-- The table is for these arrays.
+pub record IsFor (arrays : Arrays) (table : TableParts) : Type 0 where
+  pub cells : length table.cells ≡ cells_of arrays
+  pub everywhere : length table.everywhere ≡ length arrays
+  pub past : length table.past ≡ cells_of arrays
+  pub owners : table.owners ≡ owners_from 0 arrays
+
+-- Nothing is done in the phase at hand.
+abbrev pub blank : TableParts → TableParts
+blank table = record table {
+  cells = replicate (length table.cells) untouched;
+  everywhere = replicate (length table.everywhere) untouched;
+}
+
+-- And no phase was before.
+abbrev pub cleared : TableParts → TableParts
+cleared table = record (blank table) { past = replicate (length table.past) no_past }
+
+-- The phase at hand is one of those before.
+pub record IsSettled (before after : TableParts) : Type 0 where
+  pub cells : after.cells ≡ replicate (length before.cells) untouched
+  pub everywhere : after.everywhere ≡ replicate (length before.everywhere) untouched
+  pub owners : after.owners ≡ before.owners
+  pub places : length after.past ≡ length before.past
+  pub past : (cell : ℕ) → cell < length before.past →
+      past_in after.past cell ≡ passed (past_in before.past cell) (touch_at before cell)

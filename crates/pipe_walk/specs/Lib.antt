@@ -1,0 +1,2 @@
+pub mod FirstCrossing
+pub mod Inside

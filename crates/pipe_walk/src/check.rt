@@ -1,0 +1,41 @@
+//! The check of a program.
+ghost use Rattle.std.specs.Prelude.{OnOk, IfErr};
+ghost use Rattle.array_tree.specs.Trees.{program_of};
+ghost use Rattle.phase_order.specs.Crossings.{HasNoCrossings};
+ghost use Rattle.pipe_walk.specs.FirstCrossing.{IsFaultOf};
+
+use crate::fault::PipeFault;
+use crate::seek::seek_block;
+use crate::table::Table;
+use array_eval::{Layout, Scope};
+use disjoint_check::Accepted;
+use std::alloc::Global;
+
+/// Whether the members of each `team` of a program may go on without waiting for one another: at no site two pieces cross.
+///
+/// The fault is the line of the first site at which two pieces cross, and the least cell on which they do. Want of memory alone
+/// is answered at will.
+pub fn pipe_check(alloc: Global, accepted: &Accepted) -> Result<(), PipeFault>
+    ensures ok { OnOk result (HasNoCrossings (program_of accepted.now.program)) }
+    ensures fault { IfErr result (IsFaultOf (program_of accepted.now.program)) }
+{
+    let program = accepted.program();
+    let Ok(layout) = Layout::new(alloc, &program.arrays) else {
+        return Err(PipeFault::Memory);
+    };
+    let Ok(mut table) = Table::new(alloc, &layout) else {
+        return Err(PipeFault::Memory);
+    };
+    let mut found = None;
+    seek_block(
+        &layout,
+        &program.body,
+        &Scope::Outermost,
+        &mut table,
+        &mut found,
+    );
+    match found {
+        Some(fault) => Err(fault),
+        None => Ok(()),
+    }
+}

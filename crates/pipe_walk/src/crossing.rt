@@ -1,0 +1,132 @@
+//! The least cell on which two pieces of a construct cross.
+ghost use Rattle.std.specs.Prelude.{◌≡◌, ℕ, ◌<◌, IfOk};
+ghost use Rattle.array_tree.specs.Trees.{sequence_of, sequences_of};
+ghost use Rattle.array_meaning.specs.Stores.{cells_of};
+ghost use Rattle.array_meaning.specs.Work.{sequence_work};
+ghost use Rattle.array_meaning.specs.Members.{team_works};
+ghost use Rattle.array_meaning.specs.Overlap.{first_from};
+ghost use Rattle.array_meaning.specs.Sites.{phase_rounds};
+ghost use Rattle.array_eval.specs.Views.{vars_of};
+ghost use Rattle.phase_order.specs.Tests.{crosses, crossing};
+ghost use Rattle.pipe_walk.specs.Inside.Tables.{past_in, IsFor};
+ghost use Rattle.pipe_walk.specs.Inside.Marks.{with_pieces};
+
+use crate::mark::mark_loop;
+use crate::table::Table;
+use array_eval::{Layout, Scope, start_of_member};
+use array_tree::{Block, Blocks, Name};
+use std::alloc::{AllocError, Global};
+
+// Marks what the members of a `team` do in one phase.
+fn mark_members<'s>(
+    layout: &Layout,
+    phase: &'s Block,
+    var: &'s Name,
+    low: i64,
+    high: i64,
+    members: u64,
+    scope: &'s Scope<'s>,
+    table: &mut Table,
+)
+    ensures { table.new ≡ with_pieces layout.now 0
+        (team_works var.now low high members (sequence_work (sequence_of phase.now))
+        (vars_of scope.now)) table.old }
+{
+    for member in 0..members {
+        let start = start_of_member(low, high, members, member);
+        let end = start_of_member(low, high, members, member + 1);
+        mark_loop(
+            layout,
+            member as usize,
+            phase,
+            var,
+            start,
+            end,
+            scope,
+            table,
+        );
+    }
+}
+
+// Walks through the phases of a `team`, and keeps on which cells two of its pieces cross.
+fn walk_phases<'s>(
+    layout: &Layout,
+    phases: &'s Blocks,
+    var: &'s Name,
+    low: i64,
+    high: i64,
+    members: u64,
+    scope: &'s Scope<'s>,
+    table: &mut Table,
+)
+    requires { IsFor layout.now table.old }
+    ensures table { IsFor layout.now table.new }
+    ensures crossed { (cell : ℕ) → cell < cells_of layout.now →
+        (past_in table.new.past cell).crossed ≡ crosses layout.now cell 0 0
+        (phase_rounds (sequences_of phases.now) var.now low high members (vars_of scope.now)) }
+{
+    table.clear();
+    for phase in &phases.blocks {
+        mark_members(layout, phase, var, low, high, members, scope, table);
+        table.settle();
+    }
+}
+
+// The least cell on which two pieces crossed.
+#[tactic(auto, using(site_walk::proofs::PieceLemmas::first_found, site_walk::proofs::PieceLemmas::first_later, site_walk::proofs::PieceLemmas::first_end))]
+fn least_crossed(layout: &Layout, table: &Table) -> Option<u16>
+    ensures { result ≡ first_from (λ cell. (past_in table.now.past cell).crossed) 0 (cells_of layout.now) }
+{
+    for cell in 0..layout.cells() {
+        if table.is_crossed(cell) {
+            return Some(cell as u16);
+        }
+    }
+    None
+}
+
+/// The least cell on which two pieces of a `team` cross. A member alone is crossed by none, nor are the pieces of one phase,
+/// and then nothing is walked through.
+pub(crate) fn crossing_in<'s>(
+    layout: &Layout,
+    phases: &'s Blocks,
+    var: &'s Name,
+    low: i64,
+    high: i64,
+    members: u64,
+    scope: &'s Scope<'s>,
+    table: &mut Table,
+) -> Option<u16>
+    requires { IsFor layout.now table.old }
+    ensures table { IsFor layout.now table.new }
+    ensures found { result ≡ crossing layout.now (cells_of layout.now)
+        (phase_rounds (sequences_of phases.now) var.now low high members (vars_of scope.now)) }
+{
+    if members < 2 {
+        return None;
+    }
+    if phases.blocks.len() < 2 {
+        return None;
+    }
+    walk_phases(layout, phases, var, low, high, members, scope, table);
+    least_crossed(layout, table)
+}
+
+/// The least cell on which two pieces cross of a `team` of so many members, if it has these phases and the variables of this
+/// scope around it.
+pub fn crossing_of<'s>(
+    alloc: Global,
+    layout: &Layout,
+    phases: &'s Blocks,
+    var: &'s Name,
+    low: i64,
+    high: i64,
+    members: u64,
+    scope: &'s Scope<'s>,
+) -> Result<Option<u16>, AllocError>
+    ensures { IfOk result (λ found. found ≡ crossing layout.now (cells_of layout.now)
+        (phase_rounds (sequences_of phases.now) var.now low high members (vars_of scope.now))) }
+{
+    let mut table = Table::new(alloc, layout)?;
+    Ok(crossing_in(layout, phases, var, low, high, members, scope, &mut table))
+}

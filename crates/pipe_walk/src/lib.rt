@@ -1,0 +1,23 @@
+//! Which cells the pieces of a construct touch, phase after phase, and whether two pieces cross: then its members must
+//! wait for one another, and a pipeline won't do.
+//!
+//! A walk marks for each cell the lowest and the highest member that reads it in a phase, and those that change it. So each
+//! phase costs its walk and one pass over the cells.
+#![tactic(auto)]
+
+mod check;
+mod construct;
+mod crossing;
+mod fault;
+mod mark;
+mod members;
+mod owners;
+mod past;
+mod seek;
+mod table;
+mod touch;
+
+pub use check::pipe_check;
+pub use construct::uncrossed;
+pub use crossing::crossing_of;
+pub use fault::PipeFault;

@@ -1,0 +1,52 @@
+//! Members of a `team`.
+ghost use Rattle.std.specs.Prelude.{◌≡◌};
+ghost use Rattle.pipe_walk.specs.Inside.Members.{joined_members, starts_below, last_of};
+
+/// Which members of a `team` did something: none, or some of those from the first to the last.
+#[derive(Clone, Copy, PartialEq, Eq, Debug, Drop)]
+pub(crate) enum Members {
+    Nobody,
+    Between { first: usize, last: usize },
+}
+
+impl Members {
+    /// The members of one set or another.
+    pub(crate) fn with(self, other: Members) -> Members
+        ensures { result ≡ joined_members self other }
+    {
+        match (self, other) {
+            (Members::Nobody, _) => other,
+            (_, Members::Nobody) => self,
+            (
+                Members::Between { first, last },
+                Members::Between {
+                    first: low,
+                    last: high,
+                },
+            ) => Members::Between {
+                first: first.min(low),
+                last: last.max(high),
+            },
+        }
+    }
+
+    /// Whether some of them is below this one.
+    pub(crate) fn starts_below(self, member: usize) -> bool
+        ensures { result ≡ starts_below member self }
+    {
+        match self {
+            Members::Nobody => false,
+            Members::Between { first, .. } => first < member,
+        }
+    }
+
+    /// The last of them; 0 also where there is none, since nobody is below member 0.
+    pub(crate) fn last(self) -> usize
+        ensures { result ≡ last_of self }
+    {
+        match self {
+            Members::Nobody => 0,
+            Members::Between { last, .. } => last,
+        }
+    }
+}

@@ -1,0 +1,196 @@
+//! The walk that looks for a crossing of two pieces of a site.
+ghost use Rattle.std.specs.Prelude.{◌≡◌};
+ghost use Rattle.std.specs.Option.{option_or};
+ghost use Rattle.array_tree.specs.Trees.{statement_of, sequence_of, sequences_of};
+ghost use Rattle.array_meaning.specs.Sites.{phase_rounds, statement_sites, sequence_sites, branches_sites, phases_sites, loop_sites};
+ghost use Rattle.array_eval.specs.Views.{vars_of};
+ghost use Rattle.pipe_walk.specs.FirstCrossing.{site_crossing, or_crossing};
+ghost use Rattle.pipe_walk.specs.Inside.Tables.{IsFor};
+
+use crate::crossing::crossing_in;
+use crate::fault::PipeFault;
+use crate::table::Table;
+use array_eval::{Layout, Scope};
+use array_tree::{Block, Blocks, Name, Stmt};
+use site_counts::sites_in_block;
+
+// Keeps the crossing of a `team` itself, unless something was found before.
+fn keep_team<'s>(
+    layout: &Layout,
+    line: u32,
+    phases: &'s Blocks,
+    var: &'s Name,
+    low: i64,
+    high: i64,
+    members: u64,
+    scope: &'s Scope<'s>,
+    table: &mut Table,
+    found: &mut Option<PipeFault>,
+)
+    requires table { IsFor layout.now table.old }
+    ensures table { IsFor layout.now table.new }
+    ensures found { found.new ≡ option_or found.old (site_crossing layout.now record {
+      line = line;
+      rounds = phase_rounds (sequences_of phases.now) var.now low high members (vars_of scope.now);
+    }) }
+{
+    if found.is_none() {
+        if let Some(cell) = crossing_in(layout, phases, var, low, high, members, scope, table) {
+            *found = Some(PipeFault::Crossing { line, cell });
+        }
+    }
+}
+
+/// Keeps the first crossing of the sites of a block, in the order in which it enters them, unless something was found
+/// before.
+#[cycle(seek)]
+pub(crate) fn seek_block<'s>(
+    layout: &Layout,
+    block: &'s Block,
+    scope: &'s Scope<'s>,
+    table: &mut Table,
+    found: &mut Option<PipeFault>,
+)
+    requires table { IsFor layout.now table.old }
+    ensures table { IsFor layout.now table.new }
+    ensures found { found.new
+        ≡ or_crossing layout.now (sequence_sites (sequence_of block.now)
+        (vars_of scope.now)) found.old }
+{
+    for statement in &block.statements {
+        seek_statement(layout, statement, scope, table, found);
+    }
+}
+
+// The same of a statement.
+#[cycle(seek)]
+fn seek_statement<'s>(
+    layout: &Layout,
+    statement: &'s Stmt,
+    scope: &'s Scope<'s>,
+    table: &mut Table,
+    found: &mut Option<PipeFault>,
+)
+    requires table { IsFor layout.now table.old }
+    ensures table { IsFor layout.now table.new }
+    ensures found { found.new
+        ≡ or_crossing layout.now (statement_sites (statement_of statement.now)
+        (vars_of scope.now)) found.old }
+{
+    match statement {
+        Stmt::Assign { .. } => {}
+        Stmt::For {
+            var,
+            low,
+            high,
+            body,
+            ..
+        } => seek_loop(layout, body, var, *low, *high, scope, table, found),
+        Stmt::If {
+            then_block,
+            else_block,
+            ..
+        } => {
+            seek_block(layout, then_block, scope, table, found);
+            seek_block(layout, else_block, scope, table, found);
+        }
+        Stmt::Par { branches, .. } => seek_branches(layout, branches, scope, table, found),
+        Stmt::Team {
+            line,
+            var,
+            low,
+            high,
+            members,
+            phases,
+        } => {
+            keep_team(
+                layout,
+                *line,
+                phases,
+                var,
+                *low,
+                *high,
+                members.unsigned_abs(),
+                scope,
+                table,
+                found,
+            );
+            seek_phases(layout, phases, var, *low, *high, scope, table, found);
+        }
+    }
+}
+
+// The same of a block for each number from low to before high. One that enters no site is passed over, however many turns
+// it has.
+#[cycle(seek)]
+fn seek_loop<'s>(
+    layout: &Layout,
+    body: &'s Block,
+    var: &'s Name,
+    low: i64,
+    high: i64,
+    scope: &'s Scope<'s>,
+    table: &mut Table,
+    found: &mut Option<PipeFault>,
+)
+    requires table { IsFor layout.now table.old }
+    ensures table { IsFor layout.now table.new }
+    ensures found { found.new
+        ≡ or_crossing layout.now (loop_sites var.now low high (sequence_sites (sequence_of body.now))
+        (vars_of scope.now)) found.old }
+{
+    if sites_in_block(body) == 0 {
+        return;
+    }
+    for number in low..high {
+        let turn = Scope::Turn {
+            name: var,
+            value: number,
+            outer: scope,
+        };
+        seek_block(layout, body, &turn, table, found);
+    }
+}
+
+// The same of the branches of a `par`.
+#[cycle(seek)]
+fn seek_branches<'s>(
+    layout: &Layout,
+    branches: &'s Blocks,
+    scope: &'s Scope<'s>,
+    table: &mut Table,
+    found: &mut Option<PipeFault>,
+)
+    requires table { IsFor layout.now table.old }
+    ensures table { IsFor layout.now table.new }
+    ensures found { found.new
+        ≡ or_crossing layout.now (branches_sites (sequences_of branches.now)
+        (vars_of scope.now)) found.old }
+{
+    for branch in &branches.blocks {
+        seek_block(layout, branch, scope, table, found);
+    }
+}
+
+// The same of the phases of a `team`.
+#[cycle(seek)]
+fn seek_phases<'s>(
+    layout: &Layout,
+    phases: &'s Blocks,
+    var: &'s Name,
+    low: i64,
+    high: i64,
+    scope: &'s Scope<'s>,
+    table: &mut Table,
+    found: &mut Option<PipeFault>,
+)
+    requires table { IsFor layout.now table.old }
+    ensures table { IsFor layout.now table.new }
+    ensures found { found.new
+        ≡ or_crossing layout.now (phases_sites (sequences_of phases.now) var.now low high
+        (vars_of scope.now)) found.old }
+{
+    for phase in &phases.blocks {
+        seek_loop(layout, phase, var, low, high, scope, table, found);
+    }
+}
