@@ -9,7 +9,6 @@ use Rattle.array_meaning.specs.Steps.{Steps, Done, Choose, followed_by}
 use Rattle.array_meaning.specs.Work.{span, loop, statement_work, sequence_work}
 use Rattle.array_meaning.specs.Touch.{Visit, reads_in, walk}
 use Rattle.array_meaning.specs.Sites.{Site, AreSitesApart, turn_sites, statement_sites, sequence_sites}
-use Rattle.array_meaning.specs.Plans.{statement_sites_in, sites_in}
 use Rattle.array_meaning.specs.Names.{has_new_variables, statement_has_new_variables, names_of, uses_known_names, has_known_names, statement_has_known_names}
 use Rattle.array_meaning.specs.Limits.{have_right_lengths, has_right_ranges, statement_has_right_ranges, has_no_site_under_if, statement_has_no_site_under_if}
 use Rattle.array_meaning.specs.Accepted.{are_inside}
@@ -71,30 +70,20 @@ apart_append arrays (x ∷ xs) ys h k = (h.0, apart_append arrays xs ys h.1 k)
 
 -- ---- no site under an `if`
 
--- What has no site though it stands inside an `if` enters none, and has none outside either.
+-- What has no site though it stands inside an `if` has none under an `if` outside of it either.
 mutual
-  pub no_sites : (s : Sequence) → has_no_site_under_if s true ≡ true → (sites_in s ≡ 0) × (has_no_site_under_if s false ≡ true)
-  no_sites ended h = (refl, refl)
-  no_sites (followed first rest) h =
+  pub outside : (s : Sequence) → has_no_site_under_if s true ≡ true → has_no_site_under_if s false ≡ true
+  outside ended h = refl
+  outside (followed first rest) h =
       let parts = and_parts (statement_has_no_site_under_if first true) (has_no_site_under_if rest true) h in
-      let one = no_sites_first first parts.0 in
-      let more = no_sites rest parts.1 in
-      (rw (one.0, more.0) refl, and_true (statement_has_no_site_under_if first false) (has_no_site_under_if rest false) one.1 more.1)
+      and_true (statement_has_no_site_under_if first false) (has_no_site_under_if rest false) (outside_first first parts.0) (outside rest parts.1)
 
-  pub no_sites_first : (s : Statement) → statement_has_no_site_under_if s true ≡ true →
-      (statement_sites_in s ≡ 0) × (statement_has_no_site_under_if s false ≡ true)
-  no_sites_first (Assign line array index value) h = (refl, refl)
-  no_sites_first (For line var low high body) h =
-      let inner = no_sites body h in
-      let none = inner.0 in
-      (rw none (omega arith), inner.1)
-  no_sites_first (If line cond then_block else_block) h =
-      let parts = and_parts (has_no_site_under_if then_block true) (has_no_site_under_if else_block true) h in
-      let one = no_sites then_block parts.0 in
-      let more = no_sites else_block parts.1 in
-      (rw (one.0, more.0) refl, h)
-  no_sites_first (Par line branches) h = absurd (false≢true h)
-  no_sites_first (Team line var low high members phases) h = absurd (false≢true h)
+  pub outside_first : (s : Statement) → statement_has_no_site_under_if s true ≡ true → statement_has_no_site_under_if s false ≡ true
+  outside_first (Assign line array index value) h = refl
+  outside_first (For line var low high body) h = outside body h
+  outside_first (If line cond then_block else_block) h = h
+  outside_first (Par line branches) h = absurd (false≢true h)
+  outside_first (Team line var low high members phases) h = absurd (false≢true h)
 
 -- ---- the parts of a fit work
 
@@ -242,11 +231,10 @@ turn_parts arrays vars line var low high body below parts =
       },
     )
 
--- The parts of an `if` are those of each side; no site stands in them.
+-- The parts of an `if` are those of each side.
 pub side_parts : (arrays : List Declaration) (vars : Vars) (line : ℕ) (cond : Expression) (then_block else_block : Sequence) →
     AreFitParts arrays vars (followed (If line cond then_block else_block) ended) (statement_work (If line cond then_block else_block) vars) →
     AreFitParts arrays vars then_block (sequence_work then_block vars) × AreFitParts arrays vars else_block (sequence_work else_block vars)
-    × (sites_in then_block ≡ 0) × (sites_in else_block ≡ 0)
 side_parts arrays vars line cond then_block else_block parts =
     let taken = names_around vars ++ names_of arrays in
     let names = names_of arrays in
@@ -257,8 +245,6 @@ side_parts arrays vars line cond then_block else_block parts =
     (and_parts (uses_known_names cond names around) _ (and_parts _ true parts.known_names).0).1 in
     let ranges = and_parts (has_right_ranges then_block) (has_right_ranges else_block) (and_parts _ true parts.ranges).0 in
     let no_site = and_parts (has_no_site_under_if then_block true) (has_no_site_under_if else_block true) (and_parts _ true parts.no_site_under_if).0 in
-    let left = no_sites then_block no_site.0 in
-    let right = no_sites else_block no_site.1 in
     let indices = inside_sides cells line vars cond (sequence_work then_block vars) (sequence_work else_block vars) Done parts.indices in
     let all = apart_parts cells (sequence_sites then_block vars ++ sequence_sites else_block vars) [] parts.apart in
     let apart = apart_parts cells (sequence_sites then_block vars) (sequence_sites else_block vars) all.0 in (
@@ -266,7 +252,7 @@ side_parts arrays vars line cond then_block else_block parts =
         new_variables = new_ones.0;
         known_names = known_ones.0;
         ranges = ranges.0;
-        no_site_under_if = left.1;
+        no_site_under_if = outside then_block no_site.0;
         indices = indices.0;
         apart = apart.0;
       },
@@ -274,10 +260,8 @@ side_parts arrays vars line cond then_block else_block parts =
         new_variables = new_ones.1;
         known_names = known_ones.1;
         ranges = ranges.1;
-        no_site_under_if = right.1;
+        no_site_under_if = outside else_block no_site.1;
         indices = indices.1;
         apart = apart.1;
       },
-      left.0,
-      right.0,
     )

@@ -1,5 +1,6 @@
 -- How a machine goes on over several steps.
-use Rattle.std.proofs.Common.{◌≡◌, ℕ, ◌<◌, Bool, true, false, List, [], ◌∷◌, length, refl, ap, ◌∙◌, arith}
+use Rattle.std.proofs.Common.{◌≡◌, ℕ, ◌<◌, Bool, true, false, List, [], ◌∷◌, length, refl, sym, ap, subst, ◌∙◌, arith}
+use Rattle.std.proofs.lemmas.Bool.{false≢true}
 use Rattle.contexts.specs.declared.machine.Step.{Step}
 use Rattle.contexts.specs.declared.machine.Step.TheVariants as step
 use Rattle.contexts.specs.Machine.{Steps}
@@ -10,11 +11,13 @@ use Rattle.array_jobs.specs.Works.{steps_of}
 use Rattle.array_jobs.specs.Jobs.{JobParts, job_of}
 use Rattle.array_eval.specs.Overlays.{Laid}
 use Rattle.array_eval.specs.Traces.{Trace}
-use Rattle.step_eval.specs.declared.stage.Stage.TheVariants.{Going}
+use Rattle.step_eval.specs.declared.found.Found.{Found}
+use Rattle.step_eval.specs.declared.found.Found.TheVariants as found
+use Rattle.step_eval.specs.declared.stage.Stage.{Stage}
+use Rattle.step_eval.specs.declared.stage.Stage.TheVariants.{Going, Awaiting, Failed}
 use Rattle.step_eval.specs.declared.frames.Frames.{Frames}
 use Rattle.step_eval.specs.Rest.{WorkAt}
 use Rattle.step_eval.specs.Moves.{rest_left}
-use Rattle.step_eval.specs.Nests.{NestedParts}
 use Rattle.step_eval.specs.Machines.{Progress, IsRight, Advances, HasMoved, HasGone, HasGoneOn, to_do, next_nest}
 use Rattle.step_eval.specs.Inside.Frames.{works_of, IsStacked, Ran}
 use Rattle.step_eval.specs.Inside.Parts.{IsSound, while_going}
@@ -22,31 +25,54 @@ use Rattle.step_eval.proofs.LeftLemmas.{left_dropped}
 use Rattle.step_eval.proofs.MoveLemmas.{right_run}
 use Rattle.step_eval.proofs.MachineLemmas.{length_noted}
 
+-- A machine that goes on is right.
+pub right_inside : (stage : Stage) (job : JobParts) (frames : Frames) (store : Trace) (room : Laid) (next : ℕ) → IsSound stage job frames store room next →
+    stage ≡ Going → IsRight (job_of job) (works_of frames job.vars) store next
+right_inside Going job frames store room next sound is = sound.kept
+right_inside Awaiting job frames store room next sound is = sound.kept.0
+right_inside Failed job frames store room next sound is = cc
+
 -- One step goes on.
-pub gone_step : (before after : Progress) (s : Step NestedParts) → Advances before s after → Steps (to_do before) s (to_do after) → HasGone before s after
-gone_step before after step.More advances steps = moved before.rest advances.2
+pub gone_step : (before after : Progress) (s : Step Found) → (before.stage ≡ Going → IsRight (job_of before.job) before.rest before.store before.next) →
+    Advances before s after → Steps (to_do before) s (to_do after) → HasGone before s after
+gone_step before after step.More right advances steps = moved before.rest advances.3
   where
     moved : (works : List WorkAt) → HasMoved works before after → HasGone before step.More after
     moved [] m = absurd m
     moved (w ∷ more) m = (ap (λ x. x.job) m, ap (λ x. x.stage) m, steps.2)
-gone_step before after (step.Nest nested) advances steps =
+gone_step before after (step.Nest (found.Pass first end)) right advances steps = moved before.rest advances.2
+  where
+    moved : (works : List WorkAt) → HasMoved works before after → HasGone before (step.Nest (found.Pass first end)) after
+    moved [] m = absurd m
+    moved (w ∷ more) m =
+        let same = ap (λ x. x.job) m in
+        (same, ap (λ x. x.stage) m, record { before = before; job = same; right = right advances.0; told = advances.1; moved = advances.2 }, steps.1)
+gone_step before after (step.Nest (found.Nest nested)) right advances steps =
     let is = advances.2 in
     (ap (λ x. x.job) is, ap (λ x. x.stage) is, ap next_nest is ∙ advances.1, steps.1)
-gone_step before after step.Finished advances steps =
+gone_step before after step.Finished right advances steps =
     let is = advances.2 in
     (ap (λ x. x.job) is, record { stage = ap (λ x. x.stage) is ∙ advances.0; rest = ap (λ x. x.rest) is ∙ advances.1 })
-gone_step before after step.NoMemory advances steps = advances
+gone_step before after step.NoMemory right advances steps = advances
 
 -- One after another they do.
-pub gone_further : (first between last : Progress) (s : Step NestedParts) → HasGone first step.More between → HasGone between s last → HasGone first s last
+pub gone_further : (first between last : Progress) (s : Step Found) → HasGone first step.More between → HasGone between s last → HasGone first s last
 gone_further first between last step.More a b =
     let fewer = a.2 in let less = b.2 in
     (b.0 ∙ a.0, b.1, omega (arith, fewer, less))
-gone_further first between last (step.Nest nested) a b =
+gone_further first between last (step.Nest (found.Pass start end)) a b =
+    let fewer = a.2 in let less = b.3 in
+    (b.0 ∙ a.0, b.1, b.2, omega (arith, fewer, less))
+gone_further first between last (step.Nest (found.Nest nested)) a b =
     let fewer = a.2 in let less = b.3 in
     (b.0 ∙ a.0, b.1, b.2, omega (arith, fewer, less))
 gone_further first between last step.Finished a b = (b.0 ∙ a.0, b.1)
 gone_further first between last step.NoMemory a b = b
+
+-- A machine that stood as it stood and then went on has gone on.
+pub gone_still : (before between after : Progress) (ran : Bool) (s : Step Found) → ran ≡ false → HasGoneOn ran before between → HasGone between s after → HasGone before s after
+gone_still before between after true s is still gone = absurd (false≢true (sym is))
+gone_still before between after false s is still gone = subst (λ m. HasGone m s after) still gone
 
 -- ---- a loop that is run whole
 

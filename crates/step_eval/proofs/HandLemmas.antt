@@ -12,7 +12,7 @@ use Rattle.array_jobs.specs.Jobs.{JobParts, job_of}
 use Rattle.step_eval.specs.declared.frames.Frame.{Frame}
 use Rattle.step_eval.specs.declared.frames.Frame.TheVariants.{Statements, Turns}
 use Rattle.step_eval.specs.declared.frames.Frames.{Frames}
-use Rattle.step_eval.specs.Rest.{WorkAt, at}
+use Rattle.step_eval.specs.Rest.{WorkAt, before}
 use Rattle.step_eval.specs.Moves.{begun_writes, begun_sites}
 use Rattle.step_eval.specs.Nests.{is_construct, IsFitNest}
 use Rattle.step_eval.specs.Machines.{Progress, IsRight, construct_of, next_construct, handed_out, nest_in}
@@ -39,20 +39,22 @@ first_of_statements (followed (Team line var low high members phases) rest) cons
 -- The construct is the first statement of the first work.
 pub record IsAtConstruct (works : List WorkAt) (vars : Vars) (construct : Statement) : Type 0 where
   pub rest : Sequence
+  pub after : ℕ
   pub more : List WorkAt
-  pub is : works ≡ at (branch_of (followed construct rest)) vars ∷ more
+  pub is : works ≡ before (branch_of (followed construct rest)) vars after ∷ more
   pub kind : IsTrue (is_construct construct)
 
 -- The variables around the next construct are all that there are.
 pub at_construct : (fs : List Frame) (vars : Vars) (construct : Statement) → next_construct (works_in fs vars) ≡ Some construct →
     IsAtConstruct (works_in fs vars) vars construct
 at_construct [] vars construct e = cc
-at_construct (Statements block from ∷ below) vars construct e =
+at_construct (Statements block from after ∷ below) vars construct e =
     let first = first_of_statements (statements_from block.now from) construct e in
     record {
       rest = first.rest;
+      after = after;
       more = works_in below vars;
-      is = ap (λ s. at (branch_of s) vars ∷ works_in below vars) first.is;
+      is = ap (λ s. before (branch_of s) vars after ∷ works_in below vars) first.is;
       kind = first.kind;
     }
 at_construct (Turns body next high ∷ below) [] construct e = cc
@@ -74,7 +76,7 @@ pub is_handed_out : (machine : Progress) (fs : List Frame) (vars : Vars) (constr
 is_handed_out machine fs vars construct e =
     let here = at_construct fs vars construct e in
     let found : construct_of (branch_of (followed construct here.rest)) ≡ Some construct = subst (λ works. next_construct works ≡ Some construct) here.is e in
-    ap (nest_in machine) here.is ∙ ap (handed_out machine (at (branch_of (followed construct here.rest)) vars)) found
+    ap (nest_in machine) here.is ∙ ap (handed_out machine (before (branch_of (followed construct here.rest)) vars here.after)) found
 
 -- Where no construct is next, none is handed out, and the other way round.
 pub none_handed_out : (machine : Progress) (works : List WorkAt) → next_construct works ≡ None → nest_in machine works ≡ None
@@ -97,9 +99,10 @@ supply_writes arrays store (If line cond then_block else_block) vars is = cc
 supply_writes arrays store (Par line branches) vars is = refl
 supply_writes arrays store (Team line var low high members phases) vars is = refl
 
-pub supply_sites : (construct : Statement) → IsTrue (is_construct construct) → begun_sites construct ≡ statement_sites_in construct
-supply_sites (Assign line array index value) is = cc
-supply_sites (For line var low high body) is = cc
-supply_sites (If line cond then_block else_block) is = cc
-supply_sites (Par line branches) is = refl
-supply_sites (Team line var low high members phases) is = refl
+pub supply_sites : (arrays : Arrays) (store : Store) (construct : Statement) (vars : Vars) → IsTrue (is_construct construct) →
+    begun_sites arrays store construct vars ≡ statement_sites_in construct
+supply_sites arrays store (Assign line array index value) vars is = cc
+supply_sites arrays store (For line var low high body) vars is = cc
+supply_sites arrays store (If line cond then_block else_block) vars is = cc
+supply_sites arrays store (Par line branches) vars is = refl
+supply_sites arrays store (Team line var low high members phases) vars is = refl

@@ -6,10 +6,11 @@ use Rattle.array_tree.specs.Trees.{Statement, Assign, For, If, Par, Team, ended,
 use Rattle.array_meaning.specs.Values.{holds}
 use Rattle.array_meaning.specs.Stores.{Arrays, Vars, Store, value_of}
 use Rattle.array_meaning.specs.Work.{span}
+use Rattle.array_meaning.specs.Plans.{sites_in}
 use Rattle.array_meaning.proofs.StepLemmas.{span_next}
 use Rattle.array_jobs.specs.Works.{WorkTree, branch_of, member_of}
-use Rattle.step_eval.specs.Rest.{WorkAt, at}
-use Rattle.step_eval.specs.Moves.{moved, sequence_left, work_left, rest_left}
+use Rattle.step_eval.specs.Rest.{WorkAt, at, before}
+use Rattle.step_eval.specs.Moves.{work_moved, moved, sequence_left, work_left, rest_left}
 use Rattle.step_eval.specs.Machines.{construct_of}
 
 -- So much for each turn of a loop: that of the first turn, and then of the others.
@@ -17,31 +18,31 @@ pub span_times : (low high : ℤ) (m : ℕ) → int_lt low high ≡ true → spa
 span_times low high m h = let less : low <ℤ high = grind (arith, ints) in let one = span_next low high less in rw one (omega arith)
 
 -- a statement and a turn each take one step to begin and one to end what they leave
-work_moves : (arrays : Arrays) (store : Store) (w : WorkTree) (vars : Vars) (more : List WorkAt) →
-    rest_left (moved arrays store w vars ++ more) < rest_left (at w vars ∷ more)
-work_moves arrays store (branch_of ended) vars more = omega arith
-work_moves arrays store (branch_of (followed (Assign line array index value) rest)) vars more = omega arith
-work_moves arrays store (branch_of (followed (For line var low high body) rest)) vars more = omega arith
-work_moves arrays store (branch_of (followed (If line test left right) rest)) vars more = cases (holds (value_of arrays vars test store))
+work_moves : (arrays : Arrays) (store : Store) (w : WorkTree) (vars : Vars) (n : ℕ) (more : List WorkAt) →
+    rest_left (work_moved arrays store w vars n ++ more) < rest_left (before w vars n ∷ more)
+work_moves arrays store (branch_of ended) vars n more = omega arith
+work_moves arrays store (branch_of (followed (Assign line array index value) rest)) vars n more = omega arith
+work_moves arrays store (branch_of (followed (For line var low high body) rest)) vars n more = omega arith
+work_moves arrays store (branch_of (followed (If line test left right) rest)) vars n more = cases (holds (value_of arrays vars test store))
   where
-    cases : (b : Bool) → rest_left (at (branch_of (cond b left right)) vars ∷ at (branch_of rest) vars ∷ more)
-        < rest_left (at (branch_of (followed (If line test left right) rest)) vars ∷ more)
+    cases : (b : Bool) → rest_left (cond b (before (branch_of left) vars (sites_in right)) (at (branch_of right) vars) ∷ before (branch_of rest) vars n ∷ more)
+        < rest_left (before (branch_of (followed (If line test left right) rest)) vars n ∷ more)
     cases true = omega arith
     cases false = omega arith
-work_moves arrays store (branch_of (followed (Par line branches) rest)) vars more = omega arith
-work_moves arrays store (branch_of (followed (Team line var low high members phases) rest)) vars more = omega arith
-work_moves arrays store (member_of var low high body) vars more = cases (int_lt low high) refl
+work_moves arrays store (branch_of (followed (Par line branches) rest)) vars n more = omega arith
+work_moves arrays store (branch_of (followed (Team line var low high members phases) rest)) vars n more = omega arith
+work_moves arrays store (member_of var low high body) vars n more = cases (int_lt low high) refl
   where
     cases : (b : Bool) → int_lt low high ≡ b →
-        rest_left (cond b (at (branch_of body) ((var, low) ∷ vars) ∷ at (member_of var (low +ℤ pos 1) high body) vars ∷ []) [] ++ more)
-        < rest_left (at (member_of var low high body) vars ∷ more)
+        rest_left (cond b (at (branch_of body) ((var, low) ∷ vars) ∷ before (member_of var (low +ℤ pos 1) high body) vars n ∷ []) [] ++ more)
+        < rest_left (before (member_of var low high body) vars n ∷ more)
     cases true e = let turn = span_times low high (2 + sequence_left body) e in omega (arith, turn)
     cases false e = omega arith
 
 -- A step leaves fewer steps than before.
 pub left_moved : (arrays : Arrays) (store : Store) (w : WorkAt) (more : List WorkAt) →
-    rest_left (moved arrays store w.work w.vars ++ more) < rest_left (w ∷ more)
-left_moved arrays store w more = work_moves arrays store w.work w.vars more
+    rest_left (moved arrays store w ++ more) < rest_left (w ∷ more)
+left_moved arrays store w more = work_moves arrays store w.work w.vars w.after more
 
 -- Something is left of a machine that has a work.
 pub left_positive : (w : WorkAt) (more : List WorkAt) → 0 < rest_left (w ∷ more)
@@ -60,13 +61,13 @@ left_dropped w more = by w.work
     by (member_of var low high body) = omega arith
 
 -- a construct leaves nothing but the statements after it
-work_passes : (arrays : Arrays) (store : Store) (w : WorkTree) (vars : Vars) (more : List WorkAt) (c : Statement) → construct_of w ≡ Some c →
-    rest_left (moved arrays store w vars ++ more) ≡ rest_left (at w vars ∷ more) - 1
-work_passes arrays store (branch_of (followed (Par line branches) rest)) vars more c e = omega arith
-work_passes arrays store (branch_of (followed (Team line var low high members phases) rest)) vars more c e = omega arith
-work_passes arrays store w vars more c e = cc
+past_construct : (arrays : Arrays) (store : Store) (w : WorkTree) (vars : Vars) (n : ℕ) (more : List WorkAt) (c : Statement) → construct_of w ≡ Some c →
+    rest_left (work_moved arrays store w vars n ++ more) ≡ rest_left (before w vars n ∷ more) - 1
+past_construct arrays store (branch_of (followed (Par line branches) rest)) vars n more c e = omega arith
+past_construct arrays store (branch_of (followed (Team line var low high members phases) rest)) vars n more c e = omega arith
+past_construct arrays store w vars n more c e = cc
 
 -- A construct that is passed takes one step.
 pub left_passed : (arrays : Arrays) (store : Store) (w : WorkAt) (more : List WorkAt) (c : Statement) → construct_of w.work ≡ Some c →
-    rest_left (moved arrays store w.work w.vars ++ more) ≡ rest_left (w ∷ more) - 1
-left_passed arrays store w more c e = work_passes arrays store w.work w.vars more c e
+    rest_left (moved arrays store w ++ more) ≡ rest_left (w ∷ more) - 1
+left_passed arrays store w more c e = past_construct arrays store w.work w.vars w.after more c e

@@ -1,5 +1,6 @@
 pub mod Rest
 pub mod Moves
+pub mod Passes
 pub mod Nests
 pub mod Shapes
 pub mod Phases

@@ -9,13 +9,16 @@ use Rattle.array_meaning.specs.Steps.{writes_of}
 use Rattle.array_meaning.specs.Pieces.{last_writes}
 use Rattle.array_eval.specs.Traces.{Trace, fresh, marked, noted_all}
 use Rattle.array_jobs.specs.Works.{WorkTree, branch_of, member_of, work_of, sites_of}
-use Rattle.array_jobs.specs.Jobs.{JobParts, JobTree}
+use Rattle.array_jobs.specs.Jobs.{JobParts, JobTree, job_of}
 use Rattle.array_jobs.specs.PieceParts.{piece_of_job}
+use Rattle.step_eval.specs.declared.found.Found.{Found}
+use Rattle.step_eval.specs.declared.found.Found.TheVariants as found
 use Rattle.step_eval.specs.declared.stage.Stage.{Stage}
 use Rattle.step_eval.specs.declared.stage.Stage.TheVariants.{Going, Awaiting, Failed}
 use Rattle.step_eval.specs.Rest.{WorkAt, at, rest_steps, rest_sites, AreFit}
 use Rattle.step_eval.specs.Moves.{moved, moved_writes, moved_sites, rest_left}
-use Rattle.step_eval.specs.Nests.{NestedParts, NestedTree, nested_of, nested_writes}
+use Rattle.step_eval.specs.Passes.{pass_of}
+use Rattle.step_eval.specs.Nests.{NestedTree, nested_of, nested_writes}
 
 -- What contracts see of a machine: its job, the works that are still to be run, the store as it now is with the cells
 -- that were written so far, the number of the next site, and its stage.
@@ -27,8 +30,8 @@ pub record Progress : Type 0 where
   pub stage : Stage
 
 -- A machine is right: the last values of its writes so far, followed by the writes of the rest from the store as it
--- now is, are its job's piece; the next site's number is the job's first plus the sites that were entered so far; and
--- each work of the rest is fit to be run.
+-- now is, are its job's piece; the next site's number is the job's first plus the sites that the walk has before this
+-- place; and each work of the rest is fit to be run.
 pub record IsRight (job : JobTree) (rest : List WorkAt) (store : Trace) (next : ℕ) : Type 0 where
   pub writes : last_writes
       (marked store ++ writes_of (arrays_of job.arrays) (rest_steps rest) store.cells)
@@ -114,6 +117,12 @@ nest_in machine (w ∷ more) = handed_out machine w (construct_of w.work)
 abbrev pub next_nest : Progress → Option NestedTree
 next_nest machine = nest_in machine machine.rest
 
+-- The sites that the hart is told to skip with the next step: those of the side of an `if` that isn't run.
+abbrev pub next_pass : Progress → Option (ℕ × ℕ)
+next_pass machine =
+    pass_of (arrays_of (declarations_of machine.job.arrays)) machine.store.cells machine.next
+    machine.rest
+
 -- A machine that goes on has moved by one step: its first work has.
 abbrev pub HasMoved : List WorkAt → Progress → Progress → Type 0
 HasMoved [] before after = ⊥
@@ -121,19 +130,24 @@ HasMoved (w ∷ more) before after =
     let arrays = arrays_of (declarations_of before.job.arrays) in
     after ≡ record {
       job = before.job;
-      rest = moved arrays before.store.cells w.work w.vars ++ more;
+      rest = moved arrays before.store.cells w ++ more;
       store = noted_all (moved_writes arrays before.store.cells w.work w.vars) before.store;
-      next = before.next + moved_sites w.work;
+      next = before.next + moved_sites arrays before.store.cells w;
       stage = Going;
     }
 
--- What a step does, by its answer. More: no construct is next, and the first work has moved. Nest: the construct that
--- is next is handed out, with its site's number, the variables and the store at this place, and the machine awaits
--- what it writes. Finished: nothing is left. NoMemory: the machine is failed.
-abbrev pub Advances : Progress → Step NestedParts → Progress → Type 0
+-- What a step does, by its answer. More: no construct is next, and no `if` whose other side has sites, and the first work has
+-- moved. A construct: the one that is next is handed out, with its site's number, the variables and the store at this place,
+-- and the machine awaits what it writes. A pass: the `if` that is next has begun, and the hart is told of the sites of the
+-- side that isn't run; nothing is awaited. Finished: nothing is left. NoMemory: the machine is failed.
+abbrev pub Advances : Progress → Step Found → Progress → Type 0
 Advances before step.More after =
-    (before.stage ≡ Going) × (next_nest before ≡ None) × HasMoved before.rest before after
-Advances before (step.Nest nested) after =
+    (before.stage ≡ Going) × (next_nest before ≡ None) × (next_pass before ≡ None)
+    × HasMoved before.rest before after
+Advances before (step.Nest (found.Pass first end)) after =
+    (before.stage ≡ Going) × (next_pass before ≡ Some (first, end))
+    × HasMoved before.rest before after
+Advances before (step.Nest (found.Nest nested)) after =
     (before.stage ≡ Going) × (next_nest before ≡ Some (nested_of nested))
     × (after ≡ record {
       job = before.job;
@@ -158,14 +172,27 @@ pub record IsFinished (machine : Progress) : Type 0 where
   pub stage : machine.stage ≡ Going
   pub rest : machine.rest ≡ []
 
+-- Before its last step the machine, which was right, stood where an `if` was next whose side that isn't run has these sites,
+-- and the step began it.
+pub record HasJustPassed (first end : ℕ) (after : Progress) : Type 0 where
+  pub before : Progress
+  pub job : after.job ≡ before.job
+  pub right : IsRight (job_of before.job) before.rest before.store before.next
+  pub told : next_pass before ≡ Some (first, end)
+  pub moved : HasMoved before.rest before after
+
 -- Where a machine has gone, by the answer. Each time it is the same job, and the type keeps that the machine writes what
--- the job writes. More: it goes on, with less left. Nest: it has come to the construct that is handed out, and awaits
--- what that writes. Finished: nothing is left. NoMemory: the machine is failed.
-abbrev pub HasGone : Progress → Step NestedParts → Progress → Type 0
+-- the job writes. More: it goes on, with less left. A construct: it has come to the one that is handed out, and awaits
+-- what that writes. A pass: it has begun an `if`, and the hart is told of the sites of the side that isn't run. Finished:
+-- nothing is left. NoMemory: the machine is failed.
+abbrev pub HasGone : Progress → Step Found → Progress → Type 0
 HasGone before step.More after =
     (after.job ≡ before.job) × (after.stage ≡ Going)
     × (left_of after.stage after.rest < left_of before.stage before.rest)
-HasGone before (step.Nest nested) after =
+HasGone before (step.Nest (found.Pass first end)) after =
+    (after.job ≡ before.job) × (after.stage ≡ Going) × HasJustPassed first end after
+    × (left_of after.stage after.rest < left_of before.stage before.rest)
+HasGone before (step.Nest (found.Nest nested)) after =
     (after.job ≡ before.job) × (after.stage ≡ Awaiting) × (next_nest after ≡ Some (nested_of nested))
     × (left_of after.stage after.rest < left_of before.stage before.rest)
 HasGone before step.Finished after = (after.job ≡ before.job) × IsFinished after

@@ -4,32 +4,37 @@ use Rattle.array_tree.specs.Trees.{Statement, Assign, For, If, Par, Team, Sequen
 use Rattle.array_meaning.specs.Values.{holds}
 use Rattle.array_meaning.specs.Stores.{Arrays, Vars, Store, Write, is_dynamic, cell_of, value_of}
 use Rattle.array_meaning.specs.Work.{span, statement_work}
-use Rattle.array_meaning.specs.Plans.{statement_sites_in}
+use Rattle.array_meaning.specs.Plans.{sites_in, statement_sites_in}
 use Rattle.array_meaning.specs.Pieces.{piece_of}
 use Rattle.array_jobs.specs.Works.{WorkTree, branch_of, member_of}
-use Rattle.step_eval.specs.Rest.{WorkAt, at}
+use Rattle.step_eval.specs.Rest.{WorkAt, at, before}
 
--- The works that a statement leaves to be run once it has begun: a loop's turns, and of an `if` one side. An
--- assignment leaves none, and a construct's are run by others.
+-- The works that a statement leaves to be run once it has begun: a loop's turns, and of an `if` one side, of which the first
+-- has the sites of the second behind it. An assignment leaves none, and a construct's are run by others.
 abbrev pub begun : Arrays → Store → Statement → Vars → List WorkAt
 begun arrays store (Assign line array index value) vars = []
 begun arrays store (For line var low high body) vars = at (member_of var low high body) vars ∷ []
 begun arrays store (If line cond then_block else_block) vars =
-    at (branch_of (if holds (value_of arrays vars cond store) then then_block
-    else else_block)) vars ∷ []
+    (if holds (value_of arrays vars cond store)
+    then before (branch_of then_block) vars (sites_in else_block)
+    else at (branch_of else_block) vars) ∷ []
 begun arrays store (Par line branches) vars = []
 begun arrays store (Team line var low high members phases) vars = []
 
--- What one step leaves of a work: the first statement has begun, or the first turn; what has nothing left is ended.
-abbrev pub moved : Arrays → Store → WorkTree → Vars → List WorkAt
-moved arrays store (branch_of ended) vars = []
-moved arrays store (branch_of (followed first rest)) vars =
-    begun arrays store first vars ++ at (branch_of rest) vars ∷ []
-moved arrays store (member_of var low high body) vars =
+-- What one step leaves of a work with so many sites behind it: the first statement has begun, or the first turn, and the rest
+-- keeps what is behind the work; what has nothing left is ended.
+abbrev pub work_moved : Arrays → Store → WorkTree → Vars → ℕ → List WorkAt
+work_moved arrays store (branch_of ended) vars n = []
+work_moved arrays store (branch_of (followed first rest)) vars n =
+    begun arrays store first vars ++ before (branch_of rest) vars n ∷ []
+work_moved arrays store (member_of var low high body) vars n =
     if int_lt low high
     then (at (branch_of body) ((var, low) ∷ vars)
-    ∷ at (member_of var (low +ℤ pos 1) high body) vars ∷ [])
+    ∷ before (member_of var (low +ℤ pos 1) high body) vars n ∷ [])
     else []
+
+abbrev pub moved : Arrays → Store → WorkAt → List WorkAt
+moved arrays store w = work_moved arrays store w.work w.vars w.after
 
 -- What a statement writes when it begins: an assignment its cell, and a construct, once its pieces are done, all that
 -- they wrote, each cell with its last value.
@@ -53,20 +58,26 @@ moved_writes arrays store (branch_of (followed first rest)) vars =
     begun_writes arrays store first vars
 moved_writes arrays store (member_of var low high body) vars = []
 
--- The sites that are passed when a statement begins: all of a construct.
-abbrev pub begun_sites : Statement → ℕ
-begun_sites (Assign line array index value) = 0
-begun_sites (For line var low high body) = 0
-begun_sites (If line cond then_block else_block) = 0
-begun_sites (Par line branches) = statement_sites_in (Par line branches)
-begun_sites (Team line var low high members phases) =
+-- The sites that are passed when a statement begins: all of a construct, and of an `if` whose second side is run those of the
+-- first.
+abbrev pub begun_sites : Arrays → Store → Statement → Vars → ℕ
+begun_sites arrays store (Assign line array index value) vars = 0
+begun_sites arrays store (For line var low high body) vars = 0
+begun_sites arrays store (If line cond then_block else_block) vars =
+    if holds (value_of arrays vars cond store) then 0 else sites_in then_block
+begun_sites arrays store (Par line branches) vars = statement_sites_in (Par line branches)
+begun_sites arrays store (Team line var low high members phases) vars =
     statement_sites_in (Team line var low high members phases)
 
--- The sites that one step of a work passes.
-abbrev pub moved_sites : WorkTree → ℕ
-moved_sites (branch_of ended) = 0
-moved_sites (branch_of (followed first rest)) = begun_sites first
-moved_sites (member_of var low high body) = 0
+-- The sites that one step of a work passes. Where the work ends these are the ones behind it.
+abbrev pub work_passes : Arrays → Store → WorkTree → Vars → ℕ → ℕ
+work_passes arrays store (branch_of ended) vars n = n
+work_passes arrays store (branch_of (followed first rest)) vars n =
+    begun_sites arrays store first vars
+work_passes arrays store (member_of var low high body) vars n = if int_lt low high then 0 else n
+
+abbrev pub moved_sites : Arrays → Store → WorkAt → ℕ
+moved_sites arrays store w = work_passes arrays store w.work w.vars w.after
 
 -- How many steps statements take at most: one to begin each, and one to end what it leaves.
 abbrev mutual

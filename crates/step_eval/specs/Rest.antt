@@ -1,4 +1,5 @@
--- What is still to be run: works, the next one first.
+-- What is still to be run: works, the next one first. Both sides of an `if` may have sites, so a work knows how many the walk
+-- has behind it that nobody enters.
 use Rattle.std.specs.Prelude.{ℕ, ◌+◌, List, [], ◌∷◌}
 use Rattle.array_meaning.specs.Stores.{Vars}
 use Rattle.array_meaning.specs.Steps.{Steps, Done, followed_by}
@@ -9,19 +10,26 @@ use Rattle.array_jobs.specs.Jobs.{JobTree, IsFit}
 pub record WorkAt : Type 0 where
   pub work : WorkTree
   pub vars : Vars
+  -- how many sites the walk has between this work and the next one: those of the other side, of an `if` whose first side
+  -- this is
+  pub after : ℕ
 
 abbrev pub at : WorkTree → Vars → WorkAt
-at work vars = record { work = work; vars = vars }
+at work vars = record { work = work; vars = vars; after = 0 }
+
+-- With so many sites behind it.
+abbrev pub before : WorkTree → Vars → ℕ → WorkAt
+before work vars n = record { work = work; vars = vars; after = n }
 
 -- The steps of all works, one after another.
 abbrev pub rest_steps : List WorkAt → Steps
 rest_steps [] = Done
 rest_steps (w ∷ more) = followed_by (steps_of w.work w.vars) (rest_steps more)
 
--- How many sites they enter.
+-- How many sites the walk has in them, and behind each of them.
 abbrev pub rest_sites : List WorkAt → ℕ
 rest_sites [] = 0
-rest_sites (w ∷ more) = sites_of w.work + rest_sites more
+rest_sites (w ∷ more) = sites_of w.work + w.after + rest_sites more
 
 -- The job that has this work in the place of its own, and this number for the next site.
 abbrev pub instead : JobTree → ℕ → WorkAt → JobTree
@@ -36,7 +44,9 @@ instead job next w = record {
   store = job.store;
 }
 
--- Each work is fit to be run in the place of the job's own, and so are the sites' numbers, one after another.
+-- Each work is fit to be run in the place of the job's own, and so are the sites' numbers, one after another, those behind a
+-- work before those of the next.
 abbrev pub AreFit : JobTree → ℕ → List WorkAt → Type 0
 AreFit job next [] = Unit {0}
-AreFit job next (w ∷ more) = IsFit (instead job next w) × AreFit job (next + sites_of w.work) more
+AreFit job next (w ∷ more) =
+    IsFit (instead job next w) × AreFit job (next + sites_of w.work + w.after) more

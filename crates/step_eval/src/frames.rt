@@ -1,14 +1,18 @@
 //! What a machine has still to run.
-ghost use Rattle.std.specs.Prelude.{◌≡◌, ◌∷◌, ◌++◌, [], IfOk, IfErr, OnOk, None, false, IsSome};
+ghost use Rattle.std.specs.Prelude.{◌≡◌, ◌+◌, ◌≤◌, ◌∷◌, ◌++◌, [], IfOk, IfErr, OnOk, Some, None, true, false, IsSome};
 ghost use Rattle.array_tree.specs.Trees.{statement_of, sequence_of};
+ghost use Rattle.array_meaning.specs.Plans.{sites_in, statement_sites_in};
 ghost use Rattle.array_eval.specs.Traces.{noted_all};
 ghost use Rattle.array_jobs.specs.Works.{branch_of, member_of, work_of};
 ghost use Rattle.step_eval.specs.declared.frames.Frame.TheVariants.{Statements, Turns};
-ghost use Rattle.step_eval.specs.Moves.{begun, begun_writes};
+ghost use Rattle.step_eval.specs.Rest.{rest_sites};
+ghost use Rattle.step_eval.specs.Moves.{begun, begun_writes, begun_sites};
+ghost use Rattle.step_eval.specs.Passes.{some_span, statement_pass};
 ghost use Rattle.step_eval.specs.Nests.{is_construct};
 ghost use Rattle.step_eval.specs.Machines.{construct_of, next_construct};
-ghost use Rattle.step_eval.specs.Inside.Frames.{statements_from, works_in, works_of, works_with, vars_in, IsMore, IsStacked, IsStackedWith, IsEnded, AreAll, HasBegun, HaveMoved, Went, HasTurned, HasPassed, IsBehind, IsConstruct, IsConstructAt, HaveRun, Ran};
+ghost use Rattle.step_eval.specs.Inside.Frames.{statements_from, works_in, works_of, works_with, vars_in, IsMore, IsStacked, IsStackedWith, IsEnded, AreAll, HasBegun, HaveTold, Went, HasTurned, span_told, HasPassed, IsBehind, IsConstruct, IsConstructAt, HaveRun, Ran};
 
+use crate::told::Told;
 use array_eval::{Layout, LoopVar, MarkedStore, Scope, Vars, evaluate, run_assign, run_loop};
 use array_jobs::Work;
 use array_tree::{Block, Name, Stmt};
@@ -18,10 +22,11 @@ use std::alloc::{AllocError, Global};
 /// A work that is still to be run.
 #[derive(Clone, Copy, Debug, Drop)]
 pub(crate) enum Frame<'p> {
-    /// The statements of a block from number `from` on.
+    /// The statements of a block from number `from` on. So many sites that nobody enters come behind the block.
     Statements {
         block: &'p Block,
         from: usize,
+        after: u16,
     },
     /// The turns of a loop from number `next` to before `high`. Its variable is the last that no frame above has.
     Turns {
@@ -50,7 +55,11 @@ impl<'p> Frames<'p> {
     {
         let mut vars = Vec::new(alloc);
         let top = match work {
-            Work::Branch(block) => Frame::Statements { block, from: 0 },
+            Work::Branch(block) => Frame::Statements {
+                block,
+                from: 0,
+                after: 0,
+            },
             Work::Member {
                 var,
                 low,
@@ -81,7 +90,7 @@ impl<'p> Frames<'p> {
         ensures { IsConstruct result self.now }
     {
         match self.top {
-            Some(Frame::Statements { block, from }) => construct_at(block, from),
+            Some(Frame::Statements { block, from, .. }) => construct_at(block, from),
             Some(Frame::Turns { .. }) | None => None,
         }
     }
@@ -98,27 +107,30 @@ impl<'p> Frames<'p> {
         Vars::of_scope(alloc, &scope)
     }
 
-    /// Begins or ends the next statement or turn, which must be no construct; false where nothing is left.
+    /// Begins or ends the next statement or turn, which must be no construct, and tells what the hart has to skip; None where nothing
+    /// is left. The next site's number goes on by the sites that are passed.
     #[inline(always)]
     pub(crate) fn go_on(
         &mut self,
         layout: &Layout,
         around: &Vars,
         store: &mut MarkedStore,
-    ) -> Result<bool, AllocError>
+        next: &mut u16,
+    ) -> Result<Option<Told>, AllocError>
         requires stacked { IsStacked self.old }
         requires simple { next_construct (works_of self.old around.now) ≡ None }
+        requires room { next.old + rest_sites (works_of self.old around.now) ≤ 4096 }
         ensures went { IfOk result
-            (λ went. Went layout.now went (works_of self.old around.now) store.old
-            (works_of self.new around.now) store.new) }
+            (λ told. Went layout.now told (works_of self.old around.now) store.old next.old
+            (works_of self.new around.now) store.new next.new) }
         ensures stacked { IfOk result (λ _. IsStacked self.new) }
         ensures more { IfErr result (λ _. IsMore (works_of self.old around.now)) }
     {
         match self.top {
-            None => Ok(false),
+            None => Ok(None),
             Some(top) => {
-                self.go_on_in(layout, around, store, top)?;
-                Ok(true)
+                let told = self.go_on_in(layout, around, store, next, top)?;
+                Ok(Some(told))
             }
         }
     }
@@ -163,20 +175,29 @@ impl<'p> Frames<'p> {
         layout: &Layout,
         around: &Vars,
         store: &mut MarkedStore,
+        next: &mut u16,
         top: Frame<'p>,
-    ) -> Result<(), AllocError>
+    ) -> Result<Told, AllocError>
         requires stacked { IsStackedWith top self.old }
         requires simple { next_construct (works_with top self.old around.now) ≡ None }
-        ensures moved { OnOk result
-            (HaveMoved layout.now (works_with top.entry self.old around.now) store.old
-            (works_of self.new around.now) store.new) }
+        requires room { next.old + rest_sites (works_with top self.old around.now) ≤ 4096 }
+        ensures told { IfOk result
+            (λ told. HaveTold layout.now told (works_with top.entry self.old around.now) store.old
+            next.old (works_of self.new around.now) store.new next.new) }
         ensures stacked { OnOk result (IsStacked self.new) }
     {
         match top {
-            Frame::Statements { block, from } => {
-                self.go_on_in_block(layout, around, store, block, from)
+            Frame::Statements { block, from, after } => {
+                self.go_on_in_block(layout, around, store, next, block, from, after)
             }
-            Frame::Turns { body, next, high } => self.go_on_in_loop(body, next, high),
+            Frame::Turns {
+                body,
+                next: turn,
+                high,
+            } => {
+                self.go_on_in_loop(body, turn, high)?;
+                Ok(Told::Nothing)
+            }
         }
     }
 
@@ -187,25 +208,31 @@ impl<'p> Frames<'p> {
         layout: &Layout,
         around: &Vars,
         store: &mut MarkedStore,
+        next: &mut u16,
         block: &'p Block,
         from: usize,
-    ) -> Result<(), AllocError>
-        requires stacked { IsStackedWith (Statements block from) self.old }
+        after: u16,
+    ) -> Result<Told, AllocError>
+        requires stacked { IsStackedWith (Statements block from after) self.old }
         requires simple { construct_of (branch_of (statements_from block.now from)) ≡ None }
-        ensures moved { OnOk result
-            (HaveMoved layout.now (works_with (Statements block.entry from) self.old around.now)
-            store.old (works_of self.new around.now) store.new) }
+        requires room { next.old + (sites_in (statements_from block.now from) + after) ≤ 4096 }
+        ensures told { IfOk result
+            (λ told. HaveTold layout.now told
+            (works_with (Statements block.entry from after) self.old around.now)
+            store.old next.old (works_of self.new around.now) store.new next.new) }
         ensures stacked { OnOk result (IsStacked self.new) }
     {
         if from < block.statements.len() {
             let rest = Frame::Statements {
                 block,
                 from: from + 1,
+                after,
             };
-            self.begin(layout, around, store, &block.statements[from], rest)
+            self.begin(layout, around, store, next, &block.statements[from], rest)
         } else {
             self.end();
-            Ok(())
+            *next += after;
+            Ok(Told::Nothing)
         }
     }
 
@@ -227,7 +254,7 @@ impl<'p> Frames<'p> {
                     next: next + 1,
                     high,
                 };
-                self.begin_block(body, others)?;
+                self.begin_block(body, 0, others)?;
             } else {
                 self.end();
             }
@@ -268,11 +295,19 @@ impl<'p> Frames<'p> {
         layout: &Layout,
         around: &Vars,
         store: &mut MarkedStore,
+        next: &mut u16,
         statement: &'p Stmt,
         rest: Frame<'p>,
-    ) -> Result<(), AllocError>
+    ) -> Result<Told, AllocError>
         requires stacked { IsStackedWith rest self.old }
         requires simple { is_construct (statement_of statement.now) ≡ false }
+        requires room { next.old + statement_sites_in (statement_of statement.now) ≤ 4096 }
+        ensures told { IfOk result
+            (λ told. statement_pass layout.now store.old.cells next.old
+            (statement_of statement.now) (vars_in self.old around.now) ≡ span_told told) }
+        ensures next { OnOk result
+            (next.new ≡ next.old + begun_sites layout.now store.old.cells
+            (statement_of statement.now) (vars_in self.old around.now)) }
         ensures begun { OnOk result
             (works_of self.new around.now
             ≡ begun layout.now store.old.cells (statement_of statement.now)
@@ -296,7 +331,7 @@ impl<'p> Frames<'p> {
             } => {
                 run_assign(layout, array, index, value, &scope, store);
                 self.top = Some(rest);
-                Ok(())
+                Ok(Told::Nothing)
             }
             Stmt::For {
                 var,
@@ -304,7 +339,10 @@ impl<'p> Frames<'p> {
                 high,
                 body,
                 ..
-            } => self.begin_loop(var, *low, *high, body, rest),
+            } => {
+                self.begin_loop(var, *low, *high, body, rest)?;
+                Ok(Told::Nothing)
+            }
             Stmt::If {
                 cond,
                 then_block,
@@ -312,27 +350,88 @@ impl<'p> Frames<'p> {
                 ..
             } => {
                 if evaluate(layout, cond, &scope, store.cells()) != 0 {
-                    self.begin_block(then_block, rest)
+                    self.begin_then(*next, then_block, else_block, rest)
                 } else {
-                    self.begin_block(else_block, rest)
+                    self.begin_else(next, then_block, else_block, rest)
                 }
             }
             Stmt::Par { .. } | Stmt::Team { .. } => {
                 self.top = Some(rest);
-                Ok(())
+                Ok(Told::Nothing)
             }
         }
     }
 
-    // Puts a block on top, and this below it in the place of what was on top.
+    // Begins the first side of an `if`. The sites of the other come behind it.
     #[inline(always)]
-    fn begin_block(&mut self, block: &'p Block, rest: Frame<'p>) -> Result<(), AllocError>
+    fn begin_then(
+        &mut self,
+        next: u16,
+        then_block: &'p Block,
+        else_block: &'p Block,
+        rest: Frame<'p>,
+    ) -> Result<Told, AllocError>
+        requires room { next + (sites_in (sequence_of then_block.now)
+            + sites_in (sequence_of else_block.now)) ≤ 4096 }
+        ensures told { IfOk result
+            (λ told. some_span (next + sites_in (sequence_of then_block.now))
+            (sites_in (sequence_of else_block.now)) ≡ span_told told) }
         ensures begun { OnOk result
-            (HasBegun (branch_of (sequence_of block.now)) rest.entry self.old self.new) }
+            (HasBegun (branch_of (sequence_of then_block.now))
+            (sites_in (sequence_of else_block.now)) rest.entry self.old self.new) }
+        ensures stacked { OnOk result (IsStackedWith rest.entry self.old → IsStacked self.new) }
+    {
+        let after = sites_in_block(else_block) as u16;
+        self.begin_block(then_block, after, rest)?;
+        if after == 0 {
+            Ok(Told::Nothing)
+        } else {
+            Ok(Told::to_skip(next + sites_in_block(then_block) as u16, after))
+        }
+    }
+
+    // Begins the second side of an `if`. The sites of the first are passed.
+    #[inline(always)]
+    fn begin_else(
+        &mut self,
+        next: &mut u16,
+        then_block: &'p Block,
+        else_block: &'p Block,
+        rest: Frame<'p>,
+    ) -> Result<Told, AllocError>
+        requires room { next.old + sites_in (sequence_of then_block.now) ≤ 4096 }
+        ensures told { IfOk result
+            (λ told. some_span next.old (sites_in (sequence_of then_block.now)) ≡ span_told told) }
+        ensures next { OnOk result (next.new ≡ next.old + sites_in (sequence_of then_block.now)) }
+        ensures begun { OnOk result
+            (HasBegun (branch_of (sequence_of else_block.now)) 0 rest.entry self.old self.new) }
+        ensures stacked { OnOk result (IsStackedWith rest.entry self.old → IsStacked self.new) }
+    {
+        let passed = sites_in_block(then_block) as u16;
+        self.begin_block(else_block, 0, rest)?;
+        let first = *next;
+        *next += passed;
+        Ok(Told::to_skip(first, passed))
+    }
+
+    // Puts a block on top with so many sites behind it, and this below it in the place of what was on top.
+    #[inline(always)]
+    fn begin_block(
+        &mut self,
+        block: &'p Block,
+        after: u16,
+        rest: Frame<'p>,
+    ) -> Result<(), AllocError>
+        ensures begun { OnOk result
+            (HasBegun (branch_of (sequence_of block.now)) after rest.entry self.old self.new) }
         ensures stacked { OnOk result (IsStackedWith rest.entry self.old → IsStacked self.new) }
     {
         self.below.push(rest)?;
-        self.top = Some(Frame::Statements { block, from: 0 });
+        self.top = Some(Frame::Statements {
+            block,
+            from: 0,
+            after,
+        });
         Ok(())
     }
 
@@ -347,7 +446,7 @@ impl<'p> Frames<'p> {
         rest: Frame<'p>,
     ) -> Result<(), AllocError>
         ensures begun { OnOk result
-            (HasBegun (member_of var.now low high (sequence_of body.now)) rest.entry
+            (HasBegun (member_of var.now low high (sequence_of body.now)) 0 rest.entry
             self.old self.new) }
         ensures stacked { OnOk result (IsStackedWith rest.entry self.old → IsStacked self.new) }
     {
@@ -379,9 +478,10 @@ fn past(top: Frame) -> Frame
     ensures { IsBehind top.entry result }
 {
     match top {
-        Frame::Statements { block, from } => Frame::Statements {
+        Frame::Statements { block, from, after } => Frame::Statements {
             block,
             from: from + 1,
+            after,
         },
         Frame::Turns { .. } => top,
     }

@@ -2,6 +2,7 @@
 #![tactic(auto)]
 
 mod computing;
+mod found;
 mod frames;
 mod jobs;
 mod laws;
@@ -9,8 +10,10 @@ mod machine;
 mod nested;
 mod shape;
 mod stage;
+mod told;
 
 pub use computing::compute;
+pub use found::Found;
 pub use jobs::jobs_of;
 pub use laws::{
     jobs_are_counted, jobs_are_groups, jobs_are_rounds, phases_are_constructs, phases_are_merged,

@@ -1,17 +1,20 @@
 //! Machines that run a job a step at a time.
-ghost use Rattle.std.specs.Prelude.{◌≡◌, ◌≢◌, ◌<◌, false, IfOk, IfErr, OnOk, OnErr};
+ghost use Rattle.std.specs.Prelude.{◌≡◌, ◌≢◌, ◌+◌, ◌≤◌, ◌<◌, false, IfOk, IfErr, OnOk, OnErr};
 ghost use Rattle.contexts.specs.Machine.{Steps};
 ghost use Rattle.contexts.specs.declared.machine.Step.TheVariants.{More};
 ghost use Rattle.array_tree.specs.Trees.{statement_of};
 ghost use Rattle.array_jobs.specs.Jobs.{job_of};
 ghost use Rattle.step_eval.specs.declared.stage.Stage.TheVariants.{Awaiting, Failed};
-ghost use Rattle.step_eval.specs.Machines.{Progress, IsRight, fresh_machine, is_awaiting, to_do, left_of, Advances, HasMoved, HasGone, HasGoneOn, AreAwaited, IsFinished};
+ghost use Rattle.step_eval.specs.Rest.{rest_sites};
+ghost use Rattle.step_eval.specs.Machines.{IsRight, fresh_machine, is_awaiting, to_do, left_of, Advances, HasMoved, HasGone, HasGoneOn, AreAwaited, IsFinished};
 ghost use Rattle.step_eval.specs.Inside.Frames.{works_of, IsStacked, IsMore, Ran};
-ghost use Rattle.step_eval.specs.Inside.Parts.{while_going, Advanced, IsLayoutOf, IsHandedOut, IsConstructNext, stage_by, sites_seen};
+ghost use Rattle.step_eval.specs.Inside.Parts.{while_going, Advanced, IsLayoutOf, IsHandedOut, IsConstructNext, stage_by, sites_seen, step_by};
 
+use crate::found::Found;
 use crate::frames::Frames;
 use crate::nested::Nested;
 use crate::stage::Stage;
+use crate::told::Told;
 use array_eval::{Layout, MarkedStore, Overlay};
 use array_jobs::{Job, Piece};
 use array_tree::Stmt;
@@ -102,8 +105,8 @@ impl<'p> StepMachine<'p> {
     }
 
     /// Goes on to the next construct or to the end, step by step but for the loops that come to no site: each is run to
-    /// its end at once. It never answers More.
-    pub fn go(&mut self) -> Step<Nested<'p>>
+    /// its end at once. It also stops where it has begun an `if` whose other side has sites. It never answers More.
+    pub fn go(&mut self) -> Step<Found<'p>>
         requires { is_awaiting self.old.stage ≡ false }
         ensures gone { HasGone self.old result self.new }
         ensures whole { result ≢ More }
@@ -117,13 +120,15 @@ impl<'p> StepMachine<'p> {
     }
 
     // Runs the loop that is next, if it comes to no site, or else does one step.
-    fn go_on(&mut self) -> Step<Nested<'p>>
+    fn go_on(&mut self) -> Step<Found<'p>>
         requires { is_awaiting self.old.stage ≡ false }
         ensures { HasGone self.old result self.new }
     {
         if self.run_through() {
             Step::More
         } else {
+            // What the type keeps is needed here: the machine is right before the step.
+            let _stage = self.stage;
             self.step()
         }
     }
@@ -159,14 +164,15 @@ impl<'p> StepMachine<'p> {
 }
 
 impl<'p> Machine for StepMachine<'p> {
-    type Nested = Nested<'p>;
+    type Nested = Found<'p>;
 
     ghost work = { to_do };
 
     ghost steps = { Advances };
 
-    /// Begins or ends one statement or one turn of a loop, or hands out the construct that is next.
-    fn step(&mut self) -> Step<Nested<'p>>
+    /// Begins or ends one statement or one turn of a loop, or hands out the construct that is next. Where it begins an `if` whose
+    /// other side has sites, it tells of these.
+    fn step(&mut self) -> Step<Found<'p>>
         requires { is_awaiting self.old.stage ≡ false }
         ensures exact { Advances self.old result self.new }
         ensures work { Steps (to_do self.old) result (to_do self.new) }
@@ -178,7 +184,7 @@ impl<'p> Machine for StepMachine<'p> {
                 &self.job,
                 &mut self.frames,
                 &mut self.store,
-                self.next,
+                &mut self.next,
             ) {
                 Ok(step) => {
                     self.stage = stage_after(&step);
@@ -197,11 +203,11 @@ impl<'p> Machine for StepMachine<'p> {
 }
 
 // How a machine stands after a step that found memory.
-fn stage_after(step: &Step<Nested>) -> Stage
+fn stage_after(step: &Step<Found>) -> Stage
     ensures { result ≡ stage_by step.now }
 {
     match step {
-        Step::Nest(_) => Stage::Awaiting,
+        Step::Nest(Found::Nest(_)) => Stage::Awaiting,
         _ => Stage::Going,
     }
 }
@@ -224,29 +230,38 @@ fn advance<'p>(
     job: &Job<'p>,
     frames: &mut Frames<'p>,
     store: &mut MarkedStore,
-    next: u16,
-) -> Result<Step<Nested<'p>>, AllocError>
+    next: &mut u16,
+) -> Result<Step<Found<'p>>, AllocError>
     requires layout { IsLayoutOf layout.now job.now }
-    requires right { IsRight (job_of job.now) (works_of frames.old job.now.vars) store.old next }
+    requires right { IsRight (job_of job.now) (works_of frames.old job.now.vars) store.old
+        next.old }
     requires stacked { IsStacked frames.old }
     ensures advanced { IfOk result
-        (λ step. Advanced (while_going job.now (works_of frames.old job.now.vars) store.old next)
-        step (works_of frames.new job.now.vars) store.new) }
+        (λ step. Advanced (while_going job.now (works_of frames.old job.now.vars) store.old
+        next.old) step (works_of frames.new job.now.vars) store.new next.new) }
     ensures stacked { IfOk result (λ _. IsStacked frames.new) }
     ensures more { IfErr result (λ _. IsMore (works_of frames.old job.now.vars)) }
 {
     match frames.construct() {
         Some(construct) => {
-            let nested = hand_out(alloc, job, frames, store, next, construct)?;
-            Ok(Step::Nest(nested))
+            let nested = hand_out(alloc, job, frames, store, *next, construct)?;
+            Ok(Step::Nest(Found::Nest(nested)))
         }
         None => {
-            if frames.go_on(layout, &job.vars, store)? {
-                Ok(Step::More)
-            } else {
-                Ok(Step::Finished)
-            }
+            let told = frames.go_on(layout, &job.vars, store, next)?;
+            Ok(step_by(told))
         }
+    }
+}
+
+// What a step comes to that hands out no construct.
+fn step_by<'p>(told: Option<Told>) -> Step<Found<'p>>
+    ensures { result ≡ step_by told }
+{
+    match told {
+        None => Step::Finished,
+        Some(Told::Nothing) => Step::More,
+        Some(Told::Skips { first, end }) => Step::Nest(Found::Pass { first, end }),
     }
 }
 

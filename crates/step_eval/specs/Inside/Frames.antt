@@ -12,8 +12,11 @@ use Rattle.array_jobs.specs.Works.{WorkTree, branch_of, member_of, steps_of, sit
 use Rattle.step_eval.specs.declared.frames.Frame.{Frame}
 use Rattle.step_eval.specs.declared.frames.Frame.TheVariants.{Statements, Turns}
 use Rattle.step_eval.specs.declared.frames.Frames.{Frames}
-use Rattle.step_eval.specs.Rest.{WorkAt, at}
-use Rattle.step_eval.specs.Moves.{moved, moved_writes}
+use Rattle.step_eval.specs.declared.told.Told.{Told}
+use Rattle.step_eval.specs.declared.told.Told.TheVariants.{Nothing, Skips}
+use Rattle.step_eval.specs.Rest.{WorkAt, at, before}
+use Rattle.step_eval.specs.Moves.{moved, moved_writes, moved_sites}
+use Rattle.step_eval.specs.Passes.{pass_of}
 use Rattle.step_eval.specs.Machines.{construct_of, next_construct}
 
 -- The statements of a block from one on.
@@ -24,8 +27,8 @@ statements_from block from = sequence (map statement_of (drop from block.stateme
 -- those around its turns.
 abbrev pub works_in : List Frame → Vars → List WorkAt
 works_in [] vars = []
-works_in (Statements block from ∷ below) vars =
-    at (branch_of (statements_from block.now from)) vars ∷ works_in below vars
+works_in (Statements block from after ∷ below) vars =
+    before (branch_of (statements_from block.now from)) vars after ∷ works_in below vars
 works_in (Turns body next high ∷ below) [] = []
 works_in (Turns body next high ∷ below) (v ∷ outer) =
     at (member_of v.0 next high (sequence_of body.now)) outer ∷ works_in below outer
@@ -58,7 +61,7 @@ IsMore (w ∷ more) = Unit {0}
 -- How many loops have begun.
 abbrev pub loops_in : List Frame → ℕ
 loops_in [] = 0
-loops_in (Statements block from ∷ below) = loops_in below
+loops_in (Statements block from after ∷ below) = loops_in below
 loops_in (Turns body next high ∷ below) = suc (loops_in below)
 
 -- Each loop that has begun has its variable on the stack.
@@ -73,45 +76,59 @@ IsStackedWith top frames = length frames.vars.items ≡ loops_in (top ∷ revers
 abbrev pub AreAll : WorkTree → Frames → Type 0
 AreAll work frames = (around : Vars) → works_of frames around ≡ at work around ∷ []
 
--- One more work has begun on top of this frame, with the variables around that were there.
-abbrev pub HasBegun : WorkTree → Frame → Frames → Frames → Type 0
-HasBegun work rest before after =
-    (around : Vars) → works_of after around ≡ at work (vars_in before around)
-    ∷ works_with rest before around
+-- One more work has begun on top of this frame, with so many sites behind it and the variables around that were there.
+abbrev pub HasBegun : WorkTree → ℕ → Frame → Frames → Frames → Type 0
+HasBegun work n rest start now =
+    (around : Vars) → works_of now around ≡ before work (vars_in start around) n
+    ∷ works_with rest start around
 
 -- The top was taken off.
 abbrev pub IsEnded : Frames → Frames → Type 0
 IsEnded before after = (frames_in after ≡ reverse before.below.items)
     × (after.vars.items ≡ before.vars.items)
 
--- The first of these works has moved, and others with it have stayed.
-abbrev pub HaveMoved : Arrays → List WorkAt → Trace → List WorkAt → Trace → Type 0
-HaveMoved arrays [] store after store_after = ⊥
-HaveMoved arrays (w ∷ more) store after store_after =
-    (after ≡ moved arrays store.cells w.work w.vars ++ more)
+-- The first of these works has moved, and others with it have stayed. The next site had a number, and has another.
+abbrev pub HaveMoved : Arrays → List WorkAt → Trace → ℕ → List WorkAt → Trace → ℕ → Type 0
+HaveMoved arrays [] store next after store_after next_after = ⊥
+HaveMoved arrays (w ∷ more) store next after store_after next_after =
+    (after ≡ moved arrays store.cells w ++ more)
     × (store_after ≡ noted_all (moved_writes arrays store.cells w.work w.vars) store)
+    × (next_after ≡ next + moved_sites arrays store.cells w)
+
+-- The sites that a hart is told to skip.
+abbrev pub span_told : Told → Option (ℕ × ℕ)
+span_told Nothing = None
+span_told (Skips first end) = Some (first, end)
+
+-- So they have moved, and the hart is told what it has to skip.
+abbrev pub HaveTold : Arrays → Told → List WorkAt → Trace → ℕ → List WorkAt → Trace → ℕ → Type 0
+HaveTold arrays told works store next after store_after next_after =
+    (pass_of arrays store.cells next works ≡ span_told told)
+    × HaveMoved arrays works store next after store_after next_after
 
 -- Whether a step was taken. If it was, the first work has moved; if not, there is none.
-abbrev pub Went : Arrays → Bool → List WorkAt → Trace → List WorkAt → Trace → Type 0
-Went arrays false works store after store_after =
-    (works ≡ []) × (after ≡ works) × (store_after ≡ store)
-Went arrays true works store after store_after = HaveMoved arrays works store after store_after
+abbrev pub Went : Arrays → Option Told → List WorkAt → Trace → ℕ → List WorkAt → Trace → ℕ
+    → Type 0
+Went arrays None works store next after store_after next_after =
+    (works ≡ []) × (after ≡ works) × (store_after ≡ store) × (next_after ≡ next)
+Went arrays (Some told) works store next after store_after next_after =
+    HaveTold arrays told works store next after store_after next_after
 
--- The loop on top has moved.
+-- The loop on top has moved. It has no site behind it, so no number is passed.
 abbrev pub HasTurned : Bor Block → ℤ → ℤ → Frames → Frames → Type 0
-HasTurned body next high before after =
-    (arrays : Arrays) (around : Vars) (store : Trace) →
-    HaveMoved arrays (works_with (Turns body next high) before around) store
-    (works_of after around) store
+HasTurned body turn high before after =
+    (arrays : Arrays) (around : Vars) (store : Trace) (next : ℕ) →
+    HaveMoved arrays (works_with (Turns body turn high) before around) store next
+    (works_of after around) store next
 
 -- The first work has moved past its construct, whatever that wrote.
 abbrev pub IsPast : Arrays → Trace → List WorkAt → List WorkAt → Type 0
 IsPast arrays store [] after = ⊥
-IsPast arrays store (w ∷ more) after = after ≡ moved arrays store.cells w.work w.vars ++ more
+IsPast arrays store (w ∷ more) after = after ≡ moved arrays store.cells w ++ more
 
 -- This frame stands behind the construct of that one.
 abbrev pub IsBehind : Frame → Frame → Type 0
-IsBehind (Statements block from) after = after ≡ Statements block (from + 1)
+IsBehind (Statements block from sites) after = after ≡ Statements block (from + 1) sites
 IsBehind (Turns body next high) after = ⊥
 
 -- The construct that is next was passed.
@@ -139,10 +156,10 @@ HaveRun arrays [] store after store_after = ⊥
 HaveRun arrays (w ∷ more) store after store_after =
     (after ≡ more) × (store_after ≡ traced arrays (steps_of w.work w.vars) store)
 
--- The first of these works comes to no site.
+-- The first of these works comes to no site, and none is behind it.
 abbrev pub HasNoSite : List WorkAt → Type 0
 HasNoSite [] = ⊥
-HasNoSite (w ∷ more) = sites_of w.work ≡ 0
+HasNoSite (w ∷ more) = sites_of w.work + w.after ≡ 0
 
 -- Whether the first work, which then comes to no site, was run whole. If not, nothing has changed.
 abbrev pub Ran : Arrays → Bool → List WorkAt → Trace → List WorkAt → Trace → Type 0

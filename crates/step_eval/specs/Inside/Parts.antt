@@ -15,9 +15,13 @@ use Rattle.array_jobs.specs.Jobs.{JobParts, job_of}
 use Rattle.step_eval.specs.declared.stage.Stage.{Stage}
 use Rattle.step_eval.specs.declared.stage.Stage.TheVariants.{Going, Awaiting, Failed}
 use Rattle.step_eval.specs.declared.frames.Frames.{Frames}
+use Rattle.step_eval.specs.declared.told.Told.{Told}
+use Rattle.step_eval.specs.declared.told.Told.TheVariants.{Nothing, Skips}
 use Rattle.step_eval.specs.Rest.{WorkAt}
+use Rattle.step_eval.specs.declared.found.Found.{Found}
+use Rattle.step_eval.specs.declared.found.Found.TheVariants as found
 use Rattle.step_eval.specs.Nests.{NestedParts, nested_of}
-use Rattle.step_eval.specs.Machines.{Progress, IsKept, next_construct, next_nest}
+use Rattle.step_eval.specs.Machines.{Progress, IsKept, next_construct, next_nest, next_pass}
 use Rattle.step_eval.specs.Inside.Frames.{works_of, IsStacked, HaveMoved}
 
 -- What the parts of a machine keep that isn't failed: each loop that has begun has its variable, and there is room for
@@ -49,17 +53,22 @@ while_going job rest store next = record {
   stage = Going;
 }
 
--- What a step that found memory does to the rest and to the store.
-abbrev pub Advanced : Progress → Step NestedParts → List WorkAt → Trace → Type 0
-Advanced before step.More rest store =
-    (next_nest before ≡ None)
+-- What a step that found memory does to the rest, to the store and to the number of the next site.
+abbrev pub Advanced : Progress → Step Found → List WorkAt → Trace → ℕ → Type 0
+Advanced before step.More rest store next =
+    (next_nest before ≡ None) × (next_pass before ≡ None)
     × HaveMoved (arrays_of (declarations_of before.job.arrays)) before.rest
-    before.store rest store
-Advanced before (step.Nest nested) rest store =
+    before.store before.next rest store next
+Advanced before (step.Nest (found.Pass first end)) rest store next =
+    (next_nest before ≡ None) × (next_pass before ≡ Some (first, end))
+    × HaveMoved (arrays_of (declarations_of before.job.arrays)) before.rest
+    before.store before.next rest store next
+Advanced before (step.Nest (found.Nest nested)) rest store next =
     (next_nest before ≡ Some (nested_of nested)) × (rest ≡ before.rest) × (store ≡ before.store)
-Advanced before step.Finished rest store =
-    (before.rest ≡ []) × (rest ≡ before.rest) × (store ≡ before.store)
-Advanced before step.NoMemory rest store = ⊥
+    × (next ≡ before.next)
+Advanced before step.Finished rest store next =
+    (before.rest ≡ []) × (rest ≡ before.rest) × (store ≡ before.store) × (next ≡ before.next)
+Advanced before step.NoMemory rest store next = ⊥
 
 -- The construct that is next is handed out.
 abbrev pub IsHandedOut : Progress → NestedParts → Type 0
@@ -70,11 +79,18 @@ abbrev pub IsConstructNext : Statement → List WorkAt → Type 0
 IsConstructNext construct rest = next_construct rest ≡ Some construct
 
 -- How a machine stands after a step that found memory.
-abbrev pub stage_by : Step NestedParts → Stage
+abbrev pub stage_by : Step Found → Stage
 stage_by step.More = Going
-stage_by (step.Nest nested) = Awaiting
+stage_by (step.Nest (found.Pass first end)) = Going
+stage_by (step.Nest (found.Nest nested)) = Awaiting
 stage_by step.Finished = Going
 stage_by step.NoMemory = Going
+
+-- What a step comes to that hands out no construct: nothing is left, or the first work has moved.
+abbrev pub step_by : Option Told → Step Found
+step_by None = step.Finished
+step_by (Some Nothing) = step.More
+step_by (Some (Skips first end)) = step.Nest (found.Pass first end)
 
 -- How many sites a construct enters, where there is one.
 abbrev pub sites_seen : Option (Bor Stmt) → ℕ

@@ -11,7 +11,7 @@ invariant_of-self c =
     let inside = c.self.inside in
     let sound = subst (λ stage. IsSound stage inside.job inside.frames inside.store inside.room inside.next) c.in-Going.is c.self.invariant.0 in (
       rw c.stage_after-self-inside.ensures
-          (sound_advanced inside.job inside.frames c.advance.new.frames inside.store c.advance.new.store inside.room inside.next c.in-Ok.step sound
+          (sound_advanced inside.job inside.frames c.advance.new.frames inside.store c.advance.new.store inside.room inside.next c.advance.new.next c.in-Ok.step sound
           c.in-Ok.ensures.advanced c.in-Ok.ensures.stacked),
       c.self.invariant.1,
     )
@@ -23,7 +23,7 @@ returns-in-Ok-clause-work c =
     let seen : c.args.self.now ≡ while_going inside.job works inside.store inside.next
     = sym c.self.view_is ∙ ap (λ stage. record { job = inside.job; rest = works; store = inside.store; next = inside.next; stage = stage }) c.in-Going.is in
     rw (seen, c.stage_after-self-inside.ensures)
-    (steps inside.job works (works_of c.advance.new.frames inside.job.vars) inside.store c.advance.new.store inside.next c.in-Ok.step c.in-Ok.ensures.advanced)
+    (steps inside.job works (works_of c.advance.new.frames inside.job.vars) inside.store c.advance.new.store inside.next c.advance.new.next c.in-Ok.step c.in-Ok.ensures.advanced)
 
 pub returns-in-Ok-clause-exact : goal.returns-in-Ok-clause-exact
 returns-in-Ok-clause-exact c =
@@ -32,7 +32,7 @@ returns-in-Ok-clause-exact c =
     let seen : c.args.self.now ≡ while_going inside.job works inside.store inside.next
     = sym c.self.view_is ∙ ap (λ stage. record { job = inside.job; rest = works; store = inside.store; next = inside.next; stage = stage }) c.in-Going.is in
     rw (seen, c.stage_after-self-inside.ensures)
-    (advances inside.job works (works_of c.advance.new.frames inside.job.vars) inside.store c.advance.new.store inside.next c.in-Ok.step c.in-Ok.ensures.advanced)
+    (advances inside.job works (works_of c.advance.new.frames inside.job.vars) inside.store c.advance.new.store inside.next c.advance.new.next c.in-Ok.step c.in-Ok.ensures.advanced)
 
 pub returns-in-Awaiting : goal.returns-in-Awaiting
 returns-in-Awaiting c =

@@ -1,0 +1,29 @@
+//! What a hart is told of the sites that a step passes.
+ghost use Rattle.std.specs.Prelude.{◌≡◌, ℕ, ◌+◌, ◌≤◌, Option};
+ghost use Rattle.step_eval.specs.Passes.{some_span};
+ghost use Rattle.step_eval.specs.Inside.Frames.{span_told};
+
+/// What a hart is told of the sites that a step passes without entering them.
+#[derive(Clone, Copy, Debug, Drop)]
+pub(crate) enum Told {
+    Nothing,
+    /// It has to skip these.
+    Skips { first: u16, end: u16 },
+}
+
+impl Told {
+    /// To skip so many sites from this one on, if there is any.
+    pub(crate) fn to_skip(first: u16, count: u16) -> Told
+        requires { first + count ≤ 4096 }
+        ensures { some_span first count ≡ span_told result }
+    {
+        if count == 0 {
+            Told::Nothing
+        } else {
+            Told::Skips {
+                first,
+                end: first + count,
+            }
+        }
+    }
+}
