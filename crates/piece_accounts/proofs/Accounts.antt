@@ -8,9 +8,9 @@ use Rattle.site_accounts.proofs.Algebra.{over_lasts, over_joins, kept_joins}
 use Rattle.array_meaning.specs.Stores.{Arrays, Store, after}
 use Rattle.array_meaning.specs.Entered.{statement_entered}
 use Rattle.array_meaning.proofs.EnteredLemmas.{statement_length}
-use Rattle.step_eval.specs.Moves.{moved_writes}
-use Rattle.site_passes.specs.Works.{WorkAt, rest_sites, moved, moved_sites}
-use Rattle.site_passes.specs.Passes.{pass_of}
+use Rattle.step_eval.specs.Rest.{WorkAt, rest_sites}
+use Rattle.step_eval.specs.Moves.{moved_writes, moved, moved_sites}
+use Rattle.step_eval.specs.Passes.{pass_of}
 use Rattle.site_passes.specs.Entering.{rest_entered}
 use Rattle.site_passes.proofs.Counts.{passes_are_within, rest_is_counted}
 use Rattle.site_passes.proofs.Goes.{steps_pass_sites, supplies_pass_sites}

@@ -12,10 +12,11 @@ use Rattle.array_meaning.specs.Stores.{Arrays, Vars, Store, value_of}
 use Rattle.array_meaning.specs.Work.{span}
 use Rattle.array_meaning.specs.Plans.{sites_in, statement_sites_in}
 use Rattle.array_jobs.specs.Works.{WorkTree, branch_of, member_of, sites_of}
+use Rattle.step_eval.specs.Rest.{WorkAt, at, before}
+use Rattle.step_eval.specs.Moves.{work_moved, work_passes}
 use Rattle.step_eval.specs.Machines.{construct_of}
 use Rattle.step_eval.proofs.LeftLemmas.{span_times}
-use Rattle.site_passes.specs.Works.{WorkAt, at, before, work_moved, work_passes}
-use Rattle.site_passes.specs.Passes.{some_span, work_pass}
+use Rattle.step_eval.specs.Passes.{some_span, work_pass}
 use Rattle.piece_accounts.specs.Piece.{IsAhead, SkipsAsTold, NextConstructsAreFresh}
 
 fresh_at : (p : Plan) (es : List Entry) (s t n m : ℕ) → s ≡ t → n ≡ m → AreFresh p es s n → AreFresh p es t m

@@ -9,8 +9,8 @@ use Rattle.array_meaning.specs.Values.{holds}
 use Rattle.array_meaning.specs.Stores.{Arrays, Vars, Store, value_of}
 use Rattle.array_meaning.specs.Plans.{sites_in}
 use Rattle.array_jobs.specs.Works.{WorkTree, branch_of, member_of}
-use Rattle.site_passes.specs.Works.{WorkAt, before}
-use Rattle.site_passes.specs.Passes.{some_span, work_pass}
+use Rattle.step_eval.specs.Rest.{WorkAt, before}
+use Rattle.step_eval.specs.Passes.{some_span, work_pass}
 use Rattle.piece_accounts.specs.Piece.{IsAhead, NextPassesAreFresh}
 use Rattle.piece_accounts.proofs.Ahead.{rest_ahead}
 

@@ -9,10 +9,10 @@ use Rattle.array_meaning.specs.Stores.{Arrays, Vars, Store, after}
 use Rattle.array_meaning.specs.Plans.{statement_sites_in}
 use Rattle.array_meaning.specs.Entered.{statement_entered}
 use Rattle.array_jobs.specs.Works.{WorkTree, sites_of}
-use Rattle.step_eval.specs.Moves.{moved_writes}
+use Rattle.step_eval.specs.Rest.{WorkAt, at}
+use Rattle.step_eval.specs.Moves.{moved_writes, moved, moved_sites}
 use Rattle.step_eval.specs.Machines.{construct_of}
-use Rattle.site_passes.specs.Works.{WorkAt, at, moved, moved_sites}
-use Rattle.site_passes.specs.Passes.{pass_of}
+use Rattle.step_eval.specs.Passes.{pass_of}
 use Rattle.site_passes.specs.Entering.{work_entered, rest_entered}
 
 -- What is ahead, where the next site has this number: each work's sites are fresh, and those behind it are skipped.

@@ -1,11 +1,10 @@
 -- Where the sites of works stand in a plan, the list of the parents of all sites, that of site 1 first.
-use Rattle.std.specs.Prelude.{◌≡◌, ℕ, ◌+◌, ◌-◌, ◌≤◌, ◌<◌, List, [], ◌∷◌, ◌++◌, length, slice_index, Some, true, false}
+use Rattle.std.specs.Prelude.{◌≡◌, ℕ, ◌+◌, ◌-◌, ◌≤◌, ◌<◌, List, [], ◌∷◌, ◌++◌, length, slice_index, Some}
 use Rattle.array_tree.specs.Trees.{Statement, Assign, For, If, Par, Team}
 use Rattle.array_meaning.specs.Work.{span}
 use Rattle.array_meaning.specs.Stores.{Arrays, Store}
-use Rattle.array_meaning.specs.Limits.{has_no_site_under_if}
 use Rattle.array_meaning.specs.Plans.{Parents, repeated, sequence_parents, branches_parents, phases_parents}
-use Rattle.array_jobs.specs.Works.{WorkTree, branch_of, member_of, sites_of, statements_of}
+use Rattle.array_jobs.specs.Works.{WorkTree, branch_of, member_of, sites_of}
 use Rattle.step_eval.specs.Rest.{WorkAt}
 use Rattle.step_eval.specs.Moves.{moved, moved_sites}
 use Rattle.step_eval.specs.Machines.{Progress, HasMoved, construct_of}
@@ -34,20 +33,18 @@ pub record HasParentsFrom (ps : List ℕ) (next : ℕ) (part : List ℕ) : Type 
   pub place : length before + 1 ≡ next
   pub is : ps ≡ before ++ (part ++ after)
 
--- The sites of each work stand there, one work after another.
+-- The sites of each work stand there, one work after another, those behind a work before those of the next.
 abbrev pub ArePlanned : List ℕ → ℕ → ℕ → List WorkAt → Type 0
 ArePlanned ps around next [] = Unit {0}
 ArePlanned ps around next (w ∷ more) =
     HasParentsFrom ps next (work_parents w.work around next)
-    × ArePlanned ps around (next + sites_of w.work) more
+    × ArePlanned ps around (next + sites_of w.work + w.after) more
 
 -- A step leaves the works planned.
 abbrev pub WorksStayPlanned : Type 0
 WorksStayPlanned = (ps : List ℕ) (around next : ℕ) (arrays : Arrays) (store : Store) (w : WorkAt)
-    (more : List WorkAt) →
-    has_no_site_under_if (statements_of w.work) false ≡ true
-    → ArePlanned ps around next (w ∷ more) →
-    ArePlanned ps around (next + moved_sites w.work) (moved arrays store w.work w.vars ++ more)
+    (more : List WorkAt) → ArePlanned ps around next (w ∷ more) →
+    ArePlanned ps around (next + moved_sites arrays store w) (moved arrays store w ++ more)
 
 -- Of the site of a construct the parent is the site around it, and the sites inside it come next.
 pub record IsPlannedAt (ps : List ℕ) (around next : ℕ) (construct : Statement) : Type 0 where

@@ -11,34 +11,10 @@ use Rattle.array_meaning.specs.Plans.{sites_in}
 use Rattle.array_meaning.specs.Entered.{sequence_entered}
 use Rattle.array_meaning.proofs.EnteredLemmas.{sequence_length, turns_length}
 use Rattle.array_jobs.specs.Works.{WorkTree, branch_of, member_of, steps_of, sites_of}
-use Rattle.step_eval.proofs.LeftLemmas.{span_times}
-use Rattle.site_passes.specs.Works.{WorkAt, at, before, rest_sites, work_moved, work_passes, SitesArePassed}
-use Rattle.site_passes.specs.Passes.{some_span, work_pass, PassesAreWithin}
+use Rattle.step_eval.specs.Rest.{WorkAt, rest_sites}
+use Rattle.step_eval.specs.Passes.{some_span, work_pass}
+use Rattle.site_passes.specs.Passes.{PassesAreWithin}
 use Rattle.site_passes.specs.Entering.{work_entered, rest_entered, RestIsCounted}
-
-work_sites : (arrays : Arrays) (store : Store) (w : WorkTree) (vars : Vars) (n : ℕ) (more : List WorkAt) →
-    work_passes arrays store w vars n + rest_sites (work_moved arrays store w vars n ++ more) ≡ sites_of w + n + rest_sites more
-work_sites arrays store (branch_of ended) vars n more = omega arith
-work_sites arrays store (branch_of (followed (Assign line array index value) rest)) vars n more = omega arith
-work_sites arrays store (branch_of (followed (For line var low high body) rest)) vars n more = omega arith
-work_sites arrays store (branch_of (followed (If line test left right) rest)) vars n more = cases (holds (value_of arrays vars test store))
-  where
-    cases : (b : Bool) → cond b 0 (sites_in left) + rest_sites (cond b (before (branch_of left) vars (sites_in right)) (at (branch_of right) vars) ∷ before (branch_of rest) vars n ∷ more)
-        ≡ sites_in left + sites_in right + sites_in rest + n + rest_sites more
-    cases true = omega arith
-    cases false = omega arith
-work_sites arrays store (branch_of (followed (Par line branches) rest)) vars n more = omega arith
-work_sites arrays store (branch_of (followed (Team line var low high members phases) rest)) vars n more = omega arith
-work_sites arrays store (member_of var low high body) vars n more = cases (int_lt low high) refl
-  where
-    cases : (b : Bool) → int_lt low high ≡ b →
-        cond b 0 n + rest_sites (cond b (at (branch_of body) ((var, low) ∷ vars) ∷ before (member_of var (low +ℤ pos 1) high body) vars n ∷ []) [] ++ more)
-        ≡ span low high * sites_in body + n + rest_sites more
-    cases true e = let turn = span_times low high (sites_in body) e in omega (arith, turn)
-    cases false e = let none : span low high ≡ 0 = rw e refl in rw none (omega arith)
-
-pub sites_are_passed : SitesArePassed
-sites_are_passed arrays store w more = work_sites arrays store w.work w.vars w.after more
 
 -- ---- spans that are told
 

@@ -13,9 +13,9 @@ use Rattle.array_meaning.specs.Entered.{statement_entered, sequence_entered, tur
 use Rattle.array_meaning.proofs.StepLemmas.{exec_followed_by, exec_choose, span_next}
 use Rattle.array_meaning.proofs.MergeLemmas.{after_last}
 use Rattle.array_jobs.specs.Works.{WorkTree, branch_of, member_of, steps_of}
-use Rattle.step_eval.specs.Moves.{moved_writes}
+use Rattle.step_eval.specs.Rest.{WorkAt, at, before}
+use Rattle.step_eval.specs.Moves.{work_moved, moved_writes, work_passes}
 use Rattle.step_eval.specs.Machines.{construct_of}
-use Rattle.site_passes.specs.Works.{WorkAt, at, before, work_moved, work_passes}
 use Rattle.site_passes.specs.Entering.{work_entered, rest_entered, StepsPassSites, SuppliesPassSites}
 
 abbrev found : Statement → Option Statement → Statement

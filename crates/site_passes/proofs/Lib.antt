@@ -1,4 +1,3 @@
 pub mod Counts
 pub mod Goes
 pub mod Jobs
-pub mod Fits

@@ -7,11 +7,11 @@ use Rattle.array_meaning.specs.Work.{sequence_work}
 use Rattle.array_meaning.specs.Entered.{Entering, loop_entered, sequence_entered, statement_entered}
 use Rattle.array_jobs.specs.Works.{WorkTree, branch_of, member_of, steps_of}
 use Rattle.array_jobs.specs.Jobs.{JobTree}
-use Rattle.step_eval.specs.Moves.{moved_writes}
+use Rattle.step_eval.specs.Rest.{WorkAt, rest_sites}
+use Rattle.step_eval.specs.Moves.{moved, moved_writes, moved_sites}
 use Rattle.step_eval.specs.Machines.{construct_of}
 use Rattle.step_eval.specs.Nests.{NestedTree, phases_of, jobs_in, IsFitNest}
 use Rattle.step_eval.specs.Phases.{store_before}
-use Rattle.site_passes.specs.Works.{WorkAt, rest_sites, moved, moved_sites}
 
 -- Of each site of a work, in the order of the plan, whether it is entered.
 abbrev pub work_entered : Arrays → WorkTree → Vars → Entering

@@ -1,4 +1,2 @@
-pub mod Works
 pub mod Passes
 pub mod Entering
-pub mod Right

@@ -1,37 +1,8 @@
--- The sites that a hart is told of when an `if` begins: those of the side that isn't run.
-use Rattle.std.specs.Prelude.{◌≡◌, ℕ, zero, suc, ◌+◌, ◌<◌, ◌≤◌, List, [], ◌∷◌, Option, Some, None, if◌then◌else◌}
-use Rattle.array_tree.specs.Trees.{Statement, Assign, For, If, Par, Team, ended, followed}
-use Rattle.array_meaning.specs.Values.{holds}
-use Rattle.array_meaning.specs.Stores.{Arrays, Vars, Store, value_of}
-use Rattle.array_meaning.specs.Plans.{sites_in}
-use Rattle.array_jobs.specs.Works.{WorkTree, branch_of, member_of}
-use Rattle.site_passes.specs.Works.{WorkAt, rest_sites}
-
--- The first of so many sites and the one behind the last, if there is any.
-abbrev pub some_span : ℕ → ℕ → Option (ℕ × ℕ)
-some_span first zero = None
-some_span first (suc n) = Some (first, first + suc n)
-
--- Of the `if` that is the first statement of a work, where the next site has this number.
-abbrev pub statement_pass : Arrays → Store → ℕ → Statement → Vars → Option (ℕ × ℕ)
-statement_pass arrays store next (Assign line array index value) vars = None
-statement_pass arrays store next (For line var low high body) vars = None
-statement_pass arrays store next (If line cond then_block else_block) vars =
-    if holds (value_of arrays vars cond store)
-    then some_span (next + sites_in then_block) (sites_in else_block)
-    else some_span next (sites_in then_block)
-statement_pass arrays store next (Par line branches) vars = None
-statement_pass arrays store next (Team line var low high members phases) vars = None
-
-abbrev pub work_pass : Arrays → Store → ℕ → WorkTree → Vars → Option (ℕ × ℕ)
-work_pass arrays store next (branch_of ended) vars = None
-work_pass arrays store next (branch_of (followed first rest)) vars =
-    statement_pass arrays store next first vars
-work_pass arrays store next (member_of var low high body) vars = None
-
-abbrev pub pass_of : Arrays → Store → ℕ → List WorkAt → Option (ℕ × ℕ)
-pass_of arrays store next [] = None
-pass_of arrays store next (w ∷ more) = work_pass arrays store next w.work w.vars
+-- Where the sites lie that a hart is told to skip.
+use Rattle.std.specs.Prelude.{◌≡◌, ℕ, ◌+◌, ◌<◌, ◌≤◌, List, Some}
+use Rattle.array_meaning.specs.Stores.{Arrays, Store}
+use Rattle.step_eval.specs.Rest.{WorkAt, rest_sites}
+use Rattle.step_eval.specs.Passes.{pass_of}
 
 -- A span that isn't empty and lies within the sites that the walk has in and behind what is left to be run.
 pub record IsWithinRest (next : ℕ) (rest : List WorkAt) (span : ℕ × ℕ) : Type 0 where

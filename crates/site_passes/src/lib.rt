@@ -1,18 +1,11 @@
-//! How a machine passes sites, where both sides of an `if` may have some: what it leaves behind, which sites a hart is told
-//! to skip, and which are still to be entered.
+//! How a machine passes sites, where both sides of an `if` may have some: which sites a hart is told to skip, and which are
+//! still to be entered.
 //!
 //! The crate holds definitions and laws. No code here runs: each function's contract is a law, and its body is empty.
 #![tactic(auto)]
 
-ghost use Rattle.site_passes.specs.Works.{SitesArePassed};
 ghost use Rattle.site_passes.specs.Passes.{PassesAreWithin};
-ghost use Rattle.site_passes.specs.Right.{FitWorksMove};
 ghost use Rattle.site_passes.specs.Entering.{RestIsCounted, StepsPassSites, SuppliesPassSites, JobsEnterTheConstruct};
-
-/// A step passes what sites it takes from those that are left.
-pub fn sites_are_passed()
-    ensures { SitesArePassed }
-{}
 
 /// The sites that a hart is told of are some of those that are left.
 pub fn passes_are_within()
@@ -37,9 +30,4 @@ pub fn supplies_pass_sites()
 /// A construct that is handed out is entered, and inside it what its jobs enter, phase after phase.
 pub fn jobs_enter_the_construct()
     ensures { JobsEnterTheConstruct }
-{}
-
-/// A step leaves fit works fit.
-pub fn fit_works_move()
-    ensures { FitWorksMove }
 {}
