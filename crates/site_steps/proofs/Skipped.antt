@@ -4,18 +4,22 @@ use Rattle.std.proofs.lemmas.Bool.{cases_lt}
 use Rattle.std.proofs.lemmas.List.Sums.{sum_by-append}
 use Rattle.std.proofs.lemmas.List.Elements.{All-nil, All-cons, All-append}
 use Rattle.transfer_table.specs.Plan.{Plan, IsSite, parent}
-use Rattle.transfer_table.specs.Entry.{site_of, is_register, covers, registers, skips_over}
+use Rattle.transfer_table.specs.Entry.{site_of, is_register, is_unregister, covers, registers, unregisters, skips_over}
 use Rattle.transfer_table.specs.declared.entry.Entry.{Entry}
 use Rattle.transfer_table.specs.declared.entry.Entry.TheVariants.{Skip}
 use Rattle.transfer_table.proofs.Balance.{skips_over-snoc}
 use Rattle.transfer_table.proofs.Within.{within-itself}
 use Rattle.hart_port.specs.declared.port.Taken.{Taken}
 use Rattle.hart_port.specs.PortView.{PortView, Skips, HasClaimed}
+use Rattle.site_steps.specs.Back.{IsSettled, IsBack}
 use Rattle.site_steps.specs.Skips.{IsSkipBetween, HasSkipped, ChildrenClaimed}
 
 -- further entries take nothing from a count
 came_more : (s : ℕ) (es fs : List Entry) → registers s es ≤ registers s (es ++ fs)
 came_more s es fs = let z = sum_by-append (λ x. cond {A = ℕ} (if site_of x == s then is_register x else false) 1 0) es fs in omega (arith, z)
+
+went_more : (s : ℕ) (es fs : List Entry) → unregisters s es ≤ unregisters s (es ++ fs)
+went_more s es fs = let z = sum_by-append (λ x. cond {A = ℕ} (if site_of x == s then is_unregister x else false) 1 0) es fs in omega (arith, z)
 
 skipped_more : (p : Plan) (s : ℕ) (es fs : List Entry) → skips_over p s es ≤ skips_over p s (es ++ fs)
 skipped_more p s es fs = let z = sum_by-append (λ x. cond {A = ℕ} (covers p x s) 1 0) es fs in omega (arith, z)
@@ -79,3 +83,20 @@ claimed_then b c first middle end made one two alone x low high site child = eli
       (subst (λ (v : PortView). IsSite v.plan x) made.same site) (subst (λ (v : PortView). parent v.plan x ≡ v.owner) made.same child))
   | inr late ↦ two alone x (omega (arith, late)) high site child
 ]
+
+-- the hart is where it was
+pub skipped_back : (h a : PortView) (first end : ℕ) → IsSettled h → HasSkipped h a first end → IsBack (Unit {0}) h a
+skipped_back h a first end settled made = subst (IsBack (Unit {0}) h) (sym made.same) record {
+  plan = refl;
+  hart = refl;
+  alone = refl;
+  table = refl;
+  owner = refl;
+  homes = λ s le. refl;
+  inner = settled;
+  closed = λ s le. refl;
+  gone = λ s is. is;
+  over = λ s. went_more s h.mine made.made;
+  skipped = λ p s. skipped_more p s h.mine made.made;
+  unskipped = λ no. absurd (no tt);
+}

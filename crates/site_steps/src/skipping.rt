@@ -1,5 +1,6 @@
 //! How sites are skipped that nobody is to enter.
 ghost use Rattle.std.specs.Prelude.{◌≡◌, ◌+◌};
+ghost use Rattle.site_steps.specs.Back.{IsSettled, IsBack};
 ghost use Rattle.site_steps.specs.Skips.{HasSkipped, ChildrenClaimed};
 
 use crate::tree::SiteTree;
@@ -9,6 +10,8 @@ use hart_port::Port;
 /// left as it is.
 pub fn skip_sites<P: Port>(tree: &SiteTree, port: &mut P, hold: P::Hold, first: u16, end: u16)
     requires plan { (P.seen port.old).plan ≡ tree.now }
+    requires inner { IsSettled (P.seen port.old) }
+    ensures back { IsBack (Unit {0}) (P.seen port.old) (P.seen port.new) }
     ensures skipped { HasSkipped (P.seen port.old) (P.seen port.new) first end }
     ensures claimed { ChildrenClaimed (P.seen port.new) first end }
 {

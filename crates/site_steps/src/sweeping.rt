@@ -13,7 +13,7 @@ use crate::tree::SiteTree;
 pub fn sweep_failed<P: PatientPort>(tree: &SiteTree, port: &mut P, hold: P::Hold, has_failed: bool)
     requires plan { (P.seen port.old).plan ≡ tree.now }
     requires inner { IsSettled (P.seen port.old) }
-    ensures back { IsBack (P.seen port.old) (P.seen port.new) }
+    ensures back { IsBack ⊥ (P.seen port.old) (P.seen port.new) }
     ensures over { ChildrenOver (P.seen port.new) }
 {
     if has_failed || port.is_alone() {
@@ -26,7 +26,7 @@ pub fn sweep_failed<P: PatientPort>(tree: &SiteTree, port: &mut P, hold: P::Hold
 pub fn sweep_children<P: PatientPort>(tree: &SiteTree, port: &mut P, hold: P::Hold)
     requires plan { (P.seen port.old).plan ≡ tree.now }
     requires inner { IsSettled (P.seen port.old) }
-    ensures back { IsBack (P.seen port.old) (P.seen port.new) }
+    ensures back { IsBack ⊥ (P.seen port.old) (P.seen port.new) }
     ensures over { ChildrenOver (P.seen port.new) }
 {
     let mut next = tree.first_child(port.owner());
@@ -43,7 +43,7 @@ fn sweep_site<P: PatientPort>(tree: &SiteTree, port: &mut P, hold: P::Hold, site
     requires inner { IsSettled (P.seen port.old) }
     requires known { IsSite tree.now site }
     requires child { (P.seen port.old).owner ≡ parent tree.now site }
-    ensures back { IsBack (P.seen port.old) (P.seen port.new) }
+    ensures back { IsBack ⊥ (P.seen port.old) (P.seen port.new) }
     ensures over { (P.seen port.new).alone ≡ true → HasEnded (P.seen port.new) site }
 {
     match port.register(hold, site) {

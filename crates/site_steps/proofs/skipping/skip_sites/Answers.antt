@@ -1,6 +1,6 @@
 use Rattle.std.proofs.Common.{◌+◌, inl, inr, arith}
 use Rattle.std.proofs.lemmas.Bool.{cases_lt}
-use Rattle.site_steps.proofs.Skipped.{skipped_then, skipped_within, claimed_then}
+use Rattle.site_steps.proofs.Skipped.{skipped_then, skipped_within, skipped_back, claimed_then}
 use Rattle.site_steps.proofs.skipping.skip_sites.Goals as goal
 
 pub sites-preserved : goal.sites-preserved
@@ -26,3 +26,7 @@ returns-clause-skipped g c =
       | inl back ↦ absurd (let none = c.sites.invariant.none back in omega (arith, low, high, none))
       | inr right ↦ let end = c.sites.auto.site-end right in omega (arith, high, end)
     ]) c.sites.invariant.skipped
+
+pub returns-clause-back : goal.returns-clause-back
+returns-clause-back g c =
+    skipped_back (g.P.Port.seen c.args.port.now) (g.P.Port.seen c.sites.port) c.args.first c.args.end c.requires.inner (returns-clause-skipped g c)

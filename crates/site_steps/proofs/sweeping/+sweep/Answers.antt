@@ -23,8 +23,8 @@ sweep_children-children-preserved g t c =
     subst (λ o. NextChild h.plan o c.in-Some.child c.next_sibling-next.result) (sym back.owner)
     (subst (λ (p : Plan). NextChild p start.owner c.in-Some.child c.next_sibling-next.result) plan next) in
     record {
-      back = back_then start h a back c.sweep_site.ensures.back;
-      over = over_more h a c.in-Some.child c.next_sibling-next.result c.sweep_site.ensures.back over here c.sweep_site.ensures.over;
+      back = back_then ⊥ start h a back c.sweep_site.ensures.back;
+      over = over_more ⊥ h a c.in-Some.child c.next_sibling-next.result c.sweep_site.ensures.back over here c.sweep_site.ensures.over;
       child = next_child c.args.tree.now start.owner c.in-Some.child c.next_sibling-next.result next;
     }
 
@@ -48,5 +48,5 @@ sweep_site-returns-in-Ok-clause-back g t c =
     let is_plan : IsPlan h.plan = subst IsPlan (ap (λ (x : PortView). x.plan) is) c.in-Ok.ensures.kept.plan in
     let site = subst (λ p. IsSite p s) (sym c.requires.plan) c.requires.known in
     let child : h.owner ≡ parent h.plan s = subst (λ p. h.owner ≡ parent p s) (sym c.requires.plan) c.requires.child in
-    let all = back_over h a b d s is_plan site child c.requires.inner is c.sweep_children.ensures.back c.finish_site.ensures.looked in
-    subst (IsBack h) (sym c.unregister.ensures.does) all.0
+    let all = back_over ⊥ h a b d s is_plan site child c.requires.inner is c.sweep_children.ensures.back c.finish_site.ensures.looked in
+    subst (IsBack ⊥ h) (sym c.unregister.ensures.does) all.0
