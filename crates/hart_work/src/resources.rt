@@ -3,6 +3,7 @@ ghost use Rattle.std.specs.Prelude.{◌≡◌, ℕ, ℤ, List, Option, Some, IfO
 ghost use Rattle.contexts.specs.declared.machine.Step.TheVariants.{Finished};
 ghost use Rattle.hart_work.specs.Tasks.{Goes};
 
+use crate::found::Found;
 use contexts::{Running, Step};
 use std::alloc::{AllocError, Global};
 
@@ -56,6 +57,9 @@ pub trait Resources {
 
     ghost finished: { Self.Machine → Type 0 };
 
+    /// Whether its machines may tell of sites to skip.
+    ghost passes: { Type 0 };
+
     /// The construct that the site runs; the base runs none.
     ghost construct: { Self.Site → Option Self.Nested };
 
@@ -69,9 +73,9 @@ pub trait Resources {
         ensures tools { tools self.new ≡ tools self.old };
 
     /// One step of a machine that awaits nothing.
-    fn step(&mut self, running: &mut Running<Self::Machine>) -> Step<Self::Nested>
+    fn step(&mut self, running: &mut Running<Self::Machine>) -> Step<Found<Self::Nested>>
         requires { ready running.old }
-        ensures goes { Goes writes_of result (steps_left running.old) (steps_left running.new)
+        ensures goes { Goes writes_of passes result (steps_left running.old) (steps_left running.new)
             (ready running.new) (awaits running.new) (job_of running.new ≡ job_of running.old) }
         ensures finished { result ≡ Finished → finished running.new }
         ensures tools { tools self.new ≡ tools self.old };

@@ -6,11 +6,12 @@ ghost use Rattle.hart_port.specs.PortView.{IsPortView, HasEnded, is_in};
 ghost use Rattle.site_steps.specs.Back.{IsSettled, IsBack};
 ghost use Rattle.hart_work.specs.Tasks.{StaysSettled, HasAccount};
 
+use crate::found::Found;
 use crate::resources::Resources;
 use crate::schedulers::{Schedulers, Task};
 use contexts::{Running, Step, ctx_fini, ctx_pause, ctx_resume};
 use hart_port::Port;
-use site_steps::{PatientPort, SiteTree, finish_site, sweep_failed};
+use site_steps::{PatientPort, SiteTree, finish_site, skip_sites, sweep_failed};
 use std::alloc::{AllocError, Global};
 
 /// Runs a job of the site that the hart is in, and brings the hart back to it.
@@ -29,7 +30,7 @@ pub fn run_piece<P: PatientPort, R, H: Schedulers<R>, F: Fn(u8, &H::Job)>(
     requires plan { (P.seen port.old).plan ≡ tree.now }
     requires callable { F.IsAlwaysCallable pass.now }
     requires inner { IsSettled (P.seen port.old) }
-    ensures back { IsBack (P.seen port.old) (P.seen port.new) }
+    ensures back { IsBack H.passes (P.seen port.old) (P.seen port.new) }
     ensures piece { IfOk result (λ piece. H.job_in piece ≡ job) }
     ensures stays { StaysSettled (H.settled around.old) (H.owed around.old) (H.settled around.new)
         (H.owed around.new) }
@@ -41,7 +42,7 @@ pub fn run_piece<P: PatientPort, R, H: Schedulers<R>, F: Fn(u8, &H::Job)>(
     'steps: loop {
         match schedulers.step(&mut running) {
             Step::More => {}
-            Step::Nest(nested) => {
+            Step::Nest(Found::Nest(nested)) => {
                 let paused = ctx_pause(running);
                 let written = run_construct(
                     rt, alloc, tree, pass, port, hold, schedulers, around, nested,
@@ -52,6 +53,7 @@ pub fn run_piece<P: PatientPort, R, H: Schedulers<R>, F: Fn(u8, &H::Job)>(
                     return Err(AllocError);
                 }
             }
+            Step::Nest(Found::Pass { first, end }) => skip_sites(tree, port, hold, first, end),
             Step::Finished => return Ok(schedulers.end(ctx_fini(running).into_machine())),
             Step::NoMemory => {
                 let _ = running.abandon();
@@ -77,7 +79,7 @@ pub fn run_construct<P: PatientPort, R, H: Schedulers<R>, F: Fn(u8, &H::Job)>(
     requires plan { (P.seen port.old).plan ≡ tree.now }
     requires callable { F.IsAlwaysCallable pass.now }
     requires inner { IsSettled (P.seen port.old) }
-    ensures back { IsBack (P.seen port.old) (P.seen port.new) }
+    ensures back { IsBack H.passes (P.seen port.old) (P.seen port.new) }
     ensures written { IfOk result (λ written. H.written_in written ≡ H.writes_of nested) }
     ensures own { OnOk result (IsSite tree.now (H.number_of nested)
         → parent tree.now (H.number_of nested) ≡ (P.seen port.old).owner
@@ -140,7 +142,7 @@ pub fn serve<P: PatientPort, R, H: Schedulers<R>, F: Fn(u8, &H::Job)>(
     requires callable { F.IsAlwaysCallable pass.now }
     requires inner { IsSettled (P.seen port.old) }
     requires settled { H.settled site.old }
-    ensures back { IsBack (P.seen port.old) (P.seen port.new) }
+    ensures back { IsBack H.passes (P.seen port.old) (P.seen port.new) }
     ensures settled { H.settled site.new }
     ensures over { is_home ≡ true → H.over site.new }
     ensures construct { H.construct site.new ≡ H.construct site.old }
@@ -173,7 +175,7 @@ fn run_job<P: PatientPort, R, H: Schedulers<R>, F: Fn(u8, &H::Job)>(
     requires callable { F.IsAlwaysCallable pass.now }
     requires inner { IsSettled (P.seen port.old) }
     requires owed { H.owed site.old job }
-    ensures back { IsBack (P.seen port.old) (P.seen port.new) }
+    ensures back { IsBack H.passes (P.seen port.old) (P.seen port.new) }
     ensures settled { H.settled site.new }
     ensures construct { H.construct site.new ≡ H.construct site.old }
     ensures left { H.left site.new ≤ H.left site.old }
@@ -203,7 +205,7 @@ fn visit<P: PatientPort, R, H: Schedulers<R>, F: Fn(u8, &H::Job)>(
     requires plan { (P.seen port.old).plan ≡ tree.now }
     requires callable { F.IsAlwaysCallable pass.now }
     requires inner { IsSettled (P.seen port.old) }
-    ensures back { IsBack (P.seen port.old) (P.seen port.new) }
+    ensures back { IsBack H.passes (P.seen port.old) (P.seen port.new) }
     ensures stays { StaysSettled (H.settled around.old) (H.owed around.old) (H.settled around.new)
         (H.owed around.new) }
     ensures construct { H.construct around.new ≡ H.construct around.old }
@@ -244,7 +246,7 @@ fn be_guest<P: PatientPort, R, H: Schedulers<R>, F: Fn(u8, &H::Job)>(
     requires callable { F.IsAlwaysCallable pass.now }
     requires inner { IsSettled (P.seen port.old) }
     requires account { HasAccount (H.settled site.old) (H.owed site.old) task }
-    ensures back { IsBack (P.seen port.old) (P.seen port.new) }
+    ensures back { IsBack H.passes (P.seen port.old) (P.seen port.new) }
     ensures tools { H.tools schedulers.new ≡ H.tools schedulers.old }
 {
     match task {
@@ -273,7 +275,7 @@ fn ask<P: PatientPort, R, H: Schedulers<R>>(
     requires is_open { is_in (P.seen port.old).closed site ≡ false }
     requires none_yet { requested site (P.seen port.old).mine ≡ 0 }
     requires inner { IsSettled (P.seen port.old) }
-    ensures back { IsBack (P.seen port.old) (P.seen port.new) }
+    ensures back { IsBack H.passes (P.seen port.old) (P.seen port.new) }
     ensures stays { StaysSettled (H.settled around.old) (H.owed around.old) (H.settled around.new)
         (H.owed around.new) }
     ensures construct { H.construct around.new ≡ H.construct around.old }

@@ -25,7 +25,7 @@ decreases-visit g l = 5 * (site_count l.tree.now - (g.P.Port.seen l.port.now).ow
 
 abbrev pub invariant-serve-tasks : goal.invariant-serve-tasks
 invariant-serve-tasks g l = record {
-  back : IsBack (g.P.Port.seen l.fn.port) (g.P.Port.seen l.port);
+  back : IsBack g.H.Resources.passes (g.P.Port.seen l.fn.port) (g.P.Port.seen l.port);
   construct : g.H.Resources.construct l.site ≡ g.H.Resources.construct l.fn.site;
   settled : g.H.Resources.settled l.site;
   left : g.H.Schedulers.left l.site ≤ g.H.Schedulers.left l.fn.site;
@@ -37,7 +37,7 @@ decreases-serve-tasks g l = g.H.Schedulers.left l.site
 
 abbrev pub invariant-run_piece-steps : goal.invariant-run_piece-steps
 invariant-run_piece-steps g l = record {
-  back : IsBack (g.P.Port.seen l.fn.port) (g.P.Port.seen l.port);
+  back : IsBack g.H.Resources.passes (g.P.Port.seen l.fn.port) (g.P.Port.seen l.port);
   construct : g.H.Resources.construct l.around ≡ g.H.Resources.construct l.fn.around;
   stays : StaysSettled (g.H.Resources.settled l.fn.around) (g.H.Schedulers.owed l.fn.around) (g.H.Resources.settled l.around) (g.H.Schedulers.owed l.around);
   left : g.H.Schedulers.left l.around ≤ g.H.Schedulers.left l.fn.around;
