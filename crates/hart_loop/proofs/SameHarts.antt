@@ -5,19 +5,19 @@ use Rattle.hart_port.specs.PortView.{PortView}
 use Rattle.site_steps.specs.Back.{IsBack, HasLooked}
 use Rattle.hart_loop.specs.Harts.{IsSameHart}
 
-pub same_back : (v after : PortView) → IsBack v after → IsSameHart v after
+pub same_back : (v after : PortView) → IsBack ⊥ v after → IsSameHart v after
 same_back v after back = record {
   plan = back.plan;
   hart = back.hart;
   table = back.table;
-  skipped = back.skipped;
+  skipped = back.unskipped (λ never. never);
 }
 
 -- so is one that came back twice, and then looked at sites
-pub same_looked : (v w u after : PortView) → IsBack v w → IsBack w u → HasLooked u after → IsSameHart v after
+pub same_looked : (v w u after : PortView) → IsBack ⊥ v w → IsBack ⊥ w u → HasLooked u after → IsSameHart v after
 same_looked v w u after ran swept looked = record {
   plan = ap (λ (h : PortView). h.plan) looked.same ∙ swept.plan ∙ ran.plan;
   hart = ap (λ (h : PortView). h.hart) looked.same ∙ swept.hart ∙ ran.hart;
   table = ap (λ (h : PortView). h.table) looked.same ∙ swept.table ∙ ran.table;
-  skipped = λ q s. ap (λ (h : PortView). skips_over q s h.mine) looked.same ∙ (swept.skipped q s ∙ ran.skipped q s);
+  skipped = λ q s. ap (λ (h : PortView). skips_over q s h.mine) looked.same ∙ (swept.unskipped (λ never. never) q s ∙ ran.unskipped (λ never. never) q s);
 }

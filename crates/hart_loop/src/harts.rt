@@ -21,8 +21,8 @@ use contexts::{Running, Step};
 use crossbeam_utils::Backoff;
 use hart_port::{Port, Taken};
 use hart_tools::{Grip, Tools, Trial};
-use hart_work::{Resources, Schedulers, Task};
-use lone_hart::started;
+use hart_work::{Found, Resources, Schedulers, Task};
+use lone_hart::{as_seen, started};
 use sched_api::Next;
 use site_directory::SiteLine;
 use std::alloc::{AllocError, Global};
@@ -173,6 +173,9 @@ impl<'a, 'p, S: InDirectory<'p>> Resources for HartSchedulers<'a, 'p, S> {
 
     ghost finished = { IsFinished };
 
+    // Under an `if` an accepted program has no construct.
+    ghost passes = { ⊥ };
+
     ghost construct = { λ site. opened_by site.keeper };
 
     // What stands behind a lock may have changed with every look. So a site owes nothing, and is settled as soon as the
@@ -187,16 +190,16 @@ impl<'a, 'p, S: InDirectory<'p>> Resources for HartSchedulers<'a, 'p, S> {
         started(alloc, job)
     }
 
-    fn step(&mut self, running: &mut Running<StepMachine<'p>>) -> Step<Nested<'p>>
+    fn step(&mut self, running: &mut Running<StepMachine<'p>>) -> Step<Found<Nested<'p>>>
         requires { is_awaiting running.old.stage ≡ false }
-        ensures goes { Goes (λ (n : NestedParts). nested_writes (nested_of n)) result
+        ensures goes { Goes (λ (n : NestedParts). nested_writes (nested_of n)) ⊥ result
             (left_of running.old.stage running.old.rest)
             (left_of running.new.stage running.new.rest) (is_awaiting running.new.stage ≡ false)
             (IsAwaitingWrites running.new) (running.new.job ≡ running.old.job) }
         ensures finished { result ≡ Finished → IsFinished running.new }
         ensures tools { self.new.tools ≡ self.old.tools }
     {
-        running.machine().go()
+        as_seen(running.machine().go())
     }
 
     fn supply(

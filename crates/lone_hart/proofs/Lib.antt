@@ -4,3 +4,4 @@ pub mod Hearings
 pub mod Steps
 pub mod Stores
 pub mod TeamAccounts
+pub mod Unpassed

@@ -6,7 +6,7 @@ ghost use Rattle.contexts.specs.declared.machine.Step.TheVariants.{Finished};
 ghost use Rattle.hart_work.specs.Tasks.{HasNext, HasAccount, Goes};
 ghost use Rattle.lone_hart.specs.Sites.{construct_in, jobs_left, IsSettledSite, IsOwed, IsOverSite, HearsAt, IsAwaitingWrites};
 
-use crate::machines::started;
+use crate::machines::{as_seen, started};
 use crate::pools::{deposit_in_pool, fail_in_pool, next_of_pool, open_pool, take_from_pool};
 use crate::site::LoneSite;
 use crate::teams::{arrive_in_team, fail_in_team, next_of_team, open_team};
@@ -15,7 +15,7 @@ use array_jobs::{Job, Piece};
 use array_tree::Block;
 use contexts::{Running, Step};
 use hart_port::{Entered, Port, Taken};
-use hart_work::{Resources, Schedulers, Task};
+use hart_work::{Found, Resources, Schedulers, Task};
 use sched_api::{sched_register, sched_request, sched_unregister, sched_yield};
 use std::alloc::{AllocError, Global};
 use std::marker::PhantomData;
@@ -77,6 +77,9 @@ impl<'p> Resources for LoneSchedulers<'p> {
 
     ghost finished = { IsFinished };
 
+    // Under an `if` an accepted program has no construct.
+    ghost passes = { ⊥ };
+
     ghost construct = { construct_in };
 
     ghost settled = { IsSettledSite };
@@ -89,15 +92,15 @@ impl<'p> Resources for LoneSchedulers<'p> {
         started(alloc, job)
     }
 
-    fn step(&mut self, running: &mut Running<StepMachine<'p>>) -> Step<Nested<'p>>
+    fn step(&mut self, running: &mut Running<StepMachine<'p>>) -> Step<Found<Nested<'p>>>
         requires { is_awaiting running.old.stage ≡ false }
-        ensures goes { Goes (λ (n : NestedParts). nested_writes (nested_of n)) result
+        ensures goes { Goes (λ (n : NestedParts). nested_writes (nested_of n)) ⊥ result
             (left_of running.old.stage running.old.rest)
             (left_of running.new.stage running.new.rest) (is_awaiting running.new.stage ≡ false)
             (IsAwaitingWrites running.new) (running.new.job ≡ running.old.job) }
         ensures finished { result ≡ Finished → IsFinished running.new }
     {
-        running.machine().go()
+        as_seen(running.machine().go())
     }
 
     fn supply(

@@ -1,11 +1,13 @@
 //! Machines in their contexts.
 ghost use Rattle.std.specs.Prelude.{◌≡◌, IfOk, false};
 ghost use Rattle.step_eval.specs.Machines.{is_awaiting};
+ghost use Rattle.lone_hart.specs.Met.{as_seen};
 
 use array_jobs::Job;
-use contexts::{InitRefused, Running, ctx_init, ctx_run};
+use contexts::{InitRefused, Running, Step, ctx_init, ctx_run};
+use hart_work::Found;
 use std::alloc::{AllocError, Global};
-use step_eval::StepMachine;
+use step_eval::{Found as Met, Nested, StepMachine};
 
 /// A context that runs a machine for the job.
 pub fn started<'p>(alloc: Global, job: Job<'p>) -> Result<Running<StepMachine<'p>>, AllocError>
@@ -15,5 +17,18 @@ pub fn started<'p>(alloc: Global, job: Job<'p>) -> Result<Running<StepMachine<'p
     match ctx_init(alloc, StepMachine::new(alloc, job)?) {
         Ok(fresh) => Ok(ctx_run(fresh)),
         Err(InitRefused { machine: _ }) => Err(AllocError),
+    }
+}
+
+/// What a step of a machine came to, for the hart that runs it.
+pub fn as_seen<'p>(step: Step<Met<'p>>) -> Step<Found<Nested<'p>>>
+    ensures { result ≡ as_seen step.entry }
+{
+    match step {
+        Step::More => Step::More,
+        Step::Nest(Met::Nest(nested)) => Step::Nest(Found::Nest(nested)),
+        Step::Nest(Met::Pass { first, end }) => Step::Nest(Found::Pass { first, end }),
+        Step::Finished => Step::Finished,
+        Step::NoMemory => Step::NoMemory,
     }
 }

@@ -57,7 +57,7 @@ fn run_body<'p>(
 ) -> Result<Piece<'p>, AllocError>
     requires plan { port.old.view.plan ≡ tree.now }
     requires inner { IsSettled port.old.view }
-    ensures back { IsBack port.old.view port.new.view }
+    ensures back { IsBack ⊥ port.old.view port.new.view }
     ensures piece { IfOk result
         (λ piece. job_of piece.job ≡ body_of (program_of accepted.now.program)) }
 {

@@ -22,7 +22,7 @@ returns-clause-journal c =
     let alone : port.view.alone ≡ true = rest.alone ∙ run.alone ∙ ap (λ p. p.view.alone) first in
     let home : port.view.owner ≡ 0 = rest.owner ∙ run.owner ∙ ap (λ p. p.view.owner) first in
     let is_plan : IsPlan c.args.accepted.now.plan = subst IsPlan (c.tree.view_is ∙ c.in_ok-tree.ensures ∙ accepted) c.tree.invariant.plan in
-    let none : (s : ℕ) → skips_over port.view.plan s port.view.mine ≡ 0 = λ s. rest.skipped port.view.plan s ∙ run.skipped port.view.plan s ∙ ap (λ p. skips_over port.view.plan s p.view.mine) first in
+    let none : (s : ℕ) → skips_over port.view.plan s port.view.mine ≡ 0 = λ s. rest.unskipped (λ never. never) port.view.plan s ∙ run.unskipped (λ never. never) port.view.plan s ∙ ap (λ p. skips_over port.view.plan s p.view.mine) first in
     complete c.args.accepted.now.plan port.view port.state c.finish.result is_plan plan c.finish.ensures.entries c.finish.ensures.legal home alone c.sweep_children.ensures.over none
 
 pub returns-clause-short : goal.returns-clause-short
