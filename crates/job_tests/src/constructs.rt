@@ -7,14 +7,14 @@ use contexts::Step;
 use disjoint_check::{Accepted, check};
 use std::alloc::{AllocError, Global};
 use std::test::Fail;
-use step_eval::{Kind, Nested, StepMachine, compute, jobs_of};
+use step_eval::{Found, Kind, Nested, StepMachine, compute, jobs_of};
 
 // The first construct of a program that begins with one.
 pub fn first_construct<'p>(alloc: Global, accepted: &Accepted<'p>) -> Result<Nested<'p>, Fail> {
     let mut machine = StepMachine::new(alloc, body_job(alloc, accepted.program())?)?;
     match stepped(&mut machine) {
-        Step::Nest(nested) => Ok(nested),
-        Step::More | Step::Finished | Step::NoMemory => Err(Fail::new("no construct")),
+        Step::Nest(Found::Nest(nested)) => Ok(nested),
+        _ => Err(Fail::new("no construct")),
     }
 }
 

@@ -1,5 +1,6 @@
 //! Texts that are parsed, and machines that are run to their ends.
-ghost use Rattle.std.specs.Prelude.{◌≡◌, false, IfOk, IsTrue};
+ghost use Rattle.std.specs.Prelude.{◌≡◌, false, IfOk};
+ghost use Rattle.job_tests.specs.declared.driving.Turn.TheVariants.{Over};
 ghost use Rattle.step_eval.specs.Machines.{is_awaiting, Advances, IsFinished};
 
 use array_jobs::{Job, Piece};
@@ -9,7 +10,7 @@ use contexts::{Machine, Step};
 use disjoint_check::{Accepted, check};
 use std::alloc::Global;
 use std::test::Fail;
-use step_eval::{Nested, StepMachine, compute};
+use step_eval::{Found, StepMachine, compute};
 
 /// The program of a text.
 pub fn parsed(alloc: Global, text: &[u8]) -> Result<Program, Fail> {
@@ -33,26 +34,38 @@ pub fn holds<F: Fn(Global, &Accepted) -> Result<bool, Fail>>(
 }
 
 /// One step.
-pub fn stepped<'p>(machine: &mut StepMachine<'p>) -> Step<Nested<'p>>
+pub fn stepped<'p>(machine: &mut StepMachine<'p>) -> Step<Found<'p>>
     requires { is_awaiting machine.old.stage ≡ false }
     ensures { Advances machine.old result machine.new }
 {
     machine.step()
 }
 
-// One step, and the supply of what it hands out. Whether nothing is left.
-fn turn(alloc: Global, machine: &mut StepMachine) -> Result<bool, Fail>
+/// What a step came to, where memory was found.
+#[derive(Clone, Copy, Debug, PartialEq, Eq, Drop)]
+pub enum Turn {
+    On,
+    /// A construct was handed out, and its writes were supplied.
+    Construct,
+    /// These sites are to be skipped.
+    Pass { first: u16, end: u16 },
+    Over,
+}
+
+// One step, and the supply of what it hands out.
+fn turned(alloc: Global, machine: &mut StepMachine) -> Result<Turn, Fail>
     requires { is_awaiting machine.old.stage ≡ false }
     ensures going { IfOk result (λ _. is_awaiting machine.new.stage ≡ false) }
-    ensures done { IfOk result (λ done. IsTrue done → IsFinished machine.new) }
+    ensures over { IfOk result (λ turn. turn ≡ Over → IsFinished machine.new) }
 {
     match stepped(machine) {
-        Step::More => Ok(false),
-        Step::Finished => Ok(true),
-        Step::Nest(nested) => {
+        Step::More => Ok(Turn::On),
+        Step::Finished => Ok(Turn::Over),
+        Step::Nest(Found::Nest(nested)) => {
             machine.supply(&compute(alloc, &nested)?)?;
-            Ok(false)
+            Ok(Turn::Construct)
         }
+        Step::Nest(Found::Pass { first, end }) => Ok(Turn::Pass { first, end }),
         Step::NoMemory => Err(Fail::new("want of memory")),
     }
 }
@@ -61,8 +74,22 @@ fn turn(alloc: Global, machine: &mut StepMachine) -> Result<bool, Fail>
 pub fn driven<'p>(alloc: Global, job: Job<'p>) -> Result<Piece<'p>, Fail> {
     let mut machine = StepMachine::new(alloc, job)?;
     for _ in 0..u64::MAX {
-        if turn(alloc, &mut machine)? {
+        if turned(alloc, &mut machine)? == Turn::Over {
             return Ok(machine.into_piece());
+        }
+    }
+    Err(Fail::new("a machine without an end"))
+}
+
+/// What the steps of a job come to, one after another, until nothing is left.
+pub fn turns(alloc: Global, job: Job<'_>) -> Result<Vec<Turn>, Fail> {
+    let mut machine = StepMachine::new(alloc, job)?;
+    let mut turns = Vec::new(alloc);
+    for _ in 0..u64::MAX {
+        let last = turned(alloc, &mut machine)?;
+        turns.push(last)?;
+        if last == Turn::Over {
+            return Ok(turns);
         }
     }
     Err(Fail::new("a machine without an end"))

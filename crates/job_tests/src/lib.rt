@@ -8,6 +8,8 @@ mod constructs;
 #[cfg(test)]
 mod driving;
 #[cfg(test)]
+mod passes;
+#[cfg(test)]
 mod running;
 #[cfg(test)]
 mod threads;

@@ -9,15 +9,15 @@ use array_tree::Program;
 use contexts::{InitRefused, Machine, Paused, Step, ctx_init, ctx_pause, ctx_run};
 use std::alloc::Global;
 use std::test::Fail;
-use step_eval::{Nested, StepMachine, jobs_of};
+use step_eval::{Found, Nested, StepMachine, jobs_of};
 
 /// The construct that an accepted program begins with, as its machine hands it out. It fails where there is none.
 pub fn first_construct<'p>(alloc: Global, program: &'p Program) -> Result<Nested<'p>, Fail> {
     let accepted = accepted(alloc, program)?;
     let mut machine = StepMachine::new(alloc, body_job(alloc, accepted.program())?)?;
     match machine.step() {
-        Step::Nest(nested) => Ok(nested),
-        Step::More | Step::Finished | Step::NoMemory => Err(Fail::new("no construct")),
+        Step::Nest(Found::Nest(nested)) => Ok(nested),
+        _ => Err(Fail::new("no construct")),
     }
 }
 

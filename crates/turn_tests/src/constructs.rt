@@ -11,7 +11,7 @@ use sample_programs::{Came, first_jobs, outcome_of};
 use sched_api::Next;
 use std::alloc::Global;
 use std::test::Fail;
-use step_eval::{Kind, Nested, StepMachine, jobs_of};
+use step_eval::{Found, Kind, Nested, StepMachine, jobs_of};
 
 /// A `par` at site 1, with a `par` at site 2 in its first branch and a `team` at site 3 in its second.
 pub const TWO_CONSTRUCTS: &[u8] = b"array a[4]; array b[6]; par {
@@ -29,8 +29,8 @@ pub const BY_MEMBERS: [[(u16, i64); 2]; 3] = [[(4, 1), (5, 2)], [(6, 3), (7, 4)]
 fn construct_of<'p>(alloc: Global, job: &Job<'p>) -> Result<Nested<'p>, Fail> {
     let mut machine = StepMachine::new(alloc, job.copy()?)?;
     match machine.step() {
-        Step::Nest(nested) => Ok(nested),
-        Step::More | Step::Finished | Step::NoMemory => Err(Fail::new("no construct")),
+        Step::Nest(Found::Nest(nested)) => Ok(nested),
+        _ => Err(Fail::new("no construct")),
     }
 }
 
