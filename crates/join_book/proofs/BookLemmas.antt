@@ -78,14 +78,12 @@ pub own_place : (jobs : List JobParts) (places : List Mark) → IsGroup (map job
     IsPlaceOf (record { jobs = jobs; places = places }) i job → i ≡ job.place
 own_place jobs places group i job is = sym (group_place jobs group i is.0 is.1) ∙ ap (λ tree. tree.place) is.2
 
--- where a job's own place isn't its place, none is
-pub no_place : (book : BookParts) (jobs : List JobParts) (places : List Place) → told_book jobs places ≡ book → IsGroup (map job_of jobs) → (job : JobParts) →
-    (IsPlaceOf book job.place job → ⊥) → (i : ℕ) → IsPlaceOf book i job → ⊥
-no_place book jobs places e group job no_own i is =
+-- and so it is of a book that is told so
+pub only_place : (book : BookParts) (jobs : List JobParts) (places : List Place) → told_book jobs places ≡ book → IsGroup (map job_of jobs) → (job : JobParts) →
+    (i : ℕ) → IsPlaceOf book i job → i ≡ job.place
+only_place book jobs places e group job i is =
     let G : List JobParts → Type 0 = λ js. IsGroup (map job_of js) in
-    let at = own_place book.jobs book.places (subst G (ap (λ b. b.jobs) e) group) i job is in
-    let P : ℕ → Type 0 = λ n. slice_get book.jobs n ≡ Some is.0 in
-    no_own (is.0, subst P at is.1, is.2)
+    own_place book.jobs book.places (subst G (ap (λ b. b.jobs) e) group) i job is
 
 -- no place of a new book is filled
 pub kept_open : (jobs : List JobParts) (places : List Place) → IsGroup (map job_of jobs) → ((i : ℕ) (job : JobParts) → slice_get jobs i ≡ Some job → IsFit (job_of job)) →

@@ -2,7 +2,7 @@
 ghost use Rattle.std.specs.Prelude.{◌≡◌, ◌↔◌, IsTrue, IfOk, IsErr, length, map, replicate, slice_get, Some, ℕ, []};
 ghost use Rattle.array_meaning.specs.Pieces.{merged, last_writes};
 ghost use Rattle.array_eval.specs.Traces.{marked};
-ghost use Rattle.join_book.specs.Books.{Open, Failed, open_book, IsMarked, IsFull, HasFailed, IsBlank, IsPlaceOf, Deposits, marked_book, filled_pieces, all_writes};
+ghost use Rattle.join_book.specs.Books.{Open, Filled, Failed, open_book, IsMarked, IsFull, HasFailed, IsBlank, IsPlaceOf, Deposits, marked_book, filled_pieces, all_writes};
 ghost use Rattle.array_jobs.specs.Jobs.{JobParts, IsFit, job_of};
 ghost use Rattle.join_book.specs.declared.place.Place.TheVariants as place;
 ghost use Rattle.array_jobs.specs.Groups.{IsGroup};
@@ -94,9 +94,19 @@ impl<'p> Book<'p> {
         if !self.is_open(place) {
             return Deposit::Double(piece);
         }
-        let Piece { job: _, written } = piece;
-        self.places[usize::from(place)] = Place::Filled(written);
+        self.keep(piece);
         Deposit::Kept
+    }
+
+    /// Keeps a piece at the place of its job, which must be open. The caller knows that it is that place, so no jobs are
+    /// compared.
+    pub fn keep(&mut self, piece: Piece<'p>)
+        requires own { IsPlaceOf self.old piece.job.place piece.job }
+        requires open { IsMarked self.old piece.job.place Open }
+        ensures { self.new ≡ marked_book self.old piece.entry.job.place Filled }
+    {
+        let Piece { job, written } = piece;
+        self.places[usize::from(job.place)] = Place::Filled(written);
     }
 
     /// Marks a place whose piece found no memory. The place must be open.
@@ -171,7 +181,8 @@ impl<'p> Book<'p> {
 
     // Whether the place is that of the job.
     fn is_place_of(&self, place: u8, job: &Job) -> bool
-        ensures { IsTrue result ↔ IsPlaceOf self.now place job.now }
+        ensures own { IsTrue result ↔ IsPlaceOf self.now place job.now }
+        ensures alone { (i : ℕ) → IsPlaceOf self.now i job.now → i ≡ job.now.place }
     {
         match self.jobs.get(usize::from(place)) {
             Some(own) => *own == *job,
