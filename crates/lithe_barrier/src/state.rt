@@ -2,7 +2,7 @@
 ghost use Rattle.std.specs.Prelude.{◌≡◌, ◌↔◌, IsTrue, IfOk, map};
 ghost use Rattle.array_jobs.specs.Jobs.{job_of};
 ghost use Rattle.array_jobs.specs.Groups.{IsGroup};
-ghost use Rattle.join_book.specs.Books.{Open, open_book, IsMarked, IsFull, HasFailed, all_writes};
+ghost use Rattle.join_book.specs.Books.{Open, open_book, IsMarked, IsPlaceOf, IsFull, HasFailed, all_writes};
 ghost use Rattle.lithe_barrier.specs.Arrivals.{Arrives, IsRoomFor};
 
 use array_eval::{MarkedStore, Overlay};
@@ -74,6 +74,23 @@ impl<'p> BarrierState<'p> {
         ensures { IsTrue result ↔ IsMarked self.now place Open }
     {
         self.book.is_open(place)
+    }
+
+    /// Takes a piece to the place of its job, which must be free. The caller knows that it is that place, so no jobs are
+    /// compared, and the piece is no Stranger.
+    pub fn keep(&mut self, piece: Piece<'p>) -> Arrival<'p>
+        requires own { IsPlaceOf self.old piece.job.place piece.job }
+        requires free { IsMarked self.old piece.job.place Open }
+        ensures { Arrives self.old piece.entry result self.new }
+    {
+        self.book.keep(piece);
+        if !self.book.is_full() {
+            return Arrival::Kept;
+        }
+        match self.room.take() {
+            Some(room) => Arrival::Opened(merged_writes(&self.book, room)),
+            None => unreachable!(),
+        }
     }
 
     /// Takes a piece to the place of its job.
