@@ -6,7 +6,7 @@ ghost use Rattle.sched_api.specs.Wishes.{with_wishes, without_child};
 ghost use Rattle.array_jobs.specs.Jobs.{job_of};
 ghost use Rattle.array_jobs.specs.Groups.{IsGroup};
 ghost use Rattle.work_agenda.specs.Agenda.{GivesReady};
-ghost use Rattle.join_book.specs.Books.{Open, Failed, IsMarked, IsFull, HasFailed, Deposits, marked_book, all_writes};
+ghost use Rattle.join_book.specs.Books.{Open, Filled, Failed, IsMarked, IsPlaceOf, IsFull, HasFailed, Deposits, marked_book, all_writes};
 ghost use Rattle.forkjoin_sched.specs.declared.work.PoolWork.TheVariants.{Begin};
 ghost use Rattle.forkjoin_sched.specs.Pools.{new_pool, Answers, Hears, Takes, with_book, with_agenda, GivesJob};
 
@@ -136,6 +136,23 @@ impl<'p> Pool<'p> {
                 let deposit = book.deposit(piece);
                 self.book.release(book);
                 deposit
+            }
+            Acquired::Kept => unreachable!(),
+        }
+    }
+
+    /// Keeps a piece at the place of its job, which must be open. The caller knows that it is that place, so no jobs are
+    /// compared.
+    pub fn keep(&mut self, piece: Piece<'p>)
+        requires own { IsPlaceOf self.old.book piece.job.place piece.job }
+        requires open { IsMarked self.old.book piece.job.place Open }
+        ensures { self.new ≡ with_book self.old
+            (marked_book self.old.book piece.entry.job.place Filled) }
+    {
+        match self.book.acquire(()) {
+            Acquired::Got(mut book, ()) => {
+                book.keep(piece);
+                self.book.release(book);
             }
             Acquired::Kept => unreachable!(),
         }

@@ -1,5 +1,4 @@
-use Rattle.std.proofs.Common.{ap, ◌∙◌, sym, subst}
-use Rattle.std.proofs.lemmas.Bool.{false≢true}
+use Rattle.std.proofs.Common.{◌∙◌, sym, subst}
 use Rattle.join_book.specs.Books.{IsPlaceOf, IsMarked, Open}
 use Rattle.lithe_barrier.specs.Arrivals.{Fills}
 use Rattle.lithe_barrier.proofs.BarrierLemmas.{waits_on, is_done, has_room}
