@@ -36,7 +36,11 @@ impl<'a, 'r, 'p, R: Wait + 'a> PoolHand<'a, 'r, 'p, R> {
         ensures { GivesBack piece.entry result }
     {
         match self.shared.kept().lock(rt).as_mut() {
-            Some(pool) => pool.deposit(piece),
+            Some(pool) => {
+                let deposit = pool.deposit(piece);
+                self.shared.show_full(pool);
+                deposit
+            }
             None => Deposit::Stranger(piece),
         }
     }
@@ -46,12 +50,17 @@ impl<'a, 'r, 'p, R: Wait + 'a> PoolHand<'a, 'r, 'p, R> {
         if let Some(pool) = self.shared.kept().lock(rt).as_mut() {
             if pool.is_open(place) {
                 pool.fail(place);
+                self.shared.show_full(pool);
             }
         }
     }
 
-    /// Whether every place of the pool is filled or failed. One that was handed out is full.
+    /// Whether every place of the pool is filled or failed. One that was handed out is full. The lock isn't taken as long as
+    /// it isn't shown beside it.
     pub fn is_full(&self, rt: &R) -> bool {
+        if !self.shared.shows_full() {
+            return false;
+        }
         match self.shared.kept().lock(rt).as_ref() {
             Some(pool) => pool.is_full(),
             None => true,
@@ -102,11 +111,8 @@ impl<'a, 'r, 'p, R: Wait + 'a> Scheduler for PoolHand<'a, 'r, 'p, R> {
         self.shared.site()
     }
 
-    fn register(&mut self, hold: &'a R, child: u16) -> PoolHeard {
-        match self.shared.kept().lock(hold).as_mut() {
-            Some(pool) => pool.register((), child),
-            None => heard(Call::Registered, child, 0),
-        }
+    fn register(&mut self, _hold: &'a R, child: u16) -> PoolHeard {
+        heard(Call::Registered, child, 0)
     }
 
     fn unregister(&mut self, hold: &'a R, child: u16) -> PoolHeard {
@@ -123,11 +129,8 @@ impl<'a, 'r, 'p, R: Wait + 'a> Scheduler for PoolHand<'a, 'r, 'p, R> {
         }
     }
 
-    fn yielded(&mut self, hold: &'a R, child: u16) -> PoolHeard {
-        match self.shared.kept().lock(hold).as_mut() {
-            Some(pool) => pool.yielded((), child),
-            None => heard(Call::Yielded, child, 0),
-        }
+    fn yielded(&mut self, _hold: &'a R, child: u16) -> PoolHeard {
+        heard(Call::Yielded, child, 0)
     }
 
     fn enter(&mut self, hold: &'a R) -> Next<PoolWork<'p>> {
@@ -140,11 +143,8 @@ impl<'a, 'r, 'p, R: Wait + 'a> Scheduler for PoolHand<'a, 'r, 'p, R> {
         }
     }
 
-    fn block(&mut self, hold: &'a R) -> PoolHeard {
-        match self.shared.kept().lock(hold).as_mut() {
-            Some(pool) => pool.block(()),
-            None => heard(Call::Blocked, 0, 0),
-        }
+    fn block(&mut self, _hold: &'a R) -> PoolHeard {
+        heard(Call::Blocked, 0, 0)
     }
 
     fn unblock(&mut self, hold: &'a R, c: PoolWork<'p>) -> Result<(), PoolWork<'p>> {

@@ -7,15 +7,17 @@ use sched_api::Scheduler;
 use std::alloc::{AllocError, Global};
 use std::marker::Model;
 use std::sync::Mutex;
-use std::sync::atomic::{AtomicU64, Ordering};
+use std::sync::atomic::{AtomicBool, AtomicU64, Ordering};
 
 /// A pool that harts share until it is handed out. Beside the lock stand its site and its jobs, which never change, how many
-/// contexts are ready behind the lock, and a slot for each place, from which a hart takes the job whose code it has.
+/// contexts are ready behind the lock, whether the pool is full, and a slot for each place, from which a hart takes the job
+/// whose code it has.
 #[derive(Drop)]
 pub struct SharedPool<'p> {
     site: u16,
     lock: Mutex<Option<Pool<'p>>>,
     ready: AtomicU64,
+    full: AtomicBool,
     slots: Vec<Mutex<Option<Job<'p>>>>,
     jobs: Vec<Job<'p>>,
 }
@@ -48,10 +50,12 @@ impl<'p> SharedPool<'p> {
         let jobs = copy_jobs(alloc, pool.jobs())?;
         let slots = empty_slots(alloc, jobs.len())?;
         let ready = pool.ready_count() as u64;
+        let full = pool.is_full();
         Ok(SharedPool {
             site,
             lock: Mutex::new(Some(pool)),
             ready: AtomicU64::new(ready),
+            full: AtomicBool::new(full),
             slots,
             jobs,
         })
@@ -92,6 +96,16 @@ impl<'p> SharedPool<'p> {
     pub(crate) fn show_ready(&self, pool: &Pool<'p>) {
         self.ready
             .store(pool.ready_count() as u64, Ordering::SeqCst);
+    }
+
+    // Whether every place of the pool was filled or failed when its lock was held last.
+    pub(crate) fn shows_full(&self) -> bool {
+        self.full.load(Ordering::SeqCst)
+    }
+
+    // Shows beside the lock whether the pool behind it is full. Who has the lock calls it.
+    pub(crate) fn show_full(&self, pool: &Pool<'p>) {
+        self.full.store(pool.is_full(), Ordering::SeqCst);
     }
 }
 
