@@ -4,7 +4,7 @@ ghost use Rattle.sched_api.specs.declared.hearing.Told.{Told};
 ghost use Rattle.sched_api.specs.Calls.{registered_told, unregistered_told, requested_told, yielded_told, blocked_told};
 ghost use Rattle.sched_api.specs.Wishes.{with_wishes, without_child};
 ghost use Rattle.array_tree.specs.Trees.{statement_of};
-ghost use Rattle.join_book.specs.Books.{Open, IsMarked, IsFull};
+ghost use Rattle.join_book.specs.Books.{Open, IsMarked, IsPlaceOf, IsFull};
 ghost use Rattle.step_eval.specs.declared.shape.Kind.TheVariants as kind;
 ghost use Rattle.step_eval.specs.Inside.Computed.{HasReached};
 ghost use Rattle.step_eval.specs.Nests.{nested_of, phases_of, nested_writes, IsFitNest};
@@ -164,6 +164,22 @@ impl<'p> Team<'p> {
         ensures { MovesOn self.old piece.entry result self.new }
     {
         match self.barrier.arrive(piece) {
+            Arrival::Kept => Ok(Arrival::Kept),
+            Arrival::Stranger(piece) => Ok(Arrival::Stranger(piece)),
+            Arrival::Opened(written) => {
+                self.go_on(&written)?;
+                Ok(Arrival::Opened(written))
+            }
+        }
+    }
+
+    /// What `arrive` does with a piece whose place is known: that of its job, which must be open. No jobs are compared.
+    pub fn keep(&mut self, piece: Piece<'p>) -> Result<Arrival<'p>, AllocError>
+        requires own { IsPlaceOf self.old.barrier piece.job.place piece.job }
+        requires open { IsMarked self.old.barrier piece.job.place Open }
+        ensures { MovesOn self.old piece.entry result self.new }
+    {
+        match self.barrier.keep(piece) {
             Arrival::Kept => Ok(Arrival::Kept),
             Arrival::Stranger(piece) => Ok(Arrival::Stranger(piece)),
             Arrival::Opened(written) => {
