@@ -102,13 +102,18 @@ impl<'a, 'r, 'p, R: Wait + 'a> TeamHand<'a, 'r, 'p, R> {
         if let Some(team) = shared.lock.lock(rt).as_mut() {
             if team.is_open(place) {
                 team.fail(place);
+                shared.show_over(team);
             }
         }
     }
 
-    /// Whether the last phase of the team has opened or the team is failed. One that was handed out is over.
+    /// Whether the last phase of the team has opened or the team is failed. One that was handed out is over. The lock isn't
+    /// taken as long as it isn't shown beside it.
     pub fn is_over(&self, rt: &R) -> bool {
         let shared = self.shared;
+        if !shared.shows_over() {
+            return false;
+        }
         match shared.lock.lock(rt).as_ref() {
             Some(team) => team.is_over(),
             None => true,
@@ -216,12 +221,8 @@ impl<'a, 'r, 'p, R: Wait + 'a> Scheduler for TeamHand<'a, 'r, 'p, R> {
         self.shared.nested().site
     }
 
-    fn register(&mut self, hold: &'a R, child: u16) -> TeamHeard {
-        let shared = self.shared;
-        match shared.lock.lock(hold).as_mut() {
-            Some(team) => team.register((), child),
-            None => heard(Call::Registered, child, 0),
-        }
+    fn register(&mut self, _hold: &'a R, child: u16) -> TeamHeard {
+        heard(Call::Registered, child, 0)
     }
 
     fn unregister(&mut self, hold: &'a R, child: u16) -> TeamHeard {
@@ -240,12 +241,8 @@ impl<'a, 'r, 'p, R: Wait + 'a> Scheduler for TeamHand<'a, 'r, 'p, R> {
         }
     }
 
-    fn yielded(&mut self, hold: &'a R, child: u16) -> TeamHeard {
-        let shared = self.shared;
-        match shared.lock.lock(hold).as_mut() {
-            Some(team) => team.yielded((), child),
-            None => heard(Call::Yielded, child, 0),
-        }
+    fn yielded(&mut self, _hold: &'a R, child: u16) -> TeamHeard {
+        heard(Call::Yielded, child, 0)
     }
 
     fn enter(&mut self, hold: &'a R) -> Next<TeamWork<'p>> {
@@ -262,12 +259,8 @@ impl<'a, 'r, 'p, R: Wait + 'a> Scheduler for TeamHand<'a, 'r, 'p, R> {
         unreachable!()
     }
 
-    fn block(&mut self, hold: &'a R) -> TeamHeard {
-        let shared = self.shared;
-        match shared.lock.lock(hold).as_mut() {
-            Some(team) => team.block(()),
-            None => heard(Call::Blocked, 0, 0),
-        }
+    fn block(&mut self, _hold: &'a R) -> TeamHeard {
+        heard(Call::Blocked, 0, 0)
     }
 
     fn unblock(&mut self, hold: &'a R, c: TeamWork<'p>) -> Result<(), TeamWork<'p>> {

@@ -12,7 +12,7 @@ use lithe_barrier::Arrival;
 use sched_api::{Next, Scheduler};
 use std::alloc::{AllocError, Global};
 use std::marker::Model;
-use std::sync::atomic::{AtomicU64, Ordering};
+use std::sync::atomic::{AtomicBool, AtomicU64, Ordering};
 use std::sync::{Mutex, Wait};
 use step_eval::Nested;
 
@@ -28,6 +28,8 @@ pub struct SharedTeam<'p> {
     phase: AtomicU64,
     // How many contexts are ready. It changes under the lock.
     ready: AtomicU64,
+    // Whether the team is over. It changes under the lock.
+    over: AtomicBool,
 }
 
 impl<'p> Model for SharedTeam<'p> {
@@ -51,6 +53,7 @@ impl<'p> SharedTeam<'p> {
         let nested = team.nested().copy()?;
         let phase = u64::from(running(&nested, team.opened()));
         let ready = team.ready_count() as u64;
+        let over = team.is_over();
         let slots = members(alloc, &mut team, nested.members())?;
         Ok(SharedTeam {
             lock: Mutex::new(Some(team)),
@@ -58,6 +61,7 @@ impl<'p> SharedTeam<'p> {
             slots,
             phase: AtomicU64::new(phase),
             ready: AtomicU64::new(ready),
+            over: AtomicBool::new(over),
         })
     }
 
@@ -94,7 +98,9 @@ impl<'p> SharedTeam<'p> {
     ) -> Result<Arrival<'p>, AllocError>
         ensures { IfOk result (λ arrival. GivesBack piece.entry arrival) }
     {
-        let arrival = team.arrive(piece)?;
+        let moved = team.arrive(piece);
+        self.show_over(team);
+        let arrival = moved?;
         if matches!(&arrival, Arrival::Opened(_)) && !team.is_over() {
             self.lay_out(rt, team);
         }
@@ -123,6 +129,16 @@ impl<'p> SharedTeam<'p> {
     fn show_ready(&self, team: &Team) {
         let ready = team.ready_count() as u64;
         self.ready.store(ready, Ordering::SeqCst);
+    }
+
+    // Whether the team was over when its lock was held last.
+    pub(crate) fn shows_over(&self) -> bool {
+        self.over.load(Ordering::SeqCst)
+    }
+
+    // Shows whether the team, which is that of the lock, is over.
+    pub(crate) fn show_over(&self, team: &Team) {
+        self.over.store(team.is_over(), Ordering::SeqCst);
     }
 
     // Looks for a ready context under the lock.
