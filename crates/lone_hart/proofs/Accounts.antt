@@ -5,10 +5,7 @@ use Rattle.std.specs.Option.{option_map}
 use Rattle.std.proofs.lemmas.Option.{slice_get_within, slice_get-map}
 use Rattle.array_jobs.specs.Jobs.{JobParts, job_of}
 use Rattle.array_jobs.specs.Groups.{IsGroup}
-use Rattle.array_jobs.specs.PieceParts.{PieceParts}
-use Rattle.join_book.specs.Books.{BookParts, Mark, Open, Filled, IsMarked, IsPlaceOf, IsFull, Deposits, open_book, marked_book}
-use Rattle.join_book.specs.declared.book.Deposit.{Deposit}
-use Rattle.join_book.specs.declared.book.Deposit.TheVariants.{Kept, Double, Stranger}
+use Rattle.join_book.specs.Books.{BookParts, Mark, Open, IsMarked, IsPlaceOf, IsFull, open_book, marked_book}
 use Rattle.join_book.proofs.BookLemmas.{at_other, at_same, at_replicate}
 use Rattle.sched_api.specs.declared.scheduler.Next.{Next}
 use Rattle.sched_api.specs.declared.scheduler.Next.TheVariants.{Run, Lend, Nothing}
@@ -145,25 +142,6 @@ came_back begin book agenda k mark closed stands = record {
 pub out_place : {C : Type 0} (begin : JobParts → C) (book : BookParts) (agenda : AgendaParts C) (job : JobParts) (k : ℕ) → slice_get book.jobs k ≡ Some job → Stands begin book agenda k (suc k) →
     (job.place ≡ k) × IsMarked book k Open × IsPlaceOf book k job
 out_place begin book agenda job k is stands = (stands.own k job is, stands.away k (omega arith) (slice_get_within book.jobs k job is), (job, is, refl))
-
--- a deposit of the job that is out
-pub deposited : {C : Type 0} (begin : JobParts → C) (before after : BookParts) (agenda : AgendaParts C) (piece : PieceParts) (answer : Deposit) →
-    AllButOneCameBack begin before agenda piece.job → Deposits before piece answer after → (after.jobs ≡ before.jobs) × AllCameBack begin after agenda
-deposited begin before after agenda piece Kept (k, is, stands) does =
-    let place = out_place begin before agenda piece.job k is stands in
-    let here : after ≡ marked_book before k Filled = subst (λ i. after ≡ marked_book before i Filled) place.0 does.2 in (
-      ap (λ (b : BookParts). b.jobs) here,
-      (suc k, subst (λ (b : BookParts). Stands begin b agenda (suc k) (suc k)) (sym here) (came_back begin before agenda k Filled (λ e. unlike e) stands)),
-    )
-  where
-    unlike : Filled ≡ Open → ⊥
-    unlike e = cc
-deposited begin before after agenda piece (Double back) (k, is, stands) does =
-    let place = out_place begin before agenda piece.job k is stands in
-    absurd (does.1 (subst (λ i. IsMarked before i Open) (sym place.0) place.1))
-deposited begin before after agenda piece (Stranger back) (k, is, stands) does =
-    let place = out_place begin before agenda piece.job k is stands in
-    absurd (does.0 k place.2)
 
 -- a wish that was heard changes nothing of it
 pub heard : {C : Type 0} (begin : JobParts → C) (book : BookParts) (agenda : AgendaParts C) (wishes : WishList) (done begun : ℕ) → Stands begin book agenda done begun →

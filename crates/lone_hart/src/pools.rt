@@ -56,7 +56,7 @@ pub fn deposit_in_pool<'p>(pool: &mut Pool<'p>, piece: Piece<'p>)
     ensures agenda { pool.new.agenda ≡ pool.old.agenda }
     ensures account { AllCameBack Begin pool.new.book pool.new.agenda }
 {
-    let _ = pool.deposit(piece);
+    pool.keep(piece);
 }
 
 /// A piece found no memory.

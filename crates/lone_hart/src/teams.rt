@@ -59,7 +59,7 @@ pub fn arrive_in_team<'p>(team: &mut Team<'p>, piece: Piece<'p>)
 {
     // What is known of the construct.
     let _ = team.nested();
-    let _ = team.arrive(piece);
+    let _ = team.keep(piece);
 }
 
 /// A piece found no memory.
