@@ -18,8 +18,8 @@ use std::marker::PhantomData;
 use std::sync::Wait;
 
 /// One hart's hand on a shared team. It claims the members of the phase that runs with the hart's seat, beside the lock. Its
-/// other calls do what those of `Team` do, under the lock, for which each but `site` may wait. Once the team is handed out,
-/// `enter` answers Nothing and `unblock` gives its context back.
+/// other calls do what those of `Team` do, under the lock, for which each may wait but `site` and the callbacks that change
+/// no list. Once the team is handed out, `enter` answers Nothing and `unblock` gives its context back.
 pub struct TeamHand<'a, 'r, 'p, R> {
     pub seat: &'r mut ClaimSeat,
     pub shared: &'a SharedTeam<'p>,
