@@ -11,4 +11,4 @@ mod table;
 pub use claimed::Claimed;
 pub use seat::ClaimSeat;
 pub use sight::{Look, LookKind, Sight};
-pub use table::ClaimTable;
+pub use table::{ClaimTable, MOST_ROWS};

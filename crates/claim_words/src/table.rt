@@ -1,5 +1,6 @@
 //! The words by which members are claimed.
 ghost use Rattle.std.specs.Prelude.{◌≡◌, ◌<◌, ◌≤◌, ◌+◌, ◌-◌, [], length, map, All, IfOk, vec_len};
+ghost use Rattle.claim_words.specs.declared.table.TheConstants.{MOST_ROWS};
 
 use crate::claimed::Claimed;
 use crate::plays::{ClaimRule, DrawPlay, LookPlay, Share};
@@ -8,6 +9,9 @@ use crate::sight::Sight;
 use atomic_table::Table;
 use std::alloc::{AllocError, Global};
 
+/// The greatest number of rows of a table: a row's number has 16 bits.
+pub const MOST_ROWS: usize = 65_535;
+
 /// The words by which harts claim the members of rows, a word for each row and a spare one. Harts share it by reference; each
 /// claims with a seat of its own.
 #[derive(Drop)]
@@ -15,7 +19,7 @@ pub struct ClaimTable {
     pub(crate) table: Table<u8, Sight, Vec<u8>, ClaimRule, Global>,
     pub(crate) counts: Vec<u8>,
     pub ghost key: { table.shared.key.items ≡ counts.items },
-    pub ghost few: { length counts.items ≤ 65535 },
+    pub ghost few: { length counts.items ≤ MOST_ROWS },
     pub ghost wide: { table.shared.table_id.words ≡ length counts.items + 1 },
     pub ghost slotless: { table.shared.table_id.slots ≡ 0 },
 }
@@ -24,13 +28,13 @@ impl ClaimTable {
     ghost use Rattle.claim_words.specs.Claims.{fresh};
     ghost use Rattle.claim_words.specs.Seats.{AreAll, IsOf, IsNew, ClaimGives, kin};
 
-    /// Words for rows with so many members each, none of which is claimed, at most 65,535 rows; and so many seats, at least one.
+    /// Words for rows with so many members each, none of which is claimed, at most `MOST_ROWS` rows; and so many seats, at least one.
     pub fn new(
         alloc: Global,
         counts: &[u8],
         seats: u8,
     ) -> Result<(ClaimTable, Vec<ClaimSeat>), AllocError>
-        requires { (1 ≤ seats) × (length counts.now ≤ 65535) }
+        requires { (1 ≤ seats) × (length counts.now ≤ MOST_ROWS) }
         ensures counts { IfOk result (λ t. t.0.counts.items ≡ counts.now) }
         ensures seats { IfOk result (λ t. vec_len t.1 ≡ seats) }
         ensures all { IfOk result (λ t. AreAll t.0 (map kin t.1.items)) }
@@ -47,7 +51,7 @@ impl ClaimTable {
 
     // The words, and a seat with all parts.
     fn open(alloc: Global, counts: &[u8]) -> Result<(ClaimTable, ClaimSeat), AllocError>
-        requires { length counts.now ≤ 65535 }
+        requires { length counts.now ≤ MOST_ROWS }
         ensures counts { IfOk result (λ t. t.0.counts.items ≡ counts.now) }
         ensures of { IfOk result (λ t. t.1.seat.table_id ≡ t.0.table.shared.table_id) }
         ensures fresh { IfOk result (λ t. t.1.seat.me.0 ≡ fresh 256 counts.now) }

@@ -1,11 +1,18 @@
 -- What the calls of a hart's rows do.
-use Rattle.std.specs.Prelude.{◌≡◌, ℕ, ◌-◌, [], ◌∷◌, slice_set, Option, Some, None}
+use Rattle.std.specs.Prelude.{◌≡◌, ◌⊎◌, ℕ, ◌-◌, [], ◌∷◌, slice_index_or, slice_set, Option, Some, None}
 use Rattle.deque_rows.specs.declared.account.Log.{Log}
 use Rattle.deque_rows.specs.declared.hart.HartRows.{HartRows}
 use Rattle.deque_rows.specs.declared.stolen.Stolen.{Stolen}
 use Rattle.deque_rows.specs.declared.stolen.Stolen.TheVariants.{Code, Empty}
-use Rattle.deque_rows.specs.Account.{after_push, after_steal, Pops, HeldAtMost, Rose}
-use Rattle.deque_rows.specs.Rows.{place, home_logs, pass_logs, bares, home_log, pass_log, bare}
+use Rattle.deque_rows.specs.Account.{idle, after_push, after_steal, Pops, HeldAtMost, Rose}
+use Rattle.deque_rows.specs.Rows.{IsLevel, place, home_logs, pass_logs, bares, home_log, pass_log, bare}
+
+-- The row at this place, among all rows, was bare at a moment, by what the hart knows of it: it held no code, where it is the
+-- hart's own, or at most one.
+abbrev pub WasBare : HartRows → ℕ → Type 0
+WasBare rows row =
+    ((level : ℕ) × IsLevel level × (row ≡ place rows.hart level) × HeldAtMost 0 (home_log rows level))
+    ⊎ HeldAtMost 1 (slice_index_or (pass_logs rows) row idle)
 
 -- a further moment at which this row was found bare, and of no other row
 abbrev pub FoundBare : HartRows → ℕ → ℕ → HartRows → Type 0

@@ -2,7 +2,7 @@
 ghost use Rattle.std.specs.Prelude.{◌≡◌, ℕ, ◌+◌, ◌-◌, ◌*◌, ◌<◌, ◌≤◌, length, slice_set, slice_index};
 ghost use Rattle.deque_rows.specs.Account.{Rose};
 ghost use Rattle.deque_rows.specs.Rows.{IsLevel, place, row_room, home_log, home_logs, pass_logs, bares, kin};
-ghost use Rattle.deque_rows.specs.Calls.{FoundBare, Pushes, PopGives, StealGives};
+ghost use Rattle.deque_rows.specs.Calls.{FoundBare, Pushes, PopGives, StealGives, WasBare};
 
 use crate::hart::HartRows;
 use crate::stolen::Stolen;
@@ -76,9 +76,10 @@ impl HartRows {
         }
     }
 
-    // Raises the count of moments at which the row was found bare.
+    // Raises the count of moments at which the row was found bare, as it was.
     fn note_bare(&mut self, row: usize)
-        requires { row < length self.old.bare.items }
+        requires row { row < length self.old.bare.items }
+        requires bare { WasBare self.old row }
         ensures kin { kin self.new ≡ kin self.old }
         ensures same { (home_logs self.new ≡ home_logs self.old)
             × (pass_logs self.new ≡ pass_logs self.old) }

@@ -38,11 +38,12 @@ LooksBy before (Run work) after = HasSeen before Work after
 LooksBy before (Lend site) after = HasSeen before Work after
 LooksBy before Nothing after = HasSeen before HandedOut after ⊎ HasSeen before NoneLeft after
 
--- What a hart is told, and by what: a job by its code, taken in this call, or else by a look of this call under the lock. Nothing comes only where
+-- What a hart is told, and by what: a job of the hand's site by its code, taken in this call, or else by a look of this call under the lock. Nothing comes only where
 -- the row was found bare in this call, and a look of this call found the pool handed out, or nothing left in it.
 abbrev pub Tells : {R : Type 0} → PoolHand R → Next PoolWork → PoolHand R → Type 0
 Tells before (Run (Begin job)) after =
-    HasTaken before.home before.level (code_of job) before.rows.now after.rows.now
+    ((job.site ≡ before.shared.now.site)
+    × HasTaken before.home before.level (code_of job) before.rows.now after.rows.now)
     ⊎ Sees before.looks Work after.looks
 Tells before (Run (Ready context)) after = Sees before.looks Work after.looks
 Tells before (Lend site) after = Sees before.looks Work after.looks

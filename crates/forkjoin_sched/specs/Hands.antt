@@ -82,10 +82,11 @@ abbrev pub TakesCode : ℕ → ℕ → HartRows → Option ℕ → HartRows → 
 TakesCode home level before (Some code) after = HasTaken home level code before after
 TakesCode home level before None after = IsFoundBare home level before after
 
--- a job whose code was taken, or none, and the row was found bare
-abbrev pub TakesPiece : ℕ → ℕ → HartRows → Option JobParts → HartRows → Type 0
-TakesPiece home level before (Some job) after = HasTaken home level (code_of job) before after
-TakesPiece home level before None after = IsFoundBare home level before after
+-- a job of the site whose code was taken, or none, and the row was found bare
+abbrev pub TakesPiece : ℕ → ℕ → ℕ → HartRows → Option JobParts → HartRows → Type 0
+TakesPiece site home level before (Some job) after =
+    (job.site ≡ site) × HasTaken home level (code_of job) before after
+TakesPiece site home level before None after = IsFoundBare home level before after
 
 -- the places fall, each of them below n and none below `least`
 abbrev pub IsFalling : ℕ → ℕ → List ℕ → Type 0

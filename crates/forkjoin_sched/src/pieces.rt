@@ -20,7 +20,7 @@ pub(crate) fn take_piece<'p, R: Wait>(
 ) -> Option<Job<'p>>
     requires row { IsLevel level × (home < rows.old.harts) }
     ensures keeps { Keeps rows.old rows.new }
-    ensures takes { TakesPiece home level rows.old result rows.new }
+    ensures takes { TakesPiece shared.now.site home level rows.old result rows.new }
 {
     for _ in rt.forever() {
         let code = take_code(rt, rows, home, level)?;
@@ -72,13 +72,13 @@ fn steal_code<R: Wait>(rt: &R, rows: &mut HartRows, home: u8, level: u8) -> Opti
     }
 }
 
-// The job of this code, where it lies in its slot, from which it is taken.
+// The job of this code, where it is one of this pool's and lies in its slot, from which it is taken.
 fn job_of<'p, R: Wait>(rt: &R, shared: &SharedPool<'p>, code: u32) -> Option<Job<'p>>
-    ensures { IfSome result (λ job. code_of job ≡ code) }
+    ensures { IfSome result (λ job. (job.site ≡ shared.now.site) × (code_of job ≡ code)) }
 {
     let mut slot = shared.slots().get((code % 64) as usize)?.lock(rt);
     match slot.as_ref() {
-        Some(job) if code_at(job.site, job.place) == code => {}
+        Some(job) if job.site == shared.site() && code_at(job.site, job.place) == code => {}
         Some(_) => return None,
         None => return None,
     }

@@ -1,1 +1,2 @@
+pub mod ClaimRows
 pub mod Stocks

@@ -1,3 +1,4 @@
+pub mod ClaimRows
 pub mod Kins
 pub mod Places
 pub mod Trials

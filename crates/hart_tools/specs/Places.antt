@@ -1,5 +1,5 @@
 -- The schedulers for which a hart has rows.
-use Rattle.std.specs.Prelude.{◌<◌}
+use Rattle.std.specs.Prelude.{◌<◌, ℕ, Option, Some, None}
 use Rattle.deque_rows.specs.Rows.{Kin, IsLevel}
 use Rattle.claim_words.specs.Seats.{SeatKin, IsOf}
 use Rattle.loop_team.specs.Rows.{RowsFit}
@@ -23,3 +23,10 @@ Fits k (Base lock) = Unit {0}
 Fits k (Pool place) = PoolFits k.rows place
 Fits k (Team place) = TeamFits k.seat place
 Fits k Nobody = Unit {0}
+
+-- the site of a scheduler that can be entered
+abbrev pub entrance_of : Grip → Option ℕ
+entrance_of (Base lock) = None
+entrance_of (Pool place) = Some place.pool.now.site
+entrance_of (Team place) = Some place.team.now.site
+entrance_of Nobody = None

@@ -5,13 +5,14 @@ use Rattle.sched_api.specs.declared.scheduler.Lent.{Lent}
 use Rattle.sched_api.specs.declared.scheduler.Lent.TheVariants as lent
 use Rattle.sched_api.specs.declared.scheduler.Next.{Next}
 use Rattle.sched_api.specs.declared.scheduler.Next.TheVariants.{Run, Lend, Nothing}
+use Rattle.hart_port.specs.Count.{Rose}
 use Rattle.hart_port.specs.PortView.{PortView, entered}
 use Rattle.forkjoin_sched.specs.declared.work.PoolWork.{PoolWork}
 use Rattle.forkjoin_sched.specs.declared.work.PoolWork.TheVariants as pool
 use Rattle.loop_team.specs.declared.work.TeamWork.{TeamWork}
 use Rattle.loop_team.specs.declared.work.TeamWork.TheVariants as team
 use Rattle.hart_tools.specs.declared.trial.Trial.{Trial}
-use Rattle.hart_tools.specs.declared.trial.Trial.TheVariants.{Inside, NotWanted, Moved}
+use Rattle.hart_tools.specs.declared.trial.Trial.TheVariants.{Inside, NotWanted, Moved, Elsewhere}
 
 -- what a pool or a team tells, where it is no context that waits to go on
 abbrev pub pool_tells : Next PoolWork → Option (Next JobParts)
@@ -42,3 +43,11 @@ abbrev pub HasTried : PortView → ℕ → Trial → PortView → Type 0
 HasTried v s (Inside told) after = after ≡ entered v s
 HasTried v s NotWanted after = after ≡ v
 HasTried v s Moved after = after ≡ v
+HasTried v s Elsewhere after = after ≡ v
+
+-- the port's count of refusals rose where it refused the try, and is as it was where it didn't
+abbrev pub RoseUnlessTried : Trial → ℕ → ℕ → Type 0
+RoseUnlessTried (Inside told) before after = after ≡ before
+RoseUnlessTried NotWanted before after = Rose before after
+RoseUnlessTried Moved before after = Rose before after
+RoseUnlessTried Elsewhere before after = after ≡ before

@@ -1,9 +1,12 @@
 //! The claim words of a run, and where a site's rows are.
-ghost use Rattle.std.specs.Prelude.{◌≡◌, ◌≤◌, IfOk, [], length, map, vec_len};
+ghost use Rattle.std.specs.Prelude.{◌≡◌, ◌≤◌, ℕ, IfOk, OnOk, None, ◌++◌, length, map, replicate, take, vec_len};
 ghost use Rattle.std.specs.Option.{ForSome};
 ghost use Rattle.claim_words.specs.Seats.{AreAll, kin};
+ghost use Rattle.claim_words.specs.declared.table.TheConstants.{MOST_ROWS};
 ghost use Rattle.loop_team.specs.Rows.{RowsFit};
+ghost use Rattle.hart_tools.specs.ClaimRows.{claim_rows, shape_of, at_site, AreBehind, IsFirstRow};
 
+use claim_words::MOST_ROWS;
 use disjoint_check::Accepted;
 use loop_team::{ClaimSeat, ClaimTable, rows_fit};
 use std::alloc::{AllocError, Global};
@@ -11,11 +14,13 @@ use step_eval::Nested;
 
 // Where the rows of a site are.
 #[derive(Clone, Copy)]
-struct SiteRows {
+pub(crate) struct SiteRows {
     // How deep the site is: 1 if no site is around it. Only levels up to 3 have rows of codes.
     level: u8,
     // The claim row of a `team`'s first phase.
     first: u16,
+    // The members of a `team`, the branches of a `par`.
+    members: u8,
     // How many phases the `team` has; none of a `par`.
     phases: u8,
 }
@@ -24,11 +29,14 @@ struct SiteRows {
 #[derive(Drop)]
 pub struct Claims {
     pub(crate) table: ClaimTable,
-    sites: Vec<SiteRows>,
+    pub(crate) sites: Vec<SiteRows>,
+    pub ghost rows: { table.counts.items ≡ claim_rows (map shape_of sites.items) },
+    pub ghost behind: { AreBehind sites.items },
 }
 
 impl Claims {
-    /// The claim words of a program, and a seat for each of so many harts.
+    /// The claim words of a program, and a seat for each of so many harts. A site has its members, once for each phase; sites
+    /// for which a table has no further row have none.
     pub fn new(
         alloc: Global,
         accepted: &Accepted<'_>,
@@ -37,9 +45,10 @@ impl Claims {
         requires { 1 ≤ harts }
         ensures count { IfOk result (λ t. vec_len t.1 ≡ harts) }
         ensures all { IfOk result (λ t. AreAll t.0.table (map kin t.1.items)) }
+        ensures rows { IfOk result (λ t. t.0.table.counts.items ≡ claim_rows accepted.now.shapes) }
+        ensures sites { IfOk result (λ t. map shape_of t.0.sites.items ≡ accepted.now.shapes) }
     {
-        let mut counts = Vec::new(alloc);
-        let sites = site_rows(alloc, accepted, &mut counts)?;
+        let (sites, counts) = site_rows(alloc, accepted)?;
         let (table, seats) = ClaimTable::new(alloc, counts.as_slice(), harts)?;
         Ok((Claims { table, sites }, seats))
     }
@@ -49,12 +58,21 @@ impl Claims {
         level_in(&self.sites, site)
     }
 
-    /// The claim row of the first phase of a `team`, where its site has rows for just so many phases and members.
+    /// The claim row of the first phase of a `team`. None exactly where its site hasn't rows for just so many phases and
+    /// members.
     pub(crate) fn row_of(&self, nested: &Nested<'_>) -> Option<u16>
-        ensures { ForSome result (λ row. RowsFit self.now.table.counts.items row nested.now) }
+        ensures fits { ForSome result (λ row. RowsFit self.now.table.counts.items row nested.now) }
+        ensures first { ForSome result
+            (λ row. IsFirstRow (map shape_of self.now.sites.items) nested.now row) }
+        ensures none { result ≡ None → (row : ℕ)
+            → IsFirstRow (map shape_of self.now.sites.items) nested.now row
+            → RowsFit self.now.table.counts.items row nested.now → ⊥ }
     {
         let rows = rows_of(&self.sites, nested.site)?;
-        if rows.phases == nested.phases() && rows_fit(&self.table, rows.first, nested) {
+        if rows.phases != nested.phases() {
+            return None;
+        }
+        if rows_fit(&self.table, rows.first, nested) {
             Some(rows.first)
         } else {
             None
@@ -71,7 +89,9 @@ impl Claims {
 }
 
 // The rows of a site, which are at the place before its number.
-fn rows_of(sites: &[SiteRows], site: u16) -> Option<SiteRows> {
+fn rows_of(sites: &[SiteRows], site: u16) -> Option<SiteRows>
+    ensures { result ≡ at_site sites.now site }
+{
     if site == 0 {
         return None;
     }
@@ -87,37 +107,38 @@ fn level_in(sites: &[SiteRows], site: u16) -> u8 {
 }
 
 // The rows of each site, and the members of each claim row.
-fn site_rows(
-    alloc: Global,
-    accepted: &Accepted<'_>,
-    counts: &mut Vec<u8>,
-) -> Result<Vec<SiteRows>, AllocError>
-    requires { length counts.old.items ≤ 65535 }
-    ensures { length counts.new.items ≤ 65535 }
+fn site_rows(alloc: Global, accepted: &Accepted<'_>) -> Result<(Vec<SiteRows>, Vec<u8>), AllocError>
+    ensures sites { IfOk result (λ t. map shape_of t.0.items ≡ accepted.now.shapes) }
+    ensures rows { IfOk result (λ t. t.1.items ≡ claim_rows (map shape_of t.0.items)) }
+    ensures behind { IfOk result (λ t. AreBehind t.0.items) }
+    ensures few { IfOk result (λ t. vec_len t.1 ≤ MOST_ROWS) }
 {
     let plan = accepted.plan();
     let mut sites: Vec<SiteRows> = Vec::with_capacity(alloc, usize::from(plan.sites()))?;
+    let mut counts = Vec::new(alloc);
     for place in 0..plan.sites() {
         let level = level_in(&sites, plan.parent(place + 1)).saturating_add(1);
         let (members, phases) = accepted.shape(place + 1);
         let first = counts.len() as u16;
-        add_rows(counts, members, phases)?;
+        add_rows(&mut counts, members, phases)?;
         sites.push(SiteRows {
             level,
             first,
+            members,
             phases,
         })?;
     }
-    Ok(sites)
+    Ok((sites, counts))
 }
 
 // Adds a claim row for each phase, as long as there is room.
 fn add_rows(counts: &mut Vec<u8>, members: u8, phases: u8) -> Result<(), AllocError>
-    requires { length counts.old.items ≤ 65535 }
-    ensures { length counts.new.items ≤ 65535 }
+    requires { length counts.old.items ≤ MOST_ROWS }
+    ensures { OnOk result
+        (counts.new.items ≡ take MOST_ROWS (counts.old.items ++ replicate phases members)) }
 {
-    for _ in 0..phases {
-        if counts.len() < 65_535 {
+    for done in 0..phases {
+        if counts.len() < MOST_ROWS {
             counts.push(members)?;
         }
     }

@@ -1,10 +1,11 @@
 //! What a hart does at the site of a pool.
-ghost use Rattle.std.specs.Prelude.{◌≡◌, IsTrue, ◌+◌, ◌≤◌, length};
+ghost use Rattle.std.specs.Prelude.{◌≡◌, ◌≢◌, IsTrue, ◌+◌, ◌≤◌, length};
 ghost use Rattle.transfer_table.specs.Plan.{IsSite, parent as parent_of};
 ghost use Rattle.hart_port.specs.PortView.{IsPortView};
 ghost use Rattle.deque_rows.specs.Rows.{IsLevel, home_log, row_room, kin};
 ghost use Rattle.hart_tools.specs.Places.{PoolFits};
-ghost use Rattle.hart_tools.specs.Trials.{HasTried, pool_tells, pool_trial};
+ghost use Rattle.hart_tools.specs.declared.trial.Trial.TheVariants.{Elsewhere};
+ghost use Rattle.hart_tools.specs.Trials.{HasTried, RoseUnlessTried, pool_tells, pool_trial};
 
 use crate::trial::Trial;
 use array_jobs::Job;
@@ -47,6 +48,8 @@ impl<'b, 'p> PoolPlace<'b, 'p> {
         requires known { IsSite (P.seen port.old).plan child }
         requires child { (P.seen port.old).owner ≡ parent_of (P.seen port.old).plan child }
         ensures does { HasTried (P.seen port.old) child result (P.seen port.new) }
+        ensures count { RoseUnlessTried result (P.refused port.old) (P.refused port.new) }
+        ensures elsewhere { result ≡ Elsewhere → child ≢ self.entry.pool.now.site }
         ensures kept { IsPortView (P.seen port.new) }
         ensures rows { kin rows.new ≡ kin rows.old }
     {
@@ -56,7 +59,7 @@ impl<'b, 'p> PoolPlace<'b, 'p> {
         } else {
             // A look at the owner tells what every port keeps.
             let _ = port.owner();
-            Trial::NotWanted
+            Trial::Elsewhere
         }
     }
 

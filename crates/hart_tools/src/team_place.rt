@@ -1,10 +1,11 @@
 //! What a hart does at the site of a team.
-ghost use Rattle.std.specs.Prelude.{◌≡◌};
+ghost use Rattle.std.specs.Prelude.{◌≡◌, ◌≢◌};
 ghost use Rattle.transfer_table.specs.Plan.{IsSite, parent as parent_of};
 ghost use Rattle.hart_port.specs.PortView.{IsPortView};
 ghost use Rattle.claim_words.specs.Seats.{kin};
 ghost use Rattle.hart_tools.specs.Places.{TeamFits};
-ghost use Rattle.hart_tools.specs.Trials.{HasTried, team_tells, team_trial};
+ghost use Rattle.hart_tools.specs.declared.trial.Trial.TheVariants.{Elsewhere};
+ghost use Rattle.hart_tools.specs.Trials.{HasTried, RoseUnlessTried, team_tells, team_trial};
 
 use crate::trial::Trial;
 use array_jobs::Job;
@@ -48,6 +49,8 @@ impl<'t, 'b, 'p> TeamPlace<'t, 'b, 'p> {
         requires known { IsSite (P.seen port.old).plan child }
         requires child { (P.seen port.old).owner ≡ parent_of (P.seen port.old).plan child }
         ensures does { HasTried (P.seen port.old) child result (P.seen port.new) }
+        ensures count { RoseUnlessTried result (P.refused port.old) (P.refused port.new) }
+        ensures elsewhere { result ≡ Elsewhere → child ≢ self.entry.team.now.site }
         ensures kept { IsPortView (P.seen port.new) }
         ensures seat { kin seat.new ≡ kin seat.old }
     {
@@ -57,7 +60,7 @@ impl<'t, 'b, 'p> TeamPlace<'t, 'b, 'p> {
         } else {
             // A look at the owner tells what every port keeps.
             let _ = port.owner();
-            Trial::NotWanted
+            Trial::Elsewhere
         }
     }
 

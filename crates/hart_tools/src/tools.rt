@@ -1,5 +1,5 @@
 //! What a hart has for all sites: its rows, its right to claim, and where each site's rows are.
-ghost use Rattle.std.specs.Prelude.{◌≡◌, ◌<◌, ◌↔◌, false, IsTrue, IfSome, IfOk, map, reverse, vec_len};
+ghost use Rattle.std.specs.Prelude.{◌≡◌, ◌≢◌, ◌<◌, ◌↔◌, false, Some, IsTrue, IfSome, IfOk, map, reverse, vec_len};
 ghost use Rattle.std.specs.Option.{ForSome};
 ghost use Rattle.transfer_table.specs.Plan.{IsSite, parent as parent_of};
 ghost use Rattle.hart_port.specs.PortView.{IsPortView, is_in, Registers, MayRequest, requested_by, yielded, MayUnregister, unregistered};
@@ -7,8 +7,9 @@ ghost use Rattle.join_book.specs.Books.{IsFull};
 ghost use Rattle.loop_team.specs.Teams.{IsOver};
 ghost use Rattle.deque_rows.specs.Rows.{IsLevel, kin as rows_kin};
 ghost use Rattle.claim_words.specs.Seats.{IsOf, kin as seat_kin};
-ghost use Rattle.hart_tools.specs.Places.{Fits, PoolFits, TeamFits};
-ghost use Rattle.hart_tools.specs.Trials.{HasTried};
+ghost use Rattle.hart_tools.specs.Places.{Fits, PoolFits, TeamFits, entrance_of};
+ghost use Rattle.hart_tools.specs.declared.trial.Trial.TheVariants.{Elsewhere};
+ghost use Rattle.hart_tools.specs.Trials.{HasTried, RoseUnlessTried};
 ghost use Rattle.hart_tools.specs.Stocks.{AreTools};
 
 use crate::claims::Claims;
@@ -337,6 +338,8 @@ impl<'t> Tools<'t> {
         requires known { IsSite (P.seen port.old).plan child }
         requires child { (P.seen port.old).owner ≡ parent_of (P.seen port.old).plan child }
         ensures does { HasTried (P.seen port.old) child result (P.seen port.new) }
+        ensures count { RoseUnlessTried result (P.refused port.old) (P.refused port.new) }
+        ensures elsewhere { result ≡ Elsewhere → entrance_of grip.entry ≢ Some child }
         ensures kept { IsPortView (P.seen port.new) }
         ensures tools { self.new ≡ self.old }
     {
@@ -346,7 +349,7 @@ impl<'t> Tools<'t> {
             _ => {
                 // A look at the owner tells what every port keeps.
                 let _ = port.owner();
-                Trial::NotWanted
+                Trial::Elsewhere
             }
         }
     }

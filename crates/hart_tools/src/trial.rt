@@ -11,4 +11,6 @@ pub enum Trial<'p> {
     NotWanted,
     /// Another hart moved at the same time.
     Moved,
+    /// The scheduler is of another site: the port was not asked.
+    Elsewhere,
 }

@@ -96,10 +96,11 @@ module _ {R : Type 0} where
 
   -- a member, whose job it is
   pub member_turn : (before after : TeamHand R) (phase m : ℕ) (job : JobParts) → RowsFit before.claims.now.counts.items before.row before.shared.now →
-      phase < phases_in before.shared.now → HasTried before phase (Member m) after → job.phase ≡ phase → job.place ≡ m → Enters before (Run (Begin job)) after
-  member_turn before after phase m job fits there tried same_phase same_place = record {
+      phase < phases_in before.shared.now → HasTried before phase (Member m) after → job.site ≡ before.shared.now.site → job.phase ≡ phase → job.place ≡ m → Enters before (Run (Begin job)) after
+  member_turn before after phase m job fits there tried same_site same_phase same_place = record {
     same = tried_same before after phase (Member m) tried;
     cause = inr (record {
+      site = same_site;
       phase = subst (λ n. n < phases_in before.shared.now) (sym same_phase) there;
       place = (let below = tried.gives.0 in let count = fits.same phase there in omega (arith, below, count, same_place));
       earlier = [];
@@ -207,6 +208,7 @@ module _ {R : Type 0} where
 
   later_claimed : (before mid after : TeamHand R) (job : JobParts) → HasGoneOn before mid → HasClaimed mid job after → HasClaimed before job after
   later_claimed before mid after job gone has = record {
+    site = has.site ∙ ap (λ (s : Bor NestedParts). s.now.site) gone.same.team;
     phase = (let e = ap (λ (s : Bor NestedParts). phases_in s.now) gone.same.team in let t = has.phase in omega (arith, e, t));
     place = (let e = ap (λ (s : Bor NestedParts). members_in s.now) gone.same.team in let t = has.place in omega (arith, e, t));
     earlier = gone.claimed.0 ++ has.earlier;

@@ -30,9 +30,10 @@ pub record HasFound {R : Type 0} (before : TeamHand R) (what : Found)
   pub looked : Rose before.looks after.looks
   pub last : after.found ≡ what
 
--- The seat claimed a member last: the job is that of its phase and place.
+-- The seat claimed a member last: the job is that of the team, its phase and place.
 pub record HasClaimed {R : Type 0} (before : TeamHand R) (job : JobParts)
     (after : TeamHand R) : Type 0 where
+  pub site : job.site ≡ before.shared.now.site
   pub phase : job.phase < phases_in before.shared.now
   pub place : job.place < members_in before.shared.now
   pub earlier : List (ℕ × ℕ)

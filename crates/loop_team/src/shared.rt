@@ -185,10 +185,12 @@ impl<'p> SharedTeam<'p> {
 
     // Takes the member of a place that is to begin this phase. None where another one stands there, which it leaves, or none.
     pub(crate) fn take_member<R: Wait>(&self, rt: &R, phase: u8, place: u8) -> Option<Job<'p>>
-        ensures { IfSome result (λ job. (job.phase ≡ phase) × (job.place ≡ place)) }
+        ensures { IfSome result (λ job. (job.site ≡ self.now.site) × (job.phase ≡ phase)
+            × (job.place ≡ place)) }
     {
         taken_of(
             &mut *self.slots.get(usize::from(place))?.lock(rt),
+            self.nested.site,
             phase,
             place,
         )
@@ -211,12 +213,13 @@ fn taken_at<'p>(kept: &mut Option<Job<'p>>, place: u8) -> Option<Job<'p>>
     }
 }
 
-// Takes the job if it is of this phase and place.
-fn taken_of<'p>(kept: &mut Option<Job<'p>>, phase: u8, place: u8) -> Option<Job<'p>>
-    ensures { IfSome result (λ job. (job.phase ≡ phase) × (job.place ≡ place)) }
+// Takes the job if it is of this site, phase and place.
+fn taken_of<'p>(kept: &mut Option<Job<'p>>, site: u16, phase: u8, place: u8) -> Option<Job<'p>>
+    ensures { IfSome result (λ job. (job.site ≡ site) × (job.phase ≡ phase)
+        × (job.place ≡ place)) }
 {
     match kept {
-        Some(job) if job.phase == phase && job.place == place => kept.take(),
+        Some(job) if job.site == site && job.phase == phase && job.place == place => kept.take(),
         Some(_) => None,
         None => None,
     }

@@ -8,9 +8,11 @@ pub loop-init : goal.loop-init
 loop-init g c = (keeps_none c.args.rows.now, refl, takes_none c.args.rows.now c.args.home c.args.level)
 
 pub returns-in-Some-job_of-clause-takes : goal.returns-in-Some-job_of-clause-takes
-returns-in-Some-job_of-clause-takes g c =
-    subst (λ code. HasTaken c.args.home c.args.level code c.args.rows.now c.take_code.new.rows) (sym c.in-Some-job_of.ensures)
-    (taken_then c.args.rows.now c.loop.rows c.take_code.new.rows c.args.home c.args.level c.in_ok-code.code c.loop.invariant.0 c.loop.invariant.2 c.in_ok-code.ensures.takes)
+returns-in-Some-job_of-clause-takes g c = (
+  c.in-Some-job_of.ensures.0,
+  subst (λ code. HasTaken c.args.home c.args.level code c.args.rows.now c.take_code.new.rows) (sym c.in-Some-job_of.ensures.1)
+      (taken_then c.args.rows.now c.loop.rows c.take_code.new.rows c.args.home c.args.level c.in_ok-code.code c.loop.invariant.0 c.loop.invariant.2 c.in_ok-code.ensures.takes),
+)
 
 pub loop-preserved : goal.loop-preserved
 loop-preserved g c = (

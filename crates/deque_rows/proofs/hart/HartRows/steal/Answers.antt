@@ -1,4 +1,4 @@
-use Rattle.std.proofs.Common.{refl, ℕ, ◌<◌, List, [], ◌∷◌, length, set, get_or, subst, slice_set, slice_index, arith, ap, ◌∙◌}
+use Rattle.std.proofs.Common.{refl, ℕ, ◌<◌, List, [], ◌∷◌, length, set, get_or, subst, slice_set, slice_index, arith, ap, sym, inr, ◌∙◌}
 use Rattle.deque_rows.specs.declared.account.Log.{Log}
 use Rattle.deque_rows.specs.Account.{idle, after_steal, HeldAtMost, Rose}
 use Rattle.deque_rows.specs.Rows.{Kin, RowName, kin, pass_log, pass_logs, bares}
@@ -25,6 +25,14 @@ returns-in-Some-clause-gives g c =
       refl,
       refl,
     )
+
+pub note_bare-requires-clause-bare : goal.note_bare-requires-clause-bare
+note_bare-requires-clause-bare g c =
+    let rows = c.args.self.now in
+    let there : c.place-row.result < length rows.ends.items = omega (arith, c.place-row.ensures, c.requires.hart, c.requires.level.1, rows.reaches) in
+    let at = end_at rows.ends.items c.place-row.result c.index_mut.result.now c.index_mut.ensures.value there in
+    let kept = end_kept rows.ends.items c.place-row.result c.steal.new.self c.index_mut.result.now c.index_mut.ensures.value c.in-None.ensures.none.0 in
+    inr (subst (λ (logs : List Log). HeldAtMost 1 (get_or logs c.place-row.result idle)) (sym kept) (subst (HeldAtMost 1) at c.in-None.ensures.none.1))
 
 pub returns-in-None-clause-kin : goal.returns-in-None-clause-kin
 returns-in-None-clause-kin g c =
