@@ -1,13 +1,14 @@
 //! The schedulers of the sites, and the machines, as one of several harts has them.
-ghost use Rattle.std.specs.Prelude.{◌≡◌, IfOk, OnOk, IsSome, false};
+ghost use Rattle.std.specs.Prelude.{◌≡◌, ◌≢◌, ◌≤◌, ◌⊎◌, IfOk, OnOk, IsSome, Some, None, false};
 ghost use Rattle.transfer_table.specs.Plan.{IsSite, parent as parent_of};
+ghost use Rattle.hart_port.specs.Count.{Rose};
 ghost use Rattle.hart_port.specs.PortView.{IsPortView};
 ghost use Rattle.step_eval.specs.Nests.{NestedParts, nested_of, nested_writes};
 ghost use Rattle.step_eval.specs.Machines.{left_of, is_awaiting, IsFinished};
 ghost use Rattle.contexts.specs.declared.machine.Step.TheVariants.{Finished};
 ghost use Rattle.hart_work.specs.Tasks.{Goes, HasEntered};
 ghost use Rattle.lone_hart.specs.Sites.{IsAwaitingWrites};
-ghost use Rattle.hart_tools.specs.Places.{Fits};
+ghost use Rattle.hart_tools.specs.Places.{Fits, entrance_of};
 ghost use Rattle.hart_loop.specs.Offers.{opened_by, IsOpened, task_told};
 
 use crate::hart_site::{HartSite, Keeper};
@@ -90,7 +91,8 @@ fn next_task<'t, 'p, R: Wait>(
     unreachable!()
 }
 
-// Tries to enter the child until it is inside or isn't wanted: where another hart moved at the same time, it looks again.
+// Tries to enter the child until it is inside or isn't wanted: where another hart moved at the same time, it looks again. A
+// hart that isn't inside was refused by the port, or has no scheduler of the child.
 fn enter_child<'t, 'p, P: Port, R: Wait>(
     rt: &R,
     tools: &mut Tools<'t>,
@@ -103,6 +105,9 @@ fn enter_child<'t, 'p, P: Port, R: Wait>(
     requires known { IsSite (P.seen port.old).plan child }
     requires child { (P.seen port.old).owner ≡ parent_of (P.seen port.old).plan child }
     ensures does { HasEntered (P.seen port.old) child result (P.seen port.new) }
+    ensures count { P.refused port.old ≤ P.refused port.new }
+    ensures refused { result ≡ None → Rose (P.refused port.old) (P.refused port.new)
+        ⊎ (entrance_of grip.entry ≢ Some child) }
     ensures kept { IsPortView (P.seen port.new) }
     ensures tools { tools.new ≡ tools.old }
 {
@@ -111,7 +116,7 @@ fn enter_child<'t, 'p, P: Port, R: Wait>(
         match tools.try_enter(rt, grip, port, hold, child) {
             Trial::Inside(Some(next)) => return Some(task_of(next)),
             Trial::Inside(None) => return Some(next_task(rt, tools, grip, false)),
-            Trial::NotWanted => return None,
+            Trial::NotWanted | Trial::Elsewhere => return None,
             Trial::Moved => backoff.spin(),
         }
     }

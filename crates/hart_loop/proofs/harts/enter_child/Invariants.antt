@@ -1,4 +1,4 @@
-use Rattle.std.proofs.Common.{◌≡◌}
+use Rattle.std.proofs.Common.{◌≡◌, ◌≤◌}
 use Rattle.hart_loop.proofs.harts.enter_child.Given as goal
 
 -- a try that didn't bring the hart inside left it where it was
@@ -7,5 +7,6 @@ invariant-tries g l = record {
   next : (goal.iterator-tries g).can_next l.iterator';
   finite : (goal.iterator-tries g).is_finite l.iterator';
   same : g.P.Port.seen l.port ≡ g.P.Port.seen l.fn.port;
+  count : g.P.Port.refused l.fn.port ≤ g.P.Port.refused l.port;
   tools : l.tools ≡ l.fn.tools;
 }
