@@ -6,7 +6,7 @@ use Rattle.std.specs.Fmt.{decimal}
 use Rattle.std.specs.List.{slice_split}
 use Rattle.std.specs.Option.{option_map, option_and_then}
 use Rattle.std.specs.Str.Parse.{digits_value}
-use Rattle.transfer_table.specs.Plan.{Plan, parent}
+use Rattle.transfer_table.specs.Plan.{Plan, parent, most_entries}
 use Rattle.transfer_table.specs.declared.entry.Entry.{Entry}
 use Rattle.transfer_table.specs.declared.entry.Entry.TheVariants.{Register, Request, Enter, Yield, Unregister, Skip}
 use Rattle.journal_text.specs.declared.fault.TextFault.{TextFault}
@@ -76,11 +76,22 @@ row_of (place ∷ hart ∷ action ∷ site ∷ more) =
     else None
 row_of words = None
 
+-- The greatest numbers that are read as a hart's, a site's and a count: those of one byte, of two, and of one. Whether the plan
+-- has such a hart and site is the table's to say.
+abbrev pub most_hart : ℕ
+most_hart = 255
+
+abbrev pub most_site : ℕ
+most_site = 65535
+
+abbrev pub most_count : ℕ
+most_count = 255
+
 -- the entry of a hart and a site, if the words for further numbers are right
 abbrev pub entry_by : Plan → ℕ → ℕ → Deed → Option Entry
 entry_by plan hart site (registers around) =
     if spells (parent plan site) around then Some (Register hart site) else None
-entry_by plan hart site (requests count) = option_map (Request hart site) (number_up_to 255 count)
+entry_by plan hart site (requests count) = option_map (Request hart site) (number_up_to most_count count)
 entry_by plan hart site enters = Some (Enter hart site)
 entry_by plan hart site yields = Some (Yield hart site)
 entry_by plan hart site unregisters = Some (Unregister hart site)
@@ -91,7 +102,7 @@ abbrev pub entry_in : Plan → ℕ → Row → Option Entry
 entry_in plan place row =
     if spells place row.place
     then option_and_then (λ hart. option_and_then (λ site. entry_by plan hart site row.deed)
-    (number_up_to 65535 row.site)) (number_up_to 255 row.hart)
+    (number_up_to most_site row.site)) (number_up_to most_hart row.hart)
     else None
 
 -- the value, or else this fault
@@ -113,7 +124,7 @@ entry_of plan place words =
 -- the number of transfers that the first line says
 abbrev pub count_in : List (List ℕ) → Result ℕ TextFault
 count_in (word ∷ number ∷ []) =
-    if is_word (codes "transfers") word then or_fault (BadNumber 1) (number_up_to 65535 number)
+    if is_word (codes "transfers") word then or_fault (BadNumber 1) (number_up_to most_entries number)
     else Err (BadLine 1)
 count_in words = Err (BadLine 1)
 

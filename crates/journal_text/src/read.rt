@@ -11,6 +11,9 @@ use crate::row::{entry_in, is_word, row_of};
 use std::alloc::{AllocError, Global};
 use transfer_table::{Entries, Entry, Plan};
 
+// The greatest number of entries of a list that is read: that of a legal one.
+const MOST_ENTRIES: u32 = 65_535;
+
 /// The entries of which the text is the journal, at most 65,535.
 ///
 /// Each such list has one text. Of a text that is the journal of no list the first fault is told.
@@ -86,7 +89,7 @@ fn count_by(words: &[&[u8]]) -> Result<u32, TextFault>
     if !is_word(word, b"transfers") {
         return Err(TextFault::BadLine { line: 1 });
     }
-    match number_up_to(number, 65535) {
+    match number_up_to(number, MOST_ENTRIES) {
         Some(number) => Ok(number),
         None => Err(TextFault::BadNumber { line: 1 }),
     }

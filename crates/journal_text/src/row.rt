@@ -7,6 +7,15 @@ ghost use Rattle.journal_text.specs.Seen.{deed_seen, row_seen};
 use crate::number::{number_up_to, spells};
 use transfer_table::{Entry, Plan};
 
+// The greatest number that is read as a hart's.
+const MOST_HART: u32 = 255;
+
+// The greatest number that is read as a site's.
+const MOST_SITE: u32 = 65_535;
+
+// The greatest number that is read as a count.
+const MOST_COUNT: u32 = 255;
+
 /// What a row says that its hart does at its site, with the words that stand for further numbers.
 #[derive(Clone, Copy)]
 pub enum Deed<'t> {
@@ -126,8 +135,8 @@ pub fn entry_in(plan: &Plan, place: u32, row: &Row<'_>) -> Option<Entry>
     if !spells(row.place, place) {
         return None;
     }
-    let hart = number_up_to(row.hart, 255)?;
-    let site = number_up_to(row.site, 65535)?;
+    let hart = number_up_to(row.hart, MOST_HART)?;
+    let site = number_up_to(row.site, MOST_SITE)?;
     entry_by(plan, hart as u8, site as u16, row.deed)
 }
 
@@ -144,7 +153,7 @@ fn entry_by(plan: &Plan, hart: u8, site: u16, deed: Deed<'_>) -> Option<Entry>
             }
         }
         Deed::Requests(count) => {
-            let count = number_up_to(count, 255)? as u8;
+            let count = number_up_to(count, MOST_COUNT)? as u8;
             Some(Entry::Request { hart, site, count })
         }
         Deed::Enters => Some(Entry::Enter { hart, site }),

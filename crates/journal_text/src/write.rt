@@ -1,13 +1,14 @@
 //! Writes a journal.
 ghost use Rattle.std.specs.Prelude.{◌≡◌, ◌≤◌, ◌<◌, ◌++◌, IfOk, OnOk, length, string_bytes};
+ghost use Rattle.transfer_table.specs.Plan.{most_entries};
 ghost use Rattle.journal_text.specs.JournalText.{journal_text, line_text, start_text, under_text};
 
 use std::alloc::{AllocError, Global};
 use transfer_table::{Entry, Plan};
 
-/// The journal of these entries, at most 65,535, as text.
+/// The journal of these entries, at most 65,535 (no legal list has more), as text.
 pub fn write_entries(alloc: Global, plan: &Plan, list: &[Entry]) -> Result<Vec<u8>, AllocError>
-    requires { length list.now ≤ 65535 }
+    requires { length list.now ≤ most_entries }
     ensures { IfOk result (λ text. text.items ≡ journal_text plan.now list.now) }
 {
     let mut text = String::new(alloc);

@@ -1,7 +1,7 @@
 //! The audit.
 ghost use Rattle.std.specs.Prelude.{◌≡◌, ◌≤◌, ◌+◌, length, Ok, Err, IfOk, MatchResult};
 ghost use Rattle.array_tree.specs.Trees.{program_of};
-ghost use Rattle.transfer_table.specs.Plan.{site_count};
+ghost use Rattle.transfer_table.specs.Plan.{site_count, most_entries};
 ghost use Rattle.array_meaning.specs.Work.{final_store};
 ghost use Rattle.array_eval.specs.ArrayText.{array_text};
 ghost use Rattle.journal_text.specs.Reading.{lines_of};
@@ -146,7 +146,7 @@ fn verdict(
     differs: Option<u32>,
     list: &Entries,
 ) -> Result<Verdict, AllocError>
-    requires few { length list.now ≤ 65535 }
+    requires few { length list.now ≤ most_entries }
     requires meant { length meant.now ≡ site_count plan.now }
     ensures { IfOk result
         (λ verdict. verdict ≡ verdict_of plan.now meant.now differs list.now) }
