@@ -1,16 +1,17 @@
 -- What a call has read, written and told. The bytes are those that the source gave; a source that tells its bytes had
 -- just these left. `make` reads none.
-use Rattle.std.specs.Prelude.{◌≡◌, ◌⊎◌, ℕ, List, Option, Some}
-use Rattle.outside_io.specs.Outside.{Appends}
+use Rattle.std.specs.Prelude.{◌≡◌, ◌≢◌, ◌⊎◌, ℕ, List, Option, Some, None}
+use Rattle.outside_io.specs.Outside.{Rose, Appends}
 use Rattle.lithe_call.specs.Telling.{AppendsPrefix, Tells}
-use Rattle.lithe_call.specs.Inputs.{ReadsAll, GivesTooMuch}
-use Rattle.lithe_call.specs.Output.{IsOutputOf}
+use Rattle.lithe_call.specs.Inputs.{AreInput, ReadsAll, GivesTooMuch, FailsToRead}
+use Rattle.lithe_call.specs.Output.{IsOutputOf, EndsWith}
 use Rattle.command_words.specs.Form.{form_of}
 use Rattle.lithe_call.specs.Faults.{IsNoText, IsRefused, IsLong}
 use Rattle.lithe_call.specs.Status.{constant_text}
 use Rattle.command_words.specs.declared.command.Command.{Command}
+use Rattle.command_words.specs.declared.command.Command.TheVariants.{Make}
 use Rattle.lithe_call.specs.declared.status.Status.{Status}
-use Rattle.lithe_call.specs.declared.status.Status.TheVariants.{Syntax, Refused}
+use Rattle.lithe_call.specs.declared.status.Status.TheVariants.{Done, Illegal, Usage, Syntax, Refused, TooLong, ReadFault, WriteFault, NoMemory}
 
 -- the words' command read these bytes to the end of the source, and this text is what it writes for them with this status
 pub record IsOutputFor (words : List (List ℕ)) (left left' : Option (List ℕ)) (status : Status)
@@ -65,3 +66,49 @@ pub record TellsStatus (words : List (List ℕ)) (status : Status)
   pub text : List ℕ
   pub right : IsTextOf words status left left' text
   pub tells : Tells taken faults text taken' faults'
+
+-- How a call sees the outside: what the source has left, what the sinks for the output and for what is told have taken, and the
+-- count of faults of each.
+pub record Outside (A B E : Type 0) : Type 0 where
+  pub left : A → Option (List ℕ)
+  pub read_faults : A → ℕ
+  pub taken : B → Option (List ℕ)
+  pub write_faults : B → ℕ
+  pub told : E → Option (List ℕ)
+  pub tell_faults : E → ℕ
+
+-- The words were served, with this status: what the source, the sink and the sink for what is told were before and are after.
+pub record AreServed {A B E : Type 0} (see : Outside A B E) (words : List (List ℕ)) (status : Status) (source source' : A)
+    (out out' : B) (err err' : E) : Type 0 where
+  -- The arrays are those of the one-thread meaning of the program that the source gave to its end, and the transfers are
+  -- a complete legal run of the program's table; an output that was audited is such, and a summary is that of such a run.
+  pub done : status ≡ Done
+      → WritesOutput words (see.left source) (see.left source') Done (see.taken out) (see.taken out')
+  -- An output that was audited isn't the program's, and the line says so.
+  pub illegal : status ≡ Illegal
+      → WritesOutput words (see.left source) (see.left source') Illegal (see.taken out) (see.taken out')
+  -- What is for the command is served with the status that it has, unless memory runs out or the outside fails.
+  pub complete : (command : Command) → form_of words ≡ Some command
+      → (bytes : List ℕ) → AreInput command (see.left source) bytes
+      → (ended : Status) → EndsWith command bytes ended
+      → (FailsToRead command (see.read_faults source) (see.read_faults source') → ⊥)
+      → (Rose (see.write_faults out) (see.write_faults out') → ⊥)
+      → (status ≡ ended) ⊎ (status ≡ NoMemory)
+  -- When each other status comes. What is told of Syntax and Refused has their causes. Words that are no form are Usage,
+  -- unless memory runs out while they are read.
+  pub usage : status ≡ Usage → form_of words ≡ None
+  pub no_form : form_of words ≡ None → (status ≡ Usage) ⊎ (status ≡ NoMemory)
+  pub too_long : status ≡ TooLong → IsTooLong words (see.left source) (see.left source')
+  pub read_fault : status ≡ ReadFault → Rose (see.read_faults source) (see.read_faults source')
+  pub write_fault : status ≡ WriteFault → Rose (see.write_faults out) (see.write_faults out')
+  pub lines : status ≢ Done → status ≢ Illegal
+      → TellsStatus words status (see.left source) (see.left source') (see.told err) (see.tell_faults err)
+      (see.told err') (see.tell_faults err')
+  -- What the source gave and what the sinks took otherwise.
+  pub prefix : status ≡ WriteFault
+      → WritesPrefix words (see.left source) (see.left source') (see.taken out) (see.taken out')
+  pub source_stays : form_of words ≡ None → source' ≡ source
+  pub made_from_nothing : (seed size harts : ℕ) → form_of words ≡ Some (Make seed size harts)
+      → source' ≡ source
+  pub out_stays : status ≢ Done → status ≢ Illegal → status ≢ WriteFault → out' ≡ out
+  pub err_stays : (status ≡ Done) ⊎ (status ≡ Illegal) → err' ≡ err

@@ -73,8 +73,8 @@ fn verdict(alloc: Global, harts: u8, first: &[u8], second: &[u8]) -> Result<Verd
     }
 }
 
-// The fault of a second part that is no output's text.
-fn text_fault(alloc: Global, fault: TextFault) -> Fault
+/// The fault of a second part that is no output's text.
+pub fn text_fault(alloc: Global, fault: TextFault) -> Fault
     ensures { TellsText fault result }
 {
     if fault == TextFault::Memory {

@@ -14,7 +14,7 @@ ghost use Rattle.lithe_call.specs.Output.{IsOutputOf, IsRunOf, EndsWith};
 ghost use Rattle.lithe_call.specs.Faults.{IsFault, IsNoOutput, IsNoRun};
 ghost use Rattle.lithe_call.specs.FaultOf.{status_of, line_of};
 ghost use Rattle.lithe_call.specs.Status.{constant_text};
-ghost use Rattle.lithe_call.specs.Served.{IsOutputFor, WritesOutput, WritesPrefix, IsTooLong, TellsStatus};
+ghost use Rattle.lithe_call.specs.Served.{IsOutputFor, AreServed};
 
 use crate::answer::{Answer, Ending};
 use crate::audit::audited;
@@ -48,49 +48,15 @@ pub fn lithe<R: Threads + Wait + Sync, A: Source, B: Sink, E: Sink, G: Gate>(
     err: &mut E,
     gate: &G,
 ) -> Status
-    // The arrays are those of the one-thread meaning of the program that the source gave to its end, and the transfers are
-    // a complete legal run of the program's table; an output that was audited is such, and a summary is that of such a run.
-    ensures done { result ≡ Status.Done → WritesOutput (map string_bytes words.now)
-        (A.left source.old) (A.left source.new) Status.Done (B.taken out.old) (B.taken out.new) }
-
-    // An output that was audited isn't the program's, and the line says so.
-    ensures illegal { result ≡ Status.Illegal → WritesOutput (map string_bytes words.now)
-        (A.left source.old) (A.left source.new) Status.Illegal (B.taken out.old) (B.taken out.new) }
-
-    // What is for the command is served with the status that it has, unless memory runs out or the outside fails.
-    ensures complete { (command : Command)
-        → (form : form_of (map string_bytes words.now) ≡ Some command)
-        → (bytes : List ℕ) → (told : AreInput command (A.left source.old) bytes)
-        → (status : Status) → (ends : EndsWith command bytes status)
-        → (source_is_calm : FailsToRead command (A.faults source.old) (A.faults source.new) → ⊥)
-        → (out_is_calm : Rose (B.faults out.old) (B.faults out.new) → ⊥)
-        → (result ≡ status) ⊎ (result ≡ Status.NoMemory) }
-
-    // When each other status comes. What is told of Syntax and Refused has their causes. Words that are no form are Usage,
-    // unless memory runs out while they are read.
-    ensures usage { result ≡ Status.Usage → form_of (map string_bytes words.now) ≡ None }
-    ensures no_form { form_of (map string_bytes words.now) ≡ None
-        → (result ≡ Status.Usage) ⊎ (result ≡ Status.NoMemory) }
-    ensures too_long { result ≡ Status.TooLong
-        → IsTooLong (map string_bytes words.now) (A.left source.old) (A.left source.new) }
-    ensures read_fault { result ≡ Status.ReadFault
-        → Rose (A.faults source.old) (A.faults source.new) }
-    ensures write_fault { result ≡ Status.WriteFault → Rose (B.faults out.old) (B.faults out.new) }
-    ensures told { result ≢ Status.Done → result ≢ Status.Illegal
-        → TellsStatus (map string_bytes words.now) result
-        (A.left source.old) (A.left source.new) (E.taken err.old) (E.faults err.old)
-        (E.taken err.new) (E.faults err.new) }
-
-    // What the source gave and what `out` and `err` took otherwise.
-    ensures prefix { result ≡ Status.WriteFault → WritesPrefix (map string_bytes words.now)
-        (A.left source.old) (A.left source.new) (B.taken out.old) (B.taken out.new) }
-    ensures source_stays { form_of (map string_bytes words.now) ≡ None → source.new ≡ source.old }
-    ensures made_from_nothing { (seed size harts : ℕ)
-        → form_of (map string_bytes words.now) ≡ Some (Make seed size harts)
-        → source.new ≡ source.old }
-    ensures out_stays { result ≢ Status.Done → result ≢ Status.Illegal → result ≢ Status.WriteFault
-        → out.new ≡ out.old }
-    ensures err_stays { (result ≡ Status.Done) ⊎ (result ≡ Status.Illegal) → err.new ≡ err.old }
+    // The clause `done` of this record is what the whole is for.
+    ensures served { AreServed (record {
+      left = A.left;
+      read_faults = A.faults;
+      taken = B.taken;
+      write_faults = B.faults;
+      told = E.taken;
+      tell_faults = E.faults;
+    }) (map string_bytes words.now) result source.old source.new out.old out.new err.old err.new }
 {
     match output_of(rt, alloc, gate, words, source) {
         Err(fault) => tell_fault(err, &fault),

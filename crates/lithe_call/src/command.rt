@@ -11,10 +11,10 @@ use command_words::{Command, command_of};
 use std::alloc::Global;
 
 /// The greatest length of a program, in bytes.
-pub(crate) const MOST_BYTES: usize = 65_536;
+pub const MOST_BYTES: usize = 65_536;
 
 /// The greatest length of the input of an audit, in bytes: a program and an output.
-const MOST_AUDITED: usize = 4_194_304;
+pub const MOST_AUDITED: usize = 4_194_304;
 
 /// The command that the words give, if they are a form. Else they are none, or memory ran out while they were read.
 pub fn asked_command(alloc: Global, words: &[String]) -> Result<Command, Fault>

@@ -1,17 +1,11 @@
 //! Runs programs of the array language over Lithe.
 #![tactic(auto)]
 
-ghost use Rattle.std.specs.Prelude.{◌≡◌, ◌≢◌, ◌⊎◌, ℕ, List, map, string_bytes, Some, None, IfOk, IfErr, IsErrOf};
-ghost use Rattle.outside_io.specs.Outside.{Rose};
-ghost use Rattle.command_words.specs.declared.command.Command.{Command};
-ghost use Rattle.command_words.specs.declared.command.Command.TheVariants.{Make};
-ghost use Rattle.command_words.specs.Form.{form_of};
+ghost use Rattle.std.specs.Prelude.{◌≡◌, map, string_bytes, IfOk, IfErr, IsErrOf};
 ghost use Rattle.lithe_call.specs.declared.status.Status.{Status};
 ghost use Rattle.lithe_call.specs.Status.{constant_text};
 ghost use Rattle.lithe_call.specs.Telling.{Tells};
-ghost use Rattle.lithe_call.specs.Inputs.{AreInput, FailsToRead};
-ghost use Rattle.lithe_call.specs.Output.{EndsWith};
-ghost use Rattle.lithe_call.specs.Served.{WritesOutput, WritesPrefix, IsTooLong, TellsStatus};
+ghost use Rattle.lithe_call.specs.Served.{AreServed};
 
 mod words;
 
@@ -42,45 +36,14 @@ fn serve<R: Threads + Wait + Sync, A: Source, B: Sink, E: Sink>(
     ensures nothing_written { IfErr words (λ _. out.new ≡ out.old) }
 
     // Where the words could be had, all that the contract of `lithe` says of them.
-    ensures done { IfOk words (λ list. result ≡ Status.Done
-        → WritesOutput (map string_bytes list.items) (A.left source.old) (A.left source.new)
-        Status.Done (B.taken out.old) (B.taken out.new)) }
-    ensures illegal { IfOk words (λ list. result ≡ Status.Illegal
-        → WritesOutput (map string_bytes list.items) (A.left source.old) (A.left source.new)
-        Status.Illegal (B.taken out.old) (B.taken out.new)) }
-    ensures complete { IfOk words (λ list. (command : Command)
-        → (form : form_of (map string_bytes list.items) ≡ Some command)
-        → (bytes : List ℕ) → (told : AreInput command (A.left source.old) bytes)
-        → (status : Status) → (ends : EndsWith command bytes status)
-        → (source_is_calm : FailsToRead command (A.faults source.old) (A.faults source.new) → ⊥)
-        → (out_is_calm : Rose (B.faults out.old) (B.faults out.new) → ⊥)
-        → (result ≡ status) ⊎ (result ≡ Status.NoMemory)) }
-    ensures usage { IfOk words (λ list. result ≡ Status.Usage
-        → form_of (map string_bytes list.items) ≡ None) }
-    ensures no_form { IfOk words (λ list. form_of (map string_bytes list.items) ≡ None
-        → (result ≡ Status.Usage) ⊎ (result ≡ Status.NoMemory)) }
-    ensures too_long { IfOk words (λ list. result ≡ Status.TooLong
-        → IsTooLong (map string_bytes list.items) (A.left source.old) (A.left source.new)) }
-    ensures read_fault { IfOk words (λ list. result ≡ Status.ReadFault
-        → Rose (A.faults source.old) (A.faults source.new)) }
-    ensures write_fault { IfOk words (λ list. result ≡ Status.WriteFault
-        → Rose (B.faults out.old) (B.faults out.new)) }
-    ensures told { IfOk words (λ list. result ≢ Status.Done → result ≢ Status.Illegal
-        → TellsStatus (map string_bytes list.items) result
-        (A.left source.old) (A.left source.new) (E.taken err.old) (E.faults err.old)
-        (E.taken err.new) (E.faults err.new)) }
-    ensures prefix { IfOk words (λ list. result ≡ Status.WriteFault
-        → WritesPrefix (map string_bytes list.items) (A.left source.old) (A.left source.new)
-        (B.taken out.old) (B.taken out.new)) }
-    ensures source_stays { IfOk words (λ list. form_of (map string_bytes list.items) ≡ None
-        → source.new ≡ source.old) }
-    ensures made_from_nothing { IfOk words (λ list. (seed size harts : ℕ)
-        → form_of (map string_bytes list.items) ≡ Some (Make seed size harts)
-        → source.new ≡ source.old) }
-    ensures out_stays { IfOk words (λ list. result ≢ Status.Done → result ≢ Status.Illegal
-        → result ≢ Status.WriteFault → out.new ≡ out.old) }
-    ensures err_stays { IfOk words (λ list. (result ≡ Status.Done) ⊎ (result ≡ Status.Illegal)
-        → err.new ≡ err.old) }
+    ensures served { IfOk words (λ list. AreServed (record {
+      left = A.left;
+      read_faults = A.faults;
+      taken = B.taken;
+      write_faults = B.faults;
+      told = E.taken;
+      tell_faults = E.faults;
+    }) (map string_bytes list.items) result source.old source.new out.old out.new err.old err.new) }
 {
     match words {
         Ok(words) => lithe(rt, alloc, &words, source, out, err, &OpenGate),
