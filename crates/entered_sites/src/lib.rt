@@ -1,0 +1,8 @@
+//! Which sites of a program's plan the one-thread meaning enters: both sides of an `if` have their sites in the plan, and
+//! the meaning enters those of one side.
+#![tactic(auto)]
+
+mod walk;
+mod walker;
+
+pub use walk::entered;
