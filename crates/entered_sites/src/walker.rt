@@ -119,7 +119,8 @@ impl Walker {
     }
 }
 
-// Tells of so many sites that they aren't entered. A list has no place for all that a count may say.
+// Tells of so many sites that they aren't entered. No list has 2^63 places, so this fails for a count that stands for all
+// above it.
 fn pass_over(count: u64, sites: &mut Vec<bool>) -> Result<(), AllocError>
     ensures told { IfOk result
         (λ _. sites.new.items ≡ sites.old.items ++ replicate count false) }
