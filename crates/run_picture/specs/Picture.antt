@@ -1,0 +1,62 @@
+-- What a picture of an output tells and shows.
+use Rattle.std.specs.Prelude.{ℕ, nat_lt, if◌then◌else◌, List, [], length, drop, Result, Ok, Err}
+use Rattle.transfer_table.specs.Plan.{Plan}
+use Rattle.transfer_table.specs.Journal.{all_meant}
+use Rattle.transfer_table.specs.declared.entry.Entry.{Entry}
+use Rattle.journal_text.specs.Reading.{lines_of, journal_in, and_then}
+use Rattle.journal_text.specs.declared.fault.TextFault.{TextFault}
+use Rattle.journal_text.specs.declared.fault.TextFault.TheVariants.{BadLine}
+use Rattle.array_tree.specs.Trees.{ProgramTree}
+use Rattle.array_meaning.specs.Work.{final_store}
+use Rattle.array_eval.specs.ArrayText.{array_text}
+use Rattle.run_audit.specs.Audit.{audit_of}
+use Rattle.run_audit.specs.AuditText.{verdict_text}
+use Rattle.run_audit.specs.declared.verdict.Verdict.{Verdict}
+use Rattle.journal_picture.specs.declared.shape.Shape.{Shape}
+use Rattle.journal_picture.specs.TextPicture.{text_picture}
+use Rattle.journal_picture.specs.SvgPicture.{svg_picture}
+use Rattle.run_picture.specs.Shapes.{shapes_of}
+use Rattle.run_picture.specs.declared.picture.Form.{Form}
+use Rattle.run_picture.specs.declared.picture.Form.TheVariants.{Text, Svg}
+
+-- the lines behind so many lines, each of which a newline ends; where there are fewer, the first is bad
+abbrev pub behind : ℕ → List (List ℕ) → Result (List (List ℕ)) TextFault
+behind n lines = if nat_lt n (length lines) then Ok (drop n lines) else Err (BadLine 1)
+
+-- the journal of an output, which stands behind a line for each array, or its first fault
+abbrev pub journal_behind : Plan → ℕ → List ℕ → Result (List Entry) TextFault
+journal_behind plan arrays output = and_then (journal_in plan) (behind arrays (lines_of output))
+
+abbrev pub or_none : Result (List Entry) TextFault → List Entry
+or_none (Ok list) = list
+or_none (Err fault) = []
+
+-- the entries of an output's journal; an output without one has none
+abbrev pub entries_behind : Plan → ℕ → List ℕ → List Entry
+entries_behind plan arrays output = or_none (journal_behind plan arrays output)
+
+-- a list of entries as a picture, with a line that tells a verdict
+abbrev pub drawn_in : Form → Plan → List Shape → List Entry → List ℕ → List ℕ
+drawn_in Text plan shapes list told = text_picture plan shapes list told
+drawn_in Svg plan shapes list told = svg_picture plan shapes list told
+
+-- a verdict, and a picture that tells it
+pub record Pictured : Type 0 where
+  pub verdict : Verdict
+  pub text : List ℕ
+
+abbrev pub pictured : Form → Plan → List Shape → Verdict → List Entry → Pictured
+pictured form plan shapes verdict list =
+    record { verdict = verdict; text = drawn_in form plan shapes list (verdict_text verdict) }
+
+abbrev pub picture_by : Form → ProgramTree → Plan → List ℕ → Verdict → Pictured
+picture_by form program plan output verdict =
+    pictured form plan (shapes_of program) verdict
+    (entries_behind plan (length program.arrays) output)
+
+-- The verdict of the audit on an output of a program's run by this plan, and the picture of the output's journal; or the first
+-- fault of the output's text, as the audit tells it.
+abbrev pub picture_of : Form → ProgramTree → Plan → List ℕ → Result Pictured TextFault
+picture_of form program plan output =
+    and_then (λ verdict. Ok (picture_by form program plan output verdict))
+    (audit_of plan (all_meant plan) (array_text program (final_store program)) output)

@@ -1,0 +1,178 @@
+//! The picture.
+ghost use Rattle.std.specs.Prelude.{◌≡◌, ◌≤◌, IfOk, MatchResult, Ok, Err, length};
+ghost use Rattle.array_tree.specs.Trees.{program_of};
+ghost use Rattle.transfer_table.specs.Plan.{site_count};
+ghost use Rattle.array_meaning.specs.Work.{final_store};
+ghost use Rattle.array_eval.specs.ArrayText.{array_text};
+ghost use Rattle.journal_text.specs.Reading.{lines_of};
+ghost use Rattle.journal_text.specs.Seen.{Reads};
+ghost use Rattle.transfer_table.specs.Journal.{all_meant};
+ghost use Rattle.run_audit.specs.Audit.{audit_of};
+ghost use Rattle.run_audit.specs.Parts.{most_audited};
+ghost use Rattle.run_picture.specs.Picture.{behind, drawn_in, entries_behind, journal_behind, picture_by, picture_of, pictured};
+ghost use Rattle.run_picture.specs.Seen.{picture_seen};
+
+use crate::shapes::shapes_of;
+use disjoint_check::Accepted;
+use journal_picture::{Shape, svg_picture, text_picture};
+use journal_text::{TextFault, cut_line, read_entries};
+use run_audit::{Verdict, audit, verdict_line};
+use std::alloc::{AllocError, Global};
+use transfer_table::{Entries, Entry, Plan};
+
+/// What a picture is written as.
+#[derive(Clone, Copy, Debug, PartialEq, Eq)]
+pub enum Form {
+    /// Text, at most 100 columns wide.
+    Text,
+    /// SVG 1.1, without scripts and outside parts.
+    Svg,
+}
+
+/// A picture, and the verdict of the audit that it tells.
+#[derive(Drop)]
+pub struct Picture {
+    pub verdict: Verdict,
+    pub text: Vec<u8>,
+}
+
+/// The picture of the journal of an output of at most 4,194,304 bytes, with the verdict on the output, or the first fault of its
+/// text, as `audit` tells it. A journal that isn't legal is drawn up to its first fault, which is marked.
+#[tactic(auto, using(crate::proofs::Reading::stop))]
+pub fn picture_of(
+    alloc: Global,
+    accepted: &Accepted<'_>,
+    form: Form,
+    output: &[u8],
+) -> Result<Picture, TextFault>
+    requires { length output.now ≤ most_audited }
+    ensures picture { Reads picture_seen
+        (picture_of form (program_of accepted.now.program) accepted.now.plan output.now) result }
+    ensures verdict { Reads (λ picture. picture.verdict) (audit_of accepted.now.plan
+        (all_meant accepted.now.plan) (array_text (program_of accepted.now.program)
+        (final_store (program_of accepted.now.program))) output.now) result }
+{
+    let verdict = verdict_on(alloc, accepted, output)?;
+    let picture = picture_by(alloc, accepted, form, verdict, output)?;
+    Ok(picture)
+}
+
+// The picture that tells this verdict.
+fn picture_by(
+    alloc: Global,
+    accepted: &Accepted<'_>,
+    form: Form,
+    verdict: Verdict,
+    output: &[u8],
+) -> Result<Picture, AllocError>
+    requires { length output.now ≤ most_audited }
+    ensures { IfOk result (λ picture. picture_seen picture ≡ picture_by form
+        (program_of accepted.now.program) accepted.now.plan output.now verdict) }
+{
+    let program = accepted.program();
+    let plan = accepted.plan();
+    let arrays = program.arrays.declarations.len();
+    let list = entries_behind(alloc, plan, arrays, output)?;
+    let shapes = shapes_of(alloc, program)?;
+    pictured(alloc, form, plan, &shapes, verdict, list.as_slice())
+}
+
+// The verdict of the audit, where all sites are meant to be entered.
+fn verdict_on(alloc: Global, accepted: &Accepted<'_>, output: &[u8]) -> Result<Verdict, TextFault>
+    requires { length output.now ≤ most_audited }
+    ensures { Reads (λ verdict. verdict) (audit_of accepted.now.plan (all_meant accepted.now.plan)
+        (array_text (program_of accepted.now.program)
+        (final_store (program_of accepted.now.program))) output.now) result }
+{
+    let all = vec![in alloc; true; accepted.plan().sites() as usize]?;
+    audit(alloc, accepted, &all, output)
+}
+
+// The entries of the journal that stands behind so many array lines, if one does.
+fn entries_behind(
+    alloc: Global,
+    plan: &Plan,
+    arrays: usize,
+    output: &[u8],
+) -> Result<Entries, AllocError>
+    requires { length output.now ≤ most_audited }
+    ensures same { IfOk result (λ list. list ≡ entries_behind plan.now arrays output.now) }
+    ensures few { IfOk result (λ list. length list ≤ 65535) }
+{
+    match journal_behind(alloc, plan, arrays, output) {
+        Ok(list) => Ok(list),
+        Err(TextFault::Memory) => Err(AllocError),
+        Err(_) => Ok(Entries::new(Vec::new(alloc))),
+    }
+}
+
+// The journal that stands behind so many array lines, or its first fault.
+fn journal_behind(
+    alloc: Global,
+    plan: &Plan,
+    arrays: usize,
+    output: &[u8],
+) -> Result<Entries, TextFault>
+    requires { length output.now ≤ most_audited }
+    ensures read { Reads (λ list. list) (journal_behind plan.now arrays output.now) result }
+    ensures few { IfOk result (λ list. length list ≤ 65535) }
+{
+    let journal = behind(arrays, output)?;
+    read_entries(alloc, plan, journal)
+}
+
+// What stands behind so many lines.
+fn behind(lines: usize, text: &[u8]) -> Result<&[u8], TextFault>
+    ensures first { MatchResult result
+        (λ rest. behind lines (lines_of text.now) ≡ Ok (lines_of rest.now))
+        (λ fault. behind lines (lines_of text.now) ≡ Err fault) }
+    ensures short { IfOk result (λ rest. length rest.now ≤ length text.now) }
+{
+    let mut rest = text;
+    for _i in 0..lines {
+        let Some((_, after)) = cut_line(rest) else {
+            return Err(TextFault::BadLine { line: 1 });
+        };
+        rest = after;
+    }
+    Ok(rest)
+}
+
+// The list as a picture that tells the verdict.
+fn pictured(
+    alloc: Global,
+    form: Form,
+    plan: &Plan,
+    shapes: &[Shape],
+    verdict: Verdict,
+    list: &[Entry],
+) -> Result<Picture, AllocError>
+    requires few { length list.now ≤ 65535 }
+    requires shapes { length shapes.now ≡ site_count plan.now }
+    ensures { IfOk result (λ picture.
+        picture_seen picture ≡ pictured form plan.now shapes.now verdict list.now) }
+{
+    let told = verdict_line(alloc, verdict)?;
+    let text = drawn_in(alloc, form, plan, shapes, list, &told)?;
+    Ok(Picture { verdict, text })
+}
+
+// The list as a picture of this form.
+fn drawn_in(
+    alloc: Global,
+    form: Form,
+    plan: &Plan,
+    shapes: &[Shape],
+    list: &[Entry],
+    told: &[u8],
+) -> Result<Vec<u8>, AllocError>
+    requires few { length list.now ≤ 65535 }
+    requires shapes { length shapes.now ≡ site_count plan.now }
+    ensures { IfOk result
+        (λ text. text.items ≡ drawn_in form plan.now shapes.now list.now told.now) }
+{
+    match form {
+        Form::Text => text_picture(alloc, plan, shapes, list, told),
+        Form::Svg => svg_picture(alloc, plan, shapes, list, told),
+    }
+}

@@ -1,0 +1,133 @@
+//! The kinds of a program's sites, and the lines of their constructs.
+ghost use Rattle.std.specs.Prelude.{◌≡◌, ◌++◌, IfOk, OnOk};
+ghost use Rattle.array_tree.specs.Trees.{statement_of, sequence_of, sequences_of, program_of};
+ghost use Rattle.run_picture.specs.Shapes.{branches_shapes, phases_shapes, sequence_shapes, shapes_of, statement_shapes, turns_of};
+
+use array_eval::span;
+use array_tree::{Block, Blocks, Program, Stmt};
+use journal_picture::{Kind, Shape};
+use std::alloc::{AllocError, Global};
+
+/// The shapes of the sites of a program, in the order in which it enters them.
+pub(crate) fn shapes_of(alloc: Global, program: &Program) -> Result<Vec<Shape>, AllocError>
+    ensures { IfOk result (λ shapes. shapes.items ≡ shapes_of (program_of program.now)) }
+{
+    let mut shapes = Vec::new(alloc);
+    add_block(alloc, &program.body, &mut shapes)?;
+    Ok(shapes)
+}
+
+// Adds those of a block.
+#[cycle(shapes)]
+fn add_block(alloc: Global, block: &Block, shapes: &mut Vec<Shape>) -> Result<(), AllocError>
+    ensures { OnOk result (shapes.new.items ≡ shapes.old.items
+        ++ sequence_shapes (sequence_of block.now)) }
+{
+    for statement in &block.statements {
+        add_statement(alloc, statement, shapes)?;
+    }
+    Ok(())
+}
+
+// The same of a statement: a construct comes before those inside it.
+#[cycle(shapes)]
+fn add_statement(alloc: Global, statement: &Stmt, shapes: &mut Vec<Shape>) -> Result<(), AllocError>
+    ensures { OnOk result (shapes.new.items ≡ shapes.old.items
+        ++ statement_shapes (statement_of statement.now)) }
+{
+    match statement {
+        Stmt::Assign { .. } => Ok(()),
+        Stmt::For {
+            low,
+            high,
+            body,
+            ..
+        } => add_turns(alloc, body, span(*low, *high), shapes),
+        Stmt::If {
+            then_block,
+            else_block,
+            ..
+        } => {
+            add_block(alloc, then_block, shapes)?;
+            add_block(alloc, else_block, shapes)
+        }
+        Stmt::Par { line, branches } => {
+            shapes.push(Shape {
+                kind: Kind::Pool,
+                line: *line,
+            })?;
+            add_branches(alloc, branches, shapes)
+        }
+        Stmt::Team {
+            line,
+            low,
+            high,
+            phases,
+            ..
+        } => {
+            shapes.push(Shape {
+                kind: Kind::Team,
+                line: *line,
+            })?;
+            add_phases(alloc, phases, span(*low, *high), shapes)
+        }
+    }
+}
+
+// The same of the branches of a `par`.
+#[cycle(shapes)]
+fn add_branches(alloc: Global, branches: &Blocks, shapes: &mut Vec<Shape>) -> Result<(), AllocError>
+    ensures { OnOk result (shapes.new.items ≡ shapes.old.items
+        ++ branches_shapes (sequences_of branches.now)) }
+{
+    for branch in &branches.blocks {
+        add_block(alloc, branch, shapes)?;
+    }
+    Ok(())
+}
+
+// The same of the phases of a `team`, each over all its iterations.
+#[cycle(shapes)]
+fn add_phases(
+    alloc: Global,
+    phases: &Blocks,
+    iterations: u64,
+    shapes: &mut Vec<Shape>,
+) -> Result<(), AllocError>
+    ensures { OnOk result (shapes.new.items ≡ shapes.old.items
+        ++ phases_shapes (sequences_of phases.now) iterations) }
+{
+    for phase in &phases.blocks {
+        add_turns(alloc, phase, iterations, shapes)?;
+    }
+    Ok(())
+}
+
+// The same of the turns of a loop.
+#[cycle(shapes)]
+fn add_turns(
+    alloc: Global,
+    body: &Block,
+    turns: u64,
+    shapes: &mut Vec<Shape>,
+) -> Result<(), AllocError>
+    ensures { OnOk result (shapes.new.items ≡ shapes.old.items
+        ++ turns_of turns (sequence_shapes (sequence_of body.now))) }
+{
+    let mut once = Vec::new(alloc);
+    add_block(alloc, body, &mut once)?;
+    add_times(&once, turns, shapes)
+}
+
+// Adds so many times the same. Where it is nothing, it isn't added, however many turns there are.
+fn add_times(once: &[Shape], turns: u64, shapes: &mut Vec<Shape>) -> Result<(), AllocError>
+    ensures { OnOk result (shapes.new.items ≡ shapes.old.items ++ turns_of turns once.now) }
+{
+    if once.is_empty() {
+        return Ok(());
+    }
+    for _i in 0..turns {
+        shapes.extend_from_slice(once)?;
+    }
+    Ok(())
+}
