@@ -22,7 +22,7 @@ use Rattle.lithe_call.proofs.Endings.{only_memory, one_ending, too_long_told, re
 -- ---- a fault's status
 
 -- nothing was written
-no_output : (why : Fault) → (status_of why ≡ status.Done) ⊎ (status_of why ≡ status.Illegal) → ⊥
+pub no_output : (why : Fault) → (status_of why ≡ status.Done) ⊎ (status_of why ≡ status.Illegal) → ⊥
 no_output fault.Usage e = elim e [ inl is ↦ cc is | inr is ↦ cc is ]
 no_output fault.TooLong e = elim e [ inl is ↦ cc is | inr is ↦ cc is ]
 no_output fault.ReadFault e = elim e [ inl is ↦ cc is | inr is ↦ cc is ]
@@ -30,7 +30,7 @@ no_output (fault.Syntax line) e = elim e [ inl is ↦ cc is | inr is ↦ cc is ]
 no_output (fault.Refused line) e = elim e [ inl is ↦ cc is | inr is ↦ cc is ]
 no_output fault.Memory e = elim e [ inl is ↦ cc is | inr is ↦ cc is ]
 
-no_write : (why : Fault) → status_of why ≡ status.WriteFault → ⊥
+pub no_write : (why : Fault) → status_of why ≡ status.WriteFault → ⊥
 no_write fault.Usage e = cc e
 no_write fault.TooLong e = cc e
 no_write fault.ReadFault e = cc e

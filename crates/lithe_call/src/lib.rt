@@ -2,8 +2,7 @@
 //!
 //! `lithe` is the call, and its contract is what is claimed of the whole. `specs/Output.antt` says what a command writes,
 //! `specs/Served.antt` what a call has read, written and told, and `src/laws.rt` what follows where the source tells its
-//! bytes. What else stands here is for a program that reads what these commands read: reading and writing, faults and their
-//! lines.
+//! bytes.
 #![tactic(auto)]
 
 mod answer;
