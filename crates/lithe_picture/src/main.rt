@@ -1,0 +1,58 @@
+//! Draws the journal of a run as a picture.
+#![tactic(auto)]
+
+ghost use Rattle.std.specs.Prelude.{◌≡◌, map, string_bytes, IfOk, IfErr, IsErrOf};
+ghost use Rattle.lithe_call.specs.declared.status.Status.{Status};
+ghost use Rattle.lithe_call.specs.Telling.{Tells};
+ghost use Rattle.picture_call.specs.Shown.{AreShown};
+ghost use Rattle.picture_call.specs.Texts.{own_text};
+
+use lithe_call::Status;
+use outside_io::{Sink, Source, StdSink, StdSource};
+use outside_words::{NoWords, words_of};
+use picture_call::{no_memory_for_picture, no_picture_for_words, serve_picture};
+use std::alloc::Global;
+use std::process::ExitCode;
+
+// Serves the words as `serve_picture` does, where they could be had. Else want of memory is told as such, and what isn't text
+// is no form; then nothing is read, and nothing written to the output.
+fn serve<A: Source, B: Sink, E: Sink>(
+    alloc: Global,
+    words: Result<Vec<String>, NoWords>,
+    source: &mut A,
+    out: &mut B,
+    err: &mut E,
+) -> Status
+    ensures not_text { IsErrOf words NoWords.NotText → result ≡ Status.Usage }
+    ensures no_memory { IsErrOf words NoWords.NoMemory → result ≡ Status.NoMemory }
+    ensures words_told { IfErr words
+        (λ _. Tells (E.taken err.old) (E.faults err.old) (own_text result) (E.taken err.new)
+        (E.faults err.new)) }
+    ensures nothing_read { IfErr words (λ _. source.new ≡ source.old) }
+    ensures nothing_written { IfErr words (λ _. out.new ≡ out.old) }
+
+    // Where the words could be had, all that the contract of `serve_picture` says of them.
+    ensures shown { IfOk words (λ list. AreShown (record {
+      left = A.left;
+      read_faults = A.faults;
+      taken = B.taken;
+      write_faults = B.faults;
+      told = E.taken;
+      tell_faults = E.faults;
+    }) (map string_bytes list.items) result source.old source.new out.old out.new err.old err.new) }
+{
+    match words {
+        Ok(words) => serve_picture(alloc, &words, source, out, err),
+        Err(NoWords::NotText) => no_picture_for_words(err),
+        Err(NoWords::NoMemory) => no_memory_for_picture(err),
+    }
+}
+
+fn main(rt: HostRuntime) -> ExitCode {
+    let mut source = StdSource::new(rt.stdin());
+    let mut out = StdSink::new(rt.stdout());
+    let mut err = StdSink::new(rt.stderr());
+    let words = words_of(&rt);
+    let status = serve(rt.alloc(), words, &mut source, &mut out, &mut err);
+    ExitCode::from(status.number())
+}

@@ -1,0 +1,119 @@
+//! The call for pictures: from the words and the input to the picture and the status.
+ghost use Rattle.std.specs.Prelude.{◌≡◌, ◌≤◌, map, string_bytes, None, IfOk, IfErr};
+ghost use Rattle.command_words.specs.Form.{form_of};
+ghost use Rattle.lithe_call.specs.declared.status.Status.{Status};
+ghost use Rattle.lithe_call.specs.Auditing.{status_by};
+ghost use Rattle.lithe_call.specs.FaultOf.{status_of};
+ghost use Rattle.lithe_call.specs.Faults.{IsFault};
+ghost use Rattle.lithe_call.specs.Telling.{Tells};
+ghost use Rattle.picture_call.specs.Pictures.{IsPictureFor};
+ghost use Rattle.picture_call.specs.Shown.{AreShown};
+ghost use Rattle.picture_call.specs.Texts.{fault_text, own_text};
+ghost use Rattle.picture_call.specs.Words.{audit_words};
+
+use crate::asking::asked;
+use crate::drawing::drawn;
+use crate::text::{fault_text, own_text};
+use lithe_call::{Fault, MOST_AUDITED, Status, read_all, write_all};
+use outside_io::{Sink, Source};
+use run_audit::Verdict;
+use run_picture::Picture;
+use std::alloc::Global;
+
+/// Serves the words: reads a program, a line `%%` and an output of its run, and writes a picture of the output's journal, or
+/// tells on `err` why not.
+///
+/// `text --harts N` and `svg --harts N`, N from 1 to 4, write it as text and as SVG. The input, the statuses and what is told
+/// are those of `lithe` for `audit --harts N`, but for the lines that tell the forms of the words. Where the output isn't
+/// the program's, the status is Illegal; the picture then shows the journal up to its first fault, and tells it.
+/// The whole picture is built before its first byte is written.
+pub fn serve_picture<A: Source, B: Sink, E: Sink>(
+    alloc: Global,
+    words: &[String],
+    source: &mut A,
+    out: &mut B,
+    err: &mut E,
+) -> Status
+    // The clause `done` of this record is what the whole is for.
+    ensures shown { AreShown (record {
+      left = A.left;
+      read_faults = A.faults;
+      taken = B.taken;
+      write_faults = B.faults;
+      told = E.taken;
+      tell_faults = E.faults;
+    }) (map string_bytes words.now) result source.old source.new out.old out.new err.old err.new }
+{
+    match picture_for(alloc, words, source) {
+        Err(fault) => tell_fault(err, &fault),
+        Ok(picture) => {
+            if !write_all(out, &picture.text) {
+                tell(err, Status::WriteFault)
+            } else {
+                status_by(picture.verdict)
+            }
+        }
+    }
+}
+
+/// Ends a call whose words aren't text, and so are no form: tells so on `err`, as `serve_picture` does of words that are no form.
+pub fn no_picture_for_words<E: Sink>(err: &mut E) -> Status
+    ensures same { result ≡ Status.Usage }
+    ensures told { Tells (E.taken err.old) (E.faults err.old) (own_text Status.Usage)
+        (E.taken err.new) (E.faults err.new) }
+{
+    tell(err, Status::Usage)
+}
+
+/// Ends a call that found no memory for its words: tells so on `err`, as `serve_picture` does of want of memory.
+pub fn no_memory_for_picture<E: Sink>(err: &mut E) -> Status
+    ensures same { result ≡ Status.NoMemory }
+    ensures told { Tells (E.taken err.old) (E.faults err.old) (own_text Status.NoMemory)
+        (E.taken err.new) (E.faults err.new) }
+{
+    tell(err, Status::NoMemory)
+}
+
+// The status of a picture that was written.
+fn status_by(verdict: Verdict) -> Status
+    ensures { result ≡ status_by verdict }
+{
+    match verdict {
+        Verdict::Legal(_) => Status::Done,
+        Verdict::Differs(_) | Verdict::Illegal(_) => Status::Illegal,
+    }
+}
+
+// Writes the text that tells the fault, and answers its status.
+fn tell_fault<E: Sink>(err: &mut E, fault: &Fault) -> Status
+    ensures same { result ≡ status_of fault.now }
+    ensures told { Tells (E.taken err.old) (E.faults err.old) (fault_text fault.now)
+        (E.taken err.new) (E.faults err.new) }
+{
+    let _ = write_all(err, fault_text(fault));
+    fault.status()
+}
+
+// Writes the status's text, where that is always the same, and answers the status.
+fn tell<E: Sink>(err: &mut E, status: Status) -> Status
+    ensures same { result ≡ status }
+    ensures told { Tells (E.taken err.old) (E.faults err.old) (own_text status)
+        (E.taken err.new) (E.faults err.new) }
+{
+    let _ = write_all(err, own_text(status));
+    status
+}
+
+// The picture that the words ask for, of what the source gives.
+fn picture_for<A: Source>(alloc: Global, words: &[String], source: &mut A) -> Result<Picture, Fault>
+    ensures picture { IfOk result (λ picture. IsPictureFor (map string_bytes words.now)
+        (A.left source.old) (A.left source.new) (status_by picture.verdict) picture.text.items) }
+    ensures fault { IfErr result (λ fault. IsFault (audit_words (map string_bytes words.now)) fault
+        (A.left source.old) (A.left source.new) (A.faults source.old) (A.faults source.new)) }
+    ensures stays { form_of (audit_words (map string_bytes words.now)) ≡ None
+        → source.new ≡ source.old }
+{
+    let wanted = asked(alloc, words)?;
+    let bytes = read_all(alloc, source, MOST_AUDITED)?;
+    drawn(alloc, wanted, &bytes)
+}
