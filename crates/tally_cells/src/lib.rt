@@ -1,0 +1,21 @@
+//! Accumulating arrays: a program whose branches add into one cell becomes one in which each branch or member has cells of
+//! its own, which are added up behind it.
+#![tactic(auto)]
+
+mod adds;
+mod build;
+mod copies;
+mod cut;
+mod fault;
+mod inside;
+mod loops;
+mod names;
+mod outside;
+mod program;
+mod rows;
+mod taken;
+mod unshaped;
+
+pub use cut::first_cells;
+pub use fault::TallyFault;
+pub use program::spread;

@@ -1,0 +1,78 @@
+//! A program to the one in which each branch or member adds into cells of its own.
+ghost use Rattle.std.specs.Prelude.{◌≡◌, ◌⊎◌, Some, None, IfOk, IfErr, OnOk};
+ghost use Rattle.std.specs.Option.{option_map};
+ghost use Rattle.array_tree.specs.Trees.{declarations_of, program_of};
+ghost use Rattle.spread_laws.specs.Faults.{spread_fault_of};
+ghost use Rattle.spread_laws.specs.Spread.{spread_of};
+ghost use Rattle.spread_laws.specs.Served.{HasMeaning, IsTallyKept};
+ghost use Rattle.tally_cells.specs.FaultOf.{told_of};
+
+use crate::copies::copy_declaration;
+use crate::fault::TallyFault;
+use crate::outside::spread_block;
+use crate::rows::push_declarations;
+use crate::taken::taken_name;
+use crate::unshaped::unshaped_in_block;
+use array_eval::Layout;
+use array_tree::{Arrays, Program};
+use std::alloc::{AllocError, Global};
+
+/// The program with a row of cells for each branch or member that adds into an accumulating array, one whose name ends in
+/// `_sum`. An add is `x[e] = x[e] + v;` inside one construct, e without array reads and v without accumulating ones.
+///
+/// Behind the arrays the rows are declared, `x_rows`, as many as any construct that adds to `x` has branches or members.
+/// Before such a construct its rows become 0; inside it the adds go to the row of their branch or member; behind it
+/// all cells of the rows are added to those of `x`. Nothing else changes: run with one hart, the result leaves in the
+/// given arrays what the given program leaves there, and its plan of sites is the same.
+///
+/// An `Err` is `Unshaped` where, inside constructs, an accumulating array is mentioned otherwise; else `NameTaken` where a
+/// declaration or a loop has the name of rows or of the variable that goes through their cells, `x_cell`; or `Memory`.
+pub fn spread(alloc: Global, program: &Program) -> Result<Program, TallyFault>
+    requires { HasMeaning (program_of program.now) }
+    ensures spread { IfOk result (λ t. program_of t ≡ spread_of (program_of program.now)) }
+    ensures kept { IfOk result (λ t. IsTallyKept (program_of program.now) (program_of t)) }
+    ensures fault { IfErr result (λ fault. (fault ≡ TallyFault.Memory)
+        ⊎ (option_map told_of (spread_fault_of (program_of program.now)) ≡ Some fault)) }
+    ensures sound { OnOk result (spread_fault_of (program_of program.now) ≡ None) }
+{
+    if let Some(line) = unshaped_in_block(0, &program.body) {
+        return Err(TallyFault::Unshaped { line });
+    }
+    if let Some(line) = taken_name(alloc, program)? {
+        return Err(TallyFault::NameTaken { line });
+    }
+    Ok(spread_program(alloc, program)?)
+}
+
+// The same of a program that can be spread.
+fn spread_program(alloc: Global, program: &Program) -> Result<Program, AllocError>
+    requires meaning { HasMeaning (program_of program.now) }
+    requires sound { spread_fault_of (program_of program.now) ≡ None }
+    ensures spread { IfOk result (λ t. program_of t ≡ spread_of (program_of program.now)) }
+    ensures kept { IfOk result (λ t. IsTallyKept (program_of program.now) (program_of t)) }
+{
+    let layout = Layout::new(alloc, &program.arrays)?;
+    Ok(Program {
+        arrays: spread_arrays(alloc, program)?,
+        body: spread_block(alloc, &layout, &program.body)?,
+    })
+}
+
+// The arrays of a program, and the rows behind them.
+fn spread_arrays(alloc: Global, program: &Program) -> Result<Arrays, AllocError>
+    requires { HasMeaning (program_of program.now) }
+    ensures { IfOk result (λ arrays. declarations_of arrays
+        ≡ (spread_of (program_of program.now)).arrays) }
+{
+    let mut declarations = Vec::new(alloc);
+    for array in &program.arrays.declarations {
+        declarations.push(copy_declaration(array)?)?;
+    }
+    push_declarations(
+        alloc,
+        &program.body,
+        &program.arrays.declarations,
+        &mut declarations,
+    )?;
+    Ok(Arrays { declarations })
+}

@@ -1,0 +1,75 @@
+-- The programs can be run but for their overlaps.
+use Rattle.std.proofs.Common.{◌≡◌, refl, subst, sym}
+use Rattle.std.proofs.lemmas.Bool.{leb-true}
+use Rattle.array_tree.specs.Trees.{ProgramTree}
+use Rattle.spread_laws.specs.Served.{HasMeaning}
+use Rattle.tally_tests.specs.Programs.{two_adds, looped_team, uneven_team, written_inside, taken_name}
+
+pub two_adds-meaning : HasMeaning two_adds
+two_adds-meaning = record {
+  single_names = refl;
+  known_names = refl;
+  ranges = refl;
+  no_site_under_if = refl;
+  levels = leb-true _ _ refl;
+  work = leb-true _ _ refl;
+  sites = leb-true _ _ refl;
+  pieces = leb-true _ _ refl;
+  indices = refl;
+}
+
+pub looped_team-meaning : HasMeaning looped_team
+looped_team-meaning = record {
+  single_names = refl;
+  known_names = refl;
+  ranges = refl;
+  no_site_under_if = refl;
+  levels = leb-true _ _ refl;
+  work = leb-true _ _ refl;
+  sites = leb-true _ _ refl;
+  pieces = leb-true _ _ refl;
+  indices = refl;
+}
+
+pub uneven_team-meaning : HasMeaning uneven_team
+uneven_team-meaning = record {
+  single_names = refl;
+  known_names = refl;
+  ranges = refl;
+  no_site_under_if = refl;
+  levels = leb-true _ _ refl;
+  work = leb-true _ _ refl;
+  sites = leb-true _ _ refl;
+  pieces = leb-true _ _ refl;
+  indices = refl;
+}
+
+pub written_inside-meaning : HasMeaning written_inside
+written_inside-meaning = record {
+  single_names = refl;
+  known_names = refl;
+  ranges = refl;
+  no_site_under_if = refl;
+  levels = leb-true _ _ refl;
+  work = leb-true _ _ refl;
+  sites = leb-true _ _ refl;
+  pieces = leb-true _ _ refl;
+  indices = refl;
+}
+
+pub taken_name-meaning : HasMeaning taken_name
+taken_name-meaning = record {
+  single_names = refl;
+  known_names = refl;
+  ranges = refl;
+  no_site_under_if = refl;
+  levels = leb-true _ _ refl;
+  work = leb-true _ _ refl;
+  sites = leb-true _ _ refl;
+  pieces = leb-true _ _ refl;
+  indices = refl;
+}
+
+-- a program of the tree has a meaning
+pub meant : (known : ProgramTree) → HasMeaning known → (program : ProgramTree) → program ≡ known → HasMeaning program
+meant known meaning program same = subst HasMeaning (sym same) meaning

@@ -1,0 +1,9 @@
+//! Tests of spread programs, by public calls alone.
+//!
+//! They stand apart since a crate is proved a second time with its tests.
+#![tactic(auto)]
+
+#[cfg(test)]
+mod programs;
+#[cfg(test)]
+mod spreads;
