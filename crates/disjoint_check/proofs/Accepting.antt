@@ -1,10 +1,11 @@
 -- A program fails none of the conditions exactly where it is accepted.
-use Rattle.std.proofs.Common.{◌≡◌, true, List, [], ◌∷◌, Option, Some, None, refl, sym, ap, ◌∙◌}
+use Rattle.std.proofs.Common.{◌≡◌, ◌≤◌, ℕ, true, List, [], ◌∷◌, Option, Some, None, refl, sym, ap, ◌∙◌}
 use Rattle.std.specs.Option.{option_map}
 use Rattle.array_tree.specs.Trees.{ProgramTree}
 use Rattle.array_meaning.specs.Stores.{AreSized, arrays_of}
 use Rattle.array_meaning.specs.Work.{sequence_work}
 use Rattle.array_meaning.specs.Touch.{walk}
+use Rattle.array_meaning.specs.Plans.{sites_in}
 use Rattle.array_meaning.specs.Accepted.{IsAccepted, has_indices_inside}
 use Rattle.site_walk.specs.declared.fault.WalkFault.{WalkFault}
 use Rattle.std.specs.Option.{option_or}
@@ -15,8 +16,9 @@ use Rattle.site_walk.proofs.ApartLemmas.{apart_of_none, none_of_apart}
 use Rattle.disjoint_check.specs.declared.fault.CheckFault.{CheckFault}
 use Rattle.disjoint_check.specs.Faults.{first_fault}
 use Rattle.disjoint_check.specs.LimitFault.{limit_fault_of}
-use Rattle.disjoint_check.specs.FaultOf.{of_walk, check_fault_of}
-use Rattle.disjoint_check.proofs.Conditions.{limits_from, limits_to, limits_of, sized_from}
+use Rattle.disjoint_check.specs.FaultOf.{of_walk, meaning_fault_of, check_fault_of}
+use Rattle.disjoint_check.specs.Meaning.{HasMeaningFor, IsAcceptedFor}
+use Rattle.disjoint_check.proofs.Conditions.{limits_from, limits_to, limits_of, sized_from, room_for_four}
 
 -- the walk's fault is the first of its two
 either_of_walk : (a b : Option WalkFault) → first_fault (option_map of_walk a ∷ option_map of_walk b ∷ []) ≡ option_map of_walk (option_or a b)
@@ -44,48 +46,82 @@ no_limit None more h = refl
 no_limit (Some f) more h = cc
 
 -- a condition on names, ranges or size that fails comes first
-pub limit_is_first : (program : ProgramTree) (why : CheckFault) → limit_fault_of program ≡ Some why → check_fault_of program ≡ Some why
-limit_is_first program why h = ap (λ o. first_fault (o ∷ option_map of_walk (out_of_range_of program) ∷ option_map of_walk (overlap_of program) ∷ [])) h
+pub limit_is_first : (program : ProgramTree) (harts : ℕ) (why : CheckFault) → limit_fault_of program harts ≡ Some why → check_fault_of program harts ≡ Some why
+limit_is_first program harts why h = ap (λ o. first_fault (o ∷ option_map of_walk (out_of_range_of program) ∷ option_map of_walk (overlap_of program) ∷ [])) h
+
+pub limit_before_meaning : (program : ProgramTree) (harts : ℕ) (why : CheckFault) → limit_fault_of program harts ≡ Some why → meaning_fault_of program harts ≡ Some why
+limit_before_meaning program harts why h = ap (λ o. first_fault (o ∷ option_map of_walk (out_of_range_of program) ∷ [])) h
 
 -- else what the walk finds
-pub walk_is_next : (program : ProgramTree) (f : WalkFault) → limit_fault_of program ≡ None → walk_fault_of program ≡ Some f → check_fault_of program ≡ Some (of_walk f)
-walk_is_next program f none h =
-    after_limits (limit_fault_of program) (out_of_range_of program) (overlap_of program) none ∙ ap (option_map of_walk) h
+pub walk_is_next : (program : ProgramTree) (harts : ℕ) (f : WalkFault) → limit_fault_of program harts ≡ None → walk_fault_of program ≡ Some f → check_fault_of program harts ≡ Some (of_walk f)
+walk_is_next program harts f none h =
+    after_limits (limit_fault_of program harts) (out_of_range_of program) (overlap_of program) none ∙ ap (option_map of_walk) h
+
+meaning_after_limits : (limit : Option CheckFault) (a : Option WalkFault) → limit ≡ None → first_fault (limit ∷ option_map of_walk a ∷ []) ≡ option_map of_walk a
+meaning_after_limits limit None h = ap (λ o. first_fault (o ∷ None ∷ [])) h
+meaning_after_limits limit (Some f) h = ap (λ o. first_fault (o ∷ Some (of_walk f) ∷ [])) h
+
+pub index_is_next : (program : ProgramTree) (harts : ℕ) (f : WalkFault) → limit_fault_of program harts ≡ None → out_of_range_of program ≡ Some f → meaning_fault_of program harts ≡ Some (of_walk f)
+index_is_next program harts f none h = meaning_after_limits (limit_fault_of program harts) (out_of_range_of program) none ∙ ap (option_map of_walk) h
 
 -- a program that passes the limits can be walked through
-pub sized : (program : ProgramTree) → limit_fault_of program ≡ None → AreSized (arrays_of program.arrays)
-sized program none = sized_from program (limits_from program none).ranges
+pub sized : (program : ProgramTree) (harts : ℕ) → limit_fault_of program harts ≡ None → AreSized (arrays_of program.arrays)
+sized program harts none = sized_from program (limits_from program harts none).ranges
 
-pub accepted_from : (program : ProgramTree) → limit_fault_of program ≡ None → walk_fault_of program ≡ None → IsAccepted program
-accepted_from program none walked =
-    let m = limits_from program none in
-    let both = none_first (out_of_range_of program) (overlap_of program) walked in
+indices_from : (program : ProgramTree) → out_of_range_of program ≡ None → has_indices_inside program ≡ true
+indices_from program h = inside_of_none (arrays_of program.arrays) (walk (arrays_of program.arrays) (sequence_work program.body [])) h
+
+pub meaning_from : (program : ProgramTree) (harts : ℕ) → limit_fault_of program harts ≡ None → out_of_range_of program ≡ None → HasMeaningFor program harts
+meaning_from program harts none inside = record { limits = limits_from program harts none; indices = indices_from program inside }
+
+pub meaning_of_none : (program : ProgramTree) (harts : ℕ) → meaning_fault_of program harts ≡ None → HasMeaningFor program harts
+meaning_of_none program harts h =
+    let none = no_limit (limit_fault_of program harts) (option_map of_walk (out_of_range_of program) ∷ []) h in
+    meaning_from program harts none
+    (none_of_walk (out_of_range_of program) (sym (meaning_after_limits (limit_fault_of program harts) (out_of_range_of program) none) ∙ h))
+
+pub none_of_meaning : (program : ProgramTree) (harts : ℕ) → HasMeaningFor program harts → meaning_fault_of program harts ≡ None
+none_of_meaning program harts m =
     let arrays = arrays_of program.arrays in
-    let inside : has_indices_inside program ≡ true = inside_of_none arrays (walk arrays (sequence_work program.body [])) both.0 in
+    meaning_after_limits (limit_fault_of program harts) (out_of_range_of program) (limits_to program harts m.limits)
+    ∙ ap (option_map of_walk) (none_of_inside arrays (walk arrays (sequence_work program.body [])) m.indices)
+
+pub accepted_from : (program : ProgramTree) (harts : ℕ) → limit_fault_of program harts ≡ None → walk_fault_of program ≡ None → IsAcceptedFor program harts
+accepted_from program harts none walked =
+    let m = limits_from program harts none in
+    let both = none_first (out_of_range_of program) (overlap_of program) walked in
+    let inside = indices_from program both.0 in
     record {
-      single_names = m.single_names;
-      known_names = m.known_names;
-      ranges = m.ranges;
-      no_site_under_if = m.no_site_under_if;
-      levels = m.levels;
-      work = m.work;
-      sites = m.sites;
-      pieces = m.pieces;
-      indices = inside;
-      apart = apart_of_none program m.known_names inside both.1;
+      accepted = record {
+        single_names = m.single_names;
+        known_names = m.known_names;
+        ranges = m.ranges;
+        no_site_under_if = m.no_site_under_if;
+        levels = m.levels;
+        work = m.work;
+        sites = m.sites;
+        pieces = m.pieces;
+        indices = inside;
+        apart = apart_of_none program m.known_names inside both.1;
+      };
+      entries = m.entries;
     }
 
-pub accepted_of_none : (program : ProgramTree) → check_fault_of program ≡ None → IsAccepted program
-accepted_of_none program h =
-    let none = no_limit (limit_fault_of program) (option_map of_walk (out_of_range_of program) ∷ option_map of_walk (overlap_of program) ∷ []) h in
-    accepted_from program none
-    (none_of_walk (walk_fault_of program) (sym (after_limits (limit_fault_of program) (out_of_range_of program) (overlap_of program) none) ∙ h))
+pub accepted_of_none : (program : ProgramTree) (harts : ℕ) → check_fault_of program harts ≡ None → IsAcceptedFor program harts
+accepted_of_none program harts h =
+    let none = no_limit (limit_fault_of program harts) (option_map of_walk (out_of_range_of program) ∷ option_map of_walk (overlap_of program) ∷ []) h in
+    accepted_from program harts none
+    (none_of_walk (walk_fault_of program) (sym (after_limits (limit_fault_of program harts) (out_of_range_of program) (overlap_of program) none) ∙ h))
 
-pub none_of_accepted : (program : ProgramTree) → IsAccepted program → check_fault_of program ≡ None
-none_of_accepted program a =
+pub none_of_accepted : (program : ProgramTree) (harts : ℕ) → IsAcceptedFor program harts → check_fault_of program harts ≡ None
+none_of_accepted program harts a =
     let arrays = arrays_of program.arrays in
-    let none = limits_to program (limits_of a) in
-    after_limits (limit_fault_of program) (out_of_range_of program) (overlap_of program) none
+    let none = limits_to program harts (limits_of a.accepted a.entries) in
+    after_limits (limit_fault_of program harts) (out_of_range_of program) (overlap_of program) none
     ∙ ap (option_map of_walk)
-    (none_both (out_of_range_of program) (overlap_of program) (none_of_inside arrays (walk arrays (sequence_work program.body [])) a.indices)
-    (none_of_apart program a.apart))
+    (none_both (out_of_range_of program) (overlap_of program) (none_of_inside arrays (walk arrays (sequence_work program.body [])) a.accepted.indices)
+    (none_of_apart program a.accepted.apart))
+
+-- up to four harts ask nothing more
+pub for_four : (program : ProgramTree) (harts : ℕ) → harts ≤ 4 → IsAccepted program → IsAcceptedFor program harts
+for_four program harts four a = record { accepted = a; entries = room_for_four (sites_in program.body) harts a.sites four }

@@ -1,8 +1,9 @@
 -- There is no fault of names, ranges and size exactly where these conditions are met.
-use Rattle.std.proofs.Common.{◌≡◌, ◌<◌, ◌≤◌, ℕ, ℤ, pos, negsuc, true, false, ◌&&◌, List, [], ◌∷◌, length, Option, None, refl, sym, ◌∙◌, arith, nat_le, unsigned_abs}
+use Rattle.std.proofs.Common.{◌≡◌, ◌<◌, ◌≤◌, ◌-◌, ◌*◌, ℕ, ℤ, pos, negsuc, Bool, true, false, ◌&&◌, List, [], ◌∷◌, length, Option, None, refl, sym, ◌∙◌, arith, nat_le, unsigned_abs}
 use Rattle.std.specs.Option.{option_map}
 use Rattle.std.proofs.lemmas.Bool.{and_parts, and_from}
 use Rattle.std.proofs.lemmas.Bool.Decides.{nat_tests}
+use Rattle.std.proofs.lemmas.Nat.{mul-le}
 use Rattle.std.proofs.lemmas.Int.{ints}
 use Rattle.array_tree.specs.Trees.{ProgramTree, Declaration}
 use Rattle.array_meaning.specs.Accepted.{IsAccepted}
@@ -16,7 +17,7 @@ use Rattle.disjoint_check.specs.FirstNames.{duplicate_name, unknown_name}
 use Rattle.disjoint_check.specs.FirstRanges.{range_fault}
 use Rattle.disjoint_check.specs.FirstNesting.{site_under_if_in}
 use Rattle.site_counts.specs.Capped.{capped}
-use Rattle.disjoint_check.specs.LimitFault.{told_depth, limit_fault_of, MeetsLimits}
+use Rattle.disjoint_check.specs.LimitFault.{told_depth, room_for, limit_fault_of, MeetsLimits}
 use Rattle.disjoint_check.proofs.Firsts.{is_none, none_from, to_none, none_cons, none_map, none_unless}
 use Rattle.disjoint_check.proofs.NameLaws.{single_names, only_known_names}
 use Rattle.disjoint_check.proofs.RangeLaws.{in_range, no_construct_under_if}
@@ -36,24 +37,28 @@ le_true : (a b : ℕ) → a ≤ b → nat_le a b ≡ true
 le_true a b h = grind (arith, nat_tests)
 
 -- the parts of the list, from one on
-abbrev size_faults : ProgramTree → List (Option CheckFault)
-size_faults p =
+abbrev are_few : ProgramTree → ℕ → Bool
+are_few p harts = nat_le (sites_in p.body) 4095 && nat_le (room_for (sites_in p.body) harts) 65535
+
+abbrev size_faults : ProgramTree → ℕ → List (Option CheckFault)
+size_faults p harts =
     unless (nat_le (depth_of p.body) 3) (TooDeep (told_depth (depth_of p.body)))
     ∷ unless (nat_le (units_of p.body) 1048576) (TooMuchWork (capped (units_of p.body)))
-    ∷ unless (nat_le (sites_in p.body) 4095) (TooManySites (capped (sites_in p.body)))
+    ∷ unless (are_few p harts) (TooManySites (capped (sites_in p.body)))
     ∷ unless (nat_le (pieces_in p.body) 16384) (TooManyPieces (capped (pieces_in p.body)))
     ∷ []
 
-pub limits_from : (p : ProgramTree) → limit_fault_of p ≡ None → MeetsLimits p
-limits_from p h =
-    let a = apart (option_map DuplicateName (duplicate_name p)) _ (to_none (limit_fault_of p) h) in
+pub limits_from : (p : ProgramTree) (harts : ℕ) → limit_fault_of p harts ≡ None → MeetsLimits p harts
+limits_from p harts h =
+    let a = apart (option_map DuplicateName (duplicate_name p)) _ (to_none (limit_fault_of p harts) h) in
     let b = apart (option_map UnknownName (unknown_name p)) _ a.1 in
     let c = apart (range_fault p) _ b.1 in
-    let d = apart (option_map SiteUnderIf (site_under_if_in p.body false)) (size_faults p) c.1 in
+    let d = apart (option_map SiteUnderIf (site_under_if_in p.body false)) (size_faults p harts) c.1 in
     let e = apart (unless (nat_le (depth_of p.body) 3) _) _ d.1 in
     let f = apart (unless (nat_le (units_of p.body) 1048576) _) _ e.1 in
-    let g = apart (unless (nat_le (sites_in p.body) 4095) _) _ f.1 in
+    let g = apart (unless (are_few p harts) _) _ f.1 in
     let k = apart (unless (nat_le (pieces_in p.body) 16384) _) [] g.1 in
+    let few = and_parts (nat_le (sites_in p.body) 4095) (nat_le (room_for (sites_in p.body) harts) 65535) (sym (none_unless (are_few p harts) _) ∙ g.0) in
     record {
       single_names = sym (none_map DuplicateName (duplicate_name p) ∙ single_names p) ∙ a.0;
       known_names = sym (none_map UnknownName (unknown_name p) ∙ only_known_names p) ∙ b.0;
@@ -61,24 +66,30 @@ limits_from p h =
       no_site_under_if = sym (none_map SiteUnderIf (site_under_if_in p.body false) ∙ no_construct_under_if p) ∙ d.0;
       levels = true_le _ _ (sym (none_unless (nat_le (depth_of p.body) 3) _) ∙ e.0);
       work = true_le _ _ (sym (none_unless (nat_le (units_of p.body) 1048576) _) ∙ f.0);
-      sites = true_le _ _ (sym (none_unless (nat_le (sites_in p.body) 4095) _) ∙ g.0);
+      sites = true_le _ _ few.0;
       pieces = true_le _ _ (sym (none_unless (nat_le (pieces_in p.body) 16384) _) ∙ k.0);
+      entries = true_le _ _ few.1;
     }
 
-pub limits_to : (p : ProgramTree) → MeetsLimits p → limit_fault_of p ≡ None
-limits_to p m = none_from (limit_fault_of p)
+pub limits_to : (p : ProgramTree) (harts : ℕ) → MeetsLimits p harts → limit_fault_of p harts ≡ None
+limits_to p harts m = none_from (limit_fault_of p harts)
     (along (option_map DuplicateName (duplicate_name p)) _ (none_map DuplicateName (duplicate_name p) ∙ single_names p ∙ m.single_names)
     (along (option_map UnknownName (unknown_name p)) _ (none_map UnknownName (unknown_name p) ∙ only_known_names p ∙ m.known_names)
     (along (range_fault p) _ (in_range p ∙ m.ranges)
-    (along (option_map SiteUnderIf (site_under_if_in p.body false)) (size_faults p)
+    (along (option_map SiteUnderIf (site_under_if_in p.body false)) (size_faults p harts)
     (none_map SiteUnderIf (site_under_if_in p.body false) ∙ no_construct_under_if p ∙ m.no_site_under_if)
     (along (unless (nat_le (depth_of p.body) 3) _) _ (none_unless (nat_le (depth_of p.body) 3) _ ∙ le_true _ _ m.levels)
     (along (unless (nat_le (units_of p.body) 1048576) _) _ (none_unless (nat_le (units_of p.body) 1048576) _ ∙ le_true _ _ m.work)
-    (along (unless (nat_le (sites_in p.body) 4095) _) _ (none_unless (nat_le (sites_in p.body) 4095) _ ∙ le_true _ _ m.sites)
+    (along (unless (are_few p harts) _) _ (none_unless (are_few p harts) _ ∙ and_from _ _ (le_true _ _ m.sites) (le_true _ _ m.entries))
     (along (unless (nat_le (pieces_in p.body) 16384) _) [] (none_unless (nat_le (pieces_in p.body) 16384) _ ∙ le_true _ _ m.pieces) refl))))))))
 
-pub limits_of : {p : ProgramTree} → IsAccepted p → MeetsLimits p
-limits_of a = record {
+-- up to four harts have room for the entries of as many sites as there may be
+pub room_for_four : (sites harts : ℕ) → sites ≤ 4095 → harts ≤ 4 → room_for sites harts ≤ 65535
+room_for_four sites harts few four =
+    let most : sites * (3 * harts - 1) ≤ 4095 * 11 = mul-le sites (3 * harts - 1) 4095 11 few (omega (arith, four)) in omega (arith, most)
+
+pub limits_of : {p : ProgramTree} {harts : ℕ} → IsAccepted p → room_for (sites_in p.body) harts ≤ 65535 → MeetsLimits p harts
+limits_of a room = record {
   single_names = a.single_names;
   known_names = a.known_names;
   ranges = a.ranges;
@@ -87,6 +98,7 @@ limits_of a = record {
   work = a.work;
   sites = a.sites;
   pieces = a.pieces;
+  entries = room;
 }
 
 some_cells : (z : ℤ) → is_up_to (pos 4096) z ≡ true → 0 < unsigned_abs z

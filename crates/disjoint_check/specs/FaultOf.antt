@@ -1,5 +1,5 @@
 -- The first of the ten conditions that a program fails, and what is told of it.
-use Rattle.std.specs.Prelude.{[], ◌∷◌, Option}
+use Rattle.std.specs.Prelude.{ℕ, [], ◌∷◌, Option}
 use Rattle.std.specs.Option.{option_map}
 use Rattle.array_tree.specs.Trees.{ProgramTree}
 use Rattle.site_walk.specs.declared.fault.WalkFault.{WalkFault}
@@ -17,10 +17,16 @@ of_walk (walk.OutOfRange line index length) = OutOfRange line index length
 of_walk (walk.Overlap line cell) = Overlap line cell
 of_walk walk.Memory = Memory
 
--- The conditions on names, ranges and size come first, then the indices, then the overlaps.
-abbrev pub check_fault_of : ProgramTree → Option CheckFault
-check_fault_of program = first_fault
-    (limit_fault_of program
+-- The conditions that a program must meet to have a meaning, for so many harts: those on names, ranges and size come first,
+-- then the indices.
+abbrev pub meaning_fault_of : ProgramTree → ℕ → Option CheckFault
+meaning_fault_of program harts = first_fault
+    (limit_fault_of program harts ∷ option_map of_walk (out_of_range_of program) ∷ [])
+
+-- To be accepted it must also have no overlaps, which come last.
+abbrev pub check_fault_of : ProgramTree → ℕ → Option CheckFault
+check_fault_of program harts = first_fault
+    (limit_fault_of program harts
     ∷ option_map of_walk (out_of_range_of program)
     ∷ option_map of_walk (overlap_of program)
     ∷ [])

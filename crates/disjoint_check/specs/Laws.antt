@@ -1,14 +1,14 @@
 -- What it means that no fault is found.
-use Rattle.std.specs.Prelude.{◌≡◌, ◌↔◌, false, None, IsTrue}
+use Rattle.std.specs.Prelude.{◌≡◌, ◌↔◌, ℕ, false, None, IsTrue}
 use Rattle.array_tree.specs.Trees.{ProgramTree}
-use Rattle.array_meaning.specs.Accepted.{IsAccepted}
 use Rattle.array_meaning.specs.Names.{has_single_names, has_only_known_names}
 use Rattle.array_meaning.specs.Limits.{is_in_range, has_no_site_under_if}
 use Rattle.disjoint_check.specs.FirstNames.{duplicate_name, unknown_name}
 use Rattle.disjoint_check.specs.FirstRanges.{range_fault}
 use Rattle.disjoint_check.specs.FirstNesting.{site_under_if_in}
 use Rattle.disjoint_check.specs.LimitFault.{limit_fault_of, MeetsLimits}
-use Rattle.disjoint_check.specs.FaultOf.{check_fault_of}
+use Rattle.disjoint_check.specs.FaultOf.{meaning_fault_of, check_fault_of}
+use Rattle.disjoint_check.specs.Meaning.{HasMeaningFor, IsAcceptedFor}
 
 -- No place is found that fails a condition exactly where the program meets it.
 pub record IsTested (program : ProgramTree) : Type 0 where
@@ -17,12 +17,15 @@ pub record IsTested (program : ProgramTree) : Type 0 where
   pub ranges : (range_fault program ≡ None) ↔ IsTrue (is_in_range program)
   pub no_site_under_if : (site_under_if_in program.body false ≡ None)
       ↔ IsTrue (has_no_site_under_if program.body false)
-  pub limits : (limit_fault_of program ≡ None) ↔ MeetsLimits program
+  pub limits : (harts : ℕ) → (limit_fault_of program harts ≡ None) ↔ MeetsLimits program harts
 
 abbrev pub AreConditionsTested : Type 0
 AreConditionsTested = (program : ProgramTree) → IsTested program
 
--- A program fails none of the conditions exactly where it is accepted.
+-- A program fails none of the conditions exactly where it has a meaning, or where it is accepted.
+pub record IsChecked (program : ProgramTree) (harts : ℕ) : Type 0 where
+  pub meaning : (meaning_fault_of program harts ≡ None) ↔ HasMeaningFor program harts
+  pub accepted : (check_fault_of program harts ≡ None) ↔ IsAcceptedFor program harts
+
 abbrev pub AreConditionsChecked : Type 0
-AreConditionsChecked = (program : ProgramTree) → (check_fault_of program ≡ None)
-    ↔ IsAccepted program
+AreConditionsChecked = (program : ProgramTree) (harts : ℕ) → IsChecked program harts

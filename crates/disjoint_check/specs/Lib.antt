@@ -6,5 +6,6 @@ pub mod LimitFault
 pub mod Shapes
 pub mod AcceptedProgram
 pub mod FaultOf
+pub mod Meaning
 pub mod Laws
 pub mod Inside

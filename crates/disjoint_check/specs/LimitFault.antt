@@ -1,6 +1,7 @@
 -- The first condition that a program fails, and what is told of it.
-use Rattle.std.specs.Prelude.{ℕ, ◌-◌, ◌^◌, ◌≤◌, IsTrue, min, false, [], ◌∷◌, Option, nat_le}
+use Rattle.std.specs.Prelude.{ℕ, ◌-◌, ◌*◌, ◌^◌, ◌≤◌, IsTrue, ◌&&◌, min, false, [], ◌∷◌, Option, nat_le}
 use Rattle.std.specs.Option.{option_map}
+use Rattle.transfer_table.specs.Plan.{most_entries}
 use Rattle.array_tree.specs.Trees.{ProgramTree}
 use Rattle.array_meaning.specs.Bounds.{most_depth, most_units, most_sites, most_pieces}
 use Rattle.array_meaning.specs.Names.{has_single_names, has_only_known_names}
@@ -18,9 +19,13 @@ use Rattle.disjoint_check.specs.declared.fault.CheckFault.TheVariants.{Duplicate
 abbrev pub told_depth : ℕ → ℕ
 told_depth depth = min depth (2 ^ 32 - 1)
 
--- The first of the conditions on names, ranges and size that fails.
-abbrev pub limit_fault_of : ProgramTree → Option CheckFault
-limit_fault_of program = first_fault
+-- How many entries the journal of a run with so many sites and harts may have.
+abbrev pub room_for : ℕ → ℕ → ℕ
+room_for sites harts = sites * (3 * harts - 1)
+
+-- The first of the conditions on names, ranges and size that fails, for so many harts.
+abbrev pub limit_fault_of : ProgramTree → ℕ → Option CheckFault
+limit_fault_of program harts = first_fault
     (option_map DuplicateName (duplicate_name program)
     ∷ option_map UnknownName (unknown_name program)
     ∷ range_fault program
@@ -29,14 +34,15 @@ limit_fault_of program = first_fault
     (TooDeep (told_depth (depth_of program.body)))
     ∷ unless (nat_le (units_of program.body) most_units)
     (TooMuchWork (capped (units_of program.body)))
-    ∷ unless (nat_le (sites_in program.body) most_sites)
+    ∷ unless (nat_le (sites_in program.body) most_sites
+    && nat_le (room_for (sites_in program.body) harts) most_entries)
     (TooManySites (capped (sites_in program.body)))
     ∷ unless (nat_le (pieces_in program.body) most_pieces)
     (TooManyPieces (capped (pieces_in program.body)))
     ∷ [])
 
--- The conditions on names, ranges and size.
-pub record MeetsLimits (program : ProgramTree) : Type 0 where
+-- The conditions on names, ranges and size. Up to four harts have room for the entries wherever the sites are few enough.
+pub record MeetsLimits (program : ProgramTree) (harts : ℕ) : Type 0 where
   pub single_names : IsTrue (has_single_names program)
   pub known_names : IsTrue (has_only_known_names program)
   pub ranges : IsTrue (is_in_range program)
@@ -45,3 +51,4 @@ pub record MeetsLimits (program : ProgramTree) : Type 0 where
   pub work : units_of program.body ≤ most_units
   pub sites : sites_in program.body ≤ most_sites
   pub pieces : pieces_in program.body ≤ most_pieces
+  pub entries : room_for (sites_in program.body) harts ≤ most_entries

@@ -1,14 +1,15 @@
 //! The check of a program.
-ghost use Rattle.std.specs.Prelude.{◌≡◌, ◌≤◌, ◌⊎◌, IfOk, IfErr, Some};
+ghost use Rattle.std.specs.Prelude.{◌≡◌, ◌≤◌, ◌⊎◌, IfOk, IfErr, OnOk, Some};
 ghost use Rattle.array_tree.specs.Trees.{program_of};
 ghost use Rattle.array_meaning.specs.Accepted.{IsAccepted};
-ghost use Rattle.disjoint_check.specs.FaultOf.{check_fault_of};
+ghost use Rattle.disjoint_check.specs.FaultOf.{meaning_fault_of, check_fault_of};
+ghost use Rattle.disjoint_check.specs.Meaning.{HasMeaningFor};
 
 use crate::accepted::{Accepted, accept};
 use crate::fault::CheckFault;
 use crate::limits::limit_fault;
 use array_tree::Program;
-use site_walk::walk_program;
+use site_walk::{walk_indices, walk_program};
 use std::alloc::Global;
 
 /// Whether a program may be run in parallel, by so many harts. If so, what is known of it; else the first condition
@@ -25,11 +26,31 @@ pub fn check<'p>(alloc: Global, program: &'p Program, harts: u8) -> Result<Accep
     ensures harts { IfOk result (λ a. a.plan.harts ≡ harts) }
     ensures accepted { IfOk result (λ a. IsAccepted (program_of program.now)) }
     ensures fault { IfErr result
-        (λ why. (why ≡ CheckFault.Memory) ⊎ (check_fault_of (program_of program.now) ≡ Some why)) }
+        (λ why. (why ≡ CheckFault.Memory) ⊎ (check_fault_of (program_of program.now) harts ≡ Some why)) }
 {
-    if let Some(fault) = limit_fault(program) {
+    if let Some(fault) = limit_fault(program, harts) {
         return Err(fault);
     }
     walk_program(alloc, program)?;
     accept(alloc, program, harts)
+}
+
+/// Whether a program has a meaning that so many harts could keep a journal of: all conditions but the last, that no two
+/// pieces overlap. Else the first that it fails, or that memory was wanting, which is answered at will.
+///
+/// It takes time as `check` does, and looks for no overlaps.
+#[tactic(auto, using(crate::proofs::Accepting::limit_before_meaning, crate::proofs::Accepting::index_is_next))]
+pub fn check_meaning(alloc: Global, program: &Program, harts: u8) -> Result<(), CheckFault>
+    requires some_hart { 1 ≤ harts }
+    requires few_harts { harts ≤ 16 }
+    ensures meaning { OnOk result (HasMeaningFor (program_of program.now) harts) }
+    ensures fault { IfErr result
+        (λ why. (why ≡ CheckFault.Memory)
+        ⊎ (meaning_fault_of (program_of program.now) harts ≡ Some why)) }
+{
+    if let Some(fault) = limit_fault(program, harts) {
+        return Err(fault);
+    }
+    walk_indices(alloc, program)?;
+    Ok(())
 }

@@ -16,6 +16,6 @@ mod units;
 mod unroll;
 
 pub use accepted::Accepted;
-pub use checker::check;
+pub use checker::{check, check_meaning};
 pub use fault::{CheckFault, Limit};
 pub use laws::{conditions_are_checked, conditions_are_tested};

@@ -1,5 +1,5 @@
 //! The conditions on names, ranges and size.
-ghost use Rattle.std.specs.Prelude.{◌≡◌};
+ghost use Rattle.std.specs.Prelude.{◌≡◌, ◌≤◌};
 ghost use Rattle.std.specs.Option.{option_map};
 ghost use Rattle.array_tree.specs.Trees.{program_of};
 ghost use Rattle.disjoint_check.specs.LimitFault.{limit_fault_of};
@@ -22,13 +22,18 @@ const MOST_UNITS: u64 = 1_048_576;
 /// The greatest number of sites.
 const MOST_SITES: u64 = 4095;
 
+/// The greatest number of entries of a journal.
+const MOST_ENTRIES: u64 = 65_535;
+
 /// The greatest number of pieces.
 const MOST_PIECES: u64 = 16_384;
 
-/// The first of the conditions on names, ranges and size that fails. It takes time in proportion to the program's
+/// The first of the conditions on names, ranges and size that fails, for so many harts. It takes time in proportion to the program's
 /// text, but for names, which are looked up among all arrays and the loops around.
-pub(crate) fn limit_fault(program: &Program) -> Option<CheckFault>
-    ensures { result ≡ limit_fault_of (program_of program.now) }
+pub(crate) fn limit_fault(program: &Program, harts: u8) -> Option<CheckFault>
+    requires some_hart { 1 ≤ harts }
+    requires few_harts { harts ≤ 16 }
+    ensures { result ≡ limit_fault_of (program_of program.now) harts }
 {
     if let Some(line) = duplicate_name(program) {
         return Some(CheckFault::DuplicateName { line });
@@ -51,7 +56,7 @@ pub(crate) fn limit_fault(program: &Program) -> Option<CheckFault>
         return Some(CheckFault::TooMuchWork { units });
     }
     let sites = sites_in_block(&program.body);
-    if sites > MOST_SITES {
+    if sites > MOST_SITES || sites * (3 * u64::from(harts) - 1) > MOST_ENTRIES {
         return Some(CheckFault::TooManySites { sites });
     }
     let pieces = pieces_in_block(&program.body);

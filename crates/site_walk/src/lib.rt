@@ -15,4 +15,4 @@ mod walk;
 
 pub use fault::WalkFault;
 pub use laws::{outsides_are_found, overlaps_are_found};
-pub use walk::walk_program;
+pub use walk::{walk_indices, walk_program};

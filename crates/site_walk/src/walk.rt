@@ -1,9 +1,10 @@
 //! The walk through a program.
-ghost use Rattle.std.specs.Prelude.{◌≡◌, ◌⊎◌, IfErr, OnOk, IsTrue, Some, None};
+ghost use Rattle.std.specs.Prelude.{◌≡◌, ◌⊎◌, IfOk, IfErr, OnOk, IsTrue, Some, None};
 ghost use Rattle.array_tree.specs.Trees.{declarations_of, program_of};
 ghost use Rattle.array_meaning.specs.Stores.{arrays_of, AreSized};
 ghost use Rattle.array_meaning.specs.Names.{has_only_known_names};
 ghost use Rattle.array_meaning.specs.Accepted.{has_indices_inside, HasApartSites};
+ghost use Rattle.site_walk.specs.Outside.{out_of_range_of};
 ghost use Rattle.site_walk.specs.FirstOverlap.{walk_fault_of};
 
 use crate::fault::WalkFault;
@@ -33,15 +34,9 @@ pub fn walk_program(alloc: Global, program: &Program) -> Result<(), WalkFault>
         (λ fault. (fault ≡ WalkFault.Memory)
         ⊎ (walk_fault_of (program_of program.now) ≡ Some fault)) }
 {
-    let layout = match Layout::new(alloc, &program.arrays) {
-        Ok(layout) => layout,
-        Err(_) => return Err(WalkFault::Memory),
-    };
+    let layout = layout_of(alloc, program)?;
+    indices_in(alloc, &layout, program)?;
     let mut found = None;
-    keep_body(alloc, &layout, &program.body, &mut found);
-    if let Some(fault) = found {
-        return Err(fault);
-    }
     let mut table = match Table::new(alloc, &layout) {
         Ok(table) => table,
         Err(_) => return Err(WalkFault::Memory),
@@ -54,6 +49,51 @@ pub fn walk_program(alloc: Global, program: &Program) -> Result<(), WalkFault>
         &mut table,
         &mut found,
     );
+    match found {
+        Some(fault) => Err(fault),
+        None => Ok(()),
+    }
+}
+
+/// Looks at each static index of a program: it must be inside its array. The fault is that of the first one outside. Want of
+/// memory alone is answered at will.
+///
+/// Each array must have a cell, and all at most 4,096.
+pub fn walk_indices(alloc: Global, program: &Program) -> Result<(), WalkFault>
+    requires { AreSized (arrays_of (declarations_of program.now.arrays)) }
+    ensures ok { OnOk result (out_of_range_of (program_of program.now) ≡ None) }
+    ensures indices { OnOk result (IsTrue (has_indices_inside (program_of program.now))) }
+    ensures fault { IfErr result
+        (λ fault. (fault ≡ WalkFault.Memory)
+        ⊎ (out_of_range_of (program_of program.now) ≡ Some fault)) }
+{
+    let layout = layout_of(alloc, program)?;
+    indices_in(alloc, &layout, program)
+}
+
+// Where the program's arrays lie.
+fn layout_of(alloc: Global, program: &Program) -> Result<Layout<'_>, WalkFault>
+    requires { AreSized (arrays_of (declarations_of program.now.arrays)) }
+    ensures layout { IfOk result (λ layout. layout ≡ arrays_of (declarations_of program.now.arrays)) }
+    ensures memory { IfErr result (λ fault. fault ≡ WalkFault.Memory) }
+{
+    match Layout::new(alloc, &program.arrays) {
+        Ok(layout) => Ok(layout),
+        Err(_) => Err(WalkFault::Memory),
+    }
+}
+
+// The same with the layout at hand.
+fn indices_in(alloc: Global, layout: &Layout, program: &Program) -> Result<(), WalkFault>
+    requires layout { layout.now ≡ arrays_of (declarations_of program.now.arrays) }
+    requires sized { AreSized layout.now }
+    ensures ok { OnOk result (out_of_range_of (program_of program.now) ≡ None) }
+    ensures indices { OnOk result (IsTrue (has_indices_inside (program_of program.now))) }
+    ensures fault { IfErr result
+        (λ fault. out_of_range_of (program_of program.now) ≡ Some fault) }
+{
+    let mut found = None;
+    keep_body(alloc, layout, &program.body, &mut found);
     match found {
         Some(fault) => Err(fault),
         None => Ok(()),

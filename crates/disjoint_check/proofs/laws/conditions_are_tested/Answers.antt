@@ -14,5 +14,5 @@ returns c program = record {
   known_names = tested _ _ (only_known_names program);
   ranges = tested _ _ (in_range program);
   no_site_under_if = tested _ _ (no_construct_under_if program);
-  limits = (limits_from program, limits_to program);
+  limits = λ harts. (limits_from program harts, limits_to program harts);
 }

@@ -5,11 +5,11 @@ use Rattle.array_meaning.specs.Work.{sequence_work}
 use Rattle.array_meaning.specs.Touch.{walk}
 use Rattle.site_walk.specs.Outside.{first_outside}
 use Rattle.site_walk.proofs.OutsideLemmas.{inside_of_none}
-use Rattle.site_walk.proofs.walk.walk_program.Goals as goal
+use Rattle.site_walk.proofs.walk.indices_in.Goals as goal
 
-pub returns-clause-indices : goal.returns-clause-indices
-returns-clause-indices c =
+pub returns-in-None-clause-indices : goal.returns-in-None-clause-indices
+returns-in-None-clause-indices c =
     let arrays = arrays_of (declarations_of c.args.program.now.arrays) in
     let work = sequence_work (sequence_of c.args.program.now.body) [] in
     inside_of_none arrays (walk arrays work)
-    (sym (ap (λ a. first_outside a (walk a work)) c.in-Ok.ensures) ∙ sym c.keep_body.ensures ∙ c.in_default.is)
+    (sym (ap (λ a. first_outside a (walk a work)) c.requires.layout) ∙ sym c.keep_body.ensures ∙ c.in-None.is)
