@@ -7,18 +7,19 @@ use Rattle.std.proofs.lemmas.Bool.{and_parts}
 use Rattle.clap.specs.Walk.{Text, Row}
 use Rattle.clap.specs.Simple.{subcommand_of}
 use Rattle.clap.specs.Faults.{fault_of}
-use Rattle.command_words.specs.App.{lithe_app, harts_alone, made_from}
-use Rattle.command_words.specs.Asked.{number_at, harts_at, make_at, asked_of}
-use Rattle.command_words.specs.Form.{Given, is_known, times, are_these, options_of, these, value_of, number_in, number_of, harts_in, make_of, form_of}
+use Rattle.command_words.specs.App.{lithe_app}
+use Rattle.command_words.specs.Asked.{number_at, harts_at, make_at, command_at, asked_of}
+use Rattle.command_words.specs.Form.{Given, is_known, times, are_these, options_of, these, value_of, number_in, number_of, harts_given, made_from, make_of, harts_alone, harts_command, with_harts, form_of}
 use Rattle.command_words.specs.declared.command.Command.{Command}
-use Rattle.command_words.specs.declared.command.Command.TheVariants.{Run, Solo, Audit, Make}
+use Rattle.command_words.specs.declared.command.Command.TheVariants.{Solo, Make}
 use Rattle.command_words.proofs.Rules.{rows_for, text_is, or_false}
+use Rattle.command_words.proofs.Turns.{leaf, is_dashes}
 use Rattle.command_words.proofs.Sound.{NoDashes}
 use Rattle.command_words.proofs.Lists.{first_value_is}
 use Rattle.command_words.proofs.Leaves.{leaf_fault, leaf_sound, leaf_complete, ReadsThese, once_from, unknown_none}
 use Rattle.command_words.proofs.Numbers.{IsNumber, all_numbers, numbers_plain, no_dashes, value_times}
 use Rattle.command_words.proofs.Values.{number_digits}
-use Rattle.command_words.proofs.Tops.{run_fault, run_rows, solo_fault, solo_rows, audit_fault, audit_rows, make_fault, make_rows, IsOther, other_fault, nothing_fault}
+use Rattle.command_words.proofs.Tops.{sub_at, IsElse, else_sub, named_fault, named_rows, other_fault, nothing_fault}
 
 -- ---- the number of an option
 same_number : (least most : ℕ) (name : Text) (options : List Given) → number_at least most name (rows_for options) ≡ number_of least most name options
@@ -30,53 +31,75 @@ same_make options = rw (same_number 0 (2 ^ 64 - 1) (codes "seed") options, same_
 these_are : (names words : List Text) (read : ReadsThese names words) → these names words ≡ Some read.options
 these_are names words read = rw (read.read, read.these) refl
 
--- ---- without a fault
-run_right : (rest : List Text) → NoDashes rest → fault_of lithe_app (codes "run" ∷ rest) ≡ [] → asked_of (subcommand_of lithe_app (codes "run" ∷ rest)) ≡ form_of (codes "run" ∷ rest)
-run_right rest none e =
-    let read = leaf_sound (codes "run") harts_alone rest none (sym (run_fault rest) ∙ e) in
-    ap asked_of (run_rows rest) ∙ ap (λ (rows : List Row). option_map Run (harts_at rows)) read.rows ∙ ap (option_map Run) (same_number 1 4 (codes "harts") read.options)
-    ∙ ap (option_and_then (λ (options : List Given). option_map Run (harts_in options))) (sym (these_are harts_alone rest read))
+-- ---- a word is a command, or another
+pub data Named : Text → Type 0 where
+  is_solo : Named (codes "solo")
+  is_make : Named (codes "make")
+  has_harts : {word : Text} → IsElse word → (command : ℕ → Command) → harts_command word ≡ Some command → Named word
+  is_other : {word : Text} → IsElse word → harts_command word ≡ None → Named word
 
+named_by : (word : Text) (a b : Bool) (found : Option (ℕ → Command)) → bytes_eq word (codes "solo") ≡ a → bytes_eq word (codes "make") ≡ b → harts_command word ≡ found → Named word
+named_by word true b found ea eb ef = subst Named (sym (text_is word (codes "solo") ea)) is_solo
+named_by word false true found ea eb ef = subst Named (sym (text_is word (codes "make") eb)) is_make
+named_by word false false (Some command) ea eb ef = has_harts (record { solo = ea; make = eb }) command ef
+named_by word false false None ea eb ef = is_other (record { solo = ea; make = eb }) ef
+
+named : (word : Text) → Named word
+named word = named_by word (bytes_eq word (codes "solo")) (bytes_eq word (codes "make")) (harts_command word) refl refl refl
+
+solo_sub : sub_at (codes "solo") ≡ Some (leaf (codes "solo") [])
+solo_sub = refl
+
+make_sub : sub_at (codes "make") ≡ Some (leaf (codes "make") made_from)
+make_sub = refl
+
+harts_sub : (word : Text) (command : ℕ → Command) → IsElse word → harts_command word ≡ Some command → sub_at word ≡ Some (leaf word harts_alone)
+harts_sub word command is found = else_sub word is ∙ ap (option_map (λ (_ : ℕ → Command). leaf word harts_alone)) found
+
+other_sub : (word : Text) → IsElse word → harts_command word ≡ None → sub_at word ≡ None
+other_sub word is found = else_sub word is ∙ ap (option_map (λ (_ : ℕ → Command). leaf word harts_alone)) found
+
+third : {A : Type 0} (a b : Bool) (x y z : A) → a ≡ false → b ≡ false → cond a x (cond b y z) ≡ z
+third true b x y z ea eb = cc ea
+third false true x y z ea eb = cc eb
+third false false x y z ea eb = refl
+
+harts_form : (word : Text) (rest : List Text) (found : Option (ℕ → Command)) → IsElse word → harts_command word ≡ found → form_of (word ∷ rest) ≡ option_and_then (with_harts rest) found
+harts_form word rest found is e =
+    third (bytes_eq word (codes "solo")) (bytes_eq word (codes "make")) (option_map (λ (options : List Given). Solo) (these [] rest)) (option_and_then make_of (these made_from rest)) (option_and_then (with_harts rest) (harts_command word)) is.solo is.make
+    ∙ ap (option_and_then (with_harts rest)) e
+
+abbrev at_rows : List Row → (ℕ → Command) → Option Command
+at_rows rows command = option_map command (harts_at rows)
+
+-- ---- without a fault
 solo_right : (rest : List Text) → NoDashes rest → fault_of lithe_app (codes "solo" ∷ rest) ≡ [] → asked_of (subcommand_of lithe_app (codes "solo" ∷ rest)) ≡ form_of (codes "solo" ∷ rest)
 solo_right rest none e =
-    let read = leaf_sound (codes "solo") [] rest none (sym (solo_fault rest) ∙ e) in
-    ap asked_of (solo_rows rest) ∙ ap (option_map (λ (options : List Given). Solo)) (sym (these_are [] rest read))
-
-audit_right : (rest : List Text) → NoDashes rest → fault_of lithe_app (codes "audit" ∷ rest) ≡ [] → asked_of (subcommand_of lithe_app (codes "audit" ∷ rest)) ≡ form_of (codes "audit" ∷ rest)
-audit_right rest none e =
-    let read = leaf_sound (codes "audit") harts_alone rest none (sym (audit_fault rest) ∙ e) in
-    ap asked_of (audit_rows rest) ∙ ap (λ (rows : List Row). option_map Audit (harts_at rows)) read.rows ∙ ap (option_map Audit) (same_number 1 4 (codes "harts") read.options)
-    ∙ ap (option_and_then (λ (options : List Given). option_map Audit (harts_in options))) (sym (these_are harts_alone rest read))
+    let read = leaf_sound (codes "solo") [] rest none (sym (named_fault (codes "solo") [] rest solo_sub) ∙ e) in
+    ap asked_of (named_rows (codes "solo") [] rest solo_sub) ∙ ap (option_map (λ (options : List Given). Solo)) (sym (these_are [] rest read))
 
 make_right : (rest : List Text) → NoDashes rest → fault_of lithe_app (codes "make" ∷ rest) ≡ [] → asked_of (subcommand_of lithe_app (codes "make" ∷ rest)) ≡ form_of (codes "make" ∷ rest)
 make_right rest none e =
-    let read = leaf_sound (codes "make") made_from rest none (sym (make_fault rest) ∙ e) in
-    ap asked_of (make_rows rest) ∙ ap make_at read.rows ∙ same_make read.options ∙ ap (option_and_then make_of) (sym (these_are made_from rest read))
+    let read = leaf_sound (codes "make") made_from rest none (sym (named_fault (codes "make") made_from rest make_sub) ∙ e) in
+    ap asked_of (named_rows (codes "make") made_from rest make_sub) ∙ ap make_at read.rows ∙ same_make read.options ∙ ap (option_and_then make_of) (sym (these_are made_from rest read))
 
--- a word is a command, or another
-pub data Named : Text → Type 0 where
-  is_run : Named (codes "run")
-  is_solo : Named (codes "solo")
-  is_audit : Named (codes "audit")
-  is_make : Named (codes "make")
-  is_other : {word : Text} → IsOther word → Named word
-
-named_by : (word : Text) (a b c d : Bool) → bytes_eq (codes "run") word ≡ a → bytes_eq (codes "solo") word ≡ b → bytes_eq (codes "audit") word ≡ c → bytes_eq (codes "make") word ≡ d → Named word
-named_by word true b c d ea eb ec ed = subst Named (text_is (codes "run") word ea) is_run
-named_by word false true c d ea eb ec ed = subst Named (text_is (codes "solo") word eb) is_solo
-named_by word false false true d ea eb ec ed = subst Named (text_is (codes "audit") word ec) is_audit
-named_by word false false false true ea eb ec ed = subst Named (text_is (codes "make") word ed) is_make
-named_by word false false false false ea eb ec ed = is_other (record { run = ea; solo = eb; audit = ec; make = ed })
-
-named : (word : Text) → Named word
-named word = named_by word (bytes_eq (codes "run") word) (bytes_eq (codes "solo") word) (bytes_eq (codes "audit") word) (bytes_eq (codes "make") word) refl refl refl refl
+harts_right : (word : Text) (rest : List Text) (command : ℕ → Command) → IsElse word → harts_command word ≡ Some command → NoDashes rest → fault_of lithe_app (word ∷ rest) ≡ []
+    → asked_of (subcommand_of lithe_app (word ∷ rest)) ≡ form_of (word ∷ rest)
+harts_right word rest command is found none e =
+    let sub = harts_sub word command is found in
+    let read = leaf_sound word harts_alone rest none (sym (named_fault word harts_alone rest sub) ∙ e) in
+    let asked : command_at word (rows_for read.options) ≡ option_map command (harts_at (rows_for read.options)) =
+    third (bytes_eq word (codes "solo")) (bytes_eq word (codes "make")) (Some Solo) (make_at (rows_for read.options)) (option_and_then (at_rows (rows_for read.options)) (harts_command word)) is.solo is.make
+    ∙ ap (option_and_then (at_rows (rows_for read.options))) found in
+    ap asked_of (named_rows word harts_alone rest sub) ∙ ap (command_at word) read.rows ∙ asked ∙ ap (option_map command) (same_number 1 4 (codes "harts") read.options)
+    ∙ ap (option_and_then (λ (options : List Given). option_map command (harts_given options))) (sym (these_are harts_alone rest read))
+    ∙ sym (harts_form word rest (Some command) is found)
 
 right_at : (word : Text) (rest : List Text) → Named word → NoDashes (word ∷ rest) → fault_of lithe_app (word ∷ rest) ≡ [] → asked_of (subcommand_of lithe_app (word ∷ rest)) ≡ form_of (word ∷ rest)
-right_at word rest is_run none e = run_right rest none.1 e
 right_at word rest is_solo none e = solo_right rest none.1 e
-right_at word rest is_audit none e = audit_right rest none.1 e
 right_at word rest is_make none e = make_right rest none.1 e
-right_at word rest (is_other is) none e = absurd (other_fault word rest is none.0 e)
+right_at word rest (has_harts is command found) none e = harts_right word rest command is found none.1 e
+right_at word rest (is_other is found) none e = absurd (other_fault word rest (other_sub word is found) none.0 e)
 
 pub asked_right : (words : List Text) → NoDashes words → fault_of lithe_app words ≡ [] → asked_of (subcommand_of lithe_app words) ≡ form_of words
 asked_right [] none e = absurd (nothing_fault e)
@@ -122,7 +145,7 @@ number_cases least most found n e value v = number_digits least most value n (sy
 number_here : (least most : ℕ) (name : Text) (options : List Given) (n : ℕ) → number_of least most name options ≡ Some n → (value : Text) → value_of name options ≡ Some value → IsNumber value
 number_here least most name options n e value v = number_cases least most (value_of name options) n e value v
 
-harts_number : (options : List Given) (n : ℕ) → harts_in options ≡ Some n → (name : Text) → is_known harts_alone name ≡ true → (value : Text) → value_of name options ≡ Some value → IsNumber value
+harts_number : (options : List Given) (n : ℕ) → harts_given options ≡ Some n → (name : Text) → is_known harts_alone name ≡ true → (value : Text) → value_of name options ≡ Some value → IsNumber value
 harts_number options n e name known value v =
     let same : codes "harts" ≡ name = text_is (codes "harts") name (sym (or_false (bytes_eq (codes "harts") name)) ∙ known) in
     number_here 1 4 (codes "harts") options n e value (ap (λ (x : Text). value_of x options) same ∙ v)
@@ -135,52 +158,46 @@ map_some : {A B : Type 0} (f : A → B) (o : Option A) (y : B) → option_map f 
 map_some f None y e = cc e
 map_some f (Some x) y e = (x, refl)
 
-make_known : (name : Text) (options : List Given) (seed size harts : ℕ) → number_of 0 (2 ^ 64 - 1) (codes "seed") options ≡ Some seed → number_of 1 40 (codes "size") options ≡ Some size → harts_in options ≡ Some harts
+make_known : (name : Text) (options : List Given) (seed size harts : ℕ) → number_of 0 (2 ^ 64 - 1) (codes "seed") options ≡ Some seed → number_of 1 40 (codes "size") options ≡ Some size → harts_given options ≡ Some harts
     → (a b c : Bool) → bytes_eq (codes "seed") name ≡ a → bytes_eq (codes "size") name ≡ b → bytes_eq (codes "harts") name ≡ c → (a || (b || (c || false))) ≡ true → (value : Text) → value_of name options ≡ Some value → IsNumber value
 make_known name options seed size harts x k n true b c ea eb ec known value v = number_here 0 (2 ^ 64 - 1) (codes "seed") options seed x value (ap (λ (t : Text). value_of t options) (text_is (codes "seed") name ea) ∙ v)
 make_known name options seed size harts x k n false true c ea eb ec known value v = number_here 1 40 (codes "size") options size k value (ap (λ (t : Text). value_of t options) (text_is (codes "size") name eb) ∙ v)
 make_known name options seed size harts x k n false false true ea eb ec known value v = number_here 1 4 (codes "harts") options harts n value (ap (λ (t : Text). value_of t options) (text_is (codes "harts") name ec) ∙ v)
 make_known name options seed size harts x k n false false false ea eb ec known value v = cc known
 
-run_serves : (rest : List Text) (command : Command) → form_of (codes "run" ∷ rest) ≡ Some command → Serves (codes "run" ∷ rest)
-run_serves rest command e =
-    let options = then_some (λ (options : List Given). option_map Run (harts_in options)) (these harts_alone rest) command e in
-    let harts = map_some Run (harts_in options.0) command options.2 in
-    let leaf = serves_leaf (codes "run") harts_alone rest options.0 options.1 (harts_number options.0 harts.0 harts.1) in
-    record { dashes = (refl, leaf.0); fault = run_fault rest ∙ leaf.1 }
-
-audit_serves : (rest : List Text) (command : Command) → form_of (codes "audit" ∷ rest) ≡ Some command → Serves (codes "audit" ∷ rest)
-audit_serves rest command e =
-    let options = then_some (λ (options : List Given). option_map Audit (harts_in options)) (these harts_alone rest) command e in
-    let harts = map_some Audit (harts_in options.0) command options.2 in
-    let leaf = serves_leaf (codes "audit") harts_alone rest options.0 options.1 (harts_number options.0 harts.0 harts.1) in
-    record { dashes = (refl, leaf.0); fault = audit_fault rest ∙ leaf.1 }
-
 solo_serves : (rest : List Text) (command : Command) → form_of (codes "solo" ∷ rest) ≡ Some command → Serves (codes "solo" ∷ rest)
 solo_serves rest command e =
     let options = map_some (λ (options : List Given). Solo) (these [] rest) command e in
     let leaf = serves_leaf (codes "solo") [] rest options.0 options.1 (λ name known value v. cc known) in
-    record { dashes = (refl, leaf.0); fault = solo_fault rest ∙ leaf.1 }
+    record { dashes = (refl, leaf.0); fault = named_fault (codes "solo") [] rest solo_sub ∙ leaf.1 }
 
 make_serves : (rest : List Text) (command : Command) → form_of (codes "make" ∷ rest) ≡ Some command → Serves (codes "make" ∷ rest)
 make_serves rest command e =
     let options = then_some make_of (these made_from rest) command e in
-    let seed = then_some (λ seed. option_and_then (λ size. option_map (Make seed size) (harts_in options.0)) (number_of 1 40 (codes "size") options.0)) (number_of 0 (2 ^ 64 - 1) (codes "seed") options.0) command options.2 in
-    let size = then_some (λ size. option_map (Make seed.0 size) (harts_in options.0)) (number_of 1 40 (codes "size") options.0) command seed.2 in
-    let harts = map_some (Make seed.0 size.0) (harts_in options.0) command size.2 in
+    let seed = then_some (λ seed. option_and_then (λ size. option_map (Make seed size) (harts_given options.0)) (number_of 1 40 (codes "size") options.0)) (number_of 0 (2 ^ 64 - 1) (codes "seed") options.0) command options.2 in
+    let size = then_some (λ size. option_map (Make seed.0 size) (harts_given options.0)) (number_of 1 40 (codes "size") options.0) command seed.2 in
+    let harts = map_some (Make seed.0 size.0) (harts_given options.0) command size.2 in
     let leaf = serves_leaf (codes "make") made_from rest options.0 options.1
     (λ name known value v. make_known name options.0 seed.0 size.0 harts.0 seed.1 size.1 harts.1 (bytes_eq (codes "seed") name) (bytes_eq (codes "size") name) (bytes_eq (codes "harts") name) refl refl refl known value v) in
-    record { dashes = (refl, leaf.0); fault = make_fault rest ∙ leaf.1 }
+    record { dashes = (refl, leaf.0); fault = named_fault (codes "make") made_from rest make_sub ∙ leaf.1 }
 
-other_form : (word : Text) (rest : List Text) → IsOther word → form_of (word ∷ rest) ≡ None
-other_form word rest is = rw (is.run, is.solo, is.audit, is.make) refl
+-- `--` is no command's name
+dashes_case : (b : Bool) (word : Text) (command : ℕ → Command) → harts_command word ≡ Some command → (b ≡ true → word ≡ 45 ∷ 45 ∷ []) → b ≡ false
+dashes_case true word command found is = let bad : None ≡ Some command = sym (ap harts_command (is refl)) ∙ found in cc bad
+dashes_case false word command found is = refl
+
+harts_serves : (word : Text) (rest : List Text) (made : ℕ → Command) (command : Command) → IsElse word → harts_command word ≡ Some made → form_of (word ∷ rest) ≡ Some command → Serves (word ∷ rest)
+harts_serves word rest made command is found e =
+    let options = then_some (λ (options : List Given). option_map made (harts_given options)) (these harts_alone rest) command (sym (harts_form word rest (Some made) is found) ∙ e) in
+    let harts = map_some made (harts_given options.0) command options.2 in
+    let leaf = serves_leaf word harts_alone rest options.0 options.1 (harts_number options.0 harts.0 harts.1) in
+    record { dashes = (dashes_case (is_dashes word) word made found (text_is word (45 ∷ 45 ∷ [])), leaf.0); fault = named_fault word harts_alone rest (harts_sub word made is found) ∙ leaf.1 }
 
 serves_at : (word : Text) (rest : List Text) (command : Command) → Named word → form_of (word ∷ rest) ≡ Some command → Serves (word ∷ rest)
-serves_at word rest command is_run e = run_serves rest command e
 serves_at word rest command is_solo e = solo_serves rest command e
-serves_at word rest command is_audit e = audit_serves rest command e
 serves_at word rest command is_make e = make_serves rest command e
-serves_at word rest command (is_other is) e = let bad : None ≡ Some command = sym (other_form word rest is) ∙ e in cc bad
+serves_at word rest command (has_harts is made found) e = harts_serves word rest made command is found e
+serves_at word rest command (is_other is found) e = let bad : None ≡ Some command = sym (harts_form word rest None is found) ∙ e in cc bad
 
 pub forms_serve : (words : List Text) (command : Command) → form_of words ≡ Some command → Serves words
 forms_serve [] command e = cc e

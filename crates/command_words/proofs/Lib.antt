@@ -1,3 +1,4 @@
+pub mod Apps
 pub mod Rules
 pub mod Turns
 pub mod Lists
@@ -9,4 +10,5 @@ pub mod Leaves
 pub mod Tops
 pub mod Numbers
 pub mod Forms
+pub mod Few
 pub mod Final

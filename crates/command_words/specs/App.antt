@@ -3,6 +3,7 @@ use Rattle.std.specs.Prelude.{ℕ, List, [], ◌∷◌, map, Some, codes, true, 
 use Rattle.clap.specs.Words.{App, Shape, Rule}
 use Rattle.clap.specs.Simple.{new_rule, new_shape}
 use Rattle.clap.specs.declared.builder.action.ArgAction.TheVariants.{Set}
+use Rattle.command_words.specs.Form.{harts_alone, harts_commands, made_from}
 
 -- an option that takes a value, and that the command needs
 abbrev pub needed : List ℕ → Rule
@@ -14,12 +15,6 @@ command_with name names = record (new_shape name) {
   rules = map needed names;
   disable_help_flag = true;
 }
-
-abbrev pub harts_alone : List (List ℕ)
-harts_alone = codes "harts" ∷ []
-
-abbrev pub made_from : List (List ℕ)
-made_from = codes "seed" ∷ codes "size" ∷ codes "harts" ∷ []
 
 -- the program without its commands, a command with no option, and the command with three
 abbrev pub program_shape : Shape
@@ -39,9 +34,10 @@ bare_app name = record { top = command_with name []; subs = [] }
 abbrev pub make_app : App
 make_app = record { top = command_with (codes "make") made_from; subs = [] }
 
+-- the program with its commands
 abbrev pub lithe_app : App
 lithe_app = record {
   top = record program_shape { is_leaf = false };
-  subs = command_with (codes "run") harts_alone ∷ command_with (codes "solo") []
-      ∷ command_with (codes "audit") harts_alone ∷ command_with (codes "make") made_from ∷ [];
+  subs = command_with (codes "solo") [] ∷ command_with (codes "make") made_from
+      ∷ map (λ known. command_with known.0 harts_alone) harts_commands;
 }

@@ -4,9 +4,9 @@ use Rattle.std.specs.List.{list_any}
 use Rattle.std.specs.Option.{option_map, option_and_then}
 use Rattle.std.specs.Str.{bytes_eq}
 use Rattle.clap.specs.Words.{Row, Text, first_of}
-use Rattle.command_words.specs.Form.{number_in}
+use Rattle.command_words.specs.Form.{number_in, harts_command}
 use Rattle.command_words.specs.declared.command.Command.{Command}
-use Rattle.command_words.specs.declared.command.Command.TheVariants.{Run, Solo, Audit, Make}
+use Rattle.command_words.specs.declared.command.Command.TheVariants.{Solo, Make}
 
 -- the number of an option that was found
 abbrev pub number_at : ℕ → ℕ → List ℕ → List Row → Option ℕ
@@ -22,10 +22,9 @@ make_at rows =
 
 abbrev pub command_at : Text → List Row → Option Command
 command_at name rows =
-    if bytes_eq name (codes "run") then option_map Run (harts_at rows) else
     if bytes_eq name (codes "solo") then Some Solo else
-    if bytes_eq name (codes "audit") then option_map Audit (harts_at rows) else
-    if bytes_eq name (codes "make") then make_at rows else None
+    if bytes_eq name (codes "make") then make_at rows else
+    option_and_then (λ command. option_map command (harts_at rows)) (harts_command name)
 
 -- the command of the matches of a subcommand
 abbrev pub asked_of : Option (Text × List Row) → Option Command

@@ -7,7 +7,7 @@ use Rattle.std.specs.Str.{bytes_eq, all_ascii_digits}
 use Rattle.std.specs.Str.Parse.{digits_value}
 use Rattle.clap.specs.Lexer.{long_of}
 use Rattle.command_words.specs.declared.command.Command.{Command}
-use Rattle.command_words.specs.declared.command.Command.TheVariants.{Run, Solo, Audit, Make}
+use Rattle.command_words.specs.declared.command.Command.TheVariants.{Run, Tally, Solo, Audit, Make}
 
 -- an option with its value
 abbrev pub Given : Type 0
@@ -64,31 +64,46 @@ number_in least most value =
 abbrev pub number_of : ℕ → ℕ → List ℕ → List Given → Option ℕ
 number_of least most name options = option_and_then (number_in least most) (value_of name options)
 
-abbrev pub harts_in : List Given → Option ℕ
-harts_in options = number_of 1 4 (codes "harts") options
+-- the number of harts
+abbrev pub harts_given : List Given → Option ℕ
+harts_given options = number_of 1 4 (codes "harts") options
 
 -- the options, if they are those with these names
 abbrev pub these : List (List ℕ) → List (List ℕ) → Option (List Given)
 these names words = option_and_then (λ options. if are_these names options then Some options
     else None) (options_of words)
 
+-- the options of a command that has a number of harts alone, and those of `make`
+abbrev pub harts_alone : List (List ℕ)
+harts_alone = codes "harts" ∷ []
+
+abbrev pub made_from : List (List ℕ)
+made_from = codes "seed" ∷ codes "size" ∷ codes "harts" ∷ []
+
 abbrev pub make_of : List Given → Option Command
 make_of options =
     option_and_then (λ seed. option_and_then
-    (λ size. option_map (Make seed size) (harts_in options))
+    (λ size. option_map (Make seed size) (harts_given options))
     (number_of 1 40 (codes "size") options)) (number_of 0 (2 ^ 64 - 1) (codes "seed") options)
+
+-- the commands that have a number of harts alone, and what such a number makes of each
+abbrev pub harts_commands : List (List ℕ × (ℕ → Command))
+harts_commands = (codes "run", Run) ∷ (codes "tally", Tally) ∷ (codes "audit", Audit) ∷ []
+
+-- the one of these with this name
+abbrev pub harts_command : List ℕ → Option (ℕ → Command)
+harts_command name =
+    option_map (λ known. known.1) (find (λ known. bytes_eq name known.0) harts_commands)
+
+-- the command that the words behind its name make of their number of harts
+abbrev pub with_harts : List (List ℕ) → (ℕ → Command) → Option Command
+with_harts words command =
+    option_and_then (λ options. option_map command (harts_given options)) (these harts_alone words)
 
 -- the command that the words give, or nothing
 abbrev pub form_of : List (List ℕ) → Option Command
 form_of [] = None
-form_of (command ∷ words) =
-    if bytes_eq (codes "run") command
-    then option_and_then (λ options. option_map Run (harts_in options))
-    (these (codes "harts" ∷ []) words) else
-    if bytes_eq (codes "solo") command then option_map (λ options. Solo) (these [] words) else
-    if bytes_eq (codes "audit") command
-    then option_and_then (λ options. option_map Audit (harts_in options))
-    (these (codes "harts" ∷ []) words) else
-    if bytes_eq (codes "make") command
-    then option_and_then make_of
-    (these (codes "seed" ∷ codes "size" ∷ codes "harts" ∷ []) words) else None
+form_of (name ∷ words) =
+    if bytes_eq name (codes "solo") then option_map (λ options. Solo) (these [] words) else
+    if bytes_eq name (codes "make") then option_and_then make_of (these made_from words) else
+    option_and_then (with_harts words) (harts_command name)

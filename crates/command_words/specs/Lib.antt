@@ -1,3 +1,4 @@
 pub mod App
 pub mod Asked
 pub mod Form
+pub mod Parts

@@ -7,19 +7,22 @@ ghost use Rattle.clap.specs.declared.builder.command.Command.TheViews.{out-Comma
 use clap::{Arg, ArgAction, Command};
 use std::alloc::{AllocError, Global};
 
+// The commands that have a number of harts alone.
+const HARTS_COMMANDS: [&str; 3] = ["run", "tally", "audit"];
+
 /// The commands, each with its options. None has help or a version.
 pub fn commands<'a>(alloc: Global) -> Result<Command<'a>, AllocError>
     ensures { IfOk result (λ c. app_of c ≡ lithe_app) }
 {
-    let run = with_harts(alloc, "run")?;
     let solo = bare(alloc, "solo");
-    let audit = with_harts(alloc, "audit")?;
     let make = make(alloc)?;
-    let first = top(alloc).subcommand(run)?;
-    let second = first.subcommand(solo)?;
-    let third = second.subcommand(audit)?;
-    let all = third.subcommand(make)?;
-    Ok(all)
+    let first = top(alloc).subcommand(solo)?;
+    let mut app = first.subcommand(make)?;
+    for name in HARTS_COMMANDS {
+        let command = with_harts(alloc, name)?;
+        app = app.subcommand(command)?;
+    }
+    Ok(app)
 }
 
 // The program, without its commands.

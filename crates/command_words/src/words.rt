@@ -70,19 +70,14 @@ fn asked(matches: &ArgMatches<'_>) -> Option<Command>
 fn command_at(name: &str, given: &ArgMatches<'_>) -> Option<Command>
     ensures { result ≡ command_at name.now (rows_of (found_of given.now)) }
 {
-    if name == "run" {
-        return Some(Command::Run(harts(given)?));
+    match name {
+        "solo" => Some(Command::Solo),
+        "make" => make(given),
+        "run" => Some(Command::Run(harts(given)?)),
+        "tally" => Some(Command::Tally(harts(given)?)),
+        "audit" => Some(Command::Audit(harts(given)?)),
+        _ => None,
     }
-    if name == "solo" {
-        return Some(Command::Solo);
-    }
-    if name == "audit" {
-        return Some(Command::Audit(harts(given)?));
-    }
-    if name == "make" {
-        return make(given);
-    }
-    None
 }
 
 // The command that makes a program.

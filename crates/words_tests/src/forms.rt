@@ -29,6 +29,20 @@ fn runs_and_audits_have_one_to_four_harts(rt: HostRuntime) -> Result<(), Fail> {
 }
 
 #[test]
+fn tallies_have_one_to_four_harts(rt: HostRuntime) -> Result<(), Fail> {
+    let alloc = rt.alloc();
+    assert_eq!(rt; asked(alloc, "tally|--harts|1")?, Some(Command::Tally(1)));
+    assert_eq!(rt; asked(alloc, "tally|--harts=4")?, Some(Command::Tally(4)));
+    assert_eq!(rt; asked(alloc, "tally|--harts|0")?, None);
+    assert_eq!(rt; asked(alloc, "tally|--harts=5")?, None);
+    assert_eq!(rt; asked(alloc, "tally")?, None);
+    assert_eq!(rt; asked(alloc, "tally|--harts")?, None);
+    assert_eq!(rt; asked(alloc, "tally|--harts|2|--harts=2")?, None);
+    assert_eq!(rt; asked(alloc, "tally|--harts|1|--seed|1")?, None);
+    Ok(())
+}
+
+#[test]
 fn options_that_are_missing_or_strange_are_no_form(rt: HostRuntime) -> Result<(), Fail> {
     let alloc = rt.alloc();
     assert_eq!(rt; asked(alloc, "run")?, None);
