@@ -1,2 +1,3 @@
 pub mod SyntaxText
 pub mod RefusalText
+pub mod TallyText

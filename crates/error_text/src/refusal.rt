@@ -65,7 +65,8 @@ fn add_line(alloc: Global, text: &mut Vec<u8>, line: u32) -> Result<(), AllocErr
     text.extend_from_slice(line.as_bytes())
 }
 
-fn add_at_line(alloc: Global, text: &mut Vec<u8>, what: &str, line: u32) -> Result<(), AllocError>
+// Adds what is wrong, and at which line.
+pub(crate) fn add_at_line(alloc: Global, text: &mut Vec<u8>, what: &str, line: u32) -> Result<(), AllocError>
     ensures { OnOk result (text.new.items ≡ text.old.items ++ (what.now ++ line_text line)) }
 {
     text.extend_from_slice(what.as_bytes())?;

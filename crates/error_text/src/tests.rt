@@ -1,8 +1,9 @@
 //! The lines by the faults that they tell.
-use crate::{refusal_line, syntax_line};
+use crate::{refusal_line, syntax_line, tally_line};
 use array_lang::{SyntaxFault, parse};
 use disjoint_check::{CheckFault, Limit};
 use std::test::Fail;
+use tally_cells::TallyFault;
 
 #[test]
 fn faults_of_texts_tell_their_places(rt: HostRuntime) -> Result<(), Fail> {
@@ -50,6 +51,21 @@ fn faults_of_programs_tell_what_was_found(rt: HostRuntime) -> Result<(), Fail> {
     assert_eq!(rt;
         line.as_slice(),
         b"refused: index 4 outside 4 cells at line 1\n".as_slice()
+    );
+    Ok(())
+}
+
+#[test]
+fn faults_of_adds_tell_their_lines(rt: HostRuntime) -> Result<(), Fail> {
+    let line = tally_line(rt.alloc(), TallyFault::Unshaped { line: 3 })?;
+    assert_eq!(rt;
+        line.as_slice(),
+        b"refused: accumulation at line 3\n".as_slice()
+    );
+    let line = tally_line(rt.alloc(), TallyFault::NameTaken { line: 1 })?;
+    assert_eq!(rt;
+        line.as_slice(),
+        b"refused: name taken at line 1\n".as_slice()
     );
     Ok(())
 }
