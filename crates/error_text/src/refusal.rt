@@ -66,7 +66,12 @@ fn add_line(alloc: Global, text: &mut Vec<u8>, line: u32) -> Result<(), AllocErr
 }
 
 // Adds what is wrong, and at which line.
-pub(crate) fn add_at_line(alloc: Global, text: &mut Vec<u8>, what: &str, line: u32) -> Result<(), AllocError>
+pub(crate) fn add_at_line(
+    alloc: Global,
+    text: &mut Vec<u8>,
+    what: &str,
+    line: u32,
+) -> Result<(), AllocError>
     ensures { OnOk result (text.new.items ≡ text.old.items ++ (what.now ++ line_text line)) }
 {
     text.extend_from_slice(what.as_bytes())?;

@@ -5,14 +5,14 @@ use Rattle.array_lang.specs.Spelled.{Spells, HasFault}
 use Rattle.array_lang.specs.declared.fault.SyntaxFault.{SyntaxFault}
 use Rattle.array_lang.specs.declared.fault.SyntaxFault.TheVariants as syntax
 use Rattle.disjoint_check.specs.FaultOf.{check_fault_of}
-use Rattle.disjoint_check.proofs.Accepting.{none_of_accepted}
+use Rattle.disjoint_check.proofs.Accepting.{none_of_accepted, for_four}
 use Rattle.disjoint_check.specs.declared.fault.CheckFault.{CheckFault}
 use Rattle.disjoint_check.specs.declared.fault.CheckFault.TheVariants as check
 use Rattle.lithe_call.specs.Lines.{TellsSyntax, TellsRefusal}
 use Rattle.lithe_call.specs.Telling.{GivesAll, GivesMore, Tells}
 use Rattle.lithe_call.specs.Inputs.{ReadsAll}
 use Rattle.command_words.specs.Form.{form_of}
-use Rattle.lithe_call.specs.Faults.{IsFault, IsNoRun, IsNoOutput}
+use Rattle.lithe_call.specs.Faults.{SpellRefused, IsFault, IsNoRun, IsNoOutput}
 use Rattle.lithe_call.specs.Output.{IsOutputOf}
 use Rattle.lithe_call.specs.FaultOf.{status_of, line_of}
 use Rattle.lithe_call.specs.Served.{IsOutputFor, TellsStatus}
@@ -73,34 +73,31 @@ more_of_left (Some b) (Some rest) limit more bytes e =
     subst (λ (l : List ℕ). limit < length l) same (omega (arith, whole, more.longer))
 
 -- a program that isn't accepted has no output
-pub refused_line : (bytes : List ℕ) (program : ProgramTree) (cause : CheckFault) (why : Fault) → length bytes ≤ 65536 → Spells bytes program → TellsRefusal program cause why →
-    (cause ≡ check.Memory) ⊎ (check_fault_of program ≡ Some cause) → IsNoRun bytes why
-refused_line bytes program cause fault.Usage short spelled tells first = absurd tells
-refused_line bytes program cause fault.TooLong short spelled tells first = absurd tells
-refused_line bytes program cause fault.ReadFault short spelled tells first = absurd tells
-refused_line bytes program cause (fault.Syntax line) short spelled tells first = absurd tells
-refused_line bytes program cause (fault.Refused line) short spelled tells first = elim first [
+pub refused_line : (harts : ℕ) (bytes : List ℕ) (program : ProgramTree) (cause : CheckFault) (why : Fault) → harts ≤ 4 → length bytes ≤ 65536 → Spells bytes program → TellsRefusal program cause why →
+    (cause ≡ check.Memory) ⊎ (check_fault_of program harts ≡ Some cause) → IsNoRun (SpellRefused harts) bytes why
+refused_line harts bytes program cause fault.Usage four short spelled tells first = absurd tells
+refused_line harts bytes program cause fault.TooLong four short spelled tells first = absurd tells
+refused_line harts bytes program cause fault.ReadFault four short spelled tells first = absurd tells
+refused_line harts bytes program cause (fault.Syntax line) four short spelled tells first = absurd tells
+refused_line harts bytes program cause (fault.Refused line) four short spelled tells first = elim first [
   | inl memory ↦ absurd (tells.0 memory)
   | inr is ↦ record {
     short = short;
     program = program;
     spelled = spelled;
-    fault = cause;
-    first = is;
-    real = tells.0;
-    told = tells.1;
-    refused = λ accepted. let none = none_of_accepted program accepted in cc;
+    refused = λ accepted. let none = none_of_accepted program harts (for_four program harts four accepted) in cc;
+    first = record { fault = cause; is = is; real = tells.0; told = tells.1 };
   }
 ]
-refused_line bytes program cause fault.Memory short spelled tells first = tt
+refused_line harts bytes program cause fault.Memory four short spelled tells first = tt
 
 -- a text that spells no program has no output
-pub syntax_line_told : (bytes : List ℕ) (cause : SyntaxFault) (why : Fault) → length bytes ≤ 65536 → TellsSyntax cause why →
-    ((program : ProgramTree) → Spells bytes program → cause ≡ syntax.Memory) → HasFault bytes cause → IsNoRun bytes why
-syntax_line_told bytes cause fault.Usage short tells only first = absurd tells
-syntax_line_told bytes cause fault.TooLong short tells only first = absurd tells
-syntax_line_told bytes cause fault.ReadFault short tells only first = absurd tells
-syntax_line_told bytes cause (fault.Syntax line) short tells only first =
+pub syntax_line_told : (AreRefused : List ℕ → List ℕ → Type 0) (bytes : List ℕ) (cause : SyntaxFault) (why : Fault) → length bytes ≤ 65536 → TellsSyntax cause why →
+    ((program : ProgramTree) → Spells bytes program → cause ≡ syntax.Memory) → HasFault bytes cause → IsNoRun AreRefused bytes why
+syntax_line_told AreRefused bytes cause fault.Usage short tells only first = absurd tells
+syntax_line_told AreRefused bytes cause fault.TooLong short tells only first = absurd tells
+syntax_line_told AreRefused bytes cause fault.ReadFault short tells only first = absurd tells
+syntax_line_told AreRefused bytes cause (fault.Syntax line) short tells only first =
     record { short = short; nothing = λ program spelled. tells.0 (only program spelled); fault = cause; first = first; real = tells.0; told = tells.1 }
-syntax_line_told bytes cause (fault.Refused line) short tells only first = absurd tells
-syntax_line_told bytes cause fault.Memory short tells only first = tt
+syntax_line_told AreRefused bytes cause (fault.Refused line) short tells only first = absurd tells
+syntax_line_told AreRefused bytes cause fault.Memory short tells only first = tt

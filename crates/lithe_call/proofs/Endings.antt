@@ -12,14 +12,15 @@ use Rattle.journal_text.specs.Reading.{lines_of, is_word}
 use Rattle.run_audit.specs.Parts.{parts_of, parts_in, with_front}
 use Rattle.run_audit.specs.declared.verdict.Verdict.{Verdict}
 use Rattle.command_words.specs.declared.command.Command.{Command}
-use Rattle.command_words.specs.declared.command.Command.TheVariants.{Run, Solo, Audit, Make}
+use Rattle.command_words.specs.declared.command.Command.TheVariants.{Run, Tally, Solo, Audit, Make}
 use Rattle.lithe_call.specs.Inputs.{limit_of, AreInput, ReadsAll, GivesTooMuch, FailsToRead}
 use Rattle.command_words.specs.Form.{form_of}
-use Rattle.lithe_call.specs.Command.{size_in}
+use Rattle.command_words.specs.Parts.{size_in}
 use Rattle.lithe_call.specs.Programs.{SpellAccepted, made_text}
+use Rattle.lithe_call.specs.Tallies.{IsTallied, SpellTallied}
 use Rattle.lithe_call.specs.Auditing.{HasParts, AreFound, found_in, status_by}
 use Rattle.lithe_call.specs.Output.{IsOutputOf, EndsMade, EndsWith}
-use Rattle.lithe_call.specs.Faults.{SpellNothing, SpellRefused, AreNoOutput, IsNoText, IsRefused, IsLong, IsFault, IsNoRun, IsNoOutput, HaveNoVerdict}
+use Rattle.lithe_call.specs.Faults.{SpellNothing, SpellRefused, SpellUntallied, AreNoOutput, IsNoText, IsRefused, IsLong, IsFault, IsNoRun, IsNoOutput, HaveNoVerdict}
 use Rattle.lithe_call.specs.FaultOf.{status_of}
 use Rattle.lithe_call.specs.Served.{IsOutputFor, IsTooLong, IsToldOf, IsTextOf}
 use Rattle.lithe_call.specs.Told.{IsLineOf}
@@ -58,8 +59,11 @@ same_parts bytes first second f s one other =
 nothing_spelled : (bytes line : List ℕ) (program : ProgramTree) → SpellNothing bytes line → SpellAccepted bytes program → ⊥
 nothing_spelled bytes line program fails is = fails.nothing program is.spelled
 
-refused_accepted : (bytes line : List ℕ) (program : ProgramTree) → SpellRefused bytes line → SpellAccepted bytes program → ⊥
-refused_accepted bytes line program fails is = fails.refused (subst IsAccepted (one_text bytes program fails.program is.spelled fails.spelled) is.accepted)
+refused_accepted : (harts : ℕ) (bytes line : List ℕ) (program : ProgramTree) → SpellRefused harts bytes line → SpellAccepted bytes program → ⊥
+refused_accepted harts bytes line program fails is = fails.refused (subst IsAccepted (one_text bytes program fails.program is.spelled fails.spelled) is.accepted)
+
+untallied_tallied : (harts : ℕ) (bytes line : List ℕ) (program : ProgramTree) → SpellUntallied harts bytes line → SpellTallied bytes program → ⊥
+untallied_tallied harts bytes line program fails is = fails.refused (subst IsTallied (one_text bytes program fails.program is.spelled fails.spelled) is.tallied)
 
 parts_meet : (P Q : List ℕ → List ℕ → Type 0) (bytes : List ℕ) → ((first second : List ℕ) → P first second → Q first second → ⊥) → HasParts P bytes → HasParts Q bytes → ⊥
 parts_meet P Q bytes never p q =
@@ -73,6 +77,7 @@ no_output_found harts line first second verdict fails is =
 
 pub no_text_ends : (command : Command) (bytes line : List ℕ) (status : Status) → IsNoText command bytes line → EndsWith command bytes status → ⊥
 no_text_ends (Run harts) bytes line status fails ends = nothing_spelled bytes line ends.1.0 fails ends.1.1
+no_text_ends (Tally harts) bytes line status fails ends = fails.nothing ends.1.0 ends.1.1.spelled
 no_text_ends Solo bytes line status fails ends = nothing_spelled bytes line ends.1.0 fails ends.1.1
 no_text_ends (Audit harts) bytes line status (inl mark) ends = let bad : None ≡ Some (ends.1.1.first, ends.1.1.second) = sym mark.none ∙ ends.1.1.parts in cc bad
 no_text_ends (Audit harts) bytes line status (inr parts) ends =
@@ -82,27 +87,29 @@ no_text_ends (Audit harts) bytes line status (inr parts) ends =
     ]) parts ends.1.1
 no_text_ends (Make seed size harts) bytes line status fails ends = absurd fails
 
-refused_made : (text line : List ℕ) (ended : Status) → SpellRefused text line → EndsMade text ended → ended ≡ status.Refused
-refused_made text line status.Done fails ends = absurd (refused_accepted text line ends.0 fails ends.1)
-refused_made text line status.Illegal fails ends = absurd ends
-refused_made text line status.Usage fails ends = absurd ends
-refused_made text line status.Syntax fails ends = absurd ends
-refused_made text line status.Refused fails ends = refl
-refused_made text line status.TooLong fails ends = absurd ends
-refused_made text line status.ReadFault fails ends = absurd ends
-refused_made text line status.WriteFault fails ends = absurd ends
-refused_made text line status.NoMemory fails ends = absurd ends
+refused_made : (harts : ℕ) (text line : List ℕ) (ended : Status) → SpellRefused harts text line → EndsMade text ended → ended ≡ status.Refused
+refused_made harts text line status.Done fails ends = absurd (refused_accepted harts text line ends.0 fails ends.1)
+refused_made harts text line status.Illegal fails ends = absurd ends
+refused_made harts text line status.Usage fails ends = absurd ends
+refused_made harts text line status.Syntax fails ends = absurd ends
+refused_made harts text line status.Refused fails ends = refl
+refused_made harts text line status.TooLong fails ends = absurd ends
+refused_made harts text line status.ReadFault fails ends = absurd ends
+refused_made harts text line status.WriteFault fails ends = absurd ends
+refused_made harts text line status.NoMemory fails ends = absurd ends
 
 -- only what `make` makes has that status
 pub refused_ends : (command : Command) (bytes line : List ℕ) (ended : Status) → IsRefused command bytes line → EndsWith command bytes ended → ended ≡ status.Refused
-refused_ends (Run harts) bytes line ended fails ends = absurd (refused_accepted bytes line ends.1.0 fails ends.1.1)
-refused_ends Solo bytes line ended fails ends = absurd (refused_accepted bytes line ends.1.0 fails ends.1.1)
+refused_ends (Run harts) bytes line ended fails ends = absurd (refused_accepted harts bytes line ends.1.0 fails ends.1.1)
+refused_ends (Tally harts) bytes line ended fails ends = absurd (untallied_tallied harts bytes line ends.1.0 fails ends.1.1)
+refused_ends Solo bytes line ended fails ends = absurd (refused_accepted 1 bytes line ends.1.0 fails ends.1.1)
 refused_ends (Audit harts) bytes line ended fails ends =
-    absurd (parts_meet (λ first second. SpellRefused first line) (AreFound harts ends.1.0) bytes (λ first second fails is. refused_accepted first line is.program fails is.input) fails ends.1.1)
-refused_ends (Make seed size harts) bytes line ended fails ends = refused_made (made_text seed size) line ended fails ends
+    absurd (parts_meet (λ first second. SpellRefused harts first line) (AreFound harts ends.1.0) bytes (λ first second fails is. refused_accepted harts first line is.program fails is.input) fails ends.1.1)
+refused_ends (Make seed size harts) bytes line ended fails ends = refused_made harts (made_text seed size) line ended fails ends
 
 pub long_ends : (command : Command) (bytes : List ℕ) (status : Status) → IsLong command bytes → EndsWith command bytes status → ⊥
 long_ends (Run harts) bytes status fails ends = absurd fails
+long_ends (Tally harts) bytes status fails ends = absurd fails
 long_ends Solo bytes status fails ends = absurd fails
 long_ends (Audit harts) bytes status fails ends =
     parts_meet (λ first second. 65536 < length first) (AreFound harts ends.1.0) bytes (λ first second long is. absurd (omega (arith, long, is.input.short))) fails ends.1.1
@@ -111,12 +118,14 @@ long_ends (Make seed size harts) bytes status fails ends = absurd fails
 -- ---- an input is what was read
 pub too_much : (command : Command) (left left' : Option (List ℕ)) (bytes : List ℕ) → GivesTooMuch command left left' → AreInput command left bytes → limit_of command < length bytes
 too_much (Run harts) left left' bytes more e = more_of_left left left' 65536 more bytes e
+too_much (Tally harts) left left' bytes more e = more_of_left left left' 65536 more bytes e
 too_much Solo left left' bytes more e = more_of_left left left' 65536 more bytes e
 too_much (Audit harts) left left' bytes more e = more_of_left left left' 4194304 more bytes e
 too_much (Make seed size harts) left left' bytes more e = absurd more
 
 much_ends : (command : Command) (left left' : Option (List ℕ)) (bytes : List ℕ) (status : Status) → GivesTooMuch command left left' → AreInput command left bytes → EndsWith command bytes status → ⊥
 much_ends (Run harts) left left' bytes status more e ends = absurd (omega (arith, too_much (Run harts) left left' bytes more e, ends.1.1.short))
+much_ends (Tally harts) left left' bytes status more e ends = absurd (omega (arith, too_much (Tally harts) left left' bytes more e, ends.1.1.short))
 much_ends Solo left left' bytes status more e ends = absurd (omega (arith, too_much Solo left left' bytes more e, ends.1.1.short))
 much_ends (Audit harts) left left' bytes status more e ends = absurd (omega (arith, too_much (Audit harts) left left' bytes more e, ends.0))
 much_ends (Make seed size harts) left left' bytes status more e ends = absurd more
@@ -125,6 +134,7 @@ much_ends (Make seed size harts) left left' bytes status more e ends = absurd mo
 pub with_input : (IsSo : Command → List ℕ → Type 0) → ((seed size harts : ℕ) (a b : List ℕ) → IsSo (Make seed size harts) a → IsSo (Make seed size harts) b)
     → (command : Command) (bytes read : List ℕ) (left left' : Option (List ℕ)) → AreInput command left bytes → ReadsAll command left read left' → IsSo command read → IsSo command bytes
 with_input IsSo any (Run harts) bytes read left left' e all is = subst (λ (b : List ℕ). IsSo (Run harts) b) (sym (given_bytes bytes read left left' e all)) is
+with_input IsSo any (Tally harts) bytes read left left' e all is = subst (λ (b : List ℕ). IsSo (Tally harts) b) (sym (given_bytes bytes read left left' e all)) is
 with_input IsSo any Solo bytes read left left' e all is = subst (λ (b : List ℕ). IsSo Solo b) (sym (given_bytes bytes read left left' e all)) is
 with_input IsSo any (Audit harts) bytes read left left' e all is = subst (λ (b : List ℕ). IsSo (Audit harts) b) (sym (given_bytes bytes read left left' e all)) is
 with_input IsSo any (Make seed size harts) bytes read left left' e all is = any seed size harts read bytes is
@@ -179,6 +189,7 @@ made_done text status.NoMemory program is ends = absurd ends
 
 ends_one : (command : Command) (bytes : List ℕ) (status ending : Status) (text : List ℕ) → IsOutputOf command bytes ending text → EndsWith command bytes status → ending ≡ status
 ends_one (Run harts) bytes status ending text out ends = out.0 ∙ sym ends.0
+ends_one (Tally harts) bytes status ending text out ends = out.0 ∙ sym ends.0
 ends_one Solo bytes status ending text out ends = out.0 ∙ sym ends.0
 ends_one (Audit harts) bytes status ending text out ends = out.same ∙ ap status_by (verdicts_one harts bytes out.verdict ends.1.0 out.has ends.1.1) ∙ sym ends.1.2
 ends_one (Make seed size harts) bytes status ending text out ends = out.0 ∙ sym (made_done (made_text seed size) status out.1.program out.1.input ends)
@@ -205,6 +216,7 @@ too_long_told words fault.Memory left left' faults faults' h e = cc e
 
 failed_rose : (command : Command) (faults faults' : ℕ) → FailsToRead command faults faults' → Rose faults faults'
 failed_rose (Run harts) faults faults' h = h
+failed_rose (Tally harts) faults faults' h = h
 failed_rose Solo faults faults' h = h
 failed_rose (Audit harts) faults faults' h = h
 failed_rose (Make seed size harts) faults faults' h = absurd h
@@ -217,7 +229,7 @@ read_fault_told words (fault.Syntax line) left left' faults faults' h e = cc e
 read_fault_told words (fault.Refused line) left left' faults faults' h e = cc e
 read_fault_told words fault.Memory left left' faults faults' h e = cc e
 
-pub no_verdict_of_no_run : (harts : ℕ) (first second : List ℕ) (why : Fault) → IsNoRun first why → HaveNoVerdict harts first second why
+pub no_verdict_of_no_run : (harts : ℕ) (first second : List ℕ) (why : Fault) → IsNoRun (SpellRefused harts) first why → HaveNoVerdict harts first second why
 no_verdict_of_no_run harts first second fault.Usage h = h
 no_verdict_of_no_run harts first second fault.TooLong h = h
 no_verdict_of_no_run harts first second fault.ReadFault h = h
@@ -254,7 +266,7 @@ line_told words status.WriteFault left left' line is command form bytes e = is
 line_told words status.NoMemory left left' line is command form bytes e = is
 
 -- ---- a made program is spelled by its text
-pub no_output_of_made : (seed size harts : ℕ) (bytes : List ℕ) (why : Fault) → size ≤ 40 → IsNoRun (made_text seed size) why → IsNoOutput (Make seed size harts) bytes why
+pub no_output_of_made : (seed size harts : ℕ) (bytes : List ℕ) (why : Fault) → size ≤ 40 → IsNoRun (SpellRefused harts) (made_text seed size) why → IsNoOutput (Make seed size harts) bytes why
 no_output_of_made seed size harts bytes fault.Usage few h = h
 no_output_of_made seed size harts bytes fault.TooLong few h = h
 no_output_of_made seed size harts bytes fault.ReadFault few h = h
@@ -264,8 +276,9 @@ no_output_of_made seed size harts bytes fault.Memory few h = tt
 
 -- the same of what a function answers, for the text that it was given
 pub made_faults : {X : Type 0} (r : Result X Fault) (command : Command) (seed size harts : ℕ) (bytes text : List ℕ) → command ≡ Make seed size harts → size_in command ≤ 40
-    → text ≡ made_text seed size → IfErr r (IsNoRun text) → IfErr r (IsNoOutput command bytes)
+    → text ≡ made_text seed size → IfErr r (IsNoRun (SpellRefused harts) text) → IfErr r (IsNoOutput command bytes)
 made_faults (Ok x) command seed size harts bytes text is few same h = tt
 made_faults (Err why) command seed size harts bytes text is few same h =
     subst (λ (c : Command). IsNoOutput c bytes why) (sym is)
-    (no_output_of_made seed size harts bytes why (subst (λ (c : Command). size_in c ≤ 40) is few) (subst (λ (t : List ℕ). IsNoRun t why) same h))
+    (no_output_of_made seed size harts bytes why (subst (λ (c : Command). size_in c ≤ 40) is few)
+    (subst (λ (t : List ℕ). IsNoRun (SpellRefused harts) t why) same h))

@@ -6,17 +6,23 @@ use Rattle.array_lang.specs.declared.fault.SyntaxFault.{SyntaxFault}
 use Rattle.array_lang.specs.declared.fault.SyntaxFault.TheVariants as syntax
 use Rattle.array_meaning.specs.Bounds.{most_bytes}
 use Rattle.array_meaning.specs.Accepted.{IsAccepted}
-use Rattle.disjoint_check.specs.FaultOf.{check_fault_of}
+use Rattle.disjoint_check.specs.FaultOf.{meaning_fault_of, check_fault_of}
+use Rattle.disjoint_check.specs.Meaning.{HasMeaningFor}
 use Rattle.disjoint_check.specs.declared.fault.CheckFault.{CheckFault}
 use Rattle.disjoint_check.specs.declared.fault.CheckFault.TheVariants as check
 use Rattle.error_text.specs.SyntaxText.{syntax_text}
 use Rattle.error_text.specs.RefusalText.{refusal_text}
+use Rattle.error_text.specs.TallyText.{tally_text}
+use Rattle.spread_laws.specs.Faults.{SpreadFault, spread_fault_of}
+use Rattle.spread_laws.specs.Spread.{spread_of}
+use Rattle.tally_cells.specs.FaultOf.{told_of}
 use Rattle.lithe_call.specs.Inputs.{ReadsAll, GivesTooMuch, FailsToRead}
 use Rattle.lithe_call.specs.Programs.{made_text, SpellAccepted}
+use Rattle.lithe_call.specs.Tallies.{IsTallied}
 use Rattle.lithe_call.specs.Auditing.{HasParts, found_in}
 use Rattle.command_words.specs.Form.{form_of}
 use Rattle.command_words.specs.declared.command.Command.{Command}
-use Rattle.command_words.specs.declared.command.Command.TheVariants.{Run, Solo, Audit, Make}
+use Rattle.command_words.specs.declared.command.Command.TheVariants.{Run, Tally, Solo, Audit, Make}
 use Rattle.journal_text.specs.declared.fault.TextFault.{TextFault}
 use Rattle.journal_text.specs.declared.fault.TextFault.TheVariants as text
 use Rattle.run_audit.specs.Parts.{parts_of}
@@ -33,16 +39,47 @@ pub record SpellNothing (bytes line : List ℕ) : Type 0 where
   pub real : fault ≢ syntax.Memory
   pub told : line ≡ syntax_text fault
 
+-- the line tells this fault of the program, which isn't want of memory
+pub record IsToldFault (found : Option CheckFault) (program : ProgramTree) (line : List ℕ) : Type 0 where
+  pub fault : CheckFault
+  pub is : found ≡ Some fault
+  pub real : fault ≢ check.Memory
+  pub told : line ≡ refusal_text program fault
+
 -- bytes within the limit spell a program that isn't accepted, and the line tells the first condition that it fails
-pub record SpellRefused (bytes line : List ℕ) : Type 0 where
+pub record SpellRefused (harts : ℕ) (bytes line : List ℕ) : Type 0 where
   pub short : length bytes ≤ most_bytes
   pub program : ProgramTree
   pub spelled : Spells bytes program
   pub refused : IsAccepted program → ⊥
-  pub fault : CheckFault
-  pub first : check_fault_of program ≡ Some fault
-  pub real : fault ≢ check.Memory
-  pub told : line ≡ refusal_text program fault
+  pub first : IsToldFault (check_fault_of program harts) program line
+
+-- the program has a meaning, but its adds can't have rows of their own, and the line tells why
+pub record IsUnspread (harts : ℕ) (program : ProgramTree) (line : List ℕ) : Type 0 where
+  pub meaning : HasMeaningFor program harts
+  pub fault : SpreadFault
+  pub first : spread_fault_of program ≡ Some fault
+  pub told : line ≡ tally_text (told_of fault)
+
+-- it has a meaning and its adds can have rows, but with them it isn't accepted, and the line tells of the program with rows
+pub record IsSpreadRefused (harts : ℕ) (program : ProgramTree) (line : List ℕ) : Type 0 where
+  pub meaning : HasMeaningFor program harts
+  pub shaped : spread_fault_of program ≡ None
+  pub first : IsToldFault (check_fault_of (spread_of program) harts) (spread_of program) line
+
+-- the first of the three that refuses a program to `tally`: its meaning, its adds, or the check of it with rows
+abbrev pub IsUntallied : ℕ → ProgramTree → List ℕ → Type 0
+IsUntallied harts program line =
+    IsToldFault (meaning_fault_of program harts) program line
+    ⊎ (IsUnspread harts program line ⊎ IsSpreadRefused harts program line)
+
+-- bytes within the limit spell a program that isn't tallied, and the line tells why
+pub record SpellUntallied (harts : ℕ) (bytes line : List ℕ) : Type 0 where
+  pub short : length bytes ≤ most_bytes
+  pub program : ProgramTree
+  pub spelled : Spells bytes program
+  pub refused : IsTallied program → ⊥
+  pub first : IsUntallied harts program line
 
 -- an input without a line `%%`, and the line that says so
 pub record HasNoMark (bytes line : List ℕ) : Type 0 where
@@ -65,24 +102,22 @@ AreNoText harts line first second = SpellNothing first line ⊎ AreNoOutput hart
 
 -- why the command's input is no text that it takes, as the line tells
 abbrev pub IsNoText : Command → List ℕ → List ℕ → Type 0
-IsNoText (Run harts) bytes line = SpellNothing bytes line
-IsNoText Solo bytes line = SpellNothing bytes line
 IsNoText (Audit harts) bytes line = HasNoMark bytes line ⊎ HasParts (AreNoText harts line) bytes
 IsNoText (Make seed size harts) bytes line = ⊥
+IsNoText command bytes line = SpellNothing bytes line
 
 -- why its program isn't accepted, as the line tells
 abbrev pub IsRefused : Command → List ℕ → List ℕ → Type 0
-IsRefused (Run harts) bytes line = SpellRefused bytes line
-IsRefused Solo bytes line = SpellRefused bytes line
-IsRefused (Audit harts) bytes line = HasParts (λ first second. SpellRefused first line) bytes
-IsRefused (Make seed size harts) bytes line = SpellRefused (made_text seed size) line
+IsRefused (Run harts) bytes line = SpellRefused harts bytes line
+IsRefused (Tally harts) bytes line = SpellUntallied harts bytes line
+IsRefused Solo bytes line = SpellRefused 1 bytes line
+IsRefused (Audit harts) bytes line = HasParts (λ first second. SpellRefused harts first line) bytes
+IsRefused (Make seed size harts) bytes line = SpellRefused harts (made_text seed size) line
 
 -- the program part of its input is too long
 abbrev pub IsLong : Command → List ℕ → Type 0
-IsLong (Run harts) bytes = ⊥
-IsLong Solo bytes = ⊥
 IsLong (Audit harts) bytes = HasParts (λ first second. most_bytes < length first) bytes
-IsLong (Make seed size harts) bytes = ⊥
+IsLong command bytes = ⊥
 
 -- The cause of a fault of the command, by what the source had left before and has left after, and by its count of faults
 -- before and after. Want of memory has none.
@@ -113,12 +148,18 @@ IsFault words why left left' faults faults' =
     (command : Command) × (form_of words ≡ Some command)
     × IsCause command why left left' faults faults'
 
--- why the program of these bytes has no output
-abbrev pub IsNoRun : List ℕ → Fault → Type 0
-IsNoRun bytes (fault.Syntax line) = SpellNothing bytes line.items
-IsNoRun bytes (fault.Refused line) = SpellRefused bytes line.items
-IsNoRun bytes fault.Memory = Unit {0}
-IsNoRun bytes why = ⊥
+-- why the program of these bytes has no output, by which lines tell that it is refused
+abbrev pub IsNoRun : (List ℕ → List ℕ → Type 0) → List ℕ → Fault → Type 0
+IsNoRun AreRefused bytes (fault.Syntax line) = SpellNothing bytes line.items
+IsNoRun AreRefused bytes (fault.Refused line) = AreRefused bytes line.items
+IsNoRun AreRefused bytes fault.Memory = Unit {0}
+IsNoRun AreRefused bytes why = ⊥
+
+-- the fault tells why the program isn't tallied, or memory ran out
+abbrev pub TellsUntallied : ℕ → ProgramTree → Fault → Type 0
+TellsUntallied harts program (fault.Refused line) = IsUntallied harts program line.items
+TellsUntallied harts program fault.Memory = Unit {0}
+TellsUntallied harts program why = ⊥
 
 -- why the command has no output for these bytes
 abbrev pub IsNoOutput : Command → List ℕ → Fault → Type 0
@@ -132,6 +173,6 @@ IsNoOutput command bytes fault.Memory = Unit {0}
 -- why these parts have no verdict
 abbrev pub HaveNoVerdict : ℕ → List ℕ → List ℕ → Fault → Type 0
 HaveNoVerdict harts first second (fault.Syntax line) = AreNoText harts line.items first second
-HaveNoVerdict harts first second (fault.Refused line) = SpellRefused first line.items
+HaveNoVerdict harts first second (fault.Refused line) = SpellRefused harts first line.items
 HaveNoVerdict harts first second fault.Memory = Unit {0}
 HaveNoVerdict harts first second why = ⊥

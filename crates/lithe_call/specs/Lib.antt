@@ -1,6 +1,7 @@
 pub mod Telling
 pub mod Command
 pub mod Programs
+pub mod Tallies
 pub mod Inputs
 pub mod Auditing
 pub mod Output

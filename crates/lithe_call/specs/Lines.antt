@@ -10,6 +10,9 @@ use Rattle.journal_text.specs.declared.fault.TextFault.TheVariants as text
 use Rattle.run_audit.specs.AuditText.{text_fault_text}
 use Rattle.error_text.specs.SyntaxText.{syntax_text}
 use Rattle.error_text.specs.RefusalText.{refusal_text}
+use Rattle.error_text.specs.TallyText.{tally_text}
+use Rattle.tally_cells.specs.declared.fault.TallyFault.{TallyFault}
+use Rattle.tally_cells.specs.declared.fault.TallyFault.TheVariants as tally
 use Rattle.lithe_call.specs.declared.fault.Fault.{Fault}
 use Rattle.lithe_call.specs.declared.fault.Fault.TheVariants as fault
 
@@ -25,6 +28,12 @@ TellsRefusal program cause (fault.Refused line) =
     (cause ≢ check.Memory) × (line.items ≡ refusal_text program cause)
 TellsRefusal program cause fault.Memory = Unit {0}
 TellsRefusal program cause why = ⊥
+
+-- the fault tells why the program isn't spread, or memory ran out
+abbrev pub TellsTally : TallyFault → Fault → Type 0
+TellsTally cause (fault.Refused line) = (cause ≢ tally.Memory) × (line.items ≡ tally_text cause)
+TellsTally cause fault.Memory = Unit {0}
+TellsTally cause why = ⊥
 
 -- the fault tells that of an output's text, or memory ran out
 abbrev pub TellsText : TextFault → Fault → Type 0

@@ -11,11 +11,12 @@ use Rattle.array_meaning.specs.Stores.{Store}
 use Rattle.array_meaning.specs.Work.{final_store}
 use Rattle.array_eval.specs.ArrayText.{array_text}
 use Rattle.command_words.specs.declared.command.Command.{Command}
-use Rattle.command_words.specs.declared.command.Command.TheVariants.{Run, Solo, Audit, Make}
+use Rattle.command_words.specs.declared.command.Command.TheVariants.{Run, Tally, Solo, Audit, Make}
 use Rattle.run_audit.specs.AuditText.{verdict_text}
 use Rattle.run_summary.specs.Summary.{summary_text}
 use Rattle.run_audit.specs.declared.verdict.Verdict.{Verdict}
 use Rattle.lithe_call.specs.Programs.{SpellAccepted, table_plan, made_text}
+use Rattle.lithe_call.specs.Tallies.{SpellTallied}
 use Rattle.lithe_call.specs.Inputs.{limit_of}
 use Rattle.lithe_call.specs.Auditing.{HasVerdict, status_by}
 use Rattle.lithe_call.specs.declared.status.Status.{Status}
@@ -38,9 +39,10 @@ pub record IsSummary (program : ProgramTree) (harts : ℕ) (text : List ℕ) : T
   pub complete : IsComplete (table_plan program harts) (all_meant (table_plan program harts)) journal
   pub whole : text ≡ summary_text (table_plan program harts) (final_store program) journal
 
--- `solo` writes the arrays alone; an audit doesn't run a program
+-- `solo` writes the arrays alone; `tally` and an audit don't run a program as it stands
 abbrev pub IsOutput : Command → ProgramTree → List ℕ → Type 0
 IsOutput (Run harts) program text = IsRunOutput program harts text
+IsOutput (Tally harts) program text = ⊥
 IsOutput Solo program text = text ≡ array_text program (final_store program)
 IsOutput (Audit harts) program text = ⊥
 IsOutput (Make seed size harts) program text = IsSummary program harts text
@@ -50,6 +52,13 @@ pub record IsRunOf (command : Command) (bytes text : List ℕ) : Type 0 where
   pub program : ProgramTree
   pub input : SpellAccepted bytes program
   pub output : IsOutput command program text
+
+-- The text is what `tally` writes for the program that these bytes spell: its arrays as the one-thread meaning of this same
+-- program leaves them, and a journal that is complete for its plan.
+pub record IsTallyOf (harts : ℕ) (bytes text : List ℕ) : Type 0 where
+  pub program : ProgramTree
+  pub input : SpellTallied bytes program
+  pub output : IsRunOutput program harts text
 
 -- the text is the line of the bytes' verdict, and the status the verdict's
 pub record IsAuditOf (harts : ℕ) (bytes : List ℕ) (status : Status) (text : List ℕ) : Type 0 where
@@ -61,6 +70,7 @@ pub record IsAuditOf (harts : ℕ) (bytes : List ℕ) (status : Status) (text : 
 -- the text is what the command writes for these bytes, and the status is that which it then has
 abbrev pub IsOutputOf : Command → List ℕ → Status → List ℕ → Type 0
 IsOutputOf (Run harts) bytes status text = (status ≡ Done) × IsRunOf (Run harts) bytes text
+IsOutputOf (Tally harts) bytes status text = (status ≡ Done) × IsTallyOf harts bytes text
 IsOutputOf Solo bytes status text = (status ≡ Done) × IsRunOf Solo bytes text
 IsOutputOf (Audit harts) bytes status text = IsAuditOf harts bytes status text
 IsOutputOf (Make seed size harts) bytes status text =
@@ -76,6 +86,8 @@ EndsMade text status = ⊥
 abbrev pub EndsWith : Command → List ℕ → Status → Type 0
 EndsWith (Run harts) bytes status =
     (status ≡ Done) × ((program : ProgramTree) × SpellAccepted bytes program)
+EndsWith (Tally harts) bytes status =
+    (status ≡ Done) × ((program : ProgramTree) × SpellTallied bytes program)
 EndsWith Solo bytes status =
     (status ≡ Done) × ((program : ProgramTree) × SpellAccepted bytes program)
 EndsWith (Audit harts) bytes status =

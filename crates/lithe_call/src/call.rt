@@ -7,11 +7,12 @@ ghost use Rattle.command_words.specs.declared.command.Command.TheVariants.{Make}
 ghost use Rattle.lithe_call.specs.declared.status.Status.{Status};
 ghost use Rattle.lithe_call.specs.Telling.{Tells};
 ghost use Rattle.command_words.specs.Form.{form_of};
-ghost use Rattle.lithe_call.specs.Command.{harts_in, size_in, runs_programs};
+ghost use Rattle.command_words.specs.Parts.{harts_in, size_in};
+ghost use Rattle.lithe_call.specs.Command.{runs_programs};
 ghost use Rattle.lithe_call.specs.Inputs.{limit_of, AreInput, ReadsAll, GivesTooMuch, FailsToRead};
 ghost use Rattle.lithe_call.specs.Auditing.{status_of_ending};
-ghost use Rattle.lithe_call.specs.Output.{IsOutputOf, IsRunOf, EndsWith};
-ghost use Rattle.lithe_call.specs.Faults.{IsFault, IsNoOutput, IsNoRun};
+ghost use Rattle.lithe_call.specs.Output.{IsOutputOf, IsRunOf, IsTallyOf};
+ghost use Rattle.lithe_call.specs.Faults.{SpellRefused, SpellUntallied, IsFault, IsNoOutput, IsNoRun};
 ghost use Rattle.lithe_call.specs.FaultOf.{status_of, line_of};
 ghost use Rattle.lithe_call.specs.Status.{constant_text};
 ghost use Rattle.lithe_call.specs.Served.{IsOutputFor, AreServed};
@@ -23,6 +24,7 @@ use crate::fault::Fault;
 use crate::reading::{ReadError, read_all};
 use crate::run::answer;
 use crate::status::{Status, constant_text};
+use crate::tally::tallied;
 use crate::writing::write_all;
 use command_words::Command;
 use outside_io::{Gate, Sink, Source};
@@ -34,7 +36,8 @@ use std::thread::Threads;
 /// Serves the words: reads the input, runs its program and writes the output, or tells on `err` why not.
 ///
 /// `run --harts N`, N from 1 to 4, runs the program on N harts, each of several on a thread, and writes its arrays and the
-/// journal of its transfers; `solo` writes the arrays alone. `audit --harts N` reads a program, a line `%%` and an output of
+/// journal of its transfers; `tally --harts N` does so where branches and members add into one cell of an array whose name
+/// ends in `_sum`; `solo` writes the arrays alone. `audit --harts N` reads a program, a line `%%` and an output of
 /// `run`, and writes whether the output is the program's; where it isn't, the status is Illegal. `make --seed X --size K
 /// --harts N`, K from 1 to 40, reads nothing: it makes a program, runs its printed text as `run` does, and writes the
 /// summary of the run. The whole output is built before its first byte is written.
@@ -155,7 +158,7 @@ fn input<A: Source>(alloc: Global, source: &mut A, command: Command) -> Result<V
 {
     match command {
         Command::Make { .. } => Ok(Vec::new(alloc)),
-        Command::Run(_) | Command::Solo | Command::Audit(_) => {
+        Command::Run(_) | Command::Tally(_) | Command::Solo | Command::Audit(_) => {
             read_all(alloc, source, limit(command))
         }
     }
@@ -175,10 +178,31 @@ fn run_of<R: Threads + Wait + Sync, G: Gate>(
     requires few_harts { harts_in command ≤ 4 }
     ensures output { IfOk result (λ answer. IsRunOf command bytes.now answer.text.items) }
     ensures done { IfOk result (λ answer. status_of_ending answer.ending ≡ Status.Done) }
-    ensures fault { IfErr result (IsNoRun bytes.now) }
+    ensures fault { IfErr result (IsNoRun (SpellRefused (harts_in command)) bytes.now) }
 {
     Ok(Answer {
         text: answer(rt, alloc, gate, command, bytes)?,
+        ending: Ending::Written,
+    })
+}
+
+// What `tally` of the program of these bytes comes to.
+fn tally_of<R: Threads + Wait + Sync, G: Gate>(
+    rt: &R,
+    alloc: Global,
+    gate: &G,
+    harts: u8,
+    bytes: &[u8],
+) -> Result<Answer, Fault>
+    requires short { length bytes.now ≤ most_bytes }
+    requires some_hart { 1 ≤ harts }
+    requires few_harts { harts ≤ 4 }
+    ensures output { IfOk result (λ answer. IsTallyOf harts bytes.now answer.text.items) }
+    ensures done { IfOk result (λ answer. status_of_ending answer.ending ≡ Status.Done) }
+    ensures fault { IfErr result (IsNoRun (SpellUntallied harts) bytes.now) }
+{
+    Ok(Answer {
+        text: tallied(rt, alloc, gate, harts, bytes)?,
         ending: Ending::Written,
     })
 }
@@ -203,6 +227,7 @@ fn answer_to<R: Threads + Wait + Sync, G: Gate>(
     match command {
         Command::Audit(harts) => audited(alloc, harts, bytes),
         Command::Run(_) | Command::Solo => run_of(rt, alloc, gate, command, bytes),
+        Command::Tally(harts) => tally_of(rt, alloc, gate, harts, bytes),
         Command::Make { seed, size, .. } => {
             let text = made_text(alloc, seed, size)?;
             run_of(rt, alloc, gate, command, &text)

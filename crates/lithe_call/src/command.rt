@@ -2,7 +2,7 @@
 ghost use Rattle.std.specs.Prelude.{◌≡◌, ◌≤◌, Some, IfOk, IfErr, map, string_bytes};
 ghost use Rattle.command_words.specs.Form.{form_of};
 ghost use Rattle.run_audit.specs.Parts.{most_audited};
-ghost use Rattle.lithe_call.specs.Command.{harts_in, size_in};
+ghost use Rattle.command_words.specs.Parts.{harts_in, size_in};
 ghost use Rattle.lithe_call.specs.Inputs.{limit_of};
 ghost use Rattle.lithe_call.specs.Faults.{IsNoCommand};
 
@@ -36,9 +36,9 @@ pub fn harts(command: Command) -> u8
     ensures { result ≡ harts_in command }
 {
     match command {
-        Command::Run(harts) => harts,
+        Command::Run(harts) | Command::Tally(harts) | Command::Audit(harts) => harts,
         Command::Solo => 1,
-        Command::Audit(harts) | Command::Make { harts, .. } => harts,
+        Command::Make { harts, .. } => harts,
     }
 }
 
@@ -48,7 +48,7 @@ pub fn limit(command: Command) -> usize
     ensures few { result ≤ most_audited }
 {
     match command {
-        Command::Run(_) | Command::Solo => MOST_BYTES,
+        Command::Run(_) | Command::Tally(_) | Command::Solo => MOST_BYTES,
         Command::Audit(_) => MOST_AUDITED,
         Command::Make { .. } => 0,
     }

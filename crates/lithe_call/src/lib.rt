@@ -14,6 +14,7 @@ mod laws;
 mod reading;
 mod run;
 mod status;
+mod tally;
 mod writing;
 
 pub use audit::text_fault;

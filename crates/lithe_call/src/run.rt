@@ -5,8 +5,9 @@ ghost use Rattle.array_lang.specs.Spelled.{HasFault};
 ghost use Rattle.disjoint_check.specs.FaultOf.{check_fault_of};
 ghost use Rattle.disjoint_check.specs.AcceptedProgram.{IsAcceptedProgram};
 ghost use Rattle.lithe_call.specs.Output.{IsOutput, IsRunOf, IsRunOutput, IsSummary};
-ghost use Rattle.lithe_call.specs.Command.{runs_programs, harts_in};
-ghost use Rattle.lithe_call.specs.Faults.{IsNoRun};
+ghost use Rattle.command_words.specs.Parts.{harts_in};
+ghost use Rattle.lithe_call.specs.Command.{runs_programs};
+ghost use Rattle.lithe_call.specs.Faults.{SpellRefused, IsNoRun};
 ghost use Rattle.lithe_call.specs.Lines.{TellsSyntax, TellsRefusal};
 ghost use Rattle.array_meaning.specs.Bounds.{most_bytes};
 ghost use Rattle.array_meaning.specs.Work.{final_store};
@@ -45,7 +46,7 @@ pub fn answer<R: Threads + Wait + Sync, G: Gate>(
     requires some_hart { 1 ≤ harts_in command }
     requires few_harts { harts_in command ≤ 4 }
     ensures output { IfOk result (λ output. IsRunOf command bytes.now output.items) }
-    ensures fault { IfErr result (IsNoRun bytes.now) }
+    ensures fault { IfErr result (IsNoRun (SpellRefused (harts_in command)) bytes.now) }
 {
     let program = match parse(alloc, bytes) {
         Ok(program) => program,
@@ -104,7 +105,7 @@ fn output<R: Threads + Wait + Sync, G: Gate>(
         Command::Run(_) => run(rt, alloc, gate, accepted),
         Command::Solo => arrays(alloc, accepted),
         Command::Make { .. } => summary(rt, alloc, gate, accepted),
-        Command::Audit(_) => unreachable!(),
+        Command::Tally(_) | Command::Audit(_) => unreachable!(),
     }
 }
 
@@ -156,8 +157,8 @@ fn summary<R: Threads + Wait + Sync, G: Gate>(
     )
 }
 
-// Runs the program on the harts of its plan. One hart is alone, and waits for nobody.
-fn outcome<R: Threads + Wait + Sync, G: Gate>(
+/// Runs the program on the harts of its plan. One hart is alone, and waits for nobody.
+pub(crate) fn outcome<R: Threads + Wait + Sync, G: Gate>(
     rt: &R,
     alloc: Global,
     gate: &G,

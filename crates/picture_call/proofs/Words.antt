@@ -5,7 +5,7 @@ use Rattle.std.proofs.lemmas.Option.{option_and_then_some, same_Some}
 use Rattle.command_words.specs.Form.{these, number_of, form_of}
 use Rattle.command_words.specs.declared.command.Command.{Command}
 use Rattle.command_words.specs.declared.command.Command.TheVariants.{Audit}
-use Rattle.lithe_call.specs.Command.{harts_in}
+use Rattle.command_words.specs.Parts.{harts_in}
 use Rattle.run_picture.specs.declared.picture.Form.{Form}
 use Rattle.picture_call.specs.Words.{audit_words, form_named, with_options}
 

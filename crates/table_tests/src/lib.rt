@@ -15,3 +15,5 @@ mod prefixes;
 mod serving;
 #[cfg(test)]
 mod statuses;
+#[cfg(test)]
+mod sums;

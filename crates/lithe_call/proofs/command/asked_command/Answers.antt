@@ -1,5 +1,5 @@
 use Rattle.std.proofs.Common.{sym, ◌∙◌, map, string_bytes}
-use Rattle.lithe_call.proofs.Words.{form_few}
+use Rattle.command_words.proofs.Few.{form_few}
 use Rattle.lithe_call.proofs.command.asked_command.Goals as goal
 
 pub returns-in-Some-clause-some_hart : goal.returns-in-Some-clause-some_hart

@@ -1,0 +1,144 @@
+-- Programs that are tallied: why one isn't, and what the run of the one with rows leaves of the given one.
+use Rattle.std.proofs.Common.{◌≡◌, ◌⊎◌, ◌≤◌, ◌∙◌, ℕ, List, length, take, Option, Some, None, refl, sym, ap, subst, inl, inr, arith}
+use Rattle.std.specs.Option.{option_map}
+use Rattle.std.proofs.lemmas.List.{length-take}
+use Rattle.std.proofs.lemmas.Option.{same_Some}
+use Rattle.array_tree.specs.Trees.{ProgramTree}
+use Rattle.array_lang.specs.Spelled.{Spells}
+use Rattle.array_meaning.specs.Stores.{Store, arrays_of, cells_of}
+use Rattle.array_meaning.specs.Work.{final_store}
+use Rattle.disjoint_check.specs.declared.fault.CheckFault.{CheckFault}
+use Rattle.disjoint_check.specs.declared.fault.CheckFault.TheVariants as check
+use Rattle.disjoint_check.specs.FaultOf.{meaning_fault_of, check_fault_of}
+use Rattle.disjoint_check.specs.Meaning.{HasMeaningFor}
+use Rattle.disjoint_check.proofs.Accepting.{none_of_meaning, none_of_accepted, for_four}
+use Rattle.disjoint_check.proofs.Conditions.{room_for_four}
+use Rattle.spread_laws.specs.Faults.{SpreadFault, spread_fault_of}
+use Rattle.spread_laws.specs.Served.{HasMeaning, IsTallyKept}
+use Rattle.spread_laws.specs.Spread.{spread_of}
+use Rattle.tally_cells.specs.FaultOf.{told_of}
+use Rattle.tally_cells.specs.declared.fault.TallyFault.{TallyFault}
+use Rattle.tally_cells.specs.declared.fault.TallyFault.TheVariants as tally
+use Rattle.error_text.specs.TallyText.{tally_text}
+use Rattle.lithe_call.specs.Faults.{IsToldFault, IsUntallied, SpellUntallied, IsNoRun, TellsUntallied}
+use Rattle.lithe_call.specs.Lines.{TellsRefusal, TellsTally}
+use Rattle.lithe_call.specs.Tallies.{IsTallied}
+use Rattle.lithe_call.specs.declared.fault.Fault.{Fault}
+use Rattle.lithe_call.specs.declared.fault.Fault.TheVariants as fault
+use Rattle.lithe_call.proofs.Runs.{final_cells}
+
+-- ---- to have a meaning for some harts, and for up to four
+pub meaning_of : (program : ProgramTree) (harts : ℕ) → HasMeaningFor program harts → HasMeaning program
+meaning_of program harts m = record {
+  single_names = m.limits.single_names;
+  known_names = m.limits.known_names;
+  ranges = m.limits.ranges;
+  no_site_under_if = m.limits.no_site_under_if;
+  levels = m.limits.levels;
+  work = m.limits.work;
+  sites = m.limits.sites;
+  pieces = m.limits.pieces;
+  indices = m.indices;
+}
+
+meaning_for_four : (program : ProgramTree) (harts : ℕ) → harts ≤ 4 → HasMeaning program → HasMeaningFor program harts
+meaning_for_four program harts four m = record {
+  limits = record {
+    single_names = m.single_names;
+    known_names = m.known_names;
+    ranges = m.ranges;
+    no_site_under_if = m.no_site_under_if;
+    levels = m.levels;
+    work = m.work;
+    sites = m.sites;
+    pieces = m.pieces;
+    entries = room_for_four _ harts m.sites four;
+  };
+  indices = m.indices;
+}
+
+-- ---- why a program isn't tallied
+untallied_refused : (harts : ℕ) (program : ProgramTree) (line : List ℕ) → harts ≤ 4 → IsUntallied harts program line → IsTallied program → ⊥
+untallied_refused harts program line four (inl meaning) is =
+    let none = none_of_meaning program harts (meaning_for_four program harts four is.meaning) in
+    let bad : None ≡ Some meaning.fault = sym none ∙ meaning.is in cc bad
+untallied_refused harts program line four (inr (inl adds)) is =
+    let bad : None ≡ Some adds.fault = sym is.shaped ∙ adds.first in cc bad
+untallied_refused harts program line four (inr (inr rows)) is =
+    let none = none_of_accepted (spread_of program) harts (for_four (spread_of program) harts four is.accepted) in
+    let bad : None ≡ Some rows.first.fault = sym none ∙ rows.first.is in cc bad
+
+pub untallied_line : (harts : ℕ) (bytes : List ℕ) (program : ProgramTree) (why : Fault) → harts ≤ 4 → length bytes ≤ 65536 → Spells bytes program
+    → TellsUntallied harts program why → IsNoRun (SpellUntallied harts) bytes why
+untallied_line harts bytes program fault.Usage four short spelled tells = absurd tells
+untallied_line harts bytes program fault.TooLong four short spelled tells = absurd tells
+untallied_line harts bytes program fault.ReadFault four short spelled tells = absurd tells
+untallied_line harts bytes program (fault.Syntax line) four short spelled tells = absurd tells
+untallied_line harts bytes program (fault.Refused line) four short spelled tells = record {
+  short = short;
+  program = program;
+  spelled = spelled;
+  refused = untallied_refused harts program line.items four tells;
+  first = tells;
+}
+untallied_line harts bytes program fault.Memory four short spelled tells = tt
+
+-- its meaning is refused
+pub meaning_told : (harts : ℕ) (program : ProgramTree) (cause : CheckFault) (why : Fault) → TellsRefusal program cause why
+    → (cause ≡ check.Memory) ⊎ (meaning_fault_of program harts ≡ Some cause) → TellsUntallied harts program why
+meaning_told harts program cause fault.Usage tells first = absurd tells
+meaning_told harts program cause fault.TooLong tells first = absurd tells
+meaning_told harts program cause fault.ReadFault tells first = absurd tells
+meaning_told harts program cause (fault.Syntax line) tells first = absurd tells
+meaning_told harts program cause (fault.Refused line) tells first = elim first [
+  | inl memory ↦ absurd (tells.0 memory)
+  | inr is ↦ inl (record { fault = cause; is = is; real = tells.0; told = tells.1 })
+]
+meaning_told harts program cause fault.Memory tells first = tt
+
+-- its adds are refused
+given_fault : (found : Option SpreadFault) (cause : TallyFault) → option_map told_of found ≡ Some cause → (f : SpreadFault) × (found ≡ Some f) × (told_of f ≡ cause)
+given_fault None cause e = cc e
+given_fault (Some f) cause e = (f, refl, same_Some (told_of f) cause e)
+
+pub adds_told : (harts : ℕ) (program : ProgramTree) (cause : TallyFault) (why : Fault) → HasMeaningFor program harts → TellsTally cause why
+    → (cause ≡ tally.Memory) ⊎ (option_map told_of (spread_fault_of program) ≡ Some cause) → TellsUntallied harts program why
+adds_told harts program cause fault.Usage meaning tells first = absurd tells
+adds_told harts program cause fault.TooLong meaning tells first = absurd tells
+adds_told harts program cause fault.ReadFault meaning tells first = absurd tells
+adds_told harts program cause (fault.Syntax line) meaning tells first = absurd tells
+adds_told harts program cause (fault.Refused line) meaning tells first = elim first [
+  | inl memory ↦ absurd (tells.0 memory)
+  | inr is ↦ let given = given_fault (spread_fault_of program) cause is in
+      inr (inl (record { meaning = meaning; fault = given.0; first = given.1; told = tells.1 ∙ ap tally_text (sym given.2) }))
+]
+adds_told harts program cause fault.Memory meaning tells first = tt
+
+-- the program with rows is refused
+pub rows_told : (harts : ℕ) (program rows : ProgramTree) (cause : CheckFault) (why : Fault) → HasMeaningFor program harts → spread_fault_of program ≡ None
+    → rows ≡ spread_of program → TellsRefusal rows cause why → (cause ≡ check.Memory) ⊎ (check_fault_of rows harts ≡ Some cause) → TellsUntallied harts program why
+rows_told harts program rows cause fault.Usage meaning shaped same tells first = absurd tells
+rows_told harts program rows cause fault.TooLong meaning shaped same tells first = absurd tells
+rows_told harts program rows cause fault.ReadFault meaning shaped same tells first = absurd tells
+rows_told harts program rows cause (fault.Syntax line) meaning shaped same tells first = absurd tells
+rows_told harts program rows cause (fault.Refused line) meaning shaped same tells first = elim first [
+  | inl memory ↦ absurd (tells.0 memory)
+  | inr is ↦ inr (inr (record {
+    meaning = meaning;
+    shaped = shaped;
+    first = subst (λ (p : ProgramTree). IsToldFault (check_fault_of p harts) p line.items) same
+        (record { fault = cause; is = is; real = tells.0; told = tells.1 });
+  }))
+]
+rows_told harts program rows cause fault.Memory meaning shaped same tells first = tt
+
+-- ---- the cells of the given program are the first of those that the one with rows leaves
+pub kept_cells : (program rows : ProgramTree) (store : Store) → IsTallyKept program rows → store ≡ final_store rows
+    → take (cells_of (arrays_of program.arrays)) store ≡ final_store program
+kept_cells program rows store kept same = ap (take (cells_of (arrays_of program.arrays))) same ∙ kept.store
+
+pub enough_cells : (program rows : ProgramTree) (store : Store) → IsTallyKept program rows → store ≡ final_store rows → cells_of (arrays_of program.arrays) ≤ length store
+enough_cells program rows store kept same =
+    let cells = cells_of (arrays_of program.arrays) in
+    let long = ap length (kept_cells program rows store kept same) ∙ final_cells program in
+    omega (arith, length-take cells store, long)

@@ -1,0 +1,22 @@
+-- Programs that are tallied: branches and members may add into one cell of an array whose name ends in `_sum`. Each has a
+-- meaning of its own, and is run as the program in which each branch or member adds into a row of its own.
+use Rattle.std.specs.Prelude.{◌≡◌, ℕ, ◌≤◌, List, length, None}
+use Rattle.array_tree.specs.Trees.{ProgramTree}
+use Rattle.array_lang.specs.Spelled.{Spells}
+use Rattle.array_meaning.specs.Bounds.{most_bytes}
+use Rattle.array_meaning.specs.Accepted.{IsAccepted}
+use Rattle.spread_laws.specs.Served.{HasMeaning}
+use Rattle.spread_laws.specs.Faults.{spread_fault_of}
+use Rattle.spread_laws.specs.Spread.{spread_of}
+
+-- It meets all conditions but that its pieces are apart; its adds can have rows; and with these it is accepted.
+pub record IsTallied (program : ProgramTree) : Type 0 where
+  pub meaning : HasMeaning program
+  pub shaped : spread_fault_of program ≡ None
+  pub accepted : IsAccepted (spread_of program)
+
+-- these bytes spell such a program
+pub record SpellTallied (bytes : List ℕ) (program : ProgramTree) : Type 0 where
+  pub short : length bytes ≤ most_bytes
+  pub spelled : Spells bytes program
+  pub tallied : IsTallied program

@@ -1,0 +1,109 @@
+//! From bytes to the output of a program whose branches and members add into one cell.
+ghost use Rattle.std.specs.Prelude.{◌≡◌, ◌≢◌, ◌≤◌, IfOk, IfErr, OnOk, length, None};
+ghost use Rattle.array_tree.specs.Trees.{program_of};
+ghost use Rattle.array_meaning.specs.Bounds.{most_bytes};
+ghost use Rattle.disjoint_check.specs.Meaning.{HasMeaningFor};
+ghost use Rattle.spread_laws.specs.Faults.{spread_fault_of};
+ghost use Rattle.spread_laws.specs.Served.{HasMeaning, IsTallyKept};
+ghost use Rattle.spread_laws.specs.Spread.{spread_of};
+ghost use Rattle.lithe_call.specs.Faults.{TellsUntallied, SpellUntallied, IsNoRun};
+ghost use Rattle.lithe_call.specs.Lines.{TellsTally};
+ghost use Rattle.lithe_call.specs.Output.{IsRunOutput, IsTallyOf};
+
+use crate::fault::Fault;
+use crate::run::{outcome, refusal, syntax_fault};
+use array_eval::{count_cells, write_arrays};
+use array_lang::parse;
+use array_tree::Program;
+use disjoint_check::{Accepted, check, check_meaning};
+use error_text::tally_line;
+use journal_text::write_entries;
+use outside_io::Gate;
+use std::alloc::{AllocError, Global};
+use std::sync::Wait;
+use std::thread::Threads;
+use tally_cells::{TallyFault, first_cells, spread};
+
+/// What `tally` writes for the program that the bytes spell, or why there is nothing to write.
+#[tactic(auto, using(crate::proofs::Tallying::untallied_line))]
+pub fn tallied<R: Threads + Wait + Sync, G: Gate>(
+    rt: &R,
+    alloc: Global,
+    gate: &G,
+    harts: u8,
+    bytes: &[u8],
+) -> Result<Vec<u8>, Fault>
+    requires short { length bytes.now ≤ most_bytes }
+    requires some_hart { 1 ≤ harts }
+    requires few_harts { harts ≤ 4 }
+    ensures output { IfOk result (λ text. IsTallyOf harts bytes.now text.items) }
+    ensures fault { IfErr result (IsNoRun (SpellUntallied harts) bytes.now) }
+{
+    let program = match parse(alloc, bytes) {
+        Ok(program) => program,
+        Err(fault) => return Err(syntax_fault(alloc, fault)),
+    };
+    let spread = with_rows(alloc, harts, &program)?;
+    let accepted = match check(alloc, &spread, harts) {
+        Ok(accepted) => accepted,
+        Err(fault) => return Err(refusal(alloc, &spread, fault)),
+    };
+    match sums(rt, alloc, gate, &program, &accepted) {
+        Ok(text) => Ok(text),
+        Err(_) => Err(Fault::Memory),
+    }
+}
+
+// The program in which each branch or member adds into a row of its own.
+fn with_rows(alloc: Global, harts: u8, program: &Program) -> Result<Program, Fault>
+    requires some_hart { 1 ≤ harts }
+    requires few_harts { harts ≤ 4 }
+    ensures spread { IfOk result (λ t. program_of t ≡ spread_of (program_of program.now)) }
+    ensures kept { IfOk result (λ t. IsTallyKept (program_of program.now) (program_of t)) }
+    ensures meaning { OnOk result (HasMeaningFor (program_of program.now) harts) }
+    ensures shaped { OnOk result (spread_fault_of (program_of program.now) ≡ None) }
+    ensures fault { IfErr result (TellsUntallied harts (program_of program.now)) }
+{
+    if let Err(fault) = check_meaning(alloc, program, harts) {
+        return Err(refusal(alloc, program, fault));
+    }
+    match spread(alloc, program) {
+        Ok(spread) => Ok(spread),
+        Err(fault) => Err(tally_fault(alloc, fault)),
+    }
+}
+
+// The fault of a program that isn't spread.
+fn tally_fault(alloc: Global, fault: TallyFault) -> Fault
+    ensures { TellsTally fault result }
+{
+    if fault == TallyFault::Memory {
+        return Fault::Memory;
+    }
+    match tally_line(alloc, fault) {
+        Ok(line) => Fault::Refused(line),
+        Err(_) => Fault::Memory,
+    }
+}
+
+// The arrays of the given program and the journal that a run of the one with rows leaves.
+fn sums<R: Threads + Wait + Sync, G: Gate>(
+    rt: &R,
+    alloc: Global,
+    gate: &G,
+    program: &Program,
+    accepted: &Accepted<'_>,
+) -> Result<Vec<u8>, AllocError>
+    requires meaning { HasMeaning (program_of program.now) }
+    requires kept { IsTallyKept (program_of program.now) (program_of accepted.now.program) }
+    ensures { IfOk result (λ text.
+        IsRunOutput (program_of program.now) accepted.now.plan.harts text.items) }
+{
+    let outcome = outcome(rt, alloc, gate, accepted)?;
+    let cells = count_cells(&program.arrays);
+    let store = first_cells(alloc, &outcome.store, cells as u16)?;
+    let mut text = write_arrays(alloc, program, &store)?;
+    let entries = write_entries(alloc, accepted.plan(), outcome.journal.entries())?;
+    text.extend_from_slice(&entries)?;
+    Ok(text)
+}
