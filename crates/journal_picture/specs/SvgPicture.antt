@@ -143,7 +143,7 @@ number_text x k =
     concat (codes "<text x='" ∷ decimal x ∷ codes "' y='84'>" ∷ decimal k ∷ codes "</text>\n" ∷ [])
 
 abbrev pub deed_text : ℕ → ℕ → Entry → List ℕ
-deed_text step x e = if step == 72 then mark_svg x 98 (deed e) else []
+deed_text step x e = if nat_lt step 40 then [] else mark_svg x 98 (deed e)
 
 abbrev pub guide_text : ℕ → ℕ → List ℕ
 guide_text x bottom =
@@ -152,7 +152,7 @@ guide_text x bottom =
 
 -- every how many entries there is a number
 abbrev pub every : ℕ → ℕ
-every step = 1 + 30 / step
+every step = 1 + 36 / step
 
 abbrev pub tick_marks : ℕ → ℕ → ℕ → ℕ → Entry → List ℕ
 tick_marks step bottom x k e = guide_text x bottom ++ number_text x k ++ deed_text step x e
@@ -165,19 +165,41 @@ abbrev pub ticks_text : ℕ → ℕ → ℕ → List Entry → List ℕ
 ticks_text step bottom k [] = []
 ticks_text step bottom k (e ∷ es) = tick_text step bottom k e ++ ticks_text step bottom (k + 1) es
 
--- ---- marks at the home: requests, and at the end of a site the wishes that nobody met
+-- ---- marks at the home: requests, and at the end of a site the wishes that nobody met; words where there is room
+
+-- the foot of the marks of a lane
+abbrev pub mark_y : ℕ → ℕ
+mark_y h = 116 + 84 * h
+
+abbrev pub line_svg : ℕ → ℕ → List ℕ
+line_svg x y =
+    concat (codes "<path d='M" ∷ decimal x ∷ codes " " ∷ decimal y ∷
+    codes "v-10' stroke='#000000'/>\n" ∷ [])
+
+abbrev pub dot_svg : ℕ → ℕ → List ℕ
+dot_svg x y =
+    concat (codes "<path d='M" ∷ decimal x ∷ codes " " ∷ decimal y ∷
+    codes "v-4' stroke='#000000' stroke-width='4'/>\n" ∷ [])
+
+abbrev pub request_svg : ℕ → ℕ → ℕ → ℕ → List ℕ
+request_svg step x y count =
+    if nat_lt step 48 then line_svg x y else mark_svg x y (codes "+" ++ decimal count)
 
 abbrev pub unmet_at : Plan → TableState → ℕ → ℕ
 unmet_at p t s = if no_such_site p s then 0 else (row t s).wishes
 
-abbrev pub unmet_svg : ℕ → ℕ → ℕ → List ℕ
-unmet_svg x y wishes = if wishes == 0 then [] else mark_svg x y (decimal wishes ++ codes " unmet")
+abbrev pub wishes_svg : ℕ → ℕ → ℕ → ℕ → List ℕ
+wishes_svg step x y wishes =
+    if nat_lt step 48 then dot_svg x y else mark_svg x y (decimal wishes ++ codes " unmet")
+
+abbrev pub unmet_svg : ℕ → ℕ → ℕ → ℕ → List ℕ
+unmet_svg step x y wishes = if wishes == 0 then [] else wishes_svg step x y wishes
 
 abbrev pub entry_mark : Plan → TableState → ℕ → ℕ → Entry → List ℕ
 entry_mark p t step k (Request h s count) =
-    mark_svg (place_x step (k + 1)) (lane_y h + 4) (codes "+" ++ decimal count)
+    request_svg step (place_x step (k + 1)) (mark_y h) count
 entry_mark p t step k (Unregister h s) =
-    unmet_svg (place_x step (k + 1)) (lane_y h + 4) (unmet_at p t s)
+    unmet_svg step (place_x step (k + 1)) (mark_y h) (unmet_at p t s)
 entry_mark p t step k (Register h s) = []
 entry_mark p t step k (Enter h s) = []
 entry_mark p t step k (Yield h s) = []
@@ -242,15 +264,22 @@ swatches_svg y =
     ++ swatch_svg 156 y (fill_text (Some Pool) 1) (codes "a pool (par)")
     ++ swatch_svg 276 y (fill_text (Some Team) 1) (codes "a team")
 
-unfoldable pub words_svg : ℕ → ℕ → List ℕ
-words_svg first second =
+-- what the marks mean
+abbrev pub marks_note : ℕ → List ℕ
+marks_note step =
+    if nat_lt step 48 then codes "a line: the home requests harts. a dot: wishes that nobody met."
+    else codes "+1: the home requests a hart. 1 unmet: a wish that nobody met."
+
+unfoldable pub words_svg : ℕ → ℕ → List ℕ → List ℕ
+words_svg first second note =
     concat (codes "<text x='372' y='" ∷ decimal first ∷
     codes "'>higher: deeper in the tree</text>\n<text x='56' y='" ∷ decimal second ∷
-    codes "'>+1: the home requests a hart. 1 unmet: a wish that nobody met.</text>\n</g>\n" ∷ [])
+    codes "'>" ∷ note ∷ codes "</text>\n</g>\n" ∷ [])
 
-abbrev pub legend_svg : ℕ → List ℕ
-legend_svg y =
-    codes "<g text-anchor='start'>\n" ++ swatches_svg y ++ words_svg (y + 13) (y + 38)
+abbrev pub legend_svg : ℕ → ℕ → List ℕ
+legend_svg step y =
+    codes "<g text-anchor='start'>\n" ++ swatches_svg y
+    ++ words_svg (y + 13) (y + 38) (marks_note step)
 
 abbrev pub told_start : List ℕ
 told_start = codes "<text x='16' y='52' font-size='14' text-anchor='start'>"
@@ -261,7 +290,8 @@ end_svg told = told ++ codes "</text>\n</svg>\n"
 -- head, title, legend and axis
 abbrev pub frame_svg : Plan → List Entry → List ℕ
 frame_svg p es =
-    head_svg p (length es) ++ title_svg p (length es) ++ legend_svg (lanes_bottom p + 28)
+    head_svg p (length es) ++ title_svg p (length es)
+    ++ legend_svg (step_of (length es)) (lanes_bottom p + 28)
     ++ ticks_text (step_of (length es)) (lanes_bottom p) 0 es
 
 -- lanes, marks and the fault

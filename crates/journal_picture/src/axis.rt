@@ -1,8 +1,9 @@
 //! The axis of the picture, with the entries' numbers and what they do, and the marks at the homes.
-ghost use Rattle.std.specs.Prelude.{◌≡◌, ◌≤◌, ◌++◌, OnOk, length, string_bytes};
-ghost use Rattle.journal_picture.specs.SvgPicture.{deed_text, entry_mark, guide_text, mark_svg, marks_text, number_text, tick_marks, tick_text, ticks_text, unmet_at, unmet_svg};
+ghost use Rattle.std.specs.Prelude.{◌≡◌, ◌≤◌, ◌++◌, OnOk, codes, length, string_bytes};
+ghost use Rattle.std.specs.Fmt.{decimal};
+ghost use Rattle.journal_picture.specs.SvgPicture.{deed_text, dot_svg, entry_mark, guide_text, line_svg, mark_svg, marks_text, number_text, request_svg, tick_marks, tick_text, ticks_text, unmet_at, unmet_svg, wishes_svg};
 
-use crate::scale::{every, lane_y, place_x};
+use crate::scale::{every, mark_y, place_x};
 use crate::text::deed;
 use std::alloc::{AllocError, Global};
 use transfer_table::{Board, Entry};
@@ -82,10 +83,10 @@ fn write_number(text: &mut String, x: usize, k: usize) -> Result<(), AllocError>
 fn write_deed(text: &mut String, step: usize, x: usize, entry: Entry) -> Result<(), AllocError>
     ensures { OnOk result (string_bytes text.new ≡ string_bytes text.old ++ deed_text step x entry) }
 {
-    if step == 72 {
-        write_at(text, x, 98, deed(entry))
-    } else {
+    if step < 40 {
         Ok(())
+    } else {
+        write_at(text, x, 98, deed(entry))
     }
 }
 
@@ -131,17 +132,59 @@ fn write_entry_mark(
 {
     match entry {
         Entry::Request { hart, count, .. } => {
-            let words = format!(in alloc; "+{count}")?;
-            write_at(text, place_x(step, k + 1), lane_y(hart) + 4, words.as_str())
+            write_request(alloc, text, step, place_x(step, k + 1), mark_y(hart), count)
         }
         Entry::Unregister { hart, site } => {
             let wishes = unmet_at(board, site);
-            write_unmet(alloc, text, place_x(step, k + 1), lane_y(hart) + 4, wishes)
+            write_unmet(
+                alloc,
+                text,
+                step,
+                place_x(step, k + 1),
+                mark_y(hart),
+                wishes,
+            )
         }
         Entry::Register { .. } | Entry::Enter { .. } | Entry::Yield { .. } | Entry::Skip { .. } => {
             Ok(())
         }
     }
+}
+
+// Adds the mark of a request: a line, and where there is room how many harts it wants.
+fn write_request(
+    alloc: Global,
+    text: &mut String,
+    step: usize,
+    x: usize,
+    y: usize,
+    count: u8,
+) -> Result<(), AllocError>
+    ensures { OnOk result (string_bytes text.new ≡ string_bytes text.old
+        ++ request_svg step x y count) }
+{
+    if step < 48 {
+        return write_line(text, x, y);
+    }
+    let words = format!(in alloc; "+{count}")?;
+    write_at(text, x, y, words.as_str())
+}
+
+// Adds a line that ends at this foot.
+fn write_line(text: &mut String, x: usize, y: usize) -> Result<(), AllocError>
+    ensures { OnOk result (string_bytes text.new ≡ string_bytes text.old ++ line_svg x y) }
+{
+    write!(text, "<path d='M{x} {y}v-10' stroke='#000000'/>\n")
+}
+
+// Adds a dot at this foot.
+fn write_dot(text: &mut String, x: usize, y: usize) -> Result<(), AllocError>
+    ensures { OnOk result (string_bytes text.new ≡ string_bytes text.old ++ dot_svg x y) }
+{
+    write!(
+        text,
+        "<path d='M{x} {y}v-4' stroke='#000000' stroke-width='4'/>\n"
+    )
 }
 
 // How many wishes of the site nobody met; 0 for what is no site.
@@ -155,19 +198,53 @@ fn unmet_at(board: &Board, site: u16) -> u8
     }
 }
 
-// Adds how many wishes nobody met, if any.
+// Adds the mark of wishes that nobody met, if there are any.
 fn write_unmet(
+    alloc: Global,
+    text: &mut String,
+    step: usize,
+    x: usize,
+    y: usize,
+    wishes: u8,
+) -> Result<(), AllocError>
+    ensures { OnOk result (string_bytes text.new ≡ string_bytes text.old
+        ++ unmet_svg step x y wishes) }
+{
+    if wishes == 0 {
+        return Ok(());
+    }
+    write_wishes(alloc, text, step, x, y, wishes)
+}
+
+// Adds the mark of so many wishes that nobody met: a dot, and where there is room how many they are.
+fn write_wishes(
+    alloc: Global,
+    text: &mut String,
+    step: usize,
+    x: usize,
+    y: usize,
+    wishes: u8,
+) -> Result<(), AllocError>
+    ensures { OnOk result (string_bytes text.new ≡ string_bytes text.old
+        ++ wishes_svg step x y wishes) }
+{
+    if step < 48 {
+        return write_dot(text, x, y);
+    }
+    write_count(alloc, text, x, y, wishes)
+}
+
+// Adds how many wishes nobody met.
+fn write_count(
     alloc: Global,
     text: &mut String,
     x: usize,
     y: usize,
     wishes: u8,
 ) -> Result<(), AllocError>
-    ensures { OnOk result (string_bytes text.new ≡ string_bytes text.old ++ unmet_svg x y wishes) }
+    ensures { OnOk result (string_bytes text.new ≡ string_bytes text.old
+        ++ mark_svg x y (decimal wishes ++ codes " unmet")) }
 {
-    if wishes == 0 {
-        return Ok(());
-    }
     let words = format!(in alloc; "{wishes} unmet")?;
     write_at(text, x, y, words.as_str())
 }

@@ -1,6 +1,6 @@
 //! Where things stand in the picture, in its units.
 ghost use Rattle.std.specs.Prelude.{◌≡◌, ◌≤◌, ◌*◌};
-ghost use Rattle.journal_picture.specs.SvgPicture.{bar_y, every, lane_y, lanes_bottom, level_of, place_x, step_of, width_of};
+ghost use Rattle.journal_picture.specs.SvgPicture.{bar_y, every, lane_y, lanes_bottom, level_of, mark_y, place_x, step_of, width_of};
 
 use crate::tree::depth_of;
 use transfer_table::Plan;
@@ -43,6 +43,13 @@ pub(crate) fn lane_y(hart: u8) -> usize
     120 + 84 * hart as usize
 }
 
+/// The foot of the marks of a hart's lane.
+pub(crate) fn mark_y(hart: u8) -> usize
+    ensures { result ≡ mark_y hart }
+{
+    116 + 84 * hart as usize
+}
+
 /// How high a site stands; deeper ones stand higher, down to depth 3.
 pub(crate) fn level_of(plan: &Plan, site: u16) -> usize
     ensures same { result ≡ level_of plan.now site }
@@ -82,5 +89,5 @@ pub(crate) fn every(step: usize) -> usize
     ensures same { result ≡ every step }
     ensures some { 1 ≤ result }
 {
-    1 + 30 / step
+    1 + 36 / step
 }

@@ -1,7 +1,7 @@
 //! The picture as SVG.
 ghost use Rattle.std.specs.Prelude.{◌≡◌, ◌≤◌, ◌++◌, IfOk, OnOk, length, string_bytes};
 ghost use Rattle.transfer_table.specs.Plan.{site_count};
-ghost use Rattle.journal_picture.specs.SvgPicture.{end_svg, fault_svg, frame_svg, head_of, head_svg, legend_svg, mark_svg, marks_or_note, picture_svg, shown_svg, svg_of, svg_picture, swatch_svg, swatches_svg, title_of, title_svg, words_svg};
+ghost use Rattle.journal_picture.specs.SvgPicture.{end_svg, fault_svg, frame_svg, head_of, head_svg, legend_svg, mark_svg, marks_note, marks_or_note, picture_svg, shown_svg, svg_of, svg_picture, swatch_svg, swatches_svg, title_of, title_svg, words_svg};
 
 use crate::axis::{write_marks, write_ticks};
 use crate::bars::{fill, is_folded, write_lanes, write_rect};
@@ -89,7 +89,7 @@ fn write_frame(text: &mut String, plan: &Plan, list: &[Entry]) -> Result<(), All
     let entries = list.len();
     write_head(text, plan, entries)?;
     write_title(text, plan, entries)?;
-    write_legend(text, lanes_bottom(plan) + 28)?;
+    write_legend(text, step_of(entries), lanes_bottom(plan) + 28)?;
     write_ticks(text, step_of(entries), lanes_bottom(plan), list)
 }
 
@@ -196,13 +196,13 @@ fn write_title_of(
 }
 
 // Adds the legend at this upper end.
-fn write_legend(text: &mut String, y: usize) -> Result<(), AllocError>
+fn write_legend(text: &mut String, step: usize, y: usize) -> Result<(), AllocError>
     requires { y ≤ 100000 }
-    ensures { OnOk result (string_bytes text.new ≡ string_bytes text.old ++ legend_svg y) }
+    ensures { OnOk result (string_bytes text.new ≡ string_bytes text.old ++ legend_svg step y) }
 {
     text.push_str("<g text-anchor='start'>\n")?;
     write_swatches(text, y)?;
-    write_words(text, y + 13, y + 38)
+    write_words(text, y + 13, y + 38, marks_note(step))
 }
 
 // Adds the colours of the legend.
@@ -242,11 +242,23 @@ fn write_beside(text: &mut String, x: usize, y: usize, words: &str) -> Result<()
 
 // Adds what the legend says of heights and marks.
 #[tactic(auto, unfolding(crate::specs::SvgPicture::words_svg))]
-fn write_words(text: &mut String, first: usize, second: usize) -> Result<(), AllocError>
-    ensures { OnOk result (string_bytes text.new ≡ string_bytes text.old ++ words_svg first second) }
+fn write_words(text: &mut String, first: usize, second: usize, note: &str) -> Result<(), AllocError>
+    ensures { OnOk result (string_bytes text.new ≡ string_bytes text.old
+        ++ words_svg first second note.now) }
 {
     write!(
         text,
-        "<text x='372' y='{first}'>higher: deeper in the tree</text>\n<text x='56' y='{second}'>+1: the home requests a hart. 1 unmet: a wish that nobody met.</text>\n</g>\n"
+        "<text x='372' y='{first}'>higher: deeper in the tree</text>\n<text x='56' y='{second}'>{note}</text>\n</g>\n"
     )
+}
+
+// What the marks mean: they have words where a place is wide enough.
+fn marks_note(step: usize) -> &'static str
+    ensures { result.now ≡ marks_note step }
+{
+    if step < 48 {
+        "a line: the home requests harts. a dot: wishes that nobody met."
+    } else {
+        "+1: the home requests a hart. 1 unmet: a wish that nobody met."
+    }
 }

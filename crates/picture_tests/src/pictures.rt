@@ -101,7 +101,7 @@ const FIRST_SVG: &[u8] =
 <text x='308' y='245'>s1 pool</text>
 <rect x='344' y='246' width='144' height='18' fill='#e3e6e9' stroke='#9aa4ad'/>
 <text x='416' y='259'>base</text>
-<text x='200' y='124'>+1</text>
+<text x='200' y='116'>+1</text>
 <text x='16' y='52' font-size='14' text-anchor='start'>legal 5
 </text>
 </svg>
@@ -176,11 +176,11 @@ const NESTED_SVG: &[u8] =
 <text x='704' y='245'>s1 pool</text>
 <rect x='776' y='246' width='144' height='18' fill='#e3e6e9' stroke='#9aa4ad'/>
 <text x='848' y='259'>base</text>
-<text x='200' y='124'>+1</text>
-<text x='344' y='124'>+1</text>
-<text x='560' y='208'>+1</text>
-<text x='632' y='208'>1 unmet</text>
-<text x='704' y='124'>1 unmet</text>
+<text x='200' y='116'>+1</text>
+<text x='344' y='116'>+1</text>
+<text x='560' y='200'>+1</text>
+<text x='632' y='200'>1 unmet</text>
+<text x='704' y='116'>1 unmet</text>
 <text x='16' y='52' font-size='14' text-anchor='start'>legal 11
 </text>
 </svg>
@@ -219,7 +219,7 @@ const FAULTY_SVG: &[u8] =
 <text x='28' y='259' font-size='15' font-weight='bold'>h1</text>
 <rect x='56' y='246' width='288' height='18' fill='#e3e6e9' stroke='#9aa4ad'/>
 <text x='200' y='259'>base</text>
-<text x='200' y='124'>+1</text>
+<text x='200' y='116'>+1</text>
 <path d='M344 104V274' stroke='#b00020' stroke-width='3' stroke-dasharray='6 3'/>
 <text x='344' y='98' fill='#b00020' font-weight='bold'>fault</text>
 <text x='16' y='52' font-size='14' text-anchor='start'>illegal: entry 3, owner is s0

@@ -14,7 +14,7 @@ returns c =
     let fourth = string_bytes c.write_ticks.new.text in
     let head : first ≡ old ++ head_svg p (length es) = search rules in
     let title : second ≡ first ++ title_svg p (length es) = search rules in
-    let legend : third ≡ second ++ legend_svg (lanes_bottom p + 28) = search rules in
+    let legend : third ≡ second ++ legend_svg (step_of (length es)) (lanes_bottom p + 28) = search rules in
     let ticks : OnOk c.write_ticks.result (fourth ≡ third ++ ticks_text (step_of (length es)) (lanes_bottom p) 0 es) = search rules in
-    on_four c.write_ticks.result old first second third fourth (head_svg p (length es)) (title_svg p (length es)) (legend_svg (lanes_bottom p + 28))
+    on_four c.write_ticks.result old first second third fourth (head_svg p (length es)) (title_svg p (length es)) (legend_svg (step_of (length es)) (lanes_bottom p + 28))
     (ticks_text (step_of (length es)) (lanes_bottom p) 0 es) head title legend ticks
