@@ -3,3 +3,4 @@ pub mod Flags
 pub mod Overs
 pub mod Backs
 pub mod Skipped
+pub mod Sweeps

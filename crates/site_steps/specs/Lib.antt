@@ -2,3 +2,4 @@ pub mod Back
 pub mod Children
 pub mod Visits
 pub mod Skips
+pub mod Sweeps

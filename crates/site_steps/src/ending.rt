@@ -14,6 +14,7 @@ pub fn finish_site<P: PatientPort>(tree: &SiteTree, port: &mut P, hold: P::Hold)
     requires open_yet { is_in (P.seen port.old).closed (P.seen port.old).owner ≡ false }
     requires children { ChildrenOver (P.seen port.old) }
     ensures looked { HasLooked (P.seen port.old) (P.seen port.new) }
+    ensures count { P.refused port.new ≡ P.refused port.old }
     ensures may { MayUnregister (P.seen port.new) }
 {
     port.close_site(hold);
@@ -27,6 +28,7 @@ pub fn finish_base<P: PatientPort>(tree: &SiteTree, port: &mut P, hold: P::Hold)
     requires base { (P.seen port.old).owner ≡ 0 }
     requires children { ChildrenOver (P.seen port.old) }
     ensures looked { HasLooked (P.seen port.old) (P.seen port.new) }
+    ensures count { P.refused port.new ≡ P.refused port.old }
     ensures gone { ChildrenSeenGone (P.seen port.new) }
 {
     see_children_gone(tree, port, hold);
@@ -37,6 +39,7 @@ fn see_children_gone<P: PatientPort>(tree: &SiteTree, port: &mut P, hold: P::Hol
     requires plan { (P.seen port.old).plan ≡ tree.now }
     requires children { ChildrenOver (P.seen port.old) }
     ensures looked { HasLooked (P.seen port.old) (P.seen port.new) }
+    ensures count { P.refused port.new ≡ P.refused port.old }
     ensures closed { (P.seen port.new).closed ≡ (P.seen port.old).closed }
     ensures gone { ChildrenSeenGone (P.seen port.new) }
 {

@@ -14,6 +14,7 @@ pub trait PatientPort: Port {
         requires over { (Self.seen self.old).alone ≡ true
             → HasEnded (Self.seen self.old) site }
         ensures does { Self.seen self.new ≡ sees_gone (Self.seen self.old) site }
+        ensures count { Self.refused self.new ≡ Self.refused self.old }
         ensures kept { IsPortView (Self.seen self.new) };
 
     /// Looks at the owner, which the hart has closed, until it is empty.
@@ -21,6 +22,7 @@ pub trait PatientPort: Port {
         requires home { is_in (Self.seen self.old).homes (Self.seen self.old).owner ≡ true }
         requires closed { is_in (Self.seen self.old).closed (Self.seen self.old).owner ≡ true }
         ensures does { Self.seen self.new ≡ sees_empty (Self.seen self.old) }
+        ensures count { Self.refused self.new ≡ Self.refused self.old }
         ensures kept { IsPortView (Self.seen self.new) };
 }
 

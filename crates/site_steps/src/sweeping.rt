@@ -1,8 +1,9 @@
 //! How the sites that nobody entered come and go.
-ghost use Rattle.std.specs.Prelude.{◌≡◌, true};
+ghost use Rattle.std.specs.Prelude.{◌≡◌, ◌≤◌, true};
 ghost use Rattle.transfer_table.specs.Plan.{IsSite, parent};
 ghost use Rattle.hart_port.specs.PortView.{HasEnded};
 ghost use Rattle.site_steps.specs.Back.{IsSettled, IsBack, ChildrenOver};
+ghost use Rattle.site_steps.specs.Sweeps.{IsSwept, AreSwept};
 
 use crate::ending::finish_site;
 use crate::patience::PatientPort;
@@ -15,19 +16,25 @@ pub fn sweep_failed<P: PatientPort>(tree: &SiteTree, port: &mut P, hold: P::Hold
     requires inner { IsSettled (P.seen port.old) }
     ensures back { IsBack ⊥ (P.seen port.old) (P.seen port.new) }
     ensures over { ChildrenOver (P.seen port.new) }
+    ensures swept { has_failed ≡ true → AreSwept P.register_gives (P.seen port.old)
+        (P.refused port.old) (P.seen port.new) (P.refused port.new) }
 {
     if has_failed || port.is_alone() {
         sweep_children(tree, port, hold);
     }
 }
 
-/// Makes each child of the owner that nobody registered come and go, in rising order, with all that is inside it.
+/// Makes each child of the owner that nobody registered come and go, in rising order, with all that is inside it. Of each child
+/// that it didn't unregister the register was refused.
 #[cycle(sweep)]
 pub fn sweep_children<P: PatientPort>(tree: &SiteTree, port: &mut P, hold: P::Hold)
     requires plan { (P.seen port.old).plan ≡ tree.now }
     requires inner { IsSettled (P.seen port.old) }
     ensures back { IsBack ⊥ (P.seen port.old) (P.seen port.new) }
     ensures over { ChildrenOver (P.seen port.new) }
+    ensures count { P.refused port.old ≤ P.refused port.new }
+    ensures swept { AreSwept P.register_gives (P.seen port.old) (P.refused port.old)
+        (P.seen port.new) (P.refused port.new) }
 {
     let mut next = tree.first_child(port.owner());
     'children: while let Some(child) = next {
@@ -45,6 +52,9 @@ fn sweep_site<P: PatientPort>(tree: &SiteTree, port: &mut P, hold: P::Hold, site
     requires child { (P.seen port.old).owner ≡ parent tree.now site }
     ensures back { IsBack ⊥ (P.seen port.old) (P.seen port.new) }
     ensures over { (P.seen port.new).alone ≡ true → HasEnded (P.seen port.new) site }
+    ensures count { P.refused port.old ≤ P.refused port.new }
+    ensures swept { IsSwept P.register_gives (P.seen port.old) (P.refused port.old)
+        (P.seen port.new) (P.refused port.new) site }
 {
     match port.register(hold, site) {
         Ok(()) => {

@@ -6,6 +6,7 @@ use Rattle.site_steps.proofs.ending.see_children_gone.Given as goal
 abbrev pub invariant-children : goal.invariant-children
 invariant-children g l = record {
   looked : HasLooked (g.P.Port.seen l.fn.port) (g.P.Port.seen l.port);
+  count : g.P.Port.refused l.port ≡ g.P.Port.refused l.fn.port;
   closed : (g.P.Port.seen l.port).closed ≡ (g.P.Port.seen l.fn.port).closed;
   gone : SeenGoneBefore (g.P.Port.seen l.port) l.next;
   child : IsChildIf l.tree (g.P.Port.seen l.fn.port).owner l.next;

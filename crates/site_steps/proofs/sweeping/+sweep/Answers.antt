@@ -1,11 +1,14 @@
-use Rattle.std.proofs.Common.{◌≡◌, sym, ap, ◌∙◌, subst}
+use Rattle.std.proofs.Common.{◌≡◌, ◌<◌, sym, ap, ◌∙◌, subst, inl, arith}
+use Rattle.transfer_table.specs.Entry.{unregisters}
 use Rattle.transfer_table.specs.Plan.{IsSite, IsPlan, parent, Plan}
 use Rattle.hart_port.specs.PortView.{PortView, registered}
 use Rattle.site_steps.specs.Back.{IsBack}
 use Rattle.site_steps.specs.Children.{NextChild}
 use Rattle.site_steps.specs.Visits.{ChildrenOverBefore, IsChildIf}
 use Rattle.site_steps.proofs.Children.{next_child}
-use Rattle.site_steps.proofs.Backs.{back_then, back_over, over_more, refused_over}
+use Rattle.site_steps.specs.Sweeps.{AreSweptBefore}
+use Rattle.site_steps.proofs.Backs.{back_refl, back_then, back_over, over_more, refused_over}
+use Rattle.site_steps.proofs.Sweeps.{swept_more, swept_site}
 use Rattle.site_steps.proofs.sweeping.+sweep.Goals as goal
 
 pub sweep_children-children-preserved : goal.sweep_children-children-preserved
@@ -25,6 +28,11 @@ sweep_children-children-preserved g t c =
     record {
       back = back_then ⊥ start h a back c.sweep_site.ensures.back;
       over = over_more ⊥ h a c.in-Some.child c.next_sibling-next.result c.sweep_site.ensures.back over here c.sweep_site.ensures.over;
+      count = omega (arith, c.children.invariant.count, c.sweep_site.ensures.count);
+      swept = swept_more g.P.Port.register_gives start h a (g.P.Port.refused c.args.port.now) (g.P.Port.refused c.children.port) (g.P.Port.refused c.sweep_site.new.port) c.in-Some.child c.next_sibling-next.result
+          (back_refl ⊥ start c.requires.inner) (back_refl ⊥ a c.sweep_site.ensures.back.inner) back c.sweep_site.ensures.back c.children.invariant.count c.sweep_site.ensures.count
+          (subst (AreSweptBefore g.P.Port.register_gives start (g.P.Port.refused c.args.port.now) h (g.P.Port.refused c.children.port)) c.in-Some.is c.children.invariant.swept)
+          (subst (λ (p : Plan). NextChild p start.owner c.in-Some.child c.next_sibling-next.result) (sym c.requires.plan) next) c.sweep_site.ensures.swept;
       child = next_child c.args.tree.now start.owner c.in-Some.child c.next_sibling-next.result next;
     }
 
@@ -50,3 +58,10 @@ sweep_site-returns-in-Ok-clause-back g t c =
     let child : h.owner ≡ parent h.plan s = subst (λ p. h.owner ≡ parent p s) (sym c.requires.plan) c.requires.child in
     let all = back_over ⊥ h a b d s is_plan site child c.requires.inner is c.sweep_children.ensures.back c.finish_site.ensures.looked in
     subst (IsBack ⊥ h) (sym c.unregister.ensures.does) all.0
+
+pub sweep_site-returns-in-Ok-clause-swept : goal.sweep_site-returns-in-Ok-clause-swept
+sweep_site-returns-in-Ok-clause-swept g t c =
+    let h = g.P.Port.seen c.args.port.now in
+    let s = c.args.site in
+    inl (subst (λ (v : PortView). unregisters s h.mine < unregisters s v.mine) (sym c.unregister.ensures.does)
+    (swept_site h (g.P.Port.seen c.register.new.self) (g.P.Port.seen c.sweep_children.new.port) (g.P.Port.seen c.finish_site.new.port) s c.in-Ok.ensures.does.0 c.sweep_children.ensures.back c.finish_site.ensures.looked))

@@ -1,7 +1,8 @@
-use Rattle.std.proofs.Common.{◌+◌, ◌-◌, ◌*◌}
+use Rattle.std.proofs.Common.{◌+◌, ◌-◌, ◌*◌, ◌≤◌}
 use Rattle.transfer_table.specs.Plan.{site_count}
 use Rattle.site_steps.specs.Back.{IsBack}
 use Rattle.site_steps.specs.Visits.{ChildrenOverBefore, IsChildIf, sites_from}
+use Rattle.site_steps.specs.Sweeps.{AreSweptBefore}
 use Rattle.site_steps.proofs.sweeping.+sweep.Given as goal
 
 -- each site is above the one around it
@@ -15,6 +16,8 @@ abbrev pub invariant-sweep_children-children : goal.invariant-sweep_children-chi
 invariant-sweep_children-children g l = record {
   back : IsBack ⊥ (g.P.Port.seen l.fn.port) (g.P.Port.seen l.port);
   over : ChildrenOverBefore (g.P.Port.seen l.port) l.next;
+  count : g.P.Port.refused l.fn.port ≤ g.P.Port.refused l.port;
+  swept : AreSweptBefore g.P.Port.register_gives (g.P.Port.seen l.fn.port) (g.P.Port.refused l.fn.port) (g.P.Port.seen l.port) (g.P.Port.refused l.port) l.next;
   child : IsChildIf l.tree (g.P.Port.seen l.fn.port).owner l.next;
 }
 

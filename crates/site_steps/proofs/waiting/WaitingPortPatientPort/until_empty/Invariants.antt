@@ -6,4 +6,5 @@ invariant-looks g l = record {
   next : (goal.iterator-looks g).can_next l.iterator';
   finite : (goal.iterator-looks g).is_finite l.iterator';
   same : g.P.Port.seen l.self.port ≡ g.P.Port.seen l.fn.self.port;
+  count : g.P.Port.refused l.self.port ≡ g.P.Port.refused l.fn.self.port;
 }
