@@ -1,9 +1,11 @@
-//! Runs each example that its words name on one hart, and compares what it writes and tells with what stands beside it. An
-//! example behind the word `tally` is tallied.
+//! Runs each example that its words name on one hart, and compares what it writes and tells with what stands beside it. Of a word
+//! `NAME.tally` it tallies `NAME`, and of `NAME.svg` it draws the output of `NAME` on two harts that stands there, and compares the
+//! picture.
 #![tactic(auto)]
 
 use lithe_call::lithe;
 use outside_io::{MemSink, MemSource, OpenGate};
+use picture_call::serve_picture;
 use std::alloc::{AllocError, Global};
 use std::rt::Files;
 use std::sync::Wait;
@@ -13,11 +15,11 @@ use std::{env, fs, io};
 // More bytes than an example writes or tells.
 const ROOM: usize = 65_536;
 
-// The words of a command on one hart.
-fn words(alloc: Global, command: &str) -> Result<Vec<String>, AllocError> {
+// The words of a command.
+fn words(alloc: Global, command: &str, harts: &str) -> Result<Vec<String>, AllocError> {
     let mut words = Vec::new(alloc);
     words.push(String::from_str(alloc, command)?)?;
-    words.push(String::from_str(alloc, "--harts=1")?)?;
+    words.push(String::from_str(alloc, harts)?)?;
     Ok(words)
 }
 
@@ -28,7 +30,7 @@ fn run_text<R: Threads + Wait + Sync>(
     command: &str,
     text: &[u8],
 ) -> Result<(Vec<u8>, u8), AllocError> {
-    let words = words(alloc, command)?;
+    let words = words(alloc, command, "--harts=1")?;
     let mut source = MemSource::new(alloc, text, ROOM, &[])?;
     let mut out = MemSink::new(alloc, ROOM, ROOM, &[])?;
     let mut err = MemSink::new(alloc, ROOM, ROOM, &[])?;
@@ -41,6 +43,18 @@ fn run_text<R: Threads + Wait + Sync>(
         &mut err,
         &OpenGate,
     );
+    let mut all = out.bytes().to_vec(alloc)?;
+    all.extend_from_slice(err.bytes())?;
+    Ok((all, status.number()))
+}
+
+// The picture of what stands behind the program, with what is told behind it, and its status.
+fn draw_text(alloc: Global, text: &[u8]) -> Result<(Vec<u8>, u8), AllocError> {
+    let words = words(alloc, "svg", "--harts=2")?;
+    let mut source = MemSource::new(alloc, text, ROOM, &[])?;
+    let mut out = MemSink::new(alloc, ROOM, ROOM, &[])?;
+    let mut err = MemSink::new(alloc, ROOM, ROOM, &[])?;
+    let status = serve_picture(alloc, &words, &mut source, &mut out, &mut err);
     let mut all = out.bytes().to_vec(alloc)?;
     all.extend_from_slice(err.bytes())?;
     Ok((all, status.number()))
@@ -59,16 +73,37 @@ fn is_expected<R: AllocGlobal + Files + Threads + Wait + Sync>(
     Ok((written == expected, status))
 }
 
+// Whether the picture of the example's output on two harts is as expected, and its status.
+fn is_drawn<R: AllocGlobal + Files>(rt: &R, name: &str) -> io::Result<(bool, u8)> {
+    let alloc = rt.alloc();
+    let mut text = fs::read(rt, format!(in alloc; "{name}.lithe")?)?;
+    let output = fs::read(rt, format!(in alloc; "{name}.two_harts")?)?;
+    let expected = fs::read(rt, format!(in alloc; "{name}.svg")?)?;
+    text.extend_from_slice(b"%%\n")?;
+    text.extend_from_slice(&output)?;
+    let (drawn, status) = draw_text(alloc, &text)?;
+    Ok((drawn == expected, status))
+}
+
+// Whether what the word names is as expected, and its status.
+fn compare<R: AllocGlobal + Files + Threads + Wait + Sync>(
+    rt: &R,
+    word: &str,
+) -> io::Result<(bool, u8)> {
+    if let Some(name) = word.strip_suffix(".svg") {
+        return is_drawn(rt, name);
+    }
+    match word.strip_suffix(".tally") {
+        Some(name) => is_expected(rt, "tally", name),
+        None => is_expected(rt, "run", word),
+    }
+}
+
 fn main(rt: HostRuntime) -> io::Result<()> {
-    let mut command = "run";
-    for name in env::args(&rt)?.skip(1) {
-        if name.as_str() == "tally" {
-            command = "tally";
-            continue;
-        }
-        match is_expected(&rt, command, name.as_str())? {
-            (true, status) => println!(rt; "{name}: as expected, status {status}")?,
-            (false, status) => println!(rt; "{name}: NOT as expected, status {status}")?,
+    for word in env::args(&rt)?.skip(1) {
+        match compare(&rt, word.as_str())? {
+            (true, status) => println!(rt; "{word}: as expected, status {status}")?,
+            (false, status) => println!(rt; "{word}: NOT as expected, status {status}")?,
         }
     }
     Ok(())
