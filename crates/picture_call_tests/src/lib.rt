@@ -1,0 +1,11 @@
+//! Tests of the call for pictures, by public calls alone.
+#![tactic(auto)]
+
+#[cfg(test)]
+mod ends;
+#[cfg(test)]
+mod pictures;
+#[cfg(test)]
+mod serving;
+#[cfg(test)]
+mod statuses;
