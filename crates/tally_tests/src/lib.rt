@@ -7,3 +7,7 @@
 mod programs;
 #[cfg(test)]
 mod spreads;
+#[cfg(test)]
+mod sums;
+#[cfg(test)]
+mod wider;

@@ -88,8 +88,8 @@ pub fn taken_name(alloc: Global) -> Result<Program, AllocError>
     })
 }
 
-// A team over i of one phase of one statement.
-fn team(
+/// A team over i of one phase of one statement.
+pub fn team(
     alloc: Global,
     low: i64,
     high: i64,
@@ -110,8 +110,8 @@ fn team(
     })
 }
 
-// A block of a `par` of one branch of one statement.
-fn one_branch(alloc: Global, statement: Stmt) -> Result<Block, AllocError>
+/// A block of a `par` of one branch of one statement.
+pub fn one_branch(alloc: Global, statement: Stmt) -> Result<Block, AllocError>
     ensures { IfOk result (λ block. sequence_of block
         ≡ sequence (Par 1 (sequences (sequence (statement_of statement ∷ []) ∷ [])) ∷ [])) }
 {
@@ -126,8 +126,8 @@ fn one_branch(alloc: Global, statement: Stmt) -> Result<Block, AllocError>
     )
 }
 
-// A block of one statement.
-fn alone(alloc: Global, statement: Stmt) -> Result<Block, AllocError>
+/// A block of one statement.
+pub fn alone(alloc: Global, statement: Stmt) -> Result<Block, AllocError>
     ensures { IfOk result (λ block. sequence_of block ≡ sequence (statement_of statement ∷ [])) }
 {
     let mut statements = Vec::new(alloc);
@@ -135,8 +135,8 @@ fn alone(alloc: Global, statement: Stmt) -> Result<Block, AllocError>
     Ok(Block { statements })
 }
 
-// The add of a value to the first cell of an array.
-fn add(alloc: Global, array: &[u8], value: Expr) -> Result<Stmt, AllocError>
+/// The add of a value to the first cell of an array.
+pub fn add(alloc: Global, array: &[u8], value: Expr) -> Result<Stmt, AllocError>
     ensures { IfOk result (λ s. statement_of s ≡ add array.now (expression_of value)) }
 {
     let zero = Box::new(alloc, Expr::Number(0))?;
@@ -149,8 +149,8 @@ fn add(alloc: Global, array: &[u8], value: Expr) -> Result<Stmt, AllocError>
     })
 }
 
-// One array of one cell.
-fn one_array(alloc: Global, name: &[u8]) -> Result<Arrays, AllocError>
+/// One array of one cell.
+pub fn one_array(alloc: Global, name: &[u8]) -> Result<Arrays, AllocError>
     ensures { IfOk result (λ arrays. declarations_of arrays ≡ declared name.now ∷ []) }
 {
     let mut declarations = Vec::new(alloc);
@@ -158,8 +158,8 @@ fn one_array(alloc: Global, name: &[u8]) -> Result<Arrays, AllocError>
     Ok(Arrays { declarations })
 }
 
-// The declaration of an array of one cell.
-fn declared(alloc: Global, name: &[u8]) -> Result<ArrayDecl, AllocError>
+/// The declaration of an array of one cell.
+pub fn declared(alloc: Global, name: &[u8]) -> Result<ArrayDecl, AllocError>
     ensures { IfOk result (λ array. declaration_of array ≡ declared name.now) }
 {
     Ok(ArrayDecl {

@@ -74,8 +74,8 @@ fn names_that_rows_need_are_refused(rt: HostRuntime) -> Result<(), Fail> {
     Ok(())
 }
 
-// Why a program isn't spread.
-fn refusal(alloc: Global, program: &Program) -> Option<TallyFault>
+/// Why a program isn't spread.
+pub fn refusal(alloc: Global, program: &Program) -> Option<TallyFault>
     requires { HasMeaning (program_of program.now) }
 {
     match spread(alloc, program) {
