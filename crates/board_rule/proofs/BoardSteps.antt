@@ -162,6 +162,7 @@ board_step p s k id v e d m o place n at seat undrawn by allowed owned placed bo
         ended = k.ended;
         closing = k.closing;
         plan = k.plan;
+        four = k.four;
         wide = length-set s.words 0 n ∙ k.wide;
         legal = reaches-allowed p k.plan es t e k.legal allowed;
         board = get_or-set_same s.words 0 n 0 (let q = k.wide in omega arith) ∙ (board ∙ ap (board_word u) (sym longer));

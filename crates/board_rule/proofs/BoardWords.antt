@@ -28,12 +28,12 @@ digits_after p plan es t (Unregister h s) leads a = digits-set t.owners h (paren
 digits_after p plan es t (Skip h s) leads a = ap (λ (o : ℕ). owner_digits t.owners + o * 4096 ^ h) a.2
 
 -- the word after the addition
-pub board_next : (p : Plan) → IsPlan p → (es : List Entry) (t : TableState) (e : Entry) → Reaches p es t → IsAllowed p t e → (n k : ℕ) → n ≡ board_word t (length es)
+pub board_next : (p : Plan) → IsPlan p → p.harts ≤ 4 → (es : List Entry) (t : TableState) (e : Entry) → Reaches p es t → IsAllowed p t e → (n k : ℕ) → n ≡ board_word t (length es)
     → k + owner t (hart_of e) * 4096 ^ hart_of e ≡ length_unit + owner_after p e * 4096 ^ hart_of e
     → (n + k) % 2 ^ 64 ≡ board_word (effect_of p t e) (length es + 1)
-board_next p plan es t e leads a n k is amount =
+board_next p plan four es t e leads a n k is amount =
     let digit = digits_after p plan es t e leads a in
-    let small = digits_small p plan (es ++ e ∷ []) (effect_of p t e) (reaches-allowed p plan es t e leads a) in
+    let small = digits_small p plan four (es ++ e ∷ []) (effect_of p t e) (reaches-allowed p plan es t e leads a) in
     let short = plan.short in let less = has_room p plan es t e leads a in omega arith
 
 -- how much is added where an owner rises, and where it falls

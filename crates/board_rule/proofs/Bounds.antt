@@ -74,4 +74,4 @@ few_flights p s k x low =
 pub small_word : (p : Plan) (s : St) (k : Stands p s) (x : ℕ) → IsSite p x → slice_index s.words x < 1048576
 small_word p s k x site =
     let i = k.sites x site in let f = fields (slice_index s.words x) (k.closing x) (load x s.views) (shown k.journal k.table x) (few_wishes p s k x site) i in
-    let fly = f.flying in let few = few_flights p s k x site.0 in let harts = k.plan.few_harts in omega arith
+    let fly = f.flying in let few = few_flights p s k x site.0 in let harts = k.four in omega arith

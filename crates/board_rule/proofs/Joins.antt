@@ -70,7 +70,7 @@ join_keeps p s k id other v w at apart there zeroth seat idle seat_w ready_w =
     let flown : (y : ℕ) → k.closing y ≡ true → flight s.views y ≡ 0 → flight vs y ≡ 0 = λ y _ z. ap (λ (c : Load). c.reserves + c.lands) (load_same y) ∙ z in
     let P : View → Type 0 = λ z. Knows p k.journal k.table z k.closing (flight vs) k.made now in
     let R : Doing → Type 0 = λ d. DoesRight p k.journal k.table both d in
-    let few = k.plan.few_harts in (
+    let few = k.four in (
       record {
         journal = k.journal;
         table = k.table;
@@ -78,6 +78,7 @@ join_keeps p s k id other v w at apart there zeroth seat idle seat_w ready_w =
         ended = now;
         closing = k.closing;
         plan = k.plan;
+        four = k.four;
         wide = k.wide;
         legal = k.legal;
         board = k.board;

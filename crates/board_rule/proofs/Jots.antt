@@ -56,6 +56,7 @@ jot_keeps p s k id v place e at seat drawn =
         ended = k.ended;
         closing = k.closing;
         plan = k.plan;
+        four = k.four;
         wide = length-set s.words i n ∙ k.wide;
         legal = k.legal;
         board = get_or-set_other s.words i 0 n 0 (λ z. omega arith) ∙ k.board;

@@ -57,6 +57,7 @@ look_step p s k id v m ls i n at seat idle is knows =
         ended = k.ended;
         closing = k.closing;
         plan = k.plan;
+        four = k.four;
         wide = k.wide;
         legal = k.legal;
         board = k.board;
@@ -204,7 +205,7 @@ see_empty_keeps p s k id v at seat may =
     look_step p s k id v _ _ 0 n at seat may.0.0 refl (by_bit (others_at v.plan.harts n v.hart x)
     (λ none. sites_empty p k.table v.hart v.marks k.closing (flight s.views) x may.1
     (λ g hart other own. none_at v.plan.harts n v.hart x none g (let Q : Plan → Type 0 = λ q. g < q.harts in subst Q (sym plan) hart) other
-    (field_is k.table.owners (length k.journal) g n (let z = k.plan.few_harts in omega arith) (omega (arith, few, hart)) (owners_small p k.plan k.journal k.table k.legal) k.board ∙ own)) know) know)
+    (field_is k.table.owners (length k.journal) g n (let z = k.four in omega arith) (omega (arith, few, hart)) (owners_small p k.plan k.journal k.table k.legal) k.board ∙ own)) know) know)
   where
     by_bit : (b : Bool) → (b ≡ false → KnowsSites p k.table v.hart (record v.marks { empty = with_site v.marks.empty v.owner }) k.closing (flight s.views)) → KnowsSites p k.table v.hart v.marks k.closing (flight s.views)
         → KnowsSites p k.table v.hart (if b then v.marks else record v.marks { empty = with_site v.marks.empty v.owner }) k.closing (flight s.views)

@@ -75,7 +75,7 @@ enter_appends p s k id v z amount at seat reserved added =
     let one = reserved_one p s k id v x at does in
     let amount_is : amount + owner t h * 4096 ^ h ≡ length_unit + x * 4096 ^ h = subst (λ (q : ℕ × ℕ). amount + q.0 * 4096 ^ h ≡ length_unit + q.1 * 4096 ^ h) (λ i. (know.itself.owner i, sym same i)) added in
     board_step p s k id v e (Landing x) v.marks x (entries_in (slice_index s.words 0)) ((slice_index s.words 0 + amount) % 2 ^ 64) at seat right.3 refl allowed refl (length_is p s k)
-    (board_next p k.plan k.journal t e k.legal allowed (slice_index s.words 0) amount k.board amount_is)
+    (board_next p k.plan k.four k.journal t e k.legal allowed (slice_index s.words 0) amount k.board amount_is)
     (λ y n. part-elsewhere (Landing x) y (λ c. n (sym c)) ∙ sym (ap (λ (q : Doing). part q y) does ∙ part-elsewhere (Reserved x) y (λ c. n (sym c))))
     (entered_word (slice_index s.words x) (k.closing x) (load x s.views) (load x (set s.views id w)) (row t x) x shift (λ new. let live = right.2 in cc) (word_row (shown-live p k.plan k.journal t k.legal x site right.2) (k.sites x site)))
     (ap started right.2)
@@ -118,7 +118,7 @@ yield_appends p s k id v amount at seat may added =
     let same = load-same x s.views id v w at refl in
     let R : Doing → Type 0 = λ q. DoesRight p (k.journal ++ e ∷ []) (effect_of p t e) w q in
     board_step p s k id v e v.doing v.marks (parent v.plan x) (entries_in (slice_index s.words 0)) ((slice_index s.words 0 + amount) % 2 ^ 64) at seat may.0.1 refl allowed (ap (λ (q : Plan). parent q x) know.itself.plan) (length_is p s k)
-    (board_next p k.plan k.journal t e k.legal allowed (slice_index s.words 0) amount k.board (ap (λ (o : ℕ). amount + o * 4096 ^ h) (sym know.itself.owner) ∙ added))
+    (board_next p k.plan k.four k.journal t e k.legal allowed (slice_index s.words 0) amount k.board (ap (λ (o : ℕ). amount + o * 4096 ^ h) (sym know.itself.owner) ∙ added))
     (λ y n. refl)
     (rw same (word_row (shown-live p k.plan k.journal t k.legal x site here.1) (k.sites x site)))
     (ap started here.1)
@@ -186,7 +186,7 @@ unregister_appends p s k id v amount at seat may added =
     let r1 : (load x (set s.views id w)).reserves + 0 ≡ (load x s.views).reserves + 0 = shift.reserves in let r2 : (load x (set s.views id w)).lands + 0 ≡ (load x s.views).lands + 0 = shift.lands in
     let none = leave.flown in
     board_step p s k id v e (Sealing x) (left_marks x v.marks) (parent v.plan x) (entries_in (slice_index s.words 0)) ((slice_index s.words 0 + amount) % 2 ^ 64) at seat may.0.1 refl allowed (ap (λ (q : Plan). parent q x) know.itself.plan) (length_is p s k)
-    (board_next p k.plan k.journal t e k.legal allowed (slice_index s.words 0) amount k.board (ap (λ (o : ℕ). amount + o * 4096 ^ h) (sym know.itself.owner) ∙ added))
+    (board_next p k.plan k.four k.journal t e k.legal allowed (slice_index s.words 0) amount k.board (ap (λ (o : ℕ). amount + o * 4096 ^ h) (sym know.itself.owner) ∙ added))
     (turns_to v x (Sealing x) idle refl)
     (unregistered_word (slice_index s.words x) (k.closing x) (load x s.views) (load x (set s.views id w)) (row t x) x shift leave.live leave.closed (word_row (shown-live p k.plan k.journal t k.legal x site leave.live) (k.sites x site)))
     refl

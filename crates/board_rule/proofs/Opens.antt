@@ -63,14 +63,15 @@ load-idle : (x : ℕ) (v : View) → v.doing ≡ Idle → load x (v ∷ []) ≡ 
 load-idle x v idle = let e : part v.doing x ≡ no_load = ap (λ (d : Doing). part d x) idle ∙ part-idle x in
     λ i. record { claims = (e i).claims + 0; seals = (e i).seals + 0; reserves = (e i).reserves + 0; lands = (e i).lands + 0; credits = (e i).credits + 0 }
 
-pub opens : (p : Plan) → IsPlan p → Stands p (opening (replicate (width p) 0) [] (first_view p))
-opens p plan = record {
+pub opens : (p : Plan) → IsPlan p → p.harts ≤ 4 → Stands p (opening (replicate (width p) 0) [] (first_view p))
+opens p plan four = record {
   journal = [];
   table = first_state p;
   made = 1;
   ended = [];
   closing = λ _. false;
   plan = plan;
+  four = four;
   wide = length-replicate (width p) 0;
   legal = refl;
   board = (let z = no_digits p.harts in let y : slice_index (replicate (width p) 0) 0 ≡ 0 = replicate_at (width p) 0 0 in omega arith);
@@ -122,6 +123,7 @@ split_keeps p s k id v at zeroth is_plan below idle =
         ended = k.ended;
         closing = k.closing;
         plan = k.plan;
+        four = k.four;
         wide = k.wide;
         legal = k.legal;
         board = k.board;

@@ -39,7 +39,7 @@ use Rattle.board_words.proofs.Asked.{asked_by_home, is_home-some}
 
 -- the length that the board word tells
 pub length_is : (p : Plan) (s : St) (k : Stands p s) → entries_in (slice_index s.words 0) ≡ length k.journal
-length_is p s k = entries_is (slice_index s.words 0) (length k.journal) k.table.owners k.board (digits_small p k.plan k.journal k.table k.legal)
+length_is p s k = entries_is (slice_index s.words 0) (length k.journal) k.table.owners k.board (digits_small p k.plan k.four k.journal k.table k.legal)
 
 -- a site's word tells of its row where that is shown
 pub word_row : {w : ℕ} {b : Bool} {c : Load} {r r' : Row} → r ≡ r' → IsSiteWord w b c r → IsSiteWord w b c r'
@@ -92,7 +92,7 @@ register_appends p s k id v z amount at seat claiming added =
     let r1 : (load x (set s.views id w)).reserves + 0 ≡ (load x s.views).reserves + 0 = shift.reserves in let r2 : (load x (set s.views id w)).lands + 0 ≡ (load x s.views).lands + 0 = shift.lands in
     let amount_is : amount + owner t h * 4096 ^ h ≡ length_unit + x * 4096 ^ h = subst (λ (q : ℕ × ℕ). amount + q.0 * 4096 ^ h ≡ length_unit + q.1 * 4096 ^ h) (λ i. (know.itself.owner i, sym same i)) added in
     board_step p s k id v e Idle (home_marks x v.marks) x (entries_in (slice_index s.words 0)) ((slice_index s.words 0 + amount) % 2 ^ 64) at seat right.3 refl allowed refl (length_is p s k)
-    (board_next p k.plan k.journal t e k.legal allowed (slice_index s.words 0) amount k.board amount_is)
+    (board_next p k.plan k.four k.journal t e k.legal allowed (slice_index s.words 0) amount k.board amount_is)
     (λ y n. part-idle y ∙ sym (ap (λ (q : Doing). part q y) does ∙ part-elsewhere (Claiming x) y (λ c. n (sym c))))
     (registered_word (slice_index s.words x) (k.closing x) (load x s.views) (load x (set s.views id w)) (row t x) h x shift (legal_blank p k.plan k.journal t k.legal x site right.2) (word_row (shown-new p k.plan k.journal t k.legal x site right.2) (k.sites x site)))
     refl
@@ -134,7 +134,7 @@ skip_appends p s k id v z at seat claiming =
     let shift = load-shift x s.views id v w (weight (Claiming x)) (weight (Sealing x)) at was (part-here (Sealing x) x refl) in
     let r1 : (load x (set s.views id w)).reserves + 0 ≡ (load x s.views).reserves + 0 = shift.reserves in let r2 : (load x (set s.views id w)).lands + 0 ≡ (load x s.views).lands + 0 = shift.lands in
     board_step p s k id v e (Sealing x) v.marks v.owner (entries_in (slice_index s.words 0)) ((slice_index s.words 0 + length_unit) % 2 ^ 64) at seat right.3 refl allowed right.1 (length_is p s k)
-    (board_next p k.plan k.journal t e k.legal allowed (slice_index s.words 0) length_unit k.board (ap (λ (o : ℕ). length_unit + o * 4096 ^ h) (sym know.itself.owner ∙ right.1)))
+    (board_next p k.plan k.four k.journal t e k.legal allowed (slice_index s.words 0) length_unit k.board (ap (λ (o : ℕ). length_unit + o * 4096 ^ h) (sym know.itself.owner ∙ right.1)))
     (λ y n. part-elsewhere (Sealing x) y (λ c. n (sym c)) ∙ sym (ap (λ (q : Doing). part q y) does ∙ part-elsewhere (Claiming x) y (λ c. n (sym c))))
     (skipped_word (slice_index s.words x) (k.closing x) (load x s.views) (load x (set s.views id w)) (row t x) x shift (legal_blank p k.plan k.journal t k.legal x site right.2) (word_row (shown-new p k.plan k.journal t k.legal x site right.2) (k.sites x site)))
     refl
@@ -174,7 +174,7 @@ request_appends p s k id v n at seat may =
     let r1 : (load x (set s.views id w)).reserves + 0 ≡ (load x s.views).reserves + 0 = shift.reserves in let r2 : (load x (set s.views id w)).lands + 0 ≡ (load x s.views).lands + 0 = shift.lands in
     let own : owner t h ≡ x = sym know.itself.owner in
     board_step p s k id v e (Crediting x n) v.marks x (entries_in (slice_index s.words 0)) ((slice_index s.words 0 + length_unit) % 2 ^ 64) at seat may.0.1 refl allowed refl (length_is p s k)
-    (board_next p k.plan k.journal t e k.legal allowed (slice_index s.words 0) length_unit k.board (ap (λ (q : ℕ). length_unit + q * 4096 ^ h) own))
+    (board_next p k.plan k.four k.journal t e k.legal allowed (slice_index s.words 0) length_unit k.board (ap (λ (q : ℕ). length_unit + q * 4096 ^ h) own))
     (turns_to v x (Crediting x n) idle refl)
     (requested_word (slice_index s.words x) n (k.closing x) (load x s.views) (load x (set s.views id w)) (row t x) x shift (λ new. let live = home.1 in cc) (word_row (shown-live p k.plan k.journal t k.legal x home.0 home.1) (k.sites x home.0)))
     (ap started home.1)

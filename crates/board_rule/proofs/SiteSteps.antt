@@ -90,6 +90,7 @@ site_step p s k id v d m ls x n b at seat site elsewhere last fall word does kno
         ended = k.ended;
         closing = closing;
         plan = k.plan;
+        four = k.four;
         wide = length-set s.words x n ∙ k.wide;
         legal = k.legal;
         board = get_or-set_other s.words x 0 n 0 (λ z. omega arith) ∙ k.board;

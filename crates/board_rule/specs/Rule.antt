@@ -119,6 +119,8 @@ pub record Stands (p : Plan) (s : State (Unit {0}) View) : Type 0 where
   pub ended : List Ended
   pub closing : ℕ → Bool
   pub plan : IsPlan p
+  -- the board word has room for four owners
+  pub four : p.harts ≤ 4
   pub wide : length s.words ≡ width p
   -- the journal is legal, and leads to the state
   pub legal : Reaches p journal table

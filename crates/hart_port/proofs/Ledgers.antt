@@ -1,7 +1,7 @@
 -- A ledger goes on with what its table admits, and its words fit.
-use Rattle.std.proofs.Common.{◌≡◌, ℕ, suc, ◌+◌, ◌-◌, ◌*◌, ◌^◌, ◌<◌, ◌≤◌, List, [], ◌∷◌, length, get_or, drop, sym, ap, subst, ◌∙◌, arith, ⊎_elim}
+use Rattle.std.proofs.Common.{◌≡◌, ℕ, suc, ◌+◌, ◌-◌, ◌*◌, ◌^◌, ◌<◌, ◌≤◌, List, [], ◌∷◌, length, get_or, take, drop, sym, ap, subst, ◌∙◌, arith, ⊎_elim}
 use Rattle.std.proofs.Math.Seq.{drop-cons}
-use Rattle.std.proofs.lemmas.List.{length-drop, get_or-drop}
+use Rattle.std.proofs.lemmas.List.{length-take, length-drop, get_or-take, get_or-drop}
 use Rattle.transfer_table.specs.Plan.{IsHart, site_count}
 use Rattle.transfer_table.specs.Table.{owner}
 use Rattle.transfer_table.proofs.Positions.{legal_position}
@@ -22,11 +22,14 @@ small (a ∷ b ∷ c ∷ []) f few = let x : a ≤ 4095 = f 0 (omega arith) in l
 small (a ∷ b ∷ c ∷ d ∷ []) f few = let x : a ≤ 4095 = f 0 (omega arith) in let y : b ≤ 4095 = f 1 (omega arith) in let z : c ≤ 4095 = f 2 (omega arith) in let w : d ≤ 4095 = f 3 (omega arith) in omega arith
 small (a ∷ b ∷ c ∷ d ∷ e ∷ os) f few = absurd (omega arith)
 
--- the digits of the owners from a hart on
-pub digits_small : (l : LedgerState) → IsLedger l → (n : ℕ) → owner_digits (drop n l.state.owners) < 2 ^ 48
-digits_small l is n = let fits = legal_position l.plan is.plan l.entries l.state is.reached in let most = is.plan.few_harts in let same = fits.owners in
-    let size : length (drop n l.state.owners) ≡ length l.state.owners - n = length-drop n l.state.owners in
-    small (drop n l.state.owners) (λ i lt. subst (λ (x : ℕ). x ≤ 4095) (sym (get_or-drop n l.state.owners i 0)) (let high = owner_inside l is (n + i) (omega arith) in let few = is.plan.few_sites in omega arith)) (omega arith)
+-- the digits of the first four owners from a hart on
+pub digits_small : (l : LedgerState) → IsLedger l → (n : ℕ) → owner_digits (drop n (take 4 l.state.owners)) < 2 ^ 48
+digits_small l is n = let fits = legal_position l.plan is.plan l.entries l.state is.reached in let same = fits.owners in
+    let first : List ℕ = take 4 l.state.owners in
+    let few : length first ≤ 4 × (length first ≤ length l.state.owners) = let e = length-take 4 l.state.owners in (omega arith, omega arith) in
+    let size : length (drop n first) ≡ length first - n = length-drop n first in
+    small (drop n first) (λ i lt. subst (λ (x : ℕ). x ≤ 4095) (sym (get_or-drop n first i 0 ∙ get_or-take 4 l.state.owners (n + i) 0 (omega (arith, few.0))))
+    (let high = owner_inside l is (n + i) (omega (arith, few.1)) in let sites = is.plan.few_sites in omega arith)) (omega (arith, few.0))
 
 -- one hart more
 pub digits_before : (os : List ℕ) (h : ℕ) → 0 < h → h ≤ length os → owner_digits (drop (h - 1) os) ≡ owner_digits (drop h os) * 4096 + get_or os (h - 1) 0

@@ -1,5 +1,5 @@
 -- The words that a port shows: one for each site, and one for the board.
-use Rattle.std.specs.Prelude.{◌≢◌, ◌<◌, ℕ, ◌+◌, ◌*◌, ◌/◌, ◌%◌, ◌^◌, ◌==◌, Bool, true, false, not, ◌&&◌, List, [], ◌∷◌}
+use Rattle.std.specs.Prelude.{◌≢◌, ◌<◌, ℕ, ◌+◌, ◌*◌, ◌/◌, ◌%◌, ◌^◌, ◌==◌, Bool, true, false, not, ◌&&◌, List, [], ◌∷◌, take}
 use Rattle.transfer_table.specs.Table.{TableState}
 use Rattle.transfer_table.specs.declared.entry.Row.{Row}
 use Rattle.transfer_table.specs.declared.entry.Stage.{Stage}
@@ -56,6 +56,10 @@ owner_digits (o ∷ os) = o + 4096 * owner_digits os
 -- the board word: the length of the journal from bit 48 on, and below it the owner of each hart
 abbrev pub board_word : TableState → ℕ → ℕ
 board_word t size = size * 2 ^ 48 + owner_digits t.owners
+
+-- the table with the first four harts alone: a board word has room for no more owners
+abbrev pub first_four : TableState → TableState
+first_four t = record t { owners = take 4 t.owners }
 
 -- another one of so many harts
 abbrev pub IsOther : ℕ → ℕ → ℕ → Type 0

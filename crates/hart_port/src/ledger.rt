@@ -1,8 +1,8 @@
 //! A table that keeps its journal.
-ghost use Rattle.std.specs.Prelude.{◌≡◌, ◌<◌, ◌^◌, ◌↔◌, IsTrue, IfOk, length};
+ghost use Rattle.std.specs.Prelude.{◌≡◌, ◌<◌, ◌^◌, ◌↔◌, IsTrue, IfOk, length, take};
 ghost use Rattle.transfer_table.specs.Plan.{IsSite, IsHart};
 ghost use Rattle.transfer_table.specs.Table.{owner, row};
-ghost use Rattle.hart_port.specs.Words.{site_word, board_word, owner_digits};
+ghost use Rattle.hart_port.specs.Words.{site_word, board_word, first_four, owner_digits};
 ghost use Rattle.hart_port.specs.PortView.{is_in, with_site};
 ghost use Rattle.hart_port.specs.Ledger.{IsLedger, first_ledger, Admits};
 
@@ -89,9 +89,10 @@ impl Ledger {
         }
     }
 
-    /// The word of the board: how many entries there are, and the owner of each hart.
+    /// The word of the board: how many entries there are, and the owner of each hart, of more than four harts those of the
+    /// first four.
     pub fn board_word(&self) -> u64
-        ensures { result ≡ board_word self.now.state (length self.now.entries) }
+        ensures { result ≡ board_word (first_four self.now.state) (length self.now.entries) }
     {
         (self.entries.len() as u64) * (1 << 48) + self.owner_digits()
     }
@@ -139,13 +140,13 @@ impl Ledger {
         site != 0 && site <= self.board.plan().sites()
     }
 
-    // The owners as digits to the base 4096, that of hart 0 the lowest.
+    // The owners of the first four harts as digits to the base 4096, that of hart 0 the lowest.
     fn owner_digits(&self) -> u64
-        ensures same { result ≡ owner_digits self.now.state.owners }
+        ensures same { result ≡ owner_digits (take 4 self.now.state.owners) }
         ensures below { result < 2 ^ 48 }
     {
         let mut digits = 0;
-        for hart in (0..self.board.plan().harts()).rev() {
+        for hart in (0..self.board.plan().harts().min(4)).rev() {
             digits = digits * 4096 + self.board.owner(hart) as u64;
         }
         digits

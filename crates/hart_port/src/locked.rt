@@ -1,5 +1,5 @@
 //! The port of a hart that shares a ledger with others, under a lock.
-ghost use Rattle.std.specs.Prelude.{◌≡◌, ◌≢◌, ◌<◌, ℕ, vec_len, vec_capacity, IfOk, IfErr, OnOk, IsTrue, true, false};
+ghost use Rattle.std.specs.Prelude.{◌≡◌, ◌≢◌, ◌<◌, ◌≤◌, ℕ, vec_len, vec_capacity, IfOk, IfErr, OnOk, IsTrue, true, false};
 ghost use Rattle.transfer_table.specs.Plan.{IsHart, IsSite, parent};
 ghost use Rattle.hart_port.specs.Count.{RoseUnlessInside};
 ghost use Rattle.hart_port.specs.PortView.{IsPortView, is_in, Enters, Sees};
@@ -74,14 +74,15 @@ impl<'a, R> Drop for LockedPort<'a, R> {
 
 impl<'a, R> LockedPort<'a, R> {
     /// The port of a hart of the plan that made no transfer yet, with room for all entries that the plan allows. The plan is
-    /// the ledger's. It doesn't wait.
+    /// the ledger's, with at most four harts, since the board word shows no more. It doesn't wait.
     pub fn new(
         alloc: Global,
         lock: &'a Mutex<Ledger>,
         plan: &'a Plan,
         hart: u8,
     ) -> Result<LockedPort<'a, R>, AllocError>
-        requires { IsHart plan.now hart }
+        requires hart { IsHart plan.now hart }
+        requires few_harts { plan.now.harts ≤ 4 }
         ensures { IfOk result (λ p. p ≡ first_locked plan.now hart) }
     {
         let sites = plan.sites() as usize;

@@ -32,10 +32,10 @@ fn fault_of(alloc: Global, harts: u8, parents: &[u16]) -> Option<PlanFault> {
     Plan::new(alloc, harts, parents).err()
 }
 
-// The fault of a plan with so many sites under the base.
-fn fault_of_flat(alloc: Global, sites: usize) -> Result<Option<PlanFault>, AllocError> {
+// The fault of a plan of so many harts with so many sites under the base.
+fn fault_of_flat(alloc: Global, harts: u8, sites: usize) -> Result<Option<PlanFault>, AllocError> {
     let parents = vec![in alloc; 0; sites]?;
-    Ok(fault_of(alloc, 4, parents.as_slice()))
+    Ok(fault_of(alloc, harts, parents.as_slice()))
 }
 
 #[test]
@@ -44,16 +44,28 @@ fn plans(rt: HostRuntime) -> Result<(), Fail> {
     let plan = Plan::new(alloc, 2, &[0, 1])?.copy(alloc)?;
     assert!(rt; is_nested(&plan));
     assert_eq!(rt;
-        fault_of(alloc, 5, &[1]),
-        Some(PlanFault::BadHarts { found: 5 })
+        fault_of(alloc, 17, &[1]),
+        Some(PlanFault::BadHarts { found: 17 })
     );
     assert_eq!(rt;
-        fault_of_flat(alloc, 4096)?,
+        fault_of_flat(alloc, 4, 4096)?,
         Some(PlanFault::TooManySites { found: 4096 })
     );
     assert_eq!(rt;
         fault_of(alloc, 1, &[0, 1, 3, 4]),
         Some(PlanFault::BadParent { site: 3 })
+    );
+    Ok(())
+}
+
+// Sites times 47 are at most 65,535 entries.
+#[test]
+fn plans_of_sixteen_harts(rt: HostRuntime) -> Result<(), Fail> {
+    let alloc = rt.alloc();
+    assert!(rt; fault_of_flat(alloc, 16, 1394)?.is_none());
+    assert_eq!(rt;
+        fault_of_flat(alloc, 16, 1395)?,
+        Some(PlanFault::TooManySites { found: 1395 })
     );
     Ok(())
 }

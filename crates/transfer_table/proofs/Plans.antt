@@ -1,8 +1,7 @@
 -- There is a plan exactly where it has no fault.
 use Rattle.std.proofs.Common.{◌≡◌, ℕ, zero, suc, ◌+◌, ◌-◌, ◌*◌, ◌<◌, ◌≤◌, Bool, true, false, ◌||◌, ◌==◌, nat_le, nat_lt, if◌then◌else◌, List, [], ◌∷◌, length, refl, ap, arith, slice_index, Option, Some, None}
 use Rattle.std.proofs.lemmas.Bool.Decides.{nat_tests}
-use Rattle.std.proofs.lemmas.Nat.{mul-le}
-use Rattle.transfer_table.specs.Plan.{Plan, IsPlan, parent, bad_parent, plan_fault_of}
+use Rattle.transfer_table.specs.Plan.{Plan, IsPlan, parent, bad_parent, has_too_many_sites, plan_fault_of}
 use Rattle.transfer_table.specs.Causes.{cause_if}
 use Rattle.transfer_table.specs.declared.plan.PlanFault.{PlanFault}
 use Rattle.transfer_table.specs.declared.plan.PlanFault.TheVariants as fault
@@ -28,22 +27,21 @@ none_bad (q ∷ qs) k f = let a : q < k + 0 = f 0 (omega arith) in let b : nat_l
 
 -- what has no fault is a plan
 pub is_plan : (n : ℕ) (qs : List ℕ) → plan_fault_of n qs ≡ None → IsPlan record { harts = n; parents = qs }
-is_plan n qs e = let sites : Option PlanFault = cause_if (nat_lt 4095 (length qs)) (fault.TooManySites (length qs)) in let parents : Option PlanFault = option_map fault.BadParent (bad_parent qs 1) in
-    let a = unmet ((n == 0) || nat_lt 4 n) (fault.BadHarts n) (sites ∷ parents ∷ []) e in let b = unmet (nat_lt 4095 (length qs)) (fault.TooManySites (length qs)) (parents ∷ []) a.1 in
-    let d = unfound (bad_parent qs 1) fault.BadParent [] b.1 in let h = a.0 in let s = b.0 in record {
+is_plan n qs e = let many = has_too_many_sites record { harts = n; parents = qs } in let sites : Option PlanFault = cause_if many (fault.TooManySites (length qs)) in let parents : Option PlanFault = option_map fault.BadParent (bad_parent qs 1) in
+    let a = unmet ((n == 0) || nat_lt 16 n) (fault.BadHarts n) (sites ∷ parents ∷ []) e in let b = unmet many (fault.TooManySites (length qs)) (parents ∷ []) a.1 in
+    let d = unfound (bad_parent qs 1) fault.BadParent [] b.1 in let h = a.0 in let s : (nat_lt 4095 (length qs) || nat_lt 65535 (length qs * (3 * n - 1))) ≡ false = b.0 in record {
       some_hart = grind (arith, nat_tests);
       few_harts = grind (arith, nat_tests);
       few_sites = grind (arith, nat_tests);
-      short = let sites : length qs ≤ 4095 = grind (arith, nat_tests) in let harts : n ≤ 4 = grind (arith, nat_tests) in
-          let most : length qs * (3 * n - 1) ≤ 4095 * 11 = mul-le (length qs) (3 * n - 1) 4095 11 sites (omega arith) in omega arith;
+      short = grind (arith, nat_tests);
       below = λ x low high. let r = all_below qs 1 (x - 1) d.0 (omega arith) in omega arith;
     }
 
 -- a plan has no fault
 pub plan_fault_of-plan : (p : Plan) → IsPlan p → plan_fault_of p.harts p.parents ≡ None
-plan_fault_of-plan p is = let f = is.few_harts in let g = is.some_hart in let s = is.few_sites in
-    let a : ((p.harts == 0) || nat_lt 4 p.harts) ≡ false = grind (arith, nat_tests) in
-    let b : nat_lt 4095 (length p.parents) ≡ false = grind (arith, nat_tests) in
+plan_fault_of-plan p is = let f = is.few_harts in let g = is.some_hart in let s = is.few_sites in let r = is.short in
+    let a : ((p.harts == 0) || nat_lt 16 p.harts) ≡ false = grind (arith, nat_tests) in
+    let b : (nat_lt 4095 (length p.parents) || nat_lt 65535 (length p.parents * (3 * p.harts - 1))) ≡ false = grind (arith, nat_tests) in
     let d : bad_parent p.parents 1 ≡ None = none_bad p.parents 1 (λ i lt. let r : slice_index p.parents (i + 1 - 1) < i + 1 = is.below (i + 1) (omega arith) (omega arith) in let e : i + 1 - 1 ≡ i = omega arith in let r' = ap (slice_index p.parents) e in omega arith) in rw (a, b, d) refl
 
 -- what is no site has the base as its parent

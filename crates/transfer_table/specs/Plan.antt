@@ -36,7 +36,7 @@ IsSite p s = (1 ≤ s) × (s ≤ site_count p)
 
 -- The limits of a plan: harts, sites, and entries of a legal list.
 abbrev pub most_harts : ℕ
-most_harts = 4
+most_harts = 16
 
 abbrev pub most_sites : ℕ
 most_sites = 4095
@@ -61,10 +61,14 @@ abbrev pub bad_parent : List ℕ → ℕ → Option ℕ
 bad_parent [] k = None
 bad_parent (q ∷ qs) k = if nat_le k q then Some k else bad_parent qs (k + 1)
 
+-- whether the sites are too many, in themselves or for so many harts
+abbrev pub has_too_many_sites : Plan → Bool
+has_too_many_sites p = nat_lt most_sites (site_count p) || nat_lt most_entries (room p)
+
 -- why there is no plan with these harts and parents, where there is none; of several causes the first
 abbrev pub plan_fault_of : ℕ → List ℕ → Option PlanFault
 plan_fault_of n qs = first_cause
     (cause_if ((n == 0) || nat_lt most_harts n) (fault.BadHarts n)
-    ∷ cause_if (nat_lt most_sites (length qs)) (fault.TooManySites (length qs))
+    ∷ cause_if (has_too_many_sites record { harts = n; parents = qs }) (fault.TooManySites (length qs))
     ∷ option_map fault.BadParent (bad_parent qs 1)
     ∷ [])

@@ -1,18 +1,22 @@
 //! How many harts there are, and the tree of the sites.
-ghost use Rattle.std.specs.Prelude.{◌≡◌, ◌≢◌, ◌≤◌, ◌<◌, length, IfOk, Some, None};
+ghost use Rattle.std.specs.Prelude.{◌≡◌, ◌≢◌, ◌≤◌, ◌<◌, ◌*◌, ◌-◌, ◌||◌, nat_lt, length, IfOk, Some, None};
 ghost use Rattle.transfer_table.specs.Plan.{IsPlan, IsSite, bad_parent, is_within, parent, plan_fault_of, site_count};
 
 use std::alloc::{AllocError, Global};
 use std::marker::Model;
 
 /// The greatest number of harts.
-const MOST_HARTS: u8 = 4;
+const MOST_HARTS: u8 = 16;
 
 /// The greatest number of sites.
 const MOST_SITES: usize = 4095;
 
-/// A number of harts from 1 to 4, and a parent for each of at most 4,095 sites. Sites are numbered
-/// from 1, a site's parent is smaller than the site, and site 0 is the base.
+/// The greatest number of entries for which a plan may have room.
+const MOST_ENTRIES: usize = 65535;
+
+/// A number of harts from 1 to 16, and a parent for each of at most 4,095 sites, whose number times `3 * harts - 1`,
+/// the length of the longest legal list, is at most 65,535. Sites are numbered from 1, a site's parent is smaller than
+/// the site, and site 0 is the base.
 #[derive(Drop)]
 pub struct Plan {
     harts: u8,
@@ -32,9 +36,9 @@ impl Model for Plan {
 /// Why there is no such plan. Of several causes the first in this order is told.
 #[derive(Clone, Copy, Debug, PartialEq, Eq)]
 pub enum PlanFault {
-    /// The number of harts isn't from 1 to 4.
+    /// The number of harts isn't from 1 to 16.
     BadHarts { found: u8 },
-    /// There are more than 4,095 parents.
+    /// There are more than 4,095 parents, or their number times `3 * harts - 1` is above 65,535.
     TooManySites { found: u64 },
     /// The least site whose parent isn't smaller than it.
     BadParent { site: u16 },
@@ -69,7 +73,7 @@ impl Plan {
         Ok(Plan { harts, parents })
     }
 
-    /// The number of harts, from 1 to 4.
+    /// The number of harts, from 1 to 16.
     pub fn harts(&self) -> u8
         ensures same { result ≡ self.now.harts }
         ensures kept { IsPlan self.now }
@@ -131,12 +135,20 @@ fn fault_of(harts: u8, parents: &[u16]) -> Option<PlanFault>
     if harts == 0 || harts > MOST_HARTS {
         return Some(PlanFault::BadHarts { found: harts });
     }
-    if parents.len() > MOST_SITES {
+    if has_too_many_sites(harts, parents.len()) {
         return Some(PlanFault::TooManySites {
             found: parents.len() as u64,
         });
     }
     bad_parent(parents).map(|site| PlanFault::BadParent { site })
+}
+
+// Whether so many sites are too many, in themselves or for the harts.
+fn has_too_many_sites(harts: u8, sites: usize) -> bool
+    requires { (1 ≤ harts) × (harts ≤ 16) }
+    ensures { result ≡ (nat_lt 4095 sites || nat_lt 65535 (sites * (3 * harts - 1))) }
+{
+    sites > MOST_SITES || sites * (3 * harts as usize - 1) > MOST_ENTRIES
 }
 
 // The least site whose parent isn't smaller.

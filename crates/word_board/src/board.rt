@@ -17,7 +17,7 @@ use hart_port::{Entered, Seen, Taken};
 use std::alloc::Global;
 use transfer_table::{Entry, Plan};
 
-/// The table of lent harts as atomic words.
+/// The table of lent harts as atomic words, for at most four harts.
 #[derive(Drop)]
 pub struct WordBoard {
     pub(crate) table: Table<(), View, Plan, BoardRule, Global>,
@@ -25,6 +25,7 @@ pub struct WordBoard {
     pub(crate) sites: u16,
     pub ghost key: { table.shared.key ≡ plan },
     pub ghost is_plan: { IsPlan plan },
+    pub ghost four: { plan.harts ≤ 4 },
     pub ghost counts: { sites ≡ site_count plan },
     pub ghost wide: { table.shared.table_id.words ≡ width plan },
     pub ghost slotless: { table.shared.table_id.slots ≡ 0 },

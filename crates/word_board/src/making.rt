@@ -11,8 +11,9 @@ use transfer_table::Plan;
 
 impl WordBoard {
     /// The board, and a seat for each hart, in order. It has a word for each site and for each entry
-    /// that a legal journal may have.
+    /// that a legal journal may have. There are at most four harts, since their owners share one word.
     pub fn new(alloc: Global, plan: &Plan) -> Result<(WordBoard, Vec<HartSeat>), AllocError>
+        requires few_harts { plan.now.harts ≤ 4 }
         ensures plan { IfOk result (λ r. r.0.plan ≡ plan.now) }
         ensures seats { IfOk result
             (λ r. (vec_len r.1 ≡ plan.now.harts)

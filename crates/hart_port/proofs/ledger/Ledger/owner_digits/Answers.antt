@@ -1,5 +1,5 @@
 -- The owners from a hart on have less than 2^48, so a further digit fits.
-use Rattle.std.proofs.Common.{◌≡◌, ◌∙◌, ap, sym, arith, ℕ, drop, []}
+use Rattle.std.proofs.Common.{◌≡◌, ◌∙◌, ap, sym, arith, ℕ, take, drop, []}
 use Rattle.std.proofs.lemmas.List.{drop_all}
 use Rattle.transfer_table.proofs.Positions.{legal_position}
 use Rattle.transfer_table.specs.Plan.{Plan}
@@ -15,7 +15,7 @@ loop-hart-init c =
     let fits = legal_position b.plan is.plan c.self.inside.entries.items b.state is.reached in
     let size = fits.owners in
     let harts = c.harts-hart.ensures.same ∙ ap (λ (p : Plan). p.harts) c.plan.ensures.same in
-    let none : drop c.harts-hart.result b.state.owners ≡ [] = drop_all c.harts-hart.result b.state.owners (omega arith) in
+    let none : drop c.harts-hart.result (take 4 b.state.owners) ≡ [] = drop_all c.harts-hart.result (take 4 b.state.owners) (omega arith) in
     record { same = sym (ap owner_digits none); most = omega arith }
 
 pub overflow_mul-digits : goal.overflow_mul-digits
@@ -32,7 +32,7 @@ overflow_add-digits c =
 
 pub loop-hart-preserved : goal.loop-hart-preserved
 loop-hart-preserved c =
-    let before = digits_before c.self.inside.board.state.owners c.loop-hart.hart c.loop-hart-test.true c.loop-hart.invariant.most in
+    let before = digits_before (take 4 c.self.inside.board.state.owners) c.loop-hart.hart c.loop-hart-test.true c.loop-hart.invariant.most in
     let same = c.loop-hart.invariant.same in
     let most = c.loop-hart.invariant.most in
     let owner = c.owner.ensures.same in
@@ -40,9 +40,9 @@ loop-hart-preserved c =
 
 pub returns-clause-same : goal.returns-clause-same
 returns-clause-same c =
-    let owners = c.self.inside.board.state.owners in
+    let owners = take 4 c.self.inside.board.state.owners in
     let last : c.loop-hart.hart ≡ 0 = omega arith in
-    c.loop-hart.invariant.same ∙ ap (λ (h : ℕ). owner_digits (drop h owners)) last ∙ ap (λ (l : LedgerState). owner_digits l.state.owners) c.self.view_is
+    c.loop-hart.invariant.same ∙ ap (λ (h : ℕ). owner_digits (drop h owners)) last ∙ ap (λ (l : LedgerState). owner_digits (take 4 l.state.owners)) c.self.view_is
 
 pub returns-clause-below : goal.returns-clause-below
 returns-clause-below c =
