@@ -1,4 +1,4 @@
-//! Two of four harts at one site: five entries. After each call the words are compared.
+//! Two of five harts at one site: five entries. After each call the words are compared.
 ghost use Rattle.std.specs.Prelude.{◌≡◌, ◌<◌, ◌≤◌, ◌-◌, [], ◌∷◌, true, false};
 ghost use Rattle.hart_port.specs.PortView.{is_in};
 ghost use Rattle.board_words.specs.Words.{width};
@@ -11,7 +11,7 @@ use std::test::Fail;
 use transfer_table::{Entry, Plan, first_fault};
 use wide_board::{Entered, Seen, Taken, WideBoard, WideSeat};
 
-const HARTS: u8 = 4;
+const HARTS: u8 = 5;
 
 // The guest is the last hart.
 const ROW: [Entry; 5] = [

@@ -81,17 +81,17 @@ fn nested_parents(alloc: Global, groups: u16) -> Result<Vec<u16>, AllocError>
 }
 
 #[test]
-fn two_threads_roam(rt: HostRuntime) -> Result<(), Fail> {
-    let plan = Plan::new(rt.alloc(), 2, &[0; 300])?;
+fn sixteen_threads_roam(rt: HostRuntime) -> Result<(), Fail> {
+    let plan = Plan::new(rt.alloc(), 16, &[0; 300])?;
     let closed = roamed(&rt, rt.alloc(), &plan)?;
     assert!(rt; is_complete(rt.alloc(), &plan, closed.entries())?);
     Ok(())
 }
 
 #[test]
-fn four_threads_roam_in_nested_sites(rt: HostRuntime) -> Result<(), Fail> {
+fn five_threads_roam_in_nested_sites(rt: HostRuntime) -> Result<(), Fail> {
     let parents = nested_parents(rt.alloc(), 75)?;
-    let plan = Plan::new(rt.alloc(), 4, parents.as_slice())?;
+    let plan = Plan::new(rt.alloc(), 5, parents.as_slice())?;
     let closed = roamed(&rt, rt.alloc(), &plan)?;
     assert!(rt; is_complete(rt.alloc(), &plan, closed.entries())?);
     Ok(())
