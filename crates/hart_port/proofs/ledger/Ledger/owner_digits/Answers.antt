@@ -1,6 +1,7 @@
 -- The owners from a hart on have less than 2^48, so a further digit fits.
-use Rattle.std.proofs.Common.{◌≡◌, ◌∙◌, ap, sym, arith, ℕ, take, drop, []}
-use Rattle.std.proofs.lemmas.List.{drop_all}
+use Rattle.std.proofs.Common.{◌≡◌, ◌∙◌, ap, sym, arith, ℕ, ◌-◌, take, drop, []}
+use Rattle.std.proofs.lemmas.List.{drop_all, length-take, get_or-take}
+use Rattle.std.proofs.lemmas.Bool.Decides.{nat_tests}
 use Rattle.transfer_table.proofs.Positions.{legal_position}
 use Rattle.transfer_table.specs.Plan.{Plan}
 use Rattle.hart_port.specs.Words.{owner_digits}
@@ -14,8 +15,9 @@ loop-hart-init c =
     let is = c.self.invariant.ledger in
     let fits = legal_position b.plan is.plan c.self.inside.entries.items b.state is.reached in
     let size = fits.owners in
-    let harts = c.harts-hart.ensures.same ∙ ap (λ (p : Plan). p.harts) c.plan.ensures.same in
-    let none : drop c.harts-hart.result (take 4 b.state.owners) ≡ [] = drop_all c.harts-hart.result (take 4 b.state.owners) (omega arith) in
+    let harts = c.harts.ensures.same ∙ ap (λ (p : Plan). p.harts) c.plan.ensures.same in
+    let most = length-take 4 b.state.owners in
+    let none : drop c.min-hart.result (take 4 b.state.owners) ≡ [] = drop_all c.min-hart.result (take 4 b.state.owners) (grind (arith, nat_tests, c.min-hart)) in
     record { same = sym (ap owner_digits none); most = omega arith }
 
 pub overflow_mul-digits : goal.overflow_mul-digits
@@ -35,6 +37,8 @@ loop-hart-preserved c =
     let before = digits_before (take 4 c.self.inside.board.state.owners) c.loop-hart.hart c.loop-hart-test.true c.loop-hart.invariant.most in
     let same = c.loop-hart.invariant.same in
     let most = c.loop-hart.invariant.most in
+    let first = length-take 4 c.self.inside.board.state.owners in
+    let shown = get_or-take 4 c.self.inside.board.state.owners (c.loop-hart.hart - 1) 0 (omega arith) in
     let owner = c.owner.ensures.same in
     record { same = omega arith; most = omega arith }
 
