@@ -1,6 +1,7 @@
 //! The axis of the picture, with the entries' numbers and what they do, and the marks at the homes.
 ghost use Rattle.std.specs.Prelude.{◌≡◌, ◌≤◌, ◌++◌, OnOk, codes, length, string_bytes};
 ghost use Rattle.std.specs.Fmt.{decimal};
+ghost use Rattle.transfer_table.specs.Plan.{most_entries};
 ghost use Rattle.journal_picture.specs.SvgPicture.{deed_text, dot_svg, entry_mark, guide_text, line_svg, mark_svg, marks_text, number_text, request_svg, tick_marks, tick_text, ticks_text, unmet_at, unmet_svg, wishes_svg};
 
 use crate::scale::{every, mark_y, place_x};
@@ -17,7 +18,7 @@ pub(crate) fn write_ticks(
 ) -> Result<(), AllocError>
     requires some { 2 ≤ step }
     requires narrow { step ≤ 72 }
-    requires few { length list.now ≤ 65535 }
+    requires few { length list.now ≤ most_entries }
     ensures { OnOk result (string_bytes text.new ≡ string_bytes text.old
         ++ ticks_text step bottom 0 list.now) }
 {
@@ -37,7 +38,7 @@ fn write_tick(
 ) -> Result<(), AllocError>
     requires some { 2 ≤ step }
     requires narrow { step ≤ 72 }
-    requires few { k ≤ 65535 }
+    requires few { k ≤ most_entries }
     ensures { OnOk result (string_bytes text.new ≡ string_bytes text.old
         ++ tick_text step bottom k entry) }
 {
@@ -106,7 +107,7 @@ pub(crate) fn write_marks(
     list: &[Entry],
 ) -> Result<(), AllocError>
     requires narrow { step ≤ 72 }
-    requires few { length list.now ≤ 65535 }
+    requires few { length list.now ≤ most_entries }
     ensures { OnOk result (string_bytes text.new ≡ string_bytes text.old
         ++ marks_text board.now.plan board.now.state step 0 list.now) }
 {
@@ -126,7 +127,7 @@ fn write_entry_mark(
     entry: Entry,
 ) -> Result<(), AllocError>
     requires narrow { step ≤ 72 }
-    requires few { k ≤ 65535 }
+    requires few { k ≤ most_entries }
     ensures { OnOk result (string_bytes text.new ≡ string_bytes text.old
         ++ entry_mark board.now.plan board.now.state step k entry) }
 {

@@ -1,5 +1,6 @@
 //! The lanes of the picture, with a bar for each stay.
 ghost use Rattle.std.specs.Prelude.{◌≡◌, ◌≤◌, ◌<◌, ◌++◌, ◌+◌, IfOk, OnOk, length, string_bytes};
+ghost use Rattle.transfer_table.specs.Plan.{most_entries};
 ghost use Rattle.journal_picture.specs.SvgPicture.{bar_text, bars_text, end_bars, fill_text, hart_at, hart_text, is_folded, kind_label, kind_of, label_text, lane_bars, lane_svg, lanes_svg, placed_bar, rect_text, stay_count, words_text};
 
 use crate::lanes::places_of;
@@ -12,7 +13,7 @@ use transfer_table::{Entry, Plan};
 
 /// Whether there are more stays than a picture has bars.
 pub(crate) fn is_folded(alloc: Global, plan: &Plan, list: &[Entry]) -> Result<bool, AllocError>
-    requires { length list.now ≤ 65535 }
+    requires { length list.now ≤ most_entries }
     ensures { IfOk result (λ folded. folded ≡ is_folded plan.now list.now) }
 {
     let mut total = 0usize;
@@ -32,7 +33,7 @@ pub(crate) fn write_lanes(
     list: &[Entry],
     folded: bool,
 ) -> Result<(), AllocError>
-    requires { length list.now ≤ 65535 }
+    requires { length list.now ≤ most_entries }
     ensures { OnOk result (string_bytes text.new ≡ string_bytes text.old
         ++ lanes_svg plan.now shapes.now list.now folded 0 plan.now.harts) }
 {
@@ -52,7 +53,7 @@ fn write_lane(
     folded: bool,
     hart: u8,
 ) -> Result<(), AllocError>
-    requires { length list.now ≤ 65535 }
+    requires { length list.now ≤ most_entries }
     ensures { OnOk result (string_bytes text.new ≡ string_bytes text.old
         ++ lane_svg plan.now shapes.now list.now folded hart) }
 {
@@ -88,7 +89,7 @@ fn write_lane_bars(
     folded: bool,
     stays: &[Stay],
 ) -> Result<(), AllocError>
-    requires { end ≤ 65535 }
+    requires { end ≤ most_entries }
     ensures { OnOk result (string_bytes text.new ≡ string_bytes text.old
         ++ lane_bars plan.now shapes.now end folded stays.now) }
 {
@@ -110,7 +111,7 @@ fn write_ends(
     end: usize,
     stays: &[Stay],
 ) -> Result<(), AllocError>
-    requires few { end ≤ 65535 }
+    requires few { end ≤ most_entries }
     requires many { 1024 < length stays.now }
     ensures { OnOk result (string_bytes text.new ≡ string_bytes text.old
         ++ end_bars plan.now shapes.now end stays.now) }
@@ -130,7 +131,7 @@ fn write_bars(
     end: usize,
     stays: &[Stay],
 ) -> Result<(), AllocError>
-    requires { end ≤ 65535 }
+    requires { end ≤ most_entries }
     ensures { OnOk result (string_bytes text.new ≡ string_bytes text.old
         ++ bars_text plan.now shapes.now end stays.now) }
 {
@@ -149,7 +150,7 @@ fn write_bar(
     end: usize,
     stay: Stay,
 ) -> Result<(), AllocError>
-    requires { end ≤ 65535 }
+    requires { end ≤ most_entries }
     ensures { OnOk result (string_bytes text.new ≡ string_bytes text.old
         ++ bar_text plan.now shapes.now end stay) }
 {

@@ -1,5 +1,6 @@
 //! Where each hart is at each place.
 ghost use Rattle.std.specs.Prelude.{◌≡◌, ◌++◌, ◌≤◌, IfOk, OnOk, length, replicate};
+ghost use Rattle.transfer_table.specs.Plan.{most_entries};
 ghost use Rattle.journal_picture.specs.TextPicture.{lanes_of, places_of, sites_of};
 
 use crate::stay::{Stay, stays_of};
@@ -32,7 +33,7 @@ impl Lane {
 
 /// The lane of each hart of the plan.
 pub(crate) fn lanes_of(alloc: Global, plan: &Plan, list: &[Entry]) -> Result<Vec<Lane>, AllocError>
-    requires { length list.now ≤ 65535 }
+    requires { length list.now ≤ most_entries }
     ensures { IfOk result (λ lanes. lanes.items ≡ lanes_of plan.now list.now 0 plan.now.harts) }
 {
     let mut lanes = Vec::new(alloc);
@@ -45,7 +46,7 @@ pub(crate) fn lanes_of(alloc: Global, plan: &Plan, list: &[Entry]) -> Result<Vec
 
 // The lane of these stays, in a list whose last place is this.
 fn lane_of(alloc: Global, stays: &[Stay], end: usize) -> Result<Lane, AllocError>
-    requires { end ≤ 65535 }
+    requires { end ≤ most_entries }
     ensures { IfOk result (λ lane. lane ≡ sites_of end stays.now) }
 {
     let mut sites = Vec::new(alloc);
@@ -57,7 +58,7 @@ fn lane_of(alloc: Global, stays: &[Stay], end: usize) -> Result<Lane, AllocError
 
 /// How many places the stay has, in a list whose last place is this.
 pub(crate) fn places_of(stay: Stay, end: usize) -> usize
-    requires { end ≤ 65535 }
+    requires { end ≤ most_entries }
     ensures same { result ≡ places_of end stay }
     ensures few { result ≤ 4294967296 }
 {

@@ -1,5 +1,6 @@
 //! Where things stand in the picture, in its units.
 ghost use Rattle.std.specs.Prelude.{◌≡◌, ◌≤◌, ◌*◌};
+ghost use Rattle.transfer_table.specs.Plan.{most_entries};
 ghost use Rattle.journal_picture.specs.SvgPicture.{bar_y, every, lane_y, lanes_bottom, level_of, mark_y, place_x, step_of, width_of};
 
 use crate::tree::depth_of;
@@ -7,7 +8,7 @@ use transfer_table::Plan;
 
 /// How wide a place is, by the number of entries.
 pub(crate) fn step_of(entries: usize) -> usize
-    requires { entries ≤ 65535 }
+    requires { entries ≤ most_entries }
     ensures same { result ≡ step_of entries }
     ensures some { 2 ≤ result }
     ensures few { result ≤ 72 }
@@ -77,7 +78,7 @@ pub(crate) fn lanes_bottom(plan: &Plan) -> usize
 
 /// The width of the picture.
 pub(crate) fn width_of(entries: usize) -> usize
-    requires { entries ≤ 65535 }
+    requires { entries ≤ most_entries }
     ensures { result ≡ width_of entries }
 {
     600usize.max(place_x(step_of(entries), entries + 1) + 56)

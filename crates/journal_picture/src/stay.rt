@@ -1,6 +1,6 @@
 //! Where a hart was, and from when to when.
 ghost use Rattle.std.specs.Prelude.{◌≡◌, ◌≤◌, ◌+◌, IfOk, length, vec_len};
-ghost use Rattle.transfer_table.specs.Plan.{Plan};
+ghost use Rattle.transfer_table.specs.Plan.{Plan, most_entries};
 ghost use Rattle.journal_picture.specs.Stays.{goes_to, stays_of};
 
 use std::alloc::{AllocError, Global};
@@ -26,7 +26,7 @@ pub fn stays_of(
     hart: u8,
     list: &[Entry],
 ) -> Result<Vec<Stay>, AllocError>
-    requires { length list.now ≤ 65535 }
+    requires { length list.now ≤ most_entries }
     ensures stays { IfOk result (λ stays. stays.items ≡ stays_of plan.now hart list.now) }
     ensures few { IfOk result (λ stays. vec_len stays ≤ length list.now + 1) }
 {

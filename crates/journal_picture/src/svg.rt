@@ -1,6 +1,6 @@
 //! The picture as SVG.
 ghost use Rattle.std.specs.Prelude.{◌≡◌, ◌≤◌, ◌++◌, IfOk, OnOk, length, string_bytes};
-ghost use Rattle.transfer_table.specs.Plan.{site_count};
+ghost use Rattle.transfer_table.specs.Plan.{site_count, most_entries};
 ghost use Rattle.journal_picture.specs.SvgPicture.{end_svg, fault_svg, frame_svg, head_of, head_svg, legend_svg, mark_svg, marks_note, marks_or_note, picture_svg, shown_svg, svg_of, svg_picture, swatch_svg, swatches_svg, title_of, title_svg, words_svg};
 
 use crate::axis::{write_marks, write_ticks};
@@ -22,7 +22,7 @@ pub fn svg_picture(
     list: &[Entry],
     told: &[u8],
 ) -> Result<Vec<u8>, AllocError>
-    requires { length list.now ≤ 65535 }
+    requires { length list.now ≤ most_entries }
     ensures { IfOk result
         (λ text. text.items ≡ svg_picture plan.now shapes.now list.now told.now) }
 {
@@ -40,7 +40,7 @@ fn svg_of(
     faulty: bool,
     told: &[u8],
 ) -> Result<Vec<u8>, AllocError>
-    requires { length list.now ≤ 65535 }
+    requires { length list.now ≤ most_entries }
     ensures { IfOk result
         (λ text. text.items ≡ svg_of plan.now shapes.now list.now faulty told.now) }
 {
@@ -71,7 +71,7 @@ fn write_shown(
     folded: bool,
     faulty: bool,
 ) -> Result<(), AllocError>
-    requires { length list.now ≤ 65535 }
+    requires { length list.now ≤ most_entries }
     ensures { OnOk result (string_bytes text.new ≡ string_bytes text.old
         ++ shown_svg board.now.plan board.now.state shapes.now list.now folded faulty) }
 {
@@ -82,7 +82,7 @@ fn write_shown(
 
 // Adds the frame: head, title, legend and axis.
 fn write_frame(text: &mut String, plan: &Plan, list: &[Entry]) -> Result<(), AllocError>
-    requires { length list.now ≤ 65535 }
+    requires { length list.now ≤ most_entries }
     ensures { OnOk result (string_bytes text.new ≡ string_bytes text.old
         ++ frame_svg plan.now list.now) }
 {
@@ -103,7 +103,7 @@ fn write_picture(
     folded: bool,
     faulty: bool,
 ) -> Result<(), AllocError>
-    requires { length list.now ≤ 65535 }
+    requires { length list.now ≤ most_entries }
     ensures { OnOk result (string_bytes text.new ≡ string_bytes text.old
         ++ picture_svg board.now.plan board.now.state shapes.now list.now folded faulty) }
 {
@@ -127,7 +127,7 @@ fn write_marks_or_note(
     list: &[Entry],
     folded: bool,
 ) -> Result<(), AllocError>
-    requires { length list.now ≤ 65535 }
+    requires { length list.now ≤ most_entries }
     ensures { OnOk result (string_bytes text.new ≡ string_bytes text.old
         ++ marks_or_note board.now.plan board.now.state list.now folded) }
 {
@@ -154,7 +154,7 @@ fn write_fault(text: &mut String, x: usize, bottom: usize, faulty: bool) -> Resu
 
 // Adds the head.
 fn write_head(text: &mut String, plan: &Plan, entries: usize) -> Result<(), AllocError>
-    requires { entries ≤ 65535 }
+    requires { entries ≤ most_entries }
     ensures { OnOk result (string_bytes text.new ≡ string_bytes text.old ++ head_svg plan.now entries) }
 {
     write_head_of(text, width_of(entries), lanes_bottom(plan) + 92)

@@ -1,6 +1,6 @@
 //! The picture in text.
 ghost use Rattle.std.specs.Prelude.{◌≡◌, ◌≤◌, ◌++◌, ◌*◌, ◌+◌, IfOk, OnOk, length, take, drop, string_bytes, true};
-ghost use Rattle.transfer_table.specs.Plan.{site_count};
+ghost use Rattle.transfer_table.specs.Plan.{site_count, most_entries};
 ghost use Rattle.journal_picture.specs.TextPicture.{band_count, band_text, bands_text, deed, deeds_line, deeds_text, lanes_text, mark_text, numbers_line, numbers_text, shown_text, sites_text, text_of, text_picture};
 ghost use Rattle.journal_picture.specs.Drawn.{state_after};
 
@@ -21,7 +21,7 @@ pub fn text_picture(
     list: &[Entry],
     told: &[u8],
 ) -> Result<Vec<u8>, AllocError>
-    requires few { length list.now ≤ 65535 }
+    requires few { length list.now ≤ most_entries }
     requires shapes { length shapes.now ≡ site_count plan.now }
     ensures { IfOk result
         (λ text. text.items ≡ text_picture plan.now shapes.now list.now told.now) }
@@ -40,7 +40,7 @@ fn text_of(
     faulty: bool,
     told: &[u8],
 ) -> Result<Vec<u8>, AllocError>
-    requires few { length list.now ≤ 65535 }
+    requires few { length list.now ≤ most_entries }
     requires shapes { length shapes.now ≡ site_count plan.now }
     ensures { IfOk result
         (λ text. text.items ≡ text_of plan.now shapes.now list.now faulty told.now) }
@@ -64,7 +64,7 @@ fn write_shown(
     lanes: &[Lane],
     faulty: bool,
 ) -> Result<(), AllocError>
-    requires few { length list.now ≤ 65535 }
+    requires few { length list.now ≤ most_entries }
     requires shapes { length shapes.now ≡ site_count board.now.plan }
     ensures { OnOk result (string_bytes text.new ≡ string_bytes text.old
         ++ shown_text board.now.plan board.now.state shapes.now list.now lanes.now faulty) }
@@ -82,7 +82,7 @@ fn write_bands(
     lanes: &[Lane],
     faulty: bool,
 ) -> Result<(), AllocError>
-    requires few { length list.now ≤ 65535 }
+    requires few { length list.now ≤ most_entries }
     ensures { OnOk result (string_bytes text.new ≡ string_bytes text.old
         ++ bands_text faulty list.now lanes.now 0 (band_count (length list.now))) }
 {
@@ -95,9 +95,9 @@ fn write_bands(
 
 // How many bands so many entries have.
 fn band_count(entries: usize) -> usize
-    requires { entries ≤ 65535 }
+    requires { entries ≤ most_entries }
     ensures same { result ≡ band_count entries }
-    ensures few { result ≤ 65535 }
+    ensures few { result ≤ most_entries }
 {
     if entries == 0 { 1 } else { (entries + 13) / 14 }
 }

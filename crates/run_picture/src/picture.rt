@@ -1,7 +1,7 @@
 //! The picture.
 ghost use Rattle.std.specs.Prelude.{◌≡◌, ◌≤◌, IfOk, MatchResult, Ok, Err, length};
 ghost use Rattle.array_tree.specs.Trees.{program_of};
-ghost use Rattle.transfer_table.specs.Plan.{site_count};
+ghost use Rattle.transfer_table.specs.Plan.{site_count, most_entries};
 ghost use Rattle.array_meaning.specs.Work.{final_store};
 ghost use Rattle.array_eval.specs.ArrayText.{array_text};
 ghost use Rattle.journal_text.specs.Reading.{lines_of};
@@ -97,7 +97,7 @@ fn entries_behind(
 ) -> Result<Entries, AllocError>
     requires { length output.now ≤ most_audited }
     ensures same { IfOk result (λ list. list ≡ entries_behind plan.now arrays output.now) }
-    ensures few { IfOk result (λ list. length list ≤ 65535) }
+    ensures few { IfOk result (λ list. length list ≤ most_entries) }
 {
     match journal_behind(alloc, plan, arrays, output) {
         Ok(list) => Ok(list),
@@ -115,7 +115,7 @@ fn journal_behind(
 ) -> Result<Entries, TextFault>
     requires { length output.now ≤ most_audited }
     ensures read { Reads (λ list. list) (journal_behind plan.now arrays output.now) result }
-    ensures few { IfOk result (λ list. length list ≤ 65535) }
+    ensures few { IfOk result (λ list. length list ≤ most_entries) }
 {
     let journal = behind(arrays, output)?;
     read_entries(alloc, plan, journal)
@@ -147,7 +147,7 @@ fn pictured(
     verdict: Verdict,
     list: &[Entry],
 ) -> Result<Picture, AllocError>
-    requires few { length list.now ≤ 65535 }
+    requires few { length list.now ≤ most_entries }
     requires shapes { length shapes.now ≡ site_count plan.now }
     ensures { IfOk result (λ picture.
         picture_seen picture ≡ pictured form plan.now shapes.now verdict list.now) }
@@ -166,7 +166,7 @@ fn drawn_in(
     list: &[Entry],
     told: &[u8],
 ) -> Result<Vec<u8>, AllocError>
-    requires few { length list.now ≤ 65535 }
+    requires few { length list.now ≤ most_entries }
     requires shapes { length shapes.now ≡ site_count plan.now }
     ensures { IfOk result
         (λ text. text.items ≡ drawn_in form plan.now shapes.now list.now told.now) }
