@@ -35,7 +35,7 @@ use Rattle.board_rule.proofs.SiteSteps.{sites_other, knows_other}
 use Rattle.board_rule.proofs.Fields.{owners_small, field_is}
 
 pub few_wishes : (p : Plan) (s : St) (k : Stands p s) (x : ℕ) → IsSite p x → (shown k.journal k.table x).wishes ≤ 3
-few_wishes p s k x site = few_shown p k.plan k.journal k.table k.legal x site
+few_wishes p s k x site = let few = few_shown p k.plan k.journal k.table k.legal x site in let four = k.four in omega arith
 
 -- the seat knows other sites, or has one more look, and no word has changed
 pub look_step : (p : Plan) (s : St) (k : Stands p s) (id : ℕ) (v : View) (m : Marks) (ls : List Look) (i n : ℕ) → get_elem? s.views id ≡ some v → IsSeat v → v.doing ≡ Idle → n ≡ slice_index s.words i

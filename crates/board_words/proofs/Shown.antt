@@ -1,5 +1,5 @@
 -- A site's row as its word shows it.
-use Rattle.std.proofs.Common.{◌≡◌, ◌≢◌, ℕ, ◌+◌, ◌≤◌, nat_le, Bool, true, false, if◌then◌else◌, List, [], ◌∷◌, ◌++◌, refl, sym, ap, ◌∙◌, subst, arith, ⊎_elim}
+use Rattle.std.proofs.Common.{◌≡◌, ◌≢◌, ℕ, ◌+◌, ◌-◌, ◌≤◌, nat_le, Bool, true, false, if◌then◌else◌, List, [], ◌∷◌, ◌++◌, refl, sym, ap, ◌∙◌, subst, arith, ⊎_elim}
 use mathlib.Core.Logic.{dite}
 use native.Mathlib.Decide.{ℕ_discrete}
 use Rattle.std.specs.Option.{is_some}
@@ -144,5 +144,5 @@ module _ (p : Plan) (plan : IsPlan p) (es : List Entry) (t : TableState) (leads 
           let new : (row t (parent p y)).stage ≡ New = covered_new p plan es t (Skip g x) leads a (parent p y) up w in
           let live = live_home p plan es t leads h (parent p y) hart up.0 own in cc)
 
-  pub few_shown : (x : ℕ) → IsSite p x → (shown es t x).wishes ≤ 3
-  few_shown x site = let w = shown-wishes x site in let l = legal_wishes p plan es t leads x site in let few = plan.few_harts in omega (arith, l.0, l.1)
+  pub few_shown : (x : ℕ) → IsSite p x → (shown es t x).wishes ≤ p.harts - 1
+  few_shown x site = let w = shown-wishes x site in let l = legal_wishes p plan es t leads x site in omega (arith, l.0, l.1)

@@ -1,12 +1,11 @@
 -- A program fails none of the conditions exactly where it is accepted.
-use Rattle.std.proofs.Common.{◌≡◌, ◌≤◌, ℕ, true, List, [], ◌∷◌, Option, Some, None, refl, sym, ap, ◌∙◌}
+use Rattle.std.proofs.Common.{◌≡◌, ℕ, true, List, [], ◌∷◌, Option, Some, None, refl, sym, ap, ◌∙◌}
 use Rattle.std.specs.Option.{option_map}
 use Rattle.array_tree.specs.Trees.{ProgramTree}
 use Rattle.array_meaning.specs.Stores.{AreSized, arrays_of}
 use Rattle.array_meaning.specs.Work.{sequence_work}
 use Rattle.array_meaning.specs.Touch.{walk}
-use Rattle.array_meaning.specs.Plans.{sites_in}
-use Rattle.array_meaning.specs.Accepted.{IsAccepted, has_indices_inside}
+use Rattle.array_meaning.specs.Accepted.{has_indices_inside}
 use Rattle.site_walk.specs.declared.fault.WalkFault.{WalkFault}
 use Rattle.std.specs.Option.{option_or}
 use Rattle.site_walk.specs.Outside.{out_of_range_of}
@@ -18,7 +17,7 @@ use Rattle.disjoint_check.specs.Faults.{first_fault}
 use Rattle.disjoint_check.specs.LimitFault.{limit_fault_of}
 use Rattle.disjoint_check.specs.FaultOf.{of_walk, meaning_fault_of, check_fault_of}
 use Rattle.disjoint_check.specs.Meaning.{HasMeaningFor, IsAcceptedFor}
-use Rattle.disjoint_check.proofs.Conditions.{limits_from, limits_to, limits_of, sized_from, room_for_four}
+use Rattle.disjoint_check.proofs.Conditions.{limits_from, limits_to, limits_of, sized_from}
 
 -- the walk's fault is the first of its two
 either_of_walk : (a b : Option WalkFault) → first_fault (option_map of_walk a ∷ option_map of_walk b ∷ []) ≡ option_map of_walk (option_or a b)
@@ -121,7 +120,3 @@ none_of_accepted program harts a =
     ∙ ap (option_map of_walk)
     (none_both (out_of_range_of program) (overlap_of program) (none_of_inside arrays (walk arrays (sequence_work program.body [])) a.accepted.indices)
     (none_of_apart program a.accepted.apart))
-
--- up to four harts ask nothing more
-pub for_four : (program : ProgramTree) (harts : ℕ) → harts ≤ 4 → IsAccepted program → IsAcceptedFor program harts
-for_four program harts four a = record { accepted = a; entries = room_for_four (sites_in program.body) harts a.sites four }

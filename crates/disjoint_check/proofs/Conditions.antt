@@ -3,7 +3,6 @@ use Rattle.std.proofs.Common.{◌≡◌, ◌<◌, ◌≤◌, ◌-◌, ◌*◌, �
 use Rattle.std.specs.Option.{option_map}
 use Rattle.std.proofs.lemmas.Bool.{and_parts, and_from}
 use Rattle.std.proofs.lemmas.Bool.Decides.{nat_tests}
-use Rattle.std.proofs.lemmas.Nat.{mul-le}
 use Rattle.std.proofs.lemmas.Int.{ints}
 use Rattle.array_tree.specs.Trees.{ProgramTree, Declaration}
 use Rattle.array_meaning.specs.Accepted.{IsAccepted}
@@ -82,11 +81,6 @@ limits_to p harts m = none_from (limit_fault_of p harts)
     (along (unless (nat_le (units_of p.body) 1048576) _) _ (none_unless (nat_le (units_of p.body) 1048576) _ ∙ le_true _ _ m.work)
     (along (unless (are_few p harts) _) _ (none_unless (are_few p harts) _ ∙ and_from _ _ (le_true _ _ m.sites) (le_true _ _ m.entries))
     (along (unless (nat_le (pieces_in p.body) 16384) _) [] (none_unless (nat_le (pieces_in p.body) 16384) _ ∙ le_true _ _ m.pieces) refl))))))))
-
--- up to four harts have room for the entries of as many sites as there may be
-pub room_for_four : (sites harts : ℕ) → sites ≤ 4095 → harts ≤ 4 → room_for sites harts ≤ 65535
-room_for_four sites harts few four =
-    let most : sites * (3 * harts - 1) ≤ 4095 * 11 = mul-le sites (3 * harts - 1) 4095 11 few (omega (arith, four)) in omega (arith, most)
 
 pub limits_of : {p : ProgramTree} {harts : ℕ} → IsAccepted p → room_for (sites_in p.body) harts ≤ 65535 → MeetsLimits p harts
 limits_of a room = record {

@@ -1,9 +1,9 @@
 //! Programs that are accepted.
 ghost use Rattle.std.specs.Prelude.{◌≡◌, ◌≤◌, ◌-◌, IfOk, IfErr, Some, None, slice_get, map};
 ghost use Rattle.array_tree.specs.Trees.{program_of};
-ghost use Rattle.array_meaning.specs.Accepted.{IsAccepted};
 ghost use Rattle.array_meaning.specs.Plans.{plan_of};
 ghost use Rattle.transfer_table.specs.Plan.{IsSite, plan_fault_of};
+ghost use Rattle.disjoint_check.specs.Meaning.{IsAcceptedFor};
 ghost use Rattle.disjoint_check.specs.Inside.Unrolled.{parents_in};
 
 use crate::fault::CheckFault;
@@ -88,9 +88,9 @@ pub(crate) fn accept<'p>(
     program: &'p Program,
     harts: u8,
 ) -> Result<Accepted<'p>, CheckFault>
-    requires accepted { IsAccepted (program_of program.now) }
+    requires accepted { IsAcceptedFor (program_of program.now) harts }
     requires some_hart { 1 ≤ harts }
-    requires few_harts { harts ≤ 4 }
+    requires few_harts { harts ≤ 16 }
     ensures program { IfOk result (λ a. a.program ≡ program.now) }
     ensures harts { IfOk result (λ a. a.plan.harts ≡ harts) }
     ensures memory { IfErr result (λ why. why ≡ CheckFault.Memory) }

@@ -1,9 +1,8 @@
 //! The check of a program.
 ghost use Rattle.std.specs.Prelude.{◌≡◌, ◌≤◌, ◌⊎◌, IfOk, IfErr, OnOk, Some};
 ghost use Rattle.array_tree.specs.Trees.{program_of};
-ghost use Rattle.array_meaning.specs.Accepted.{IsAccepted};
 ghost use Rattle.disjoint_check.specs.FaultOf.{meaning_fault_of, check_fault_of};
-ghost use Rattle.disjoint_check.specs.Meaning.{HasMeaningFor};
+ghost use Rattle.disjoint_check.specs.Meaning.{HasMeaningFor, IsAcceptedFor};
 
 use crate::accepted::{Accepted, accept};
 use crate::fault::CheckFault;
@@ -12,7 +11,7 @@ use array_tree::Program;
 use site_walk::{walk_indices, walk_program};
 use std::alloc::Global;
 
-/// Whether a program may be run in parallel, by so many harts. If so, what is known of it; else the first condition
+/// Whether a program may be run in parallel, by so many harts, one to sixteen. If so, what is known of it; else the first condition
 /// that it fails, or that memory was wanting, which is answered at will.
 ///
 /// Names, ranges and sizes take time in proportion to the text, but for names, each of which is looked for among all
@@ -21,10 +20,10 @@ use std::alloc::Global;
 #[tactic(auto, using(crate::proofs::Accepting::limit_is_first, crate::proofs::Accepting::walk_is_next))]
 pub fn check<'p>(alloc: Global, program: &'p Program, harts: u8) -> Result<Accepted<'p>, CheckFault>
     requires some_hart { 1 ≤ harts }
-    requires few_harts { harts ≤ 4 }
+    requires few_harts { harts ≤ 16 }
     ensures program { IfOk result (λ a. a.program ≡ program.now) }
     ensures harts { IfOk result (λ a. a.plan.harts ≡ harts) }
-    ensures accepted { IfOk result (λ a. IsAccepted (program_of program.now)) }
+    ensures accepted { IfOk result (λ a. IsAcceptedFor (program_of program.now) harts) }
     ensures fault { IfErr result
         (λ why. (why ≡ CheckFault.Memory) ⊎ (check_fault_of (program_of program.now) harts ≡ Some why)) }
 {

@@ -13,8 +13,8 @@ plan-requires c =
     let program = program_of c.args.program.now in
     let rows : c.deref.result.now ≡ with_sequence program.body 0 [] = c.deref.ensures.value ∙ c.in_ok-sites.ensures in
     let parents : c.deref-2.result.now ≡ plan_of program =
-    c.deref-2.ensures.value ∙ c.in_ok-parents.ensures ∙ ap parents_in rows ∙ plan_is program c.requires.accepted.sites in
-    ap (plan_fault_of c.args.harts) parents ∙ plan_right program c.args.harts c.requires.some_hart c.requires.few_harts c.requires.accepted.sites
+    c.deref-2.ensures.value ∙ c.in_ok-parents.ensures ∙ ap parents_in rows ∙ plan_is program c.requires.accepted.accepted.sites in
+    ap (plan_fault_of c.args.harts) parents ∙ plan_right program c.args.harts c.requires.some_hart c.requires.few_harts c.requires.accepted.accepted.sites c.requires.accepted.entries
 
 pub invariant_of-result : goal.invariant_of-result
 invariant_of-result c =
@@ -24,9 +24,9 @@ invariant_of-result c =
     c.deref-2.ensures.value ∙ c.in_ok-parents.ensures ∙ ap parents_in c.deref.ensures.value in
     let made : c.in_ok-plan.plan.parents ≡ c.deref-2.result.now = ap (λ p. p.parents) c.in_ok-plan.ensures.plan in
     record {
-      accepted = c.requires.accepted;
-      parents = made ∙ listed ∙ ap parents_in c.in_ok-sites.ensures ∙ plan_is program c.requires.accepted.sites;
-      pieces = c.pieces_in_block.ensures ∙ uncapped _ c.requires.accepted.pieces;
-      shapes = ap shapes_in c.in_ok-sites.ensures ∙ shapes_are program c.requires.accepted.ranges;
+      accepted = c.requires.accepted.accepted;
+      parents = made ∙ listed ∙ ap parents_in c.in_ok-sites.ensures ∙ plan_is program c.requires.accepted.accepted.sites;
+      pieces = c.pieces_in_block.ensures ∙ uncapped _ c.requires.accepted.accepted.pieces;
+      shapes = ap shapes_in c.in_ok-sites.ensures ∙ shapes_are program c.requires.accepted.accepted.ranges;
       sites = rows_length c.in_ok-sites.sites.items ∙ ap length (sym (made ∙ listed));
     }

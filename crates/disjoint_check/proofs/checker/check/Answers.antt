@@ -8,4 +8,4 @@ walk_program-requires c = sized (program_of c.args.program.now) c.args.harts (sy
 
 pub accept-requires-clause-accepted : goal.accept-requires-clause-accepted
 accept-requires-clause-accepted c =
-    (accepted_from (program_of c.args.program.now) c.args.harts (sym c.in_default.ensures) c.in_ok-walk_program.ensures.ok).accepted
+    accepted_from (program_of c.args.program.now) c.args.harts (sym c.in_default.ensures) c.in_ok-walk_program.ensures.ok
