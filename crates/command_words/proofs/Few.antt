@@ -28,16 +28,16 @@ number_within : (least most : ℕ) (name : List ℕ) (options : List Given) (n :
 number_within least most name options n e = option_and_then_some (number_in least most) (value_of name options) n e (λ value there given. within least most value n given)
 
 -- ---- what a form has
--- one to four harts make a command that has few
+-- one to sixteen harts make a command that has few
 abbrev MakesFew : (ℕ → Command) → Type 0
-MakesFew made = (harts : ℕ) → 1 ≤ harts → harts ≤ 4 → AreFew (made harts)
+MakesFew made = (harts : ℕ) → 1 ≤ harts → harts ≤ 16 → AreFew (made harts)
 
-made_few : (made : ℕ → Command) → MakesFew made → (found : Option ℕ) → ((k : ℕ) → found ≡ Some k → (1 ≤ k) × (k ≤ 4)) → (command : Command) → option_map made found ≡ Some command → AreFew command
+made_few : (made : ℕ → Command) → MakesFew made → (found : Option ℕ) → ((k : ℕ) → found ≡ Some k → (1 ≤ k) × (k ≤ 16)) → (command : Command) → option_map made found ≡ Some command → AreFew command
 made_few made few None each command e = cc e
 made_few made few (Some k) each command e = let in_range = each k refl in subst AreFew (same_Some (made k) command e) (few k in_range.0 in_range.1)
 
 harts_few : (made : ℕ → Command) → MakesFew made → (options : List Given) (command : Command) → option_map made (harts_given options) ≡ Some command → AreFew command
-harts_few made few options command e = made_few made few (harts_given options) (λ k found. number_within 1 4 (codes "harts") options k found) command e
+harts_few made few options command e = made_few made few (harts_given options) (λ k found. number_within 1 16 (codes "harts") options k found) command e
 
 found_few : (b : Bool) (here : List ℕ × (ℕ → Command)) (later : Option (List ℕ × (ℕ → Command))) (made : ℕ → Command) → MakesFew here.1 → (option_map (λ k. k.1) later ≡ Some made → MakesFew made)
     → option_map (λ k. k.1) (cond b (Some here) later) ≡ Some made → MakesFew made

@@ -26,7 +26,7 @@ same_number : (least most : ℕ) (name : Text) (options : List Given) → number
 same_number least most name options = ap (option_and_then (number_in least most)) (first_value_is name options)
 
 same_make : (options : List Given) → make_at (rows_for options) ≡ make_of options
-same_make options = rw (same_number 0 (2 ^ 64 - 1) (codes "seed") options, same_number 1 40 (codes "size") options, same_number 1 4 (codes "harts") options) refl
+same_make options = rw (same_number 0 (2 ^ 64 - 1) (codes "seed") options, same_number 1 40 (codes "size") options, same_number 1 16 (codes "harts") options) refl
 
 these_are : (names words : List Text) (read : ReadsThese names words) → these names words ≡ Some read.options
 these_are names words read = rw (read.read, read.these) refl
@@ -91,7 +91,7 @@ harts_right word rest command is found none e =
     let asked : command_at word (rows_for read.options) ≡ option_map command (harts_at (rows_for read.options)) =
     third (bytes_eq word (codes "solo")) (bytes_eq word (codes "make")) (Some Solo) (make_at (rows_for read.options)) (option_and_then (at_rows (rows_for read.options)) (harts_command word)) is.solo is.make
     ∙ ap (option_and_then (at_rows (rows_for read.options))) found in
-    ap asked_of (named_rows word harts_alone rest sub) ∙ ap (command_at word) read.rows ∙ asked ∙ ap (option_map command) (same_number 1 4 (codes "harts") read.options)
+    ap asked_of (named_rows word harts_alone rest sub) ∙ ap (command_at word) read.rows ∙ asked ∙ ap (option_map command) (same_number 1 16 (codes "harts") read.options)
     ∙ ap (option_and_then (λ (options : List Given). option_map command (harts_given options))) (sym (these_are harts_alone rest read))
     ∙ sym (harts_form word rest (Some command) is found)
 
@@ -148,7 +148,7 @@ number_here least most name options n e value v = number_cases least most (value
 harts_number : (options : List Given) (n : ℕ) → harts_given options ≡ Some n → (name : Text) → is_known harts_alone name ≡ true → (value : Text) → value_of name options ≡ Some value → IsNumber value
 harts_number options n e name known value v =
     let same : codes "harts" ≡ name = text_is (codes "harts") name (sym (or_false (bytes_eq (codes "harts") name)) ∙ known) in
-    number_here 1 4 (codes "harts") options n e value (ap (λ (x : Text). value_of x options) same ∙ v)
+    number_here 1 16 (codes "harts") options n e value (ap (λ (x : Text). value_of x options) same ∙ v)
 
 then_some : {A B : Type 0} (f : A → Option B) (o : Option A) (y : B) → option_and_then f o ≡ Some y → (x : A) × (o ≡ Some x) × (f x ≡ Some y)
 then_some f None y e = cc e
@@ -162,7 +162,7 @@ make_known : (name : Text) (options : List Given) (seed size harts : ℕ) → nu
     → (a b c : Bool) → bytes_eq (codes "seed") name ≡ a → bytes_eq (codes "size") name ≡ b → bytes_eq (codes "harts") name ≡ c → (a || (b || (c || false))) ≡ true → (value : Text) → value_of name options ≡ Some value → IsNumber value
 make_known name options seed size harts x k n true b c ea eb ec known value v = number_here 0 (2 ^ 64 - 1) (codes "seed") options seed x value (ap (λ (t : Text). value_of t options) (text_is (codes "seed") name ea) ∙ v)
 make_known name options seed size harts x k n false true c ea eb ec known value v = number_here 1 40 (codes "size") options size k value (ap (λ (t : Text). value_of t options) (text_is (codes "size") name eb) ∙ v)
-make_known name options seed size harts x k n false false true ea eb ec known value v = number_here 1 4 (codes "harts") options harts n value (ap (λ (t : Text). value_of t options) (text_is (codes "harts") name ec) ∙ v)
+make_known name options seed size harts x k n false false true ea eb ec known value v = number_here 1 16 (codes "harts") options harts n value (ap (λ (t : Text). value_of t options) (text_is (codes "harts") name ec) ∙ v)
 make_known name options seed size harts x k n false false false ea eb ec known value v = cc known
 
 solo_serves : (rest : List Text) (command : Command) → form_of (codes "solo" ∷ rest) ≡ Some command → Serves (codes "solo" ∷ rest)

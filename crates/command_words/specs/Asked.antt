@@ -13,7 +13,7 @@ abbrev pub number_at : ℕ → ℕ → List ℕ → List Row → Option ℕ
 number_at least most name rows = option_and_then (number_in least most) (first_of name rows)
 
 abbrev pub harts_at : List Row → Option ℕ
-harts_at rows = number_at 1 4 (codes "harts") rows
+harts_at rows = number_at 1 16 (codes "harts") rows
 
 abbrev pub make_at : List Row → Option Command
 make_at rows =

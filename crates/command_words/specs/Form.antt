@@ -66,7 +66,7 @@ number_of least most name options = option_and_then (number_in least most) (valu
 
 -- the number of harts
 abbrev pub harts_given : List Given → Option ℕ
-harts_given options = number_of 1 4 (codes "harts") options
+harts_given options = number_of 1 16 (codes "harts") options
 
 -- the options, if they are those with these names
 abbrev pub these : List (List ℕ) → List (List ℕ) → Option (List Given)

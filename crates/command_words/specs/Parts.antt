@@ -16,7 +16,7 @@ abbrev pub size_in : Command → ℕ
 size_in (Make seed size harts) = size
 size_in command = 1
 
--- one to four harts, and a size of one to forty
+-- one to sixteen harts, and a size of one to forty
 abbrev pub AreFew : Command → Type 0
-AreFew command = (1 ≤ harts_in command) × (harts_in command ≤ 4) × (1 ≤ size_in command)
+AreFew command = (1 ≤ harts_in command) × (harts_in command ≤ 16) × (1 ≤ size_in command)
     × (size_in command ≤ 40)

@@ -94,7 +94,7 @@ fn make(given: &ArgMatches<'_>) -> Option<Command>
 fn harts(given: &ArgMatches<'_>) -> Option<u8>
     ensures { result ≡ harts_at (rows_of (found_of given.now)) }
 {
-    let harts = number_at(given, "harts", 1, 4)?;
+    let harts = number_at(given, "harts", 1, 16)?;
     Some(harts as u8)
 }
 
