@@ -32,7 +32,7 @@ fn runs<R: AllocGlobal + Abort + Threads + Wait + Sync>(
 fn an_option_and_its_value_are_two_words_or_one(rt: HostRuntime) -> Result<(), Fail> {
     runs(&rt, &["run", "--harts", "1"])?;
     runs(&rt, &["run", "--harts=2"])?;
-    runs(&rt, &["run", "--harts", "04"])?;
+    runs(&rt, &["run", "--harts", "016"])?;
     runs(&rt, &["run", "--harts=00000000000000000003"])?;
     serve(&rt, &["solo"], PROGRAM, Status::Done, b"a = 0 7\n", b"")
 }
@@ -40,7 +40,7 @@ fn an_option_and_its_value_are_two_words_or_one(rt: HostRuntime) -> Result<(), F
 // Values past the limits.
 const VALUES: &[&[&str]] = &[
     &["run", "--harts", "0"],
-    &["run", "--harts", "5"],
+    &["run", "--harts", "17"],
     &["run", "--harts="],
     &["run", "--harts", ""],
     &["run", "--harts", "-1"],
@@ -50,7 +50,7 @@ const VALUES: &[&[&str]] = &[
 ];
 
 #[test]
-fn a_value_is_one_to_four(rt: HostRuntime) -> Result<(), Fail> {
+fn a_value_is_one_to_sixteen(rt: HostRuntime) -> Result<(), Fail> {
     are_no_forms(&rt, VALUES)
 }
 
@@ -93,7 +93,7 @@ const MADE: &[&[&str]] = &[
     &["make", "--seed", "7", "--size", "1"],
     &["make", "--seed=7", "--size=0", "--harts=1"],
     &["make", "--seed=7", "--size=41", "--harts=1"],
-    &["make", "--seed=7", "--size=1", "--harts=5"],
+    &["make", "--seed=7", "--size=1", "--harts=17"],
     &[
         "make",
         "--seed=18446744073709551616",

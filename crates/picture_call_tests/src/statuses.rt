@@ -14,7 +14,7 @@ const NO_FORMS: [&[&str]; 9] = [
     &["png", "--harts", "2"],
     &["audit", "--harts", "2"],
     &["text", "--harts", "0"],
-    &["svg", "--harts", "5"],
+    &["svg", "--harts", "17"],
     &["text", "svg", "--harts", "2"],
     &["--harts", "2", "text"],
     &["svg", "--harts", "2", "--harts", "2"],
@@ -33,7 +33,7 @@ fn words_that_are_no_form_are_told(rt: HostRuntime) -> Result<(), Fail> {
 const FORMS: [&[&str]; 3] = [
     &["text", "--harts=2"],
     &["text", "--harts", "02"],
-    &["svg", "--harts", "4"],
+    &["svg", "--harts", "16"],
 ];
 
 #[test]

@@ -13,28 +13,28 @@ fn asked(alloc: Global, text: &str) -> Result<Option<Command>, Fail> {
 }
 
 #[test]
-fn runs_and_audits_have_one_to_four_harts(rt: HostRuntime) -> Result<(), Fail> {
+fn runs_and_audits_have_one_to_sixteen_harts(rt: HostRuntime) -> Result<(), Fail> {
     let alloc = rt.alloc();
     assert_eq!(rt; asked(alloc, "run|--harts|1")?, Some(Command::Run(1)));
     assert_eq!(rt; asked(alloc, "run|--harts=2")?, Some(Command::Run(2)));
-    assert_eq!(rt; asked(alloc, "run|--harts|04")?, Some(Command::Run(4)));
+    assert_eq!(rt; asked(alloc, "run|--harts|016")?, Some(Command::Run(16)));
     assert_eq!(rt;
         asked(alloc, "audit|--harts=00000000000000000003")?,
         Some(Command::Audit(3))
     );
     assert_eq!(rt; asked(alloc, "run|--harts|0")?, None);
-    assert_eq!(rt; asked(alloc, "run|--harts|5")?, None);
+    assert_eq!(rt; asked(alloc, "run|--harts|17")?, None);
     assert_eq!(rt; asked(alloc, "run|--harts|000000000000000000003")?, None);
     Ok(())
 }
 
 #[test]
-fn tallies_have_one_to_four_harts(rt: HostRuntime) -> Result<(), Fail> {
+fn tallies_have_one_to_sixteen_harts(rt: HostRuntime) -> Result<(), Fail> {
     let alloc = rt.alloc();
     assert_eq!(rt; asked(alloc, "tally|--harts|1")?, Some(Command::Tally(1)));
-    assert_eq!(rt; asked(alloc, "tally|--harts=4")?, Some(Command::Tally(4)));
+    assert_eq!(rt; asked(alloc, "tally|--harts=16")?, Some(Command::Tally(16)));
     assert_eq!(rt; asked(alloc, "tally|--harts|0")?, None);
-    assert_eq!(rt; asked(alloc, "tally|--harts=5")?, None);
+    assert_eq!(rt; asked(alloc, "tally|--harts=17")?, None);
     assert_eq!(rt; asked(alloc, "tally")?, None);
     assert_eq!(rt; asked(alloc, "tally|--harts")?, None);
     assert_eq!(rt; asked(alloc, "tally|--harts|2|--harts=2")?, None);
