@@ -90,17 +90,21 @@ bar_text p shapes end stay =
 abbrev pub bars_text : Plan → List Shape → ℕ → List Stay → List ℕ
 bars_text p shapes end stays = flat_map (λ stay. bar_text p shapes end stay) stays
 
--- those of the first 512 and of the last 512
+-- How many of a lane's first stays a folded picture has, and how many of its last. Of so many bars there are at most 4,096.
+abbrev pub ends_of : Plan → ℕ
+ends_of p = min 512 (2048 / p.harts)
+
+-- those of the first ones and of the last
 abbrev pub end_bars : Plan → List Shape → ℕ → List Stay → List ℕ
 end_bars p shapes end stays =
-    bars_text p shapes end (take 512 stays)
-    ++ bars_text p shapes end (drop (length stays - 512) stays)
+    bars_text p shapes end (take (ends_of p) stays)
+    ++ bars_text p shapes end (drop (length stays - ends_of p) stays)
 
--- A picture has at most 4,096 bars. If there are more stays, each lane has its first 512 and its last 512.
+-- A picture has at most 4,096 bars. If there are more stays, each lane has its first ones and its last.
 abbrev pub lane_bars : Plan → List Shape → ℕ → Bool → List Stay → List ℕ
 lane_bars p shapes end false stays = bars_text p shapes end stays
 lane_bars p shapes end true stays =
-    if nat_le (length stays) 1024 then bars_text p shapes end stays
+    if nat_le (length stays) (2 * ends_of p) then bars_text p shapes end stays
     else end_bars p shapes end stays
 
 -- the name of a hart at its lane
@@ -209,11 +213,16 @@ abbrev pub marks_text : Plan → TableState → ℕ → ℕ → List Entry → L
 marks_text p t step k [] = []
 marks_text p t step k (e ∷ es) = entry_mark p t step k e ++ marks_text p t step (k + 1) es
 
+-- how many of each hart's stays a folded picture has at each end
+abbrev pub folded_note : ℕ → List ℕ
+folded_note ends =
+    concat (codes "<text x='56' y='68' text-anchor='start'>folded: the first and the last " ∷
+    decimal ends ∷ codes " stays of each hart, without requests</text>\n" ∷ [])
+
 -- a folded picture has no marks, and says so
 abbrev pub marks_or_note : Plan → TableState → List Entry → Bool → List ℕ
 marks_or_note p t es false = marks_text p t (step_of (length es)) 0 es
-marks_or_note p t es true =
-    codes "<text x='56' y='68' text-anchor='start'>folded: the first and the last 512 stays of each hart, without requests</text>\n"
+marks_or_note p t es true = folded_note (ends_of p)
 
 -- ---- the frame
 

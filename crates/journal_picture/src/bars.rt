@@ -1,10 +1,10 @@
 //! The lanes of the picture, with a bar for each stay.
-ghost use Rattle.std.specs.Prelude.{◌≡◌, ◌≤◌, ◌<◌, ◌++◌, ◌+◌, IfOk, OnOk, length, string_bytes};
+ghost use Rattle.std.specs.Prelude.{◌≡◌, ◌≤◌, ◌<◌, ◌++◌, ◌+◌, ◌*◌, IfOk, OnOk, length, string_bytes};
 ghost use Rattle.transfer_table.specs.Plan.{most_entries};
-ghost use Rattle.journal_picture.specs.SvgPicture.{bar_text, bars_text, end_bars, fill_text, hart_at, hart_text, is_folded, kind_label, kind_of, label_text, lane_bars, lane_svg, lanes_svg, placed_bar, rect_text, stay_count, words_text};
+ghost use Rattle.journal_picture.specs.SvgPicture.{bar_text, bars_text, end_bars, ends_of, fill_text, hart_at, hart_text, is_folded, kind_label, kind_of, label_text, lane_bars, lane_svg, lanes_svg, placed_bar, rect_text, stay_count, words_text};
 
 use crate::lanes::places_of;
-use crate::scale::{bar_y, lane_y, level_of, place_x, step_of, times};
+use crate::scale::{bar_y, ends_of, lane_y, level_of, place_x, step_of, times};
 use crate::shape::{Kind, Shape};
 use crate::stay::{Stay, stays_of};
 use crate::words::site_name;
@@ -96,7 +96,7 @@ fn write_lane_bars(
     if !folded {
         return write_bars(alloc, text, plan, shapes, end, stays);
     }
-    if stays.len() <= 1024 {
+    if stays.len() <= 2 * ends_of(plan) {
         return write_bars(alloc, text, plan, shapes, end, stays);
     }
     write_ends(alloc, text, plan, shapes, end, stays)
@@ -112,12 +112,13 @@ fn write_ends(
     stays: &[Stay],
 ) -> Result<(), AllocError>
     requires few { end ≤ most_entries }
-    requires many { 1024 < length stays.now }
+    requires many { 2 * ends_of plan.now < length stays.now }
     ensures { OnOk result (string_bytes text.new ≡ string_bytes text.old
         ++ end_bars plan.now shapes.now end stays.now) }
 {
-    let first = &stays[..512];
-    let last = &stays[stays.len() - 512..];
+    let ends = ends_of(plan);
+    let first = &stays[..ends];
+    let last = &stays[stays.len() - ends..];
     write_bars(alloc, text, plan, shapes, end, first)?;
     write_bars(alloc, text, plan, shapes, end, last)
 }

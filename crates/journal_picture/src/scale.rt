@@ -1,7 +1,7 @@
 //! Where things stand in the picture, in its units.
 ghost use Rattle.std.specs.Prelude.{◌≡◌, ◌≤◌, ◌*◌};
 ghost use Rattle.transfer_table.specs.Plan.{most_entries};
-ghost use Rattle.journal_picture.specs.SvgPicture.{bar_y, every, lane_y, lanes_bottom, level_of, mark_y, place_x, step_of, width_of};
+ghost use Rattle.journal_picture.specs.SvgPicture.{bar_y, ends_of, every, lane_y, lanes_bottom, level_of, mark_y, place_x, step_of, width_of};
 
 use crate::tree::depth_of;
 use transfer_table::Plan;
@@ -74,6 +74,14 @@ pub(crate) fn lanes_bottom(plan: &Plan) -> usize
     ensures bound { result ≤ 30000 }
 {
     lane_y(plan.harts()) - 14
+}
+
+/// How many of a lane's first stays a folded picture has, and how many of its last.
+pub(crate) fn ends_of(plan: &Plan) -> usize
+    ensures same { result ≡ ends_of plan.now }
+    ensures few { result ≤ 512 }
+{
+    512usize.min(2048 / plan.harts() as usize)
 }
 
 /// The width of the picture.

@@ -1,12 +1,12 @@
 //! The picture as SVG.
 ghost use Rattle.std.specs.Prelude.{◌≡◌, ◌≤◌, ◌++◌, IfOk, OnOk, length, string_bytes};
 ghost use Rattle.transfer_table.specs.Plan.{site_count, most_entries};
-ghost use Rattle.journal_picture.specs.SvgPicture.{end_svg, fault_svg, frame_svg, head_of, head_svg, legend_svg, mark_svg, marks_note, marks_or_note, picture_svg, shown_svg, svg_of, svg_picture, swatch_svg, swatches_svg, title_of, title_svg, words_svg};
+ghost use Rattle.journal_picture.specs.SvgPicture.{end_svg, fault_svg, folded_note, frame_svg, head_of, head_svg, legend_svg, mark_svg, marks_note, marks_or_note, picture_svg, shown_svg, svg_of, svg_picture, swatch_svg, swatches_svg, title_of, title_svg, words_svg};
 
 use crate::axis::{write_marks, write_ticks};
 use crate::bars::{fill, is_folded, write_lanes, write_rect};
 use crate::drawn::{before, board_after, fault_of};
-use crate::scale::{lanes_bottom, place_x, step_of, width_of};
+use crate::scale::{ends_of, lanes_bottom, place_x, step_of, width_of};
 use crate::shape::{Kind, Shape};
 use std::alloc::{AllocError, Global};
 use transfer_table::{Board, Entry, Plan};
@@ -14,7 +14,8 @@ use transfer_table::{Board, Entry, Plan};
 /// The picture of the list as SVG 1.1, up to its first fault; the plan's sites have these shapes. What is told of the list stands
 /// below the title. The list has at most 65,535 entries.
 ///
-/// It has at most 4,096 bars: if there are more stays, each lane has its first 512 and its last 512, and the picture says so.
+/// It has at most 4,096 bars: if there are more stays, each lane has its first 512 and its last 512, with more than four harts as many as
+/// 4,096 bars allow, and the picture says so.
 pub fn svg_picture(
     alloc: Global,
     plan: &Plan,
@@ -134,8 +135,16 @@ fn write_marks_or_note(
     if !folded {
         return write_marks(alloc, text, board, step_of(list.len()), list);
     }
-    text.push_str(
-        "<text x='56' y='68' text-anchor='start'>folded: the first and the last 512 stays of each hart, without requests</text>\n",
+    write_note(text, ends_of(board.plan()))
+}
+
+// Adds that the picture is folded.
+fn write_note(text: &mut String, ends: usize) -> Result<(), AllocError>
+    ensures { OnOk result (string_bytes text.new ≡ string_bytes text.old ++ folded_note ends) }
+{
+    write!(
+        text,
+        "<text x='56' y='68' text-anchor='start'>folded: the first and the last {ends} stays of each hart, without requests</text>\n"
     )
 }
 
