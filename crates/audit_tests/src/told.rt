@@ -18,7 +18,7 @@ pub const NESTED: &str =
 /// The line that an audit of the output writes, or that tells the fault of its text.
 pub fn told(alloc: Global, harts: u8, program: &str, output: &[u8]) -> Result<Vec<u8>, Fail>
     requires some { 1 ≤ harts }
-    requires few { harts ≤ 4 }
+    requires few { harts ≤ 16 }
 {
     let program = parsed(alloc, program)?;
     let accepted = check(alloc, &program, harts)?;

@@ -16,4 +16,6 @@ mod streams;
 #[cfg(test)]
 mod syntax;
 #[cfg(test)]
+mod wide;
+#[cfg(test)]
 mod words;

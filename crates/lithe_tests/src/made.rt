@@ -23,10 +23,12 @@ fn made<R: AllocGlobal + Abort + Threads + Wait + Sync>(
 }
 
 #[test]
-fn a_summary_is_the_same_on_one_hart_and_on_four(rt: HostRuntime) -> Result<(), Fail> {
+fn a_summary_is_the_same_on_one_four_and_sixteen_harts(rt: HostRuntime) -> Result<(), Fail> {
     let words = &["make", "--seed", "7", "--size", "16", "--harts", "1"];
     made(&rt, words, LARGE)?;
     let words = &["make", "--seed", "7", "--size", "16", "--harts", "4"];
+    made(&rt, words, LARGE)?;
+    let words = &["make", "--seed", "7", "--size", "16", "--harts", "16"];
     made(&rt, words, LARGE)?;
     let words = &["make", "--harts=1", "--size=1", "--seed=7"];
     made(&rt, words, SMALL)?;

@@ -70,12 +70,23 @@ a[at[0]] = 7;
 if a[3] == 7 { a[0] = 9223372036854775807 + 1; } else { a[0] = 1; }
 ";
 
-// Runs the program on one to four harts, and audits what each run writes.
+// The numbers of harts with which the examples run.
+const HARTS: [&str; 7] = [
+    "--harts=1",
+    "--harts=2",
+    "--harts=3",
+    "--harts=4",
+    "--harts=5",
+    "--harts=8",
+    "--harts=16",
+];
+
+// Runs the program on so many harts each, and audits what each run writes.
 fn runs_are_legal<R: AllocGlobal + Abort + Threads + Wait + Sync>(
     rt: &R,
     program: &[u8],
 ) -> Result<(), Fail> {
-    for harts in ["--harts=1", "--harts=2", "--harts=3", "--harts=4"] {
+    for harts in HARTS {
         let input = input_of_run(rt, harts, program)?;
         assert!(rt; is_legal(rt, harts, &input)?);
     }

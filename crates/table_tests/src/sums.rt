@@ -10,6 +10,8 @@ const ONE: &[&str] = &["tally", "--harts=1"];
 
 const FOUR: &[&str] = &["tally", "--harts", "4"];
 
+const SIXTEEN: &[&str] = &["tally", "--harts", "16"];
+
 const TWO_ADDS: &[u8] =
     b"array t_sum[1]; par { { t_sum[0] = t_sum[0] + 3; } { t_sum[0] = t_sum[0] + 4; } }";
 
@@ -67,14 +69,12 @@ fn writes<R: AllocGlobal + Abort + Threads + Wait + Sync>(
 }
 
 #[test]
-fn four_harts_add_up_the_same(rt: HostRuntime) -> Result<(), Fail> {
-    writes(&rt, FOUR, TWO_ADDS, b"t_sum = 7\ntransfers ")?;
-    writes(
-        &rt,
-        FOUR,
-        SQUARES,
-        b"a = 0 1 4 9 16 25 36 49\nq_sum = 140\ntransfers ",
-    )?;
+fn four_and_sixteen_harts_add_up_the_same(rt: HostRuntime) -> Result<(), Fail> {
+    let squares = b"a = 0 1 4 9 16 25 36 49\nq_sum = 140\ntransfers ";
+    for words in [FOUR, SIXTEEN] {
+        writes(&rt, words, TWO_ADDS, b"t_sum = 7\ntransfers ")?;
+        writes(&rt, words, SQUARES, squares)?;
+    }
     writes(&rt, FOUR, TURNS, b"q_sum = 9 18\ntransfers ")
 }
 
