@@ -1,5 +1,5 @@
 -- How a hart of several begins and ends a run.
-use Rattle.std.specs.Prelude.{◌≡◌, ◌<◌, ℕ, true, List, length, slice_index_or, Option, Some, IfSome, All}
+use Rattle.std.specs.Prelude.{◌≡◌, ◌<◌, ℕ, true, List, length, slice_index_or, slice_get, Option, Some, IfSome, All}
 use Rattle.std.specs.List.{AllZip}
 use Rattle.transfer_table.specs.Plan.{Plan, IsSite, parent}
 use Rattle.transfer_table.specs.Entry.{skips_over}
@@ -7,10 +7,6 @@ use Rattle.hart_port.specs.PortView.{PortView, is_in}
 use Rattle.site_steps.specs.Back.{IsSettled}
 use Rattle.array_jobs.specs.Jobs.{JobParts}
 use Rattle.array_jobs.specs.PieceParts.{PieceParts}
-use Rattle.word_board.specs.declared.seat.HartSeat.{HartSeat}
-use Rattle.word_board.specs.PortViews.{port_view}
-use Rattle.word_board.specs.declared.port.WordPort.{WordPort}
-use Rattle.site_steps.specs.declared.waiting.WaitingPort.{WaitingPort}
 use Rattle.hart_tools.specs.Kins.{ToolKins}
 use Rattle.hart_loop.specs.declared.hart.Hart.{Hart}
 
@@ -47,30 +43,38 @@ pub record HasRun (v : PortView) (tools : ToolKins) (job : Option JobParts) (aft
   pub gone : (j : JobParts) → job ≡ Some j → TopSitesSeenGone after
   pub piece : (j : JobParts) → job ≡ Some j → IfSome made (λ k. k.job ≡ j)
 
--- of the seats of harts that have done their parts, on the table of this name: that of hart h is at place h, no hart has skipped
--- a site, and the first hart has seen each top site gone
-pub record AreBack (name : List ℕ) (p : Plan) (qs : List HartSeat) : Type 0 where
+-- ---- of lists of what is seen as a hart by `seen`: a seat, a port, or a hart with its port
+
+-- each is in the base, and the home of no site
+abbrev pub AllStart : {Q : Type 0} → (Q → PortView) → Plan → List Q → Type 0
+AllStart seen p = All (λ q. StartsIn p (seen q))
+
+-- each is the hart that it was
+abbrev pub AreSame : {Q : Type 0} → (Q → PortView) → List Q → List Q → Type 0
+AreSame seen = AllZip (λ before after. IsSameHart (seen before) (seen after))
+
+-- the first has seen each top site gone
+abbrev pub FirstSawGone : {Q : Type 0} → (Q → PortView) → List Q → Type 0
+FirstSawGone seen qs = IfSome (slice_get qs 0) (λ q. TopSitesSeenGone (seen q))
+
+-- They have done their parts, on the table of this name: that of hart h is at place h, no hart has skipped a site, and the first
+-- hart has seen each top site gone.
+pub record AreBack {Q : Type 0} (seen : Q → PortView) (name : List ℕ) (p : Plan)
+    (qs : List Q) : Type 0 where
   pub count : length qs ≡ p.harts
-  pub each : (h : ℕ) (d : HartSeat) → h < length qs
-      → IsAt name p h (port_view (slice_index_or qs h d))
-  pub gone : (d : HartSeat) → TopSitesSeenGone (port_view (slice_index_or qs 0 d))
+  pub each : (h : ℕ) (d : Q) → h < length qs → IsAt name p h (seen (slice_index_or qs h d))
+  pub gone : (d : Q) → TopSitesSeenGone (seen (slice_index_or qs 0 d))
 
--- a hart that moves by words, and waits
-abbrev pub Member : Type 0 → Type 0 → Type 0
-Member R S = Hart (WaitingPort WordPort R) S
-
--- each of these harts is in the base, and the home of no site
-abbrev pub AllStart : {R S : Type 0} → Plan → List (Member R S) → Type 0
-AllStart p = All (λ hart. StartsIn p (port_view hart.port.port.seat))
+-- ---- of harts with ports, of which `seen` is what is known of the port
 
 -- each has done its part of a run
-abbrev pub HaveRun : {R S : Type 0} → List (Member R S) → List (Member R S) → Type 0
-HaveRun = AllZip (λ before after.
-    HasRun (port_view before.port.port.seat) before.schedulers.tools before.job
-    (port_view after.port.port.seat) after.schedulers.tools after.piece)
+abbrev pub HaveRun : {P S : Type 0} → (P → PortView) → List (Hart P S) → List (Hart P S) → Type 0
+HaveRun seen = AllZip (λ before after.
+    HasRun (seen before.port) before.schedulers.tools before.job
+    (seen after.port) after.schedulers.tools after.piece)
 
 -- each is the hart that it was, with the tools that it had
-abbrev pub AreTheSame : {R S : Type 0} → List (Member R S) → List (Member R S) → Type 0
-AreTheSame = AllZip (λ before after.
-    IsSameHart (port_view before.port.port.seat) (port_view after.port.port.seat)
+abbrev pub AreTheSame : {P S : Type 0} → (P → PortView) → List (Hart P S) → List (Hart P S) → Type 0
+AreTheSame seen = AllZip (λ before after.
+    IsSameHart (seen before.port) (seen after.port)
     × (after.schedulers.tools ≡ before.schedulers.tools))

@@ -2,21 +2,26 @@
 //!
 //! `run_alone` runs a program on one hart, and `run_harts` on the harts of its plan, each on a thread. `HartSchedulers` is what
 //! one of several harts has to work with: the schedulers stand behind locks, and a directory tells where. `work` is what one of
-//! them does from start to end, for any port that waits.
+//! them does from start to end, and `run_ports` runs a crew of them, for any port that waits.
 #![tactic(auto)]
 
+mod crew;
 mod hart;
 mod hart_site;
 mod harts;
 mod in_directory;
+mod on_wide_board;
+mod on_word_board;
 mod opened;
 mod several;
 mod turns;
 
+pub use crew::run_ports;
 pub use hart::{Hart, work};
 pub use hart_site::HartSite;
 pub use harts::HartSchedulers;
 pub use in_directory::InDirectory;
 pub use lone_hart::{Journal, Outcome, run_alone};
 pub use several::run_harts;
+pub use wide_board::WideClosed;
 pub use word_board::Closed;

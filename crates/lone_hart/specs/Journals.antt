@@ -2,18 +2,24 @@
 use Rattle.std.specs.Prelude.{List}
 use Rattle.transfer_table.specs.declared.entry.Entry.{Entry}
 use Rattle.lone_hart.specs.declared.outcome.Journal.{Journal}
-use Rattle.lone_hart.specs.declared.outcome.Journal.TheVariants.{Listed, Board}
+use Rattle.lone_hart.specs.declared.outcome.Journal.TheVariants.{Listed, Board, Wide}
 
 abbrev pub entries_in : Journal → List Entry
 entries_in (Listed entries) = entries
 entries_in (Board entries) = entries
+entries_in (Wide entries) = entries
 
 -- the list that a single hart kept
 abbrev pub IsListed : Journal → Type 0
 IsListed (Listed entries) = Unit {0}
-IsListed (Board entries) = ⊥
+IsListed journal = ⊥
 
--- the journal of a closed board
+-- the journal of a closed word board
 abbrev pub IsBoard : Journal → Type 0
-IsBoard (Listed entries) = ⊥
 IsBoard (Board entries) = Unit {0}
+IsBoard journal = ⊥
+
+-- the journal of a closed wide board
+abbrev pub IsWide : Journal → Type 0
+IsWide (Wide entries) = Unit {0}
+IsWide journal = ⊥

@@ -4,6 +4,7 @@ ghost use Rattle.lone_hart.specs.Journals.{entries_in};
 
 use array_eval::Store;
 use transfer_table::{Entries, Entry};
+use wide_board::WideClosed;
 use word_board::Closed;
 
 /// What a run comes to.
@@ -20,8 +21,10 @@ pub struct Outcome {
 pub enum Journal {
     /// The list that the port of a single hart kept.
     Listed(Entries),
-    /// The journal of a closed board, on which several harts moved.
+    /// The journal of a closed word board, on which several harts moved.
     Board(Closed),
+    /// That of a closed wide board, on which there is room for more harts.
+    Wide(WideClosed),
 }
 
 impl Journal {
@@ -32,6 +35,7 @@ impl Journal {
         match self {
             Journal::Listed(entries) => entries.as_slice(),
             Journal::Board(closed) => closed.entries(),
+            Journal::Wide(closed) => closed.entries(),
         }
     }
 }

@@ -1,0 +1,334 @@
+//! A crew: harts that each run on a thread, by any port that waits and may go to one.
+ghost use Rattle.std.specs.Prelude.{◌≡◌, ◌<◌, IfOk, IfSome, length, map, vec_len};
+ghost use Rattle.array_tree.specs.Trees.{program_of};
+ghost use Rattle.array_jobs.specs.Jobs.{job_of};
+ghost use Rattle.array_jobs.specs.Bodies.{body_of};
+ghost use Rattle.deque_rows.specs.Rows.{kin as rows_kin};
+ghost use Rattle.claim_words.specs.Seats.{kin as seat_kin};
+ghost use Rattle.hart_tools.specs.Stocks.{AreTools};
+ghost use Rattle.hart_loop.specs.Harts.{AllStart, AreSame, FirstSawGone, HaveRun, AreTheSame};
+
+use crate::hart::{Hart, work};
+use crate::harts::HartSchedulers;
+use array_jobs::{Job, Piece, body_job};
+use base_sched::Base;
+use deque_rows::laws::settle;
+use deque_rows::{HartRows, ROOM, rows_for};
+use disjoint_check::Accepted;
+use hart_tools::{Claims, tools_of};
+use loop_team::ClaimSeat;
+use loop_team::laws::claimed;
+use once_cell::race::OnceBox;
+use site_directory::{SharedSite, cells, lines};
+use site_steps::{PatientPort, SiteTree};
+use std::alloc::{AllocError, Global};
+use std::sync::{Mutex, Wait};
+use std::thread;
+use std::thread::Threads;
+
+/// Runs an accepted program on harts that move by these ports, of which there is one for each hart of the plan, and settles the
+/// accounts of what the harts were lent. It waits until all of them are back.
+///
+/// The piece is that of the program's body. Each port comes back as the same hart's, and the first of them has seen each top site
+/// gone.
+pub fn run_ports<
+    'p,
+    R: Threads + Wait + Sync,
+    F: Fn(u8, u16, u8, u8) + Sync,
+    P: PatientPort<Hold = ()> + Send + Drop,
+>(
+    rt: &R,
+    alloc: Global,
+    accepted: &Accepted<'p>,
+    pass: &F,
+    tree: &SiteTree,
+    ports: Vec<P>,
+) -> Result<(Piece<'p>, Vec<P>), AllocError>
+    requires callable { F.IsAlwaysCallable pass.now }
+    requires count { vec_len ports ≡ accepted.now.plan.harts }
+    requires starts { AllStart P.seen tree.now ports.items }
+    ensures piece { IfOk result
+        (λ back. job_of back.0.job ≡ body_of (program_of accepted.now.program)) }
+    ensures same { IfOk result (λ back. AreSame P.seen ports.items back.1.items) }
+    ensures gone { IfOk result (λ back. FirstSawGone P.seen back.1.items) }
+{
+    let (words, stock) = lend(alloc, accepted, ports)?;
+    let (piece, stock) = run_lent(rt, alloc, accepted, pass, tree, &words, stock)?;
+    let Stock {
+        ports,
+        rows,
+        claims,
+    } = stock;
+    settle_all(words, rows, claims);
+    match piece {
+        Some(piece) => Ok((piece, ports)),
+        None => Err(AllocError),
+    }
+}
+
+/// What a run has for its harts, for each of them in their order.
+#[derive(Drop)]
+struct Stock<P> {
+    /// Their ports.
+    ports: Vec<P>,
+    /// Their sights of the rows of codes.
+    rows: Vec<HartRows>,
+    /// Their seats of the claim words.
+    claims: Vec<ClaimSeat>,
+}
+
+// What a run has for the harts of these ports, and the words of its claims. A row has room for the codes of all pieces of the
+// program, of which each is pushed once at most, so that no more memory is made ready for it than may be of use.
+fn lend<P: Drop>(
+    alloc: Global,
+    accepted: &Accepted<'_>,
+    ports: Vec<P>,
+) -> Result<(Claims, Stock<P>), AllocError>
+    ensures ports { IfOk result (λ t. t.1.ports ≡ ports) }
+    ensures rows { IfOk result (λ t. vec_len t.1.rows ≡ accepted.now.plan.harts) }
+    ensures claims { IfOk result (λ t. vec_len t.1.claims ≡ accepted.now.plan.harts) }
+    ensures tools { IfOk result (λ t. AreTools t.0.table t.1.rows.items t.1.claims.items) }
+    ensures some { 0 < accepted.now.plan.harts }
+{
+    let harts = accepted.plan().harts();
+    let (words, claims) = Claims::new(alloc, accepted, harts)?;
+    let rows = rows_for(alloc, harts, accepted.pieces().clamp(1, ROOM))?;
+    let stock = Stock {
+        ports,
+        rows,
+        claims,
+    };
+    Ok((words, stock))
+}
+
+// Settles the accounts of rows and claims.
+fn settle_all(words: Claims, rows: Vec<HartRows>, claims: Vec<ClaimSeat>)
+    requires { AreTools words.table rows.items claims.items }
+{
+    settle(rows);
+    claimed(words.into_table(), claims);
+}
+
+// Runs all harts with what they are lent, the first of them with the program's body. Its piece, unless memory was wanting there,
+// and what the harts gave back.
+fn run_lent<
+    'p,
+    R: Threads + Wait + Sync,
+    F: Fn(u8, u16, u8, u8) + Sync,
+    P: PatientPort<Hold = ()> + Send + Drop,
+>(
+    rt: &R,
+    alloc: Global,
+    accepted: &Accepted<'p>,
+    pass: &F,
+    tree: &SiteTree,
+    words: &Claims,
+    stock: Stock<P>,
+) -> Result<(Option<Piece<'p>>, Stock<P>), AllocError>
+    requires callable { F.IsAlwaysCallable pass.now }
+    requires some { 0 < vec_len stock.ports }
+    requires rows { vec_len stock.rows ≡ vec_len stock.ports }
+    requires claims { vec_len stock.claims ≡ vec_len stock.ports }
+    requires starts { AllStart P.seen tree.now stock.ports.items }
+    requires tools { AreTools words.now.table stock.rows.items stock.claims.items }
+    ensures piece { IfOk result (λ back. IfSome back.0
+        (λ piece. job_of piece.job ≡ body_of (program_of accepted.now.program))) }
+    ensures same { IfOk result
+        (λ back. AreSame P.seen stock.ports.items back.1.ports.items) }
+    ensures gone { IfOk result (λ back. FirstSawGone P.seen back.1.ports.items) }
+    ensures tools { IfOk result
+        (λ back. AreTools words.now.table back.1.rows.items back.1.claims.items) }
+{
+    let sites = tree.plan().sites();
+    let base = Mutex::new(Base::new(alloc, sites)?);
+    let cells = cells(alloc, sites)?;
+    let job = body_job(alloc, accepted.program())?;
+    run_on(rt, alloc, pass, tree, words, stock, &base, &cells, job)
+}
+
+// Runs all harts on these cells, the first of them with this job. Its piece, unless memory was wanting there, and what the harts
+// gave back.
+fn run_on<
+    'x,
+    'p: 'x,
+    R: Threads + Wait + Sync,
+    F: Fn(u8, u16, u8, u8) + Sync,
+    P: PatientPort<Hold = ()> + Send + Drop,
+>(
+    rt: &'x R,
+    alloc: Global,
+    pass: &F,
+    tree: &SiteTree,
+    words: &'x Claims,
+    stock: Stock<P>,
+    base: &'x Mutex<Base>,
+    cells: &'x [OnceBox<SharedSite<'p>>],
+    job: Job<'p>,
+) -> Result<(Option<Piece<'p>>, Stock<P>), AllocError>
+    requires callable { F.IsAlwaysCallable pass.now }
+    requires some { 0 < vec_len stock.ports }
+    requires rows { vec_len stock.rows ≡ vec_len stock.ports }
+    requires claims { vec_len stock.claims ≡ vec_len stock.ports }
+    requires starts { AllStart P.seen tree.now stock.ports.items }
+    requires tools { AreTools words.now.table stock.rows.items stock.claims.items }
+    ensures piece { IfOk result (λ back. IfSome back.0 (λ piece. piece.job ≡ job.entry)) }
+    ensures same { IfOk result
+        (λ back. AreSame P.seen stock.ports.items back.1.ports.items) }
+    ensures gone { IfOk result (λ back. FirstSawGone P.seen back.1.ports.items) }
+    ensures tools { IfOk result
+        (λ back. AreTools words.now.table back.1.rows.items back.1.claims.items) }
+{
+    let mut harts = crew(alloc, words, stock, base, cells)?;
+    let piece = run_crew(rt, alloc, pass, tree, harts.as_mut_slice(), job);
+    Ok((piece, stock_of(alloc, harts)?))
+}
+
+// Runs each hart, the first of them with this job. Its piece, unless memory was wanting.
+fn run_crew<
+    'x,
+    'p: 'x,
+    R: Threads + Wait + Sync,
+    F: Fn(u8, u16, u8, u8) + Sync,
+    P: PatientPort<Hold = ()> + Send,
+>(
+    rt: &'x R,
+    alloc: Global,
+    pass: &F,
+    tree: &SiteTree,
+    harts: &mut [Hart<'x, 'p, P, SharedSite<'p>>],
+    job: Job<'p>,
+) -> Option<Piece<'p>>
+    requires callable { F.IsAlwaysCallable pass.now }
+    requires some { 0 < length harts.old }
+    requires starts { AllStart (λ hart. P.seen hart.port) tree.now harts.old }
+    ensures same { AreTheSame P.seen harts.old harts.new }
+    ensures gone { FirstSawGone (λ hart. P.seen hart.port) harts.new }
+    ensures piece { IfSome result (λ piece. piece.job ≡ job.entry) }
+{
+    harts[0].job = Some(job);
+    run_all(rt, alloc, tree, pass, harts);
+    harts[0].piece.take()
+}
+
+// A hart for each port, in the base and with no job.
+fn crew<'x, 'p: 'x, P: Drop>(
+    alloc: Global,
+    words: &'x Claims,
+    stock: Stock<P>,
+    base: &'x Mutex<Base>,
+    cells: &'x [OnceBox<SharedSite<'p>>],
+) -> Result<Vec<Hart<'x, 'p, P, SharedSite<'p>>>, AllocError>
+    requires rows { vec_len stock.rows ≡ vec_len stock.ports }
+    requires claims { vec_len stock.claims ≡ vec_len stock.ports }
+    requires tools { AreTools words.now.table stock.rows.items stock.claims.items }
+    ensures ports { IfOk result
+        (λ harts. map (λ hart. hart.port) harts.items ≡ stock.ports.items) }
+    ensures rows { IfOk result
+        (λ harts. map (λ hart. hart.schedulers.tools.rows) harts.items
+        ≡ map rows_kin stock.rows.items) }
+    ensures claims { IfOk result
+        (λ harts. map (λ hart. hart.schedulers.tools.seat) harts.items
+        ≡ map seat_kin stock.claims.items) }
+{
+    let Stock {
+        ports,
+        rows,
+        claims,
+    } = stock;
+    let mut tools = tools_of(alloc, words, rows, claims)?;
+    let mut harts = Vec::with_capacity(alloc, ports.len())?;
+    for port in ports {
+        let Some(own) = tools.pop() else {
+            unreachable!()
+        };
+        harts.push(Hart {
+            port,
+            schedulers: HartSchedulers::new(lines(alloc, cells)?, own),
+            base,
+            job: None,
+            piece: None,
+        })?;
+    }
+    Ok(harts)
+}
+
+// Runs each hart, until all are back. The first is on this thread, since it stands last in the list that is run: where no thread
+// can be made the others run after it, and end at once, since it has shut the base.
+fn run_all<
+    'x,
+    'p: 'x,
+    R: Threads + Wait + Sync,
+    F: Fn(u8, u16, u8, u8) + Sync,
+    P: PatientPort<Hold = ()> + Send,
+>(
+    rt: &'x R,
+    alloc: Global,
+    tree: &SiteTree,
+    pass: &F,
+    harts: &mut [Hart<'x, 'p, P, SharedSite<'p>>],
+)
+    requires callable { F.IsAlwaysCallable pass.now }
+    requires starts { AllStart (λ hart. P.seen hart.port) tree.now harts.old }
+    ensures { HaveRun P.seen harts.old harts.new }
+{
+    harts.reverse();
+    run_each(rt, alloc, tree, pass, harts);
+    harts.reverse();
+}
+
+// Runs each hart on a thread, the last of them on this one.
+fn run_each<
+    'x,
+    'p: 'x,
+    R: Threads + Wait + Sync,
+    F: Fn(u8, u16, u8, u8) + Sync,
+    P: PatientPort<Hold = ()> + Send,
+>(
+    rt: &'x R,
+    alloc: Global,
+    tree: &SiteTree,
+    pass: &F,
+    harts: &mut [Hart<'x, 'p, P, SharedSite<'p>>],
+)
+    requires callable { F.IsAlwaysCallable pass.now }
+    requires starts { AllStart (λ hart. P.seen hart.port) tree.now harts.old }
+    ensures { HaveRun P.seen harts.old harts.new }
+{
+    // As many parts as harts: the harts of one part run one after another, and each waits for all others.
+    let parts = harts.len().max(1);
+    thread::for_each_mut(
+        rt,
+        harts,
+        parts,
+        &|_, hart| work(rt, alloc, tree, pass, (), hart),
+    );
+}
+
+// What the harts give back, in their order.
+fn stock_of<'x, 'p: 'x, P: Drop>(
+    alloc: Global,
+    harts: Vec<Hart<'x, 'p, P, SharedSite<'p>>>,
+) -> Result<Stock<P>, AllocError>
+    ensures ports { IfOk result
+        (λ stock. stock.ports.items ≡ map (λ hart. hart.port) harts.entry.items) }
+    ensures rows { IfOk result
+        (λ stock. map rows_kin stock.rows.items
+        ≡ map (λ hart. hart.schedulers.tools.rows) harts.entry.items) }
+    ensures claims { IfOk result
+        (λ stock. map seat_kin stock.claims.items
+        ≡ map (λ hart. hart.schedulers.tools.seat) harts.entry.items) }
+{
+    let mut stock = Stock {
+        ports: Vec::with_capacity(alloc, harts.len())?,
+        rows: Vec::with_capacity(alloc, harts.len())?,
+        claims: Vec::with_capacity(alloc, harts.len())?,
+    };
+    for hart in harts {
+        let (port, tools) = hart.into_parts();
+        let (rows, seat) = tools.into_parts();
+        stock.ports.push(port)?;
+        stock.rows.push(rows)?;
+        stock.claims.push(seat)?;
+    }
+    Ok(stock)
+}
