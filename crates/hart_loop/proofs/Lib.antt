@@ -1,3 +1,5 @@
 pub mod Crossings
 pub mod Crews
+mod Boards
+mod Seats
 mod SameHarts

@@ -16,7 +16,6 @@ mod opened;
 mod several;
 mod turns;
 
-pub use crew::run_ports;
 pub use hart::{Hart, work};
 pub use hart_site::HartSite;
 pub use harts::HartSchedulers;

@@ -1,13 +1,13 @@
 use Rattle.std.proofs.Common.{◌≡◌, ◌+◌, ◌++◌, map, length, reverse, vec_len}
 use Rattle.deque_rows.specs.Rows as codes
 use Rattle.claim_words.specs.Seats as words
-use Rattle.hart_loop.proofs.several.crew.Given as goal
+use Rattle.hart_loop.proofs.crew.crew.Given as goal
 
 -- the tools that are left are those of the harts to come
-abbrev pub invariant-loop-seat : goal.invariant-loop-seat
-invariant-loop-seat g l = record {
-  seats : map (λ hart. hart.port.port.seat) l.harts.items ≡ l.yielded;
+abbrev pub invariant-loop-port : goal.invariant-loop-port
+invariant-loop-port g l = record {
+  ports : map (λ hart. hart.port) l.harts.items ≡ l.yielded;
   rows : map (λ hart. hart.schedulers.tools.rows) l.harts.items ++ map (λ t. t.rows) (reverse l.tools.items) ≡ map codes.kin l.fn.stock.rows.items;
   claims : map (λ hart. hart.schedulers.tools.seat) l.harts.items ++ map (λ t. t.seat) (reverse l.tools.items) ≡ map words.kin l.fn.stock.claims.items;
-  count : length l.yielded + vec_len l.tools ≡ vec_len l.fn.stock.seats;
+  count : length l.yielded + vec_len l.tools ≡ vec_len l.fn.stock.ports;
 }

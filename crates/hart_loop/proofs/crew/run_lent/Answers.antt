@@ -4,7 +4,7 @@ use Rattle.std.proofs.lemmas.Result.{IfOk-weaker}
 use Rattle.array_tree.specs.Trees.{program_of}
 use Rattle.array_jobs.specs.Jobs.{job_of}
 use Rattle.array_jobs.specs.Bodies.{body_of}
-use Rattle.hart_loop.proofs.several.run_lent.Goals as goal
+use Rattle.hart_loop.proofs.crew.run_lent.Goals as goal
 
 pub returns-clause-piece : goal.returns-clause-piece
 returns-clause-piece g c =
