@@ -1,47 +1,48 @@
 //! Runs of a crew on a word board.
 ghost use Rattle.std.specs.Prelude.{◌≡◌, ◌≤◌, All, IfOk, map};
 ghost use Rattle.array_tree.specs.Trees.{program_of};
-ghost use Rattle.array_jobs.specs.Jobs.{job_of};
-ghost use Rattle.array_jobs.specs.Bodies.{body_of};
+ghost use Rattle.array_meaning.specs.Work.{final_store};
 ghost use Rattle.transfer_table.specs.Journal.{IsComplete, all_meant};
 ghost use Rattle.word_board.specs.Of.{IsOf};
 ghost use Rattle.lone_hart.specs.Journals.{entries_in, IsBoard};
 
 use crate::crew::run_ports;
-use array_jobs::Piece;
 use disjoint_check::Accepted;
-use lone_hart::Journal;
+use lone_hart::{Journal, Outcome, store_after};
 use site_steps::{SiteTree, WaitingPort};
 use std::alloc::{AllocError, Global};
 use std::sync::Wait;
 use std::thread::Threads;
 use word_board::{HartSeat, WordBoard, WordPort};
 
-/// Runs an accepted program on the harts of its plan, which move on a word board of their own. The piece of the body, and the
-/// board's journal.
-pub fn on_word_board<'p, R: Threads + Wait + Sync, F: Fn(u8, u16, u8, u8) + Sync>(
+/// Runs an accepted program on the harts of its plan, which move on a word board of their own.
+pub fn on_word_board<R: Threads + Wait + Sync, F: Fn(u8, u16, u8, u8) + Sync>(
     rt: &R,
     alloc: Global,
-    accepted: &Accepted<'p>,
+    accepted: &Accepted<'_>,
     pass: &F,
     tree: &SiteTree,
-) -> Result<(Piece<'p>, Journal), AllocError>
+) -> Result<Outcome, AllocError>
     requires callable { F.IsAlwaysCallable pass.now }
     requires few_harts { accepted.now.plan.harts ≤ 4 }
     requires tree { tree.now ≡ accepted.now.plan }
-    ensures piece { IfOk result
-        (λ back. job_of back.0.job ≡ body_of (program_of accepted.now.program)) }
+    ensures store { IfOk result
+        (λ outcome. outcome.store ≡ final_store (program_of accepted.now.program)) }
     ensures journal { IfOk result
-        (λ back. IsComplete accepted.now.plan (all_meant accepted.now.plan)
-        (entries_in back.1)) }
-    ensures board { IfOk result (λ back. IsBoard back.1) }
+        (λ outcome. IsComplete accepted.now.plan (all_meant accepted.now.plan)
+        (entries_in outcome.journal)) }
+    ensures board { IfOk result (λ outcome. IsBoard outcome.journal) }
 {
     let (board, seats) = WordBoard::new(alloc, accepted.plan())?;
     let ports = ports_of(rt, alloc, &board, seats)?;
     let (piece, ports) = run_ports(rt, alloc, accepted, pass, tree, ports)?;
+    let store = store_after(piece)?;
     let seats = seats_of(alloc, ports)?;
     match board.close(alloc, seats) {
-        Ok(closed) => Ok((piece, Journal::Board(closed))),
+        Ok(closed) => Ok(Outcome {
+            store,
+            journal: Journal::Board(closed),
+        }),
         Err(_) => Err(AllocError),
     }
 }

@@ -9,7 +9,7 @@ ghost use Rattle.lone_hart.specs.Journals.{entries_in, IsBoard, IsWide};
 use crate::on_wide_board::on_wide_board;
 use crate::on_word_board::on_word_board;
 use disjoint_check::Accepted;
-use lone_hart::{Outcome, store_after};
+use lone_hart::Outcome;
 use outside_io::Gate;
 use site_steps::SiteTree;
 use std::alloc::{AllocError, Global};
@@ -46,11 +46,9 @@ pub fn run_harts<R: Threads + Wait + Sync, G: Gate>(
     let plan = accepted.plan();
     let tree = SiteTree::new(alloc, plan)?;
     let pass = |hart, site, phase, place| gate.passed(rt, hart, site, phase, place);
-    let (piece, journal) = if plan.harts() <= MOST_ON_WORDS {
-        on_word_board(rt, alloc, accepted, &pass, &tree)?
+    if plan.harts() <= MOST_ON_WORDS {
+        on_word_board(rt, alloc, accepted, &pass, &tree)
     } else {
-        on_wide_board(rt, alloc, accepted, &pass, &tree)?
-    };
-    let store = store_after(piece)?;
-    Ok(Outcome { store, journal })
+        on_wide_board(rt, alloc, accepted, &pass, &tree)
+    }
 }

@@ -1,4 +1,4 @@
-use Rattle.std.proofs.Common.{◌∙◌, map, sym, ap, subst}
+use Rattle.std.proofs.Common.{◌∙◌, All, map, sym, ap, subst}
 use Rattle.std.proofs.lemmas.List.{with_items_is}
 use Rattle.std.proofs.lemmas.Slice.Zip.{AllZip-long}
 use Rattle.deque_rows.specs.Rows as rows
@@ -20,7 +20,7 @@ returns-clause-same g c =
     let ys = c.run_crew-piece.new.harts in
     let are = ap (map port_of) c.as_mut_slice.ensures.value ∙ c.in_ok-harts.ensures.ports in
     let back = ap (map port_of) (with_items_is c.in_ok-harts.harts ys (AllZip-long _ xs ys c.run_crew-piece.ensures.same ∙ c.as_mut_slice.ensures.len)) in
-    subst (λ ports. AreSame seen ports c.in_ok-stock_of.stock_of.ports.items) are
+    subst (λ ports. AreSame seen ports c.in_ok-stock_of.field-0.ports.items) are
     (subst (AreSame seen (map port_of xs)) (sym (c.in_ok-stock_of.ensures.ports ∙ back)) (ports_stay seen xs ys c.run_crew-piece.ensures.same))
 
 pub returns-clause-gone : goal.returns-clause-gone

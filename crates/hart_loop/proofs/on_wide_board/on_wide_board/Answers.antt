@@ -1,4 +1,5 @@
 use Rattle.std.proofs.Common.{◌≡◌, ◌∙◌, length, sym, ap, subst}
+use Rattle.array_tree.specs.Trees.{program_of}
 use Rattle.transfer_table.specs.Plan.{Plan}
 use Rattle.transfer_table.specs.Journal.{IsComplete, all_meant}
 use Rattle.word_board.specs.PortViews.{table_name}
@@ -9,8 +10,8 @@ use Rattle.hart_loop.proofs.Boards.{ports_start, ports_back, complete_journal}
 use Rattle.hart_loop.proofs.Seats.{wide_seat, wide_new, wide_all}
 use Rattle.hart_loop.proofs.on_wide_board.on_wide_board.Goals as goal
 
-pub run_ports-piece-requires-clause-starts : goal.run_ports-piece-requires-clause-starts
-run_ports-piece-requires-clause-starts g c =
+pub run_ports-requires-clause-starts : goal.run_ports-requires-clause-starts
+run_ports-requires-clause-starts g c κs within =
     let z = c.in_ok-board.board.table.shared.table_id in
     let p = c.plan.result.now in
     let qs = c.in_ok-board.seats.items in
@@ -28,6 +29,9 @@ close-requires g c =
     let count : length qs ≡ p.harts = sym c.in_ok-board.seats.ok.0 ∙ c.in_ok-board.ensures.seats.0 ∙ ap (λ (q : Plan). q.harts) (sym c.in_ok-board.ensures.plan) in
     wide_all z p ws (ports_back port_view wide_seat (table_name z) p qs ws c.in_ok-ports.ports.items c.in_ok-piece.ports.items c.in_ok-board.board.is_plan count (wide_new z p qs new)
     c.in_ok-ports.ensures c.in_ok-seats.ensures c.in_ok-piece.ensures.same c.in_ok-piece.ensures.gone)
+
+pub returns-in-Ok-clause-store : goal.returns-in-Ok-clause-store
+returns-in-Ok-clause-store g c = c.in_ok-store.ensures (program_of c.args.accepted.now.program) c.in_ok-piece.ensures.piece
 
 pub returns-in-Ok-clause-journal : goal.returns-in-Ok-clause-journal
 returns-in-Ok-clause-journal g c =
