@@ -189,7 +189,8 @@ fn roamed(
     alloc: Global,
     plan: &Plan,
 ) -> Result<Closed, AllocError>
-    requires { 2 ≤ plan.now.harts }
+    requires some { 2 ≤ plan.now.harts }
+    requires few { plan.now.harts ≤ 4 }
 {
     let (board, mut seats) = open_all(alloc, plan)?;
     roam(rt, &board, plan, seats.as_mut_slice());

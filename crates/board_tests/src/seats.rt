@@ -1,5 +1,5 @@
 //! A board: made with its seats, and closed with them.
-ghost use Rattle.std.specs.Prelude.{◌≡◌, [], ◌∷◌, IfOk, vec_len};
+ghost use Rattle.std.specs.Prelude.{◌≡◌, ◌≤◌, [], ◌∷◌, IfOk, vec_len};
 ghost use Rattle.board_rule.specs.Views.{fresh_view};
 ghost use Rattle.word_board.specs.Of.{IsOf};
 ghost use Rattle.word_board.specs.Seats.{IsJournalOf};
@@ -11,6 +11,7 @@ use word_board::{Closed, HartSeat, WordBoard};
 
 /// The board of a plan, and its seats, each at the base.
 pub(crate) fn open_all(alloc: Global, plan: &Plan) -> Result<(WordBoard, Vec<HartSeat>), AllocError>
+    requires few { plan.now.harts ≤ 4 }
     ensures plan { IfOk result (λ r. r.0.plan ≡ plan.now) }
     ensures count { IfOk result (λ r. vec_len r.1 ≡ plan.now.harts) }
     ensures harts { IfOk result (λ r. AreNewHarts r.0 r.1.items) }

@@ -40,7 +40,8 @@ fn hart<'x, 'p: 'x, R: Threads + Wait + Sync>(
     tools: Tools<'x>,
     job: Option<Job<'p>>,
 ) -> Result<Hart<'x, 'p, WaitingPort<'x, LockedPort<'x, R>, R>, SharedSite<'p>>, Fail>
-    requires { IsHart plan.now number }
+    requires hart { IsHart plan.now number }
+    requires few { plan.now.harts ≤ 4 }
     ensures { IfOk result (λ hart. StartsIn plan.now hart.port.port.view) }
 {
     let port = WaitingPort::new(LockedPort::new(alloc, lock, plan, number)?, rt);
@@ -70,6 +71,7 @@ fn crew<'x, 'p: 'x, R: Threads + Wait + Sync>(
     mut tools: Vec<Tools<'x>>,
     job: Job<'p>,
 ) -> Result<Vec<Hart<'x, 'p, WaitingPort<'x, LockedPort<'x, R>, R>, SharedSite<'p>>>, Fail>
+    requires { plan.now.harts ≤ 4 }
     ensures { IfOk result (λ harts.
         All (λ hart. StartsIn plan.now hart.port.port.view) harts.items) }
 {
@@ -120,7 +122,9 @@ fn run_body<'x, 'p: 'x, R: Threads + Wait + Sync>(
     base: &'x Mutex<Base>,
     cells: &'x [OnceBox<SharedSite<'p>>],
     tools: Vec<Tools<'x>>,
-) -> Result<Piece<'p>, Fail> {
+) -> Result<Piece<'p>, Fail>
+    requires { accepted.now.plan.harts ≤ 4 }
+{
     let tree = SiteTree::new(alloc, accepted.plan())?;
     let job = body_job(alloc, accepted.program())?;
     let mut harts = crew(rt, alloc, lock, accepted.plan(), base, cells, tools, job)?;
@@ -153,7 +157,8 @@ fn body_writes<'x, 'p: 'x, R: Threads + Wait + Sync>(
     harts: u8,
     written: &[(u16, i64)],
 ) -> Result<bool, Fail>
-    requires { (1 ≤ harts) × (harts ≤ 4) }
+    requires harts { (1 ≤ harts) × (harts ≤ 4) }
+    requires few { accepted.now.plan.harts ≤ 4 }
 {
     let (words, claims) = Claims::new(alloc, accepted, harts)?;
     let tools = all_tools(alloc, &words, claims, harts)?;
@@ -170,7 +175,8 @@ fn harts_write<R: Threads + Wait + Sync>(
     harts: u8,
     written: &[(u16, i64)],
 ) -> Result<bool, Fail>
-    requires { (1 ≤ harts) × (harts ≤ 4) }
+    requires harts { (1 ≤ harts) × (harts ≤ 4) }
+    requires few { accepted.now.plan.harts ≤ 4 }
 {
     let base = Mutex::new(Base::new(alloc, accepted.plan().sites())?);
     let cells = cells(alloc, accepted.plan().sites())?;
@@ -241,6 +247,7 @@ fn run_whole<'x, 'p: 'x, R: Threads + Wait + Sync>(
     tools: Tools<'x>,
 ) -> Result<(), Fail>
     requires some { 0 < accepted.now.plan.harts }
+    requires few { accepted.now.plan.harts ≤ 4 }
     requires tree { tree.now ≡ accepted.now.plan }
 {
     let job = body_job(alloc, accepted.program())?;
@@ -272,6 +279,7 @@ fn run_first<'x, 'p: 'x, R: Threads + Wait + Sync>(
     tools: Tools<'x>,
 ) -> Result<Overlay, Fail>
     requires second { 1 < plan.now.harts }
+    requires few { plan.now.harts ≤ 4 }
     requires tree { tree.now ≡ plan.now }
 {
     let nested = first_construct(alloc, program)?;
@@ -303,7 +311,8 @@ fn writes_late<'x, 'p: 'x, R: Threads + Wait + Sync>(
     cells: &'x [OnceBox<SharedSite<'p>>],
     tools: (Tools<'x>, Tools<'x>),
 ) -> Result<bool, Fail>
-    requires { 1 < accepted.now.plan.harts }
+    requires second { 1 < accepted.now.plan.harts }
+    requires few { accepted.now.plan.harts ≤ 4 }
 {
     let plan = accepted.plan();
     let tree = SiteTree::new(alloc, plan)?;
