@@ -5,7 +5,7 @@ use Rattle.array_lang.specs.Spelled.{Spells, HasFault}
 use Rattle.array_lang.specs.declared.fault.SyntaxFault.{SyntaxFault}
 use Rattle.array_lang.specs.declared.fault.SyntaxFault.TheVariants as syntax
 use Rattle.disjoint_check.specs.FaultOf.{check_fault_of}
-use Rattle.disjoint_check.proofs.Accepting.{none_of_accepted, for_four}
+use Rattle.disjoint_check.proofs.Accepting.{none_of_accepted}
 use Rattle.disjoint_check.specs.declared.fault.CheckFault.{CheckFault}
 use Rattle.disjoint_check.specs.declared.fault.CheckFault.TheVariants as check
 use Rattle.lithe_call.specs.Lines.{TellsSyntax, TellsRefusal}
@@ -73,23 +73,23 @@ more_of_left (Some b) (Some rest) limit more bytes e =
     subst (λ (l : List ℕ). limit < length l) same (omega (arith, whole, more.longer))
 
 -- a program that isn't accepted has no output
-pub refused_line : (harts : ℕ) (bytes : List ℕ) (program : ProgramTree) (cause : CheckFault) (why : Fault) → harts ≤ 4 → length bytes ≤ 65536 → Spells bytes program → TellsRefusal program cause why →
+pub refused_line : (harts : ℕ) (bytes : List ℕ) (program : ProgramTree) (cause : CheckFault) (why : Fault) → length bytes ≤ 65536 → Spells bytes program → TellsRefusal program cause why →
     (cause ≡ check.Memory) ⊎ (check_fault_of program harts ≡ Some cause) → IsNoRun (SpellRefused harts) bytes why
-refused_line harts bytes program cause fault.Usage four short spelled tells first = absurd tells
-refused_line harts bytes program cause fault.TooLong four short spelled tells first = absurd tells
-refused_line harts bytes program cause fault.ReadFault four short spelled tells first = absurd tells
-refused_line harts bytes program cause (fault.Syntax line) four short spelled tells first = absurd tells
-refused_line harts bytes program cause (fault.Refused line) four short spelled tells first = elim first [
+refused_line harts bytes program cause fault.Usage short spelled tells first = absurd tells
+refused_line harts bytes program cause fault.TooLong short spelled tells first = absurd tells
+refused_line harts bytes program cause fault.ReadFault short spelled tells first = absurd tells
+refused_line harts bytes program cause (fault.Syntax line) short spelled tells first = absurd tells
+refused_line harts bytes program cause (fault.Refused line) short spelled tells first = elim first [
   | inl memory ↦ absurd (tells.0 memory)
   | inr is ↦ record {
     short = short;
     program = program;
     spelled = spelled;
-    refused = λ accepted. let none = none_of_accepted program harts (for_four program harts four accepted) in cc;
+    refused = λ accepted. let none = none_of_accepted program harts accepted in cc;
     first = record { fault = cause; is = is; real = tells.0; told = tells.1 };
   }
 ]
-refused_line harts bytes program cause fault.Memory four short spelled tells first = tt
+refused_line harts bytes program cause fault.Memory short spelled tells first = tt
 
 -- a text that spells no program has no output
 pub syntax_line_told : (AreRefused : List ℕ → List ℕ → Type 0) (bytes : List ℕ) (cause : SyntaxFault) (why : Fault) → length bytes ≤ 65536 → TellsSyntax cause why →

@@ -7,7 +7,7 @@ use Rattle.std.proofs.lemmas.List.Splits.{join_with_byte-slice_split}
 use Rattle.outside_io.specs.Outside.{Rose}
 use Rattle.array_tree.specs.Trees.{ProgramTree}
 use Rattle.array_lang.proofs.OneProgram.{one_text}
-use Rattle.array_meaning.specs.Accepted.{IsAccepted}
+use Rattle.disjoint_check.specs.Meaning.{IsAcceptedFor}
 use Rattle.journal_text.specs.Reading.{lines_of, is_word}
 use Rattle.run_audit.specs.Parts.{parts_of, parts_in, with_front}
 use Rattle.run_audit.specs.declared.verdict.Verdict.{Verdict}
@@ -56,14 +56,14 @@ same_parts : (bytes first second f s : List ℕ) → parts_of bytes ≡ Some (fi
 same_parts bytes first second f s one other =
     let same = same_Some (first, second) (f, s) (sym one ∙ other) in (ap (λ (p : List ℕ × List ℕ). p.0) same, ap (λ (p : List ℕ × List ℕ). p.1) same)
 
-nothing_spelled : (bytes line : List ℕ) (program : ProgramTree) → SpellNothing bytes line → SpellAccepted bytes program → ⊥
-nothing_spelled bytes line program fails is = fails.nothing program is.spelled
+nothing_spelled : (bytes line : List ℕ) (harts : ℕ) (program : ProgramTree) → SpellNothing bytes line → SpellAccepted harts bytes program → ⊥
+nothing_spelled bytes line harts program fails is = fails.nothing program is.spelled
 
-refused_accepted : (harts : ℕ) (bytes line : List ℕ) (program : ProgramTree) → SpellRefused harts bytes line → SpellAccepted bytes program → ⊥
-refused_accepted harts bytes line program fails is = fails.refused (subst IsAccepted (one_text bytes program fails.program is.spelled fails.spelled) is.accepted)
+refused_accepted : (harts : ℕ) (bytes line : List ℕ) (program : ProgramTree) → SpellRefused harts bytes line → SpellAccepted harts bytes program → ⊥
+refused_accepted harts bytes line program fails is = fails.refused (subst (λ (p : ProgramTree). IsAcceptedFor p harts) (one_text bytes program fails.program is.spelled fails.spelled) is.accepted)
 
-untallied_tallied : (harts : ℕ) (bytes line : List ℕ) (program : ProgramTree) → SpellUntallied harts bytes line → SpellTallied bytes program → ⊥
-untallied_tallied harts bytes line program fails is = fails.refused (subst IsTallied (one_text bytes program fails.program is.spelled fails.spelled) is.tallied)
+untallied_tallied : (harts : ℕ) (bytes line : List ℕ) (program : ProgramTree) → SpellUntallied harts bytes line → SpellTallied harts bytes program → ⊥
+untallied_tallied harts bytes line program fails is = fails.refused (subst (IsTallied harts) (one_text bytes program fails.program is.spelled fails.spelled) is.tallied)
 
 parts_meet : (P Q : List ℕ → List ℕ → Type 0) (bytes : List ℕ) → ((first second : List ℕ) → P first second → Q first second → ⊥) → HasParts P bytes → HasParts Q bytes → ⊥
 parts_meet P Q bytes never p q =
@@ -76,18 +76,18 @@ no_output_found harts line first second verdict fails is =
     let bad : Err fails.fault ≡ Ok verdict = sym fails.found ∙ ap (λ (p : ProgramTree). found_in harts p second) one ∙ is.found in cc bad
 
 pub no_text_ends : (command : Command) (bytes line : List ℕ) (status : Status) → IsNoText command bytes line → EndsWith command bytes status → ⊥
-no_text_ends (Run harts) bytes line status fails ends = nothing_spelled bytes line ends.1.0 fails ends.1.1
+no_text_ends (Run harts) bytes line status fails ends = nothing_spelled bytes line harts ends.1.0 fails ends.1.1
 no_text_ends (Tally harts) bytes line status fails ends = fails.nothing ends.1.0 ends.1.1.spelled
-no_text_ends Solo bytes line status fails ends = nothing_spelled bytes line ends.1.0 fails ends.1.1
+no_text_ends Solo bytes line status fails ends = nothing_spelled bytes line 1 ends.1.0 fails ends.1.1
 no_text_ends (Audit harts) bytes line status (inl mark) ends = let bad : None ≡ Some (ends.1.1.first, ends.1.1.second) = sym mark.none ∙ ends.1.1.parts in cc bad
 no_text_ends (Audit harts) bytes line status (inr parts) ends =
     parts_meet (λ first second. SpellNothing first line ⊎ AreNoOutput harts line first second) (AreFound harts ends.1.0) bytes (λ first second fails is. elim fails [
-      | inl nothing ↦ nothing_spelled first line is.program nothing is.input
+      | inl nothing ↦ nothing_spelled first line harts is.program nothing is.input
       | inr other ↦ no_output_found harts line first second ends.1.0 other is
     ]) parts ends.1.1
 no_text_ends (Make seed size harts) bytes line status fails ends = absurd fails
 
-refused_made : (harts : ℕ) (text line : List ℕ) (ended : Status) → SpellRefused harts text line → EndsMade text ended → ended ≡ status.Refused
+refused_made : (harts : ℕ) (text line : List ℕ) (ended : Status) → SpellRefused harts text line → EndsMade harts text ended → ended ≡ status.Refused
 refused_made harts text line status.Done fails ends = absurd (refused_accepted harts text line ends.0 fails ends.1)
 refused_made harts text line status.Illegal fails ends = absurd ends
 refused_made harts text line status.Usage fails ends = absurd ends
@@ -176,23 +176,23 @@ verdicts_one harts bytes one other p q =
     let tree = one_text q.first here.program q.are.program here.input.spelled q.are.input.spelled in
     let both : Ok one ≡ Ok other = sym here.found ∙ ap (λ (t : ProgramTree). found_in harts t q.second) tree ∙ q.are.found in cc both
 
-made_done : (text : List ℕ) (ended : Status) (program : ProgramTree) → SpellAccepted text program → EndsMade text ended → ended ≡ status.Done
-made_done text status.Done program is ends = refl
-made_done text status.Illegal program is ends = absurd ends
-made_done text status.Usage program is ends = absurd ends
-made_done text status.Syntax program is ends = absurd ends
-made_done text status.Refused program is ends = absurd (ends.2 (subst IsAccepted (one_text text program ends.0 is.spelled ends.1) is.accepted))
-made_done text status.TooLong program is ends = absurd ends
-made_done text status.ReadFault program is ends = absurd ends
-made_done text status.WriteFault program is ends = absurd ends
-made_done text status.NoMemory program is ends = absurd ends
+made_done : (harts : ℕ) (text : List ℕ) (ended : Status) (program : ProgramTree) → SpellAccepted harts text program → EndsMade harts text ended → ended ≡ status.Done
+made_done harts text status.Done program is ends = refl
+made_done harts text status.Illegal program is ends = absurd ends
+made_done harts text status.Usage program is ends = absurd ends
+made_done harts text status.Syntax program is ends = absurd ends
+made_done harts text status.Refused program is ends = absurd (ends.2 (subst (λ (p : ProgramTree). IsAcceptedFor p harts) (one_text text program ends.0 is.spelled ends.1) is.accepted))
+made_done harts text status.TooLong program is ends = absurd ends
+made_done harts text status.ReadFault program is ends = absurd ends
+made_done harts text status.WriteFault program is ends = absurd ends
+made_done harts text status.NoMemory program is ends = absurd ends
 
 ends_one : (command : Command) (bytes : List ℕ) (status ending : Status) (text : List ℕ) → IsOutputOf command bytes ending text → EndsWith command bytes status → ending ≡ status
 ends_one (Run harts) bytes status ending text out ends = out.0 ∙ sym ends.0
 ends_one (Tally harts) bytes status ending text out ends = out.0 ∙ sym ends.0
 ends_one Solo bytes status ending text out ends = out.0 ∙ sym ends.0
 ends_one (Audit harts) bytes status ending text out ends = out.same ∙ ap status_by (verdicts_one harts bytes out.verdict ends.1.0 out.has ends.1.1) ∙ sym ends.1.2
-ends_one (Make seed size harts) bytes status ending text out ends = out.0 ∙ sym (made_done (made_text seed size) status out.1.program out.1.input ends)
+ends_one (Make seed size harts) bytes status ending text out ends = out.0 ∙ sym (made_done harts (made_text seed size) status out.1.program out.1.input ends)
 
 -- what was written is the output for the input
 pub output_told : (words : List (List ℕ)) (left left' : Option (List ℕ)) (ending : Status) (text : List ℕ) → IsOutputFor words left left' ending text

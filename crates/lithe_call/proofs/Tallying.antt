@@ -11,8 +11,7 @@ use Rattle.disjoint_check.specs.declared.fault.CheckFault.{CheckFault}
 use Rattle.disjoint_check.specs.declared.fault.CheckFault.TheVariants as check
 use Rattle.disjoint_check.specs.FaultOf.{meaning_fault_of, check_fault_of}
 use Rattle.disjoint_check.specs.Meaning.{HasMeaningFor}
-use Rattle.disjoint_check.proofs.Accepting.{none_of_meaning, none_of_accepted, for_four}
-use Rattle.disjoint_check.proofs.Conditions.{room_for_four}
+use Rattle.disjoint_check.proofs.Accepting.{none_of_meaning, none_of_accepted}
 use Rattle.spread_laws.specs.Faults.{SpreadFault, spread_fault_of}
 use Rattle.spread_laws.specs.Served.{HasMeaning, IsTallyKept}
 use Rattle.spread_laws.specs.Spread.{spread_of}
@@ -27,7 +26,7 @@ use Rattle.lithe_call.specs.declared.fault.Fault.{Fault}
 use Rattle.lithe_call.specs.declared.fault.Fault.TheVariants as fault
 use Rattle.lithe_call.proofs.Runs.{final_cells}
 
--- ---- to have a meaning for some harts, and for up to four
+-- ---- what has a meaning for some harts has one
 pub meaning_of : (program : ProgramTree) (harts : ℕ) → HasMeaningFor program harts → HasMeaning program
 meaning_of program harts m = record {
   single_names = m.limits.single_names;
@@ -41,47 +40,31 @@ meaning_of program harts m = record {
   indices = m.indices;
 }
 
-meaning_for_four : (program : ProgramTree) (harts : ℕ) → harts ≤ 4 → HasMeaning program → HasMeaningFor program harts
-meaning_for_four program harts four m = record {
-  limits = record {
-    single_names = m.single_names;
-    known_names = m.known_names;
-    ranges = m.ranges;
-    no_site_under_if = m.no_site_under_if;
-    levels = m.levels;
-    work = m.work;
-    sites = m.sites;
-    pieces = m.pieces;
-    entries = room_for_four _ harts m.sites four;
-  };
-  indices = m.indices;
-}
-
 -- ---- why a program isn't tallied
-untallied_refused : (harts : ℕ) (program : ProgramTree) (line : List ℕ) → harts ≤ 4 → IsUntallied harts program line → IsTallied program → ⊥
-untallied_refused harts program line four (inl meaning) is =
-    let none = none_of_meaning program harts (meaning_for_four program harts four is.meaning) in
+untallied_refused : (harts : ℕ) (program : ProgramTree) (line : List ℕ) → IsUntallied harts program line → IsTallied harts program → ⊥
+untallied_refused harts program line (inl meaning) is =
+    let none = none_of_meaning program harts is.meaning in
     let bad : None ≡ Some meaning.fault = sym none ∙ meaning.is in cc bad
-untallied_refused harts program line four (inr (inl adds)) is =
+untallied_refused harts program line (inr (inl adds)) is =
     let bad : None ≡ Some adds.fault = sym is.shaped ∙ adds.first in cc bad
-untallied_refused harts program line four (inr (inr rows)) is =
-    let none = none_of_accepted (spread_of program) harts (for_four (spread_of program) harts four is.accepted) in
+untallied_refused harts program line (inr (inr rows)) is =
+    let none = none_of_accepted (spread_of program) harts is.accepted in
     let bad : None ≡ Some rows.first.fault = sym none ∙ rows.first.is in cc bad
 
-pub untallied_line : (harts : ℕ) (bytes : List ℕ) (program : ProgramTree) (why : Fault) → harts ≤ 4 → length bytes ≤ 65536 → Spells bytes program
+pub untallied_line : (harts : ℕ) (bytes : List ℕ) (program : ProgramTree) (why : Fault) → length bytes ≤ 65536 → Spells bytes program
     → TellsUntallied harts program why → IsNoRun (SpellUntallied harts) bytes why
-untallied_line harts bytes program fault.Usage four short spelled tells = absurd tells
-untallied_line harts bytes program fault.TooLong four short spelled tells = absurd tells
-untallied_line harts bytes program fault.ReadFault four short spelled tells = absurd tells
-untallied_line harts bytes program (fault.Syntax line) four short spelled tells = absurd tells
-untallied_line harts bytes program (fault.Refused line) four short spelled tells = record {
+untallied_line harts bytes program fault.Usage short spelled tells = absurd tells
+untallied_line harts bytes program fault.TooLong short spelled tells = absurd tells
+untallied_line harts bytes program fault.ReadFault short spelled tells = absurd tells
+untallied_line harts bytes program (fault.Syntax line) short spelled tells = absurd tells
+untallied_line harts bytes program (fault.Refused line) short spelled tells = record {
   short = short;
   program = program;
   spelled = spelled;
-  refused = untallied_refused harts program line.items four tells;
+  refused = untallied_refused harts program line.items tells;
   first = tells;
 }
-untallied_line harts bytes program fault.Memory four short spelled tells = tt
+untallied_line harts bytes program fault.Memory short spelled tells = tt
 
 -- its meaning is refused
 pub meaning_told : (harts : ℕ) (program : ProgramTree) (cause : CheckFault) (why : Fault) → TellsRefusal program cause why

@@ -31,7 +31,7 @@ found_in harts program output =
 -- a first part that spells an accepted program, and this verdict on the second
 pub record AreFound (harts : ℕ) (verdict : Verdict) (first second : List ℕ) : Type 0 where
   pub program : ProgramTree
-  pub input : SpellAccepted first program
+  pub input : SpellAccepted harts first program
   pub found : found_in harts program second ≡ Ok verdict
 
 -- these bytes have this verdict

@@ -5,9 +5,8 @@ use Rattle.array_lang.specs.Spelled.{Spells, HasFault}
 use Rattle.array_lang.specs.declared.fault.SyntaxFault.{SyntaxFault}
 use Rattle.array_lang.specs.declared.fault.SyntaxFault.TheVariants as syntax
 use Rattle.array_meaning.specs.Bounds.{most_bytes}
-use Rattle.array_meaning.specs.Accepted.{IsAccepted}
 use Rattle.disjoint_check.specs.FaultOf.{meaning_fault_of, check_fault_of}
-use Rattle.disjoint_check.specs.Meaning.{HasMeaningFor}
+use Rattle.disjoint_check.specs.Meaning.{HasMeaningFor, IsAcceptedFor}
 use Rattle.disjoint_check.specs.declared.fault.CheckFault.{CheckFault}
 use Rattle.disjoint_check.specs.declared.fault.CheckFault.TheVariants as check
 use Rattle.error_text.specs.SyntaxText.{syntax_text}
@@ -46,12 +45,12 @@ pub record IsToldFault (found : Option CheckFault) (program : ProgramTree) (line
   pub real : fault ≢ check.Memory
   pub told : line ≡ refusal_text program fault
 
--- bytes within the limit spell a program that isn't accepted, and the line tells the first condition that it fails
+-- bytes within the limit spell a program that isn't accepted for so many harts, and the line tells the first condition that it fails
 pub record SpellRefused (harts : ℕ) (bytes line : List ℕ) : Type 0 where
   pub short : length bytes ≤ most_bytes
   pub program : ProgramTree
   pub spelled : Spells bytes program
-  pub refused : IsAccepted program → ⊥
+  pub refused : IsAcceptedFor program harts → ⊥
   pub first : IsToldFault (check_fault_of program harts) program line
 
 -- the program has a meaning, but its adds can't have rows of their own, and the line tells why
@@ -73,12 +72,12 @@ IsUntallied harts program line =
     IsToldFault (meaning_fault_of program harts) program line
     ⊎ (IsUnspread harts program line ⊎ IsSpreadRefused harts program line)
 
--- bytes within the limit spell a program that isn't tallied, and the line tells why
+-- bytes within the limit spell a program that isn't tallied by so many harts, and the line tells why
 pub record SpellUntallied (harts : ℕ) (bytes line : List ℕ) : Type 0 where
   pub short : length bytes ≤ most_bytes
   pub program : ProgramTree
   pub spelled : Spells bytes program
-  pub refused : IsTallied program → ⊥
+  pub refused : IsTallied harts program → ⊥
   pub first : IsUntallied harts program line
 
 -- an input without a line `%%`, and the line that says so
@@ -90,7 +89,7 @@ pub record HasNoMark (bytes line : List ℕ) : Type 0 where
 -- isn't want of memory
 pub record AreNoOutput (harts : ℕ) (line first second : List ℕ) : Type 0 where
   pub program : ProgramTree
-  pub input : SpellAccepted first program
+  pub input : SpellAccepted harts first program
   pub fault : TextFault
   pub found : found_in harts program second ≡ Err fault
   pub real : fault ≢ text.Memory

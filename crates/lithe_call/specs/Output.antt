@@ -6,12 +6,13 @@ use Rattle.transfer_table.specs.declared.entry.Entry.{Entry}
 use Rattle.journal_text.specs.JournalText.{journal_text}
 use Rattle.array_tree.specs.Trees.{ProgramTree}
 use Rattle.array_lang.specs.Spelled.{Spells}
-use Rattle.array_meaning.specs.Accepted.{IsAccepted}
+use Rattle.disjoint_check.specs.Meaning.{IsAcceptedFor}
 use Rattle.array_meaning.specs.Stores.{Store}
 use Rattle.array_meaning.specs.Work.{final_store}
 use Rattle.array_eval.specs.ArrayText.{array_text}
 use Rattle.command_words.specs.declared.command.Command.{Command}
 use Rattle.command_words.specs.declared.command.Command.TheVariants.{Run, Tally, Solo, Audit, Make}
+use Rattle.command_words.specs.Parts.{harts_in}
 use Rattle.run_audit.specs.AuditText.{verdict_text}
 use Rattle.run_summary.specs.Summary.{summary_text}
 use Rattle.run_audit.specs.declared.verdict.Verdict.{Verdict}
@@ -50,14 +51,14 @@ IsOutput (Make seed size harts) program text = IsSummary program harts text
 -- the text is what the command writes for the program that these bytes spell
 pub record IsRunOf (command : Command) (bytes text : List ℕ) : Type 0 where
   pub program : ProgramTree
-  pub input : SpellAccepted bytes program
+  pub input : SpellAccepted (harts_in command) bytes program
   pub output : IsOutput command program text
 
 -- The text is what `tally` writes for the program that these bytes spell: its arrays as the one-thread meaning of this same
 -- program leaves them, and a journal that is complete for its plan.
 pub record IsTallyOf (harts : ℕ) (bytes text : List ℕ) : Type 0 where
   pub program : ProgramTree
-  pub input : SpellTallied bytes program
+  pub input : SpellTallied harts bytes program
   pub output : IsRunOutput program harts text
 
 -- the text is the line of the bytes' verdict, and the status the verdict's
@@ -76,21 +77,22 @@ IsOutputOf (Audit harts) bytes status text = IsAuditOf harts bytes status text
 IsOutputOf (Make seed size harts) bytes status text =
     (status ≡ Done) × IsRunOf (Make seed size harts) (made_text seed size) text
 
--- the text of a made program spells one that is accepted, or one that isn't
-abbrev pub EndsMade : List ℕ → Status → Type 0
-EndsMade text Done = (program : ProgramTree) × SpellAccepted text program
-EndsMade text Refused = (program : ProgramTree) × Spells text program × (IsAccepted program → ⊥)
-EndsMade text status = ⊥
+-- the text of a made program spells one that is accepted for so many harts, or one that isn't
+abbrev pub EndsMade : ℕ → List ℕ → Status → Type 0
+EndsMade harts text Done = (program : ProgramTree) × SpellAccepted harts text program
+EndsMade harts text Refused =
+    (program : ProgramTree) × Spells text program × (IsAcceptedFor program harts → ⊥)
+EndsMade harts text status = ⊥
 
 -- these bytes are for the command, and it has this status with them; `make` has it with any
 abbrev pub EndsWith : Command → List ℕ → Status → Type 0
 EndsWith (Run harts) bytes status =
-    (status ≡ Done) × ((program : ProgramTree) × SpellAccepted bytes program)
+    (status ≡ Done) × ((program : ProgramTree) × SpellAccepted harts bytes program)
 EndsWith (Tally harts) bytes status =
-    (status ≡ Done) × ((program : ProgramTree) × SpellTallied bytes program)
+    (status ≡ Done) × ((program : ProgramTree) × SpellTallied harts bytes program)
 EndsWith Solo bytes status =
-    (status ≡ Done) × ((program : ProgramTree) × SpellAccepted bytes program)
+    (status ≡ Done) × ((program : ProgramTree) × SpellAccepted 1 bytes program)
 EndsWith (Audit harts) bytes status =
     (length bytes ≤ limit_of (Audit harts))
     × ((verdict : Verdict) × HasVerdict harts bytes verdict × (status ≡ status_by verdict))
-EndsWith (Make seed size harts) bytes status = EndsMade (made_text seed size) status
+EndsWith (Make seed size harts) bytes status = EndsMade harts (made_text seed size) status

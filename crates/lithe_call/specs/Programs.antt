@@ -6,7 +6,7 @@ use Rattle.array_lang.specs.Spelled.{Spells}
 use Rattle.array_print.specs.Texts.{printed}
 use Rattle.array_meaning.specs.Bounds.{most_bytes}
 use Rattle.array_meaning.specs.Plans.{plan_of}
-use Rattle.array_meaning.specs.Accepted.{IsAccepted}
+use Rattle.disjoint_check.specs.Meaning.{IsAcceptedFor}
 use Rattle.program_maker.specs.Made.{made_program}
 
 -- the program's plan for so many harts
@@ -17,8 +17,8 @@ table_plan program harts = record { harts = harts; parents = plan_of program }
 abbrev pub made_text : ℕ → ℕ → List ℕ
 made_text seed size = printed (made_program seed size)
 
--- these bytes spell an accepted program
-pub record SpellAccepted (bytes : List ℕ) (program : ProgramTree) : Type 0 where
+-- these bytes spell a program that is accepted for so many harts
+pub record SpellAccepted (harts : ℕ) (bytes : List ℕ) (program : ProgramTree) : Type 0 where
   pub short : length bytes ≤ most_bytes
   pub spelled : Spells bytes program
-  pub accepted : IsAccepted program
+  pub accepted : IsAcceptedFor program harts

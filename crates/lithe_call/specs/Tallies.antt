@@ -4,19 +4,19 @@ use Rattle.std.specs.Prelude.{◌≡◌, ℕ, ◌≤◌, List, length, None}
 use Rattle.array_tree.specs.Trees.{ProgramTree}
 use Rattle.array_lang.specs.Spelled.{Spells}
 use Rattle.array_meaning.specs.Bounds.{most_bytes}
-use Rattle.array_meaning.specs.Accepted.{IsAccepted}
-use Rattle.spread_laws.specs.Served.{HasMeaning}
+use Rattle.disjoint_check.specs.Meaning.{HasMeaningFor, IsAcceptedFor}
 use Rattle.spread_laws.specs.Faults.{spread_fault_of}
 use Rattle.spread_laws.specs.Spread.{spread_of}
 
--- It meets all conditions but that its pieces are apart; its adds can have rows; and with these it is accepted.
-pub record IsTallied (program : ProgramTree) : Type 0 where
-  pub meaning : HasMeaning program
+-- For so many harts: it meets all conditions but that its pieces are apart; its adds can have rows; and with these it is
+-- accepted.
+pub record IsTallied (harts : ℕ) (program : ProgramTree) : Type 0 where
+  pub meaning : HasMeaningFor program harts
   pub shaped : spread_fault_of program ≡ None
-  pub accepted : IsAccepted (spread_of program)
+  pub accepted : IsAcceptedFor (spread_of program) harts
 
 -- these bytes spell such a program
-pub record SpellTallied (bytes : List ℕ) (program : ProgramTree) : Type 0 where
+pub record SpellTallied (harts : ℕ) (bytes : List ℕ) (program : ProgramTree) : Type 0 where
   pub short : length bytes ≤ most_bytes
   pub spelled : Spells bytes program
-  pub tallied : IsTallied program
+  pub tallied : IsTallied harts program

@@ -22,7 +22,7 @@ use std::alloc::Global;
 pub fn audited(alloc: Global, harts: u8, bytes: &[u8]) -> Result<Answer, Fault>
     requires short { length bytes.now ≤ most_audited }
     requires some_hart { 1 ≤ harts }
-    requires few_harts { harts ≤ 4 }
+    requires few_harts { harts ≤ 16 }
     ensures output { IfOk result
         (λ answer. IsAuditOf harts bytes.now (status_of_ending answer.ending) answer.text.items) }
     ensures fault { IfErr result (IsNoOutput (Audit harts) bytes.now) }
@@ -54,7 +54,7 @@ fn verdict(alloc: Global, harts: u8, first: &[u8], second: &[u8]) -> Result<Verd
     requires short { length first.now ≤ most_bytes }
     requires short_output { length second.now ≤ most_audited }
     requires some_hart { 1 ≤ harts }
-    requires few_harts { harts ≤ 4 }
+    requires few_harts { harts ≤ 16 }
     ensures found { IfOk result (λ verdict. AreFound harts verdict first.now second.now) }
     ensures fault { IfErr result (HaveNoVerdict harts first.now second.now) }
 {

@@ -35,7 +35,7 @@ use std::thread::Threads;
 
 /// Serves the words: reads the input, runs its program and writes the output, or tells on `err` why not.
 ///
-/// `run --harts N`, N from 1 to 4, runs the program on N harts, each of several on a thread, and writes its arrays and the
+/// `run --harts N`, N from 1 to 16, runs the program on N harts, each of several on a thread, and writes its arrays and the
 /// journal of its transfers; `tally --harts N` does so where branches and members add into one cell of an array whose name
 /// ends in `_sum`; `solo` writes the arrays alone. `audit --harts N` reads a program, a line `%%` and an output of
 /// `run`, and writes whether the output is the program's; where it isn't, the status is Illegal. `make --seed X --size K
@@ -175,7 +175,7 @@ fn run_of<R: Threads + Wait + Sync, G: Gate>(
     requires short { length bytes.now ≤ most_bytes }
     requires runs { runs_programs command ≡ true }
     requires some_hart { 1 ≤ harts_in command }
-    requires few_harts { harts_in command ≤ 4 }
+    requires few_harts { harts_in command ≤ 16 }
     ensures output { IfOk result (λ answer. IsRunOf command bytes.now answer.text.items) }
     ensures done { IfOk result (λ answer. status_of_ending answer.ending ≡ Status.Done) }
     ensures fault { IfErr result (IsNoRun (SpellRefused (harts_in command)) bytes.now) }
@@ -196,7 +196,7 @@ fn tally_of<R: Threads + Wait + Sync, G: Gate>(
 ) -> Result<Answer, Fault>
     requires short { length bytes.now ≤ most_bytes }
     requires some_hart { 1 ≤ harts }
-    requires few_harts { harts ≤ 4 }
+    requires few_harts { harts ≤ 16 }
     ensures output { IfOk result (λ answer. IsTallyOf harts bytes.now answer.text.items) }
     ensures done { IfOk result (λ answer. status_of_ending answer.ending ≡ Status.Done) }
     ensures fault { IfErr result (IsNoRun (SpellUntallied harts) bytes.now) }
@@ -217,7 +217,7 @@ fn answer_to<R: Threads + Wait + Sync, G: Gate>(
 ) -> Result<Answer, Fault>
     requires short { length bytes.now ≤ limit_of command }
     requires some_hart { 1 ≤ harts_in command }
-    requires few_harts { harts_in command ≤ 4 }
+    requires few_harts { harts_in command ≤ 16 }
     requires some_size { 1 ≤ size_in command }
     requires small_size { size_in command ≤ 40 }
     ensures output { IfOk result

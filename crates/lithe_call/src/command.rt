@@ -20,7 +20,7 @@ pub const MOST_AUDITED: usize = 4_194_304;
 pub fn asked_command(alloc: Global, words: &[String]) -> Result<Command, Fault>
     ensures form { IfOk result (λ command. form_of (map string_bytes words.now) ≡ Some command) }
     ensures some_hart { IfOk result (λ command. 1 ≤ harts_in command) }
-    ensures few_harts { IfOk result (λ command. harts_in command ≤ 4) }
+    ensures few_harts { IfOk result (λ command. harts_in command ≤ 16) }
     ensures some_size { IfOk result (λ command. 1 ≤ size_in command) }
     ensures small_size { IfOk result (λ command. size_in command ≤ 40) }
     ensures none { IfErr result (IsNoCommand (map string_bytes words.now)) }

@@ -44,7 +44,7 @@ pub fn answer<R: Threads + Wait + Sync, G: Gate>(
     requires short { length bytes.now ≤ most_bytes }
     requires runs { runs_programs command ≡ true }
     requires some_hart { 1 ≤ harts_in command }
-    requires few_harts { harts_in command ≤ 4 }
+    requires few_harts { harts_in command ≤ 16 }
     ensures output { IfOk result (λ output. IsRunOf command bytes.now output.items) }
     ensures fault { IfErr result (IsNoRun (SpellRefused (harts_in command)) bytes.now) }
 {

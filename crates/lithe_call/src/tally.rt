@@ -35,7 +35,7 @@ pub fn tallied<R: Threads + Wait + Sync, G: Gate>(
 ) -> Result<Vec<u8>, Fault>
     requires short { length bytes.now ≤ most_bytes }
     requires some_hart { 1 ≤ harts }
-    requires few_harts { harts ≤ 4 }
+    requires few_harts { harts ≤ 16 }
     ensures output { IfOk result (λ text. IsTallyOf harts bytes.now text.items) }
     ensures fault { IfErr result (IsNoRun (SpellUntallied harts) bytes.now) }
 {
@@ -57,7 +57,7 @@ pub fn tallied<R: Threads + Wait + Sync, G: Gate>(
 // The program in which each branch or member adds into a row of its own.
 fn with_rows(alloc: Global, harts: u8, program: &Program) -> Result<Program, Fault>
     requires some_hart { 1 ≤ harts }
-    requires few_harts { harts ≤ 4 }
+    requires few_harts { harts ≤ 16 }
     ensures spread { IfOk result (λ t. program_of t ≡ spread_of (program_of program.now)) }
     ensures kept { IfOk result (λ t. IsTallyKept (program_of program.now) (program_of t)) }
     ensures meaning { OnOk result (HasMeaningFor (program_of program.now) harts) }

@@ -1,4 +1,4 @@
-use Rattle.std.proofs.Common.{ℕ, ◌≤◌, subst, sym}
+use Rattle.std.proofs.Common.{ℕ, subst}
 use Rattle.array_tree.specs.Trees.{program_of}
 use Rattle.command_words.specs.Parts.{harts_in}
 use Rattle.lithe_call.specs.Faults.{SpellRefused, IsNoRun}
@@ -13,5 +13,4 @@ pub returns-in-Err-check-clause-fault : goal.returns-in-Err-check-clause-fault
 returns-in-Err-check-clause-fault g c =
     subst (λ (n : ℕ). IsNoRun (SpellRefused n) c.args.bytes.now c.refusal.result) c.harts.ensures
     (refused_line c.harts.result c.args.bytes.now (program_of c.in-Ok.program) c.in-Err-check.fault c.refusal.result
-    (subst (λ (n : ℕ). n ≤ 4) (sym c.harts.ensures) c.requires.few_harts) c.requires.short c.in-Ok.ensures.found
-    c.refusal.ensures c.in-Err-check.ensures.fault)
+    c.requires.short c.in-Ok.ensures.found c.refusal.ensures c.in-Err-check.ensures.fault)

@@ -1,10 +1,8 @@
-use Rattle.std.proofs.Common.{◌≡◌, ◌∙◌, ◌++◌, length, take, arith, ap, sym, subst}
+use Rattle.std.proofs.Common.{◌≡◌, ◌∙◌, ◌++◌, length, take, arith, ap, subst}
 use Rattle.transfer_table.specs.Plan.{Plan}
 use Rattle.transfer_table.specs.Journal.{IsComplete, all_meant}
 use Rattle.journal_text.specs.JournalText.{journal_text}
-use Rattle.array_tree.specs.declared.tree.Program.{Program}
-use Rattle.array_tree.specs.Trees.{program_of, declarations_of}
-use Rattle.array_meaning.specs.Stores.{arrays_of, cells_of, AreSized}
+use Rattle.array_tree.specs.Trees.{program_of}
 use Rattle.array_meaning.specs.Work.{final_store}
 use Rattle.array_meaning.proofs.InsideLemmas.{sized_in_range}
 use Rattle.array_eval.specs.ArrayText.{array_text}

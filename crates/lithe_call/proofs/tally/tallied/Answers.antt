@@ -1,7 +1,7 @@
 use Rattle.array_tree.specs.Trees.{program_of}
 use Rattle.lithe_call.specs.Faults.{SpellUntallied}
 use Rattle.lithe_call.proofs.Causes.{syntax_line_told}
-use Rattle.lithe_call.proofs.Tallying.{meaning_of, untallied_line, rows_told}
+use Rattle.lithe_call.proofs.Tallying.{untallied_line, rows_told}
 use Rattle.lithe_call.proofs.tally.tallied.Goals as goal
 
 pub returns-in-Err-clause-fault : goal.returns-in-Err-clause-fault
@@ -11,6 +11,6 @@ returns-in-Err-clause-fault g c =
 pub returns-in-Err-check-clause-fault : goal.returns-in-Err-check-clause-fault
 returns-in-Err-check-clause-fault g c =
     let program = program_of c.in-Ok.program in
-    untallied_line c.args.harts c.args.bytes.now program c.refusal.result c.requires.few_harts c.requires.short c.in-Ok.ensures.found
+    untallied_line c.args.harts c.args.bytes.now program c.refusal.result c.requires.short c.in-Ok.ensures.found
     (rows_told c.args.harts program (program_of c.in_ok-spread.spread) c.in-Err-check.fault c.refusal.result
     c.in_ok-spread.ensures.meaning c.in_ok-spread.ensures.shaped c.in_ok-spread.ensures.spread c.refusal.ensures c.in-Err-check.ensures.fault)

@@ -1,5 +1,5 @@
 use Rattle.array_tree.specs.Trees.{program_of}
-use Rattle.lithe_call.proofs.Tallying.{meaning_of, meaning_told, adds_told}
+use Rattle.lithe_call.proofs.Tallying.{meaning_of}
 use Rattle.lithe_call.proofs.tally.with_rows.Goals as goal
 
 pub spread-requires : goal.spread-requires
