@@ -16,8 +16,8 @@ is_audit (Some k) command e = subst (λ (c : Command). c ≡ Audit (harts_in c))
 by_form : (form : Option Form) (options : List (List ℕ)) (command : Command) → form_of (with_options form options) ≡ Some command → command ≡ Audit (harts_in command)
 by_form None options command e = cc e
 by_form (Some form) options command e =
-    option_and_then_some (λ given. option_map Audit (number_of 1 4 (codes "harts") given)) (these (codes "harts" ∷ []) options) command e
-    (λ given _ is. is_audit (number_of 1 4 (codes "harts") given) command is)
+    option_and_then_some (λ given. option_map Audit (number_of 1 16 (codes "harts") given)) (these (codes "harts" ∷ []) options) command e
+    (λ given _ is. is_audit (number_of 1 16 (codes "harts") given) command is)
 
 pub audit_only : (words : List (List ℕ)) (command : Command) → form_of (audit_words words) ≡ Some command → command ≡ Audit (harts_in command)
 audit_only [] command e = cc e

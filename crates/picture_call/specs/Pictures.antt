@@ -14,7 +14,7 @@ use Rattle.picture_call.specs.Words.{audit_words, form_asked}
 -- a first part that spells an accepted program, and this picture of the second
 pub record AreDrawn (form : Form) (harts : ℕ) (picture : Pictured) (first second : List ℕ) : Type 0 where
   pub program : ProgramTree
-  pub input : SpellAccepted first program
+  pub input : SpellAccepted harts first program
   pub drawn : picture_of form program (table_plan program harts) second ≡ Ok picture
 
 -- these bytes have this picture

@@ -10,7 +10,7 @@ use lithe_call::{Fault, asked_command, harts};
 use run_picture::Form;
 use std::alloc::{AllocError, Global};
 
-/// What the words ask for: a picture of this form, of a run on so many harts, 1 to 4.
+/// What the words ask for: a picture of this form, of a run on so many harts, 1 to 16.
 #[derive(Clone, Copy, Debug, PartialEq, Eq)]
 pub struct Wanted {
     pub form: Form,
@@ -26,7 +26,7 @@ pub fn asked(alloc: Global, words: &[String]) -> Result<Wanted, Fault>
     ensures form { IfOk result
         (λ asked. form_of (audit_words (map string_bytes words.now)) ≡ Some (Audit asked.harts)) }
     ensures some_hart { IfOk result (λ asked. 1 ≤ asked.harts) }
-    ensures few_harts { IfOk result (λ asked. asked.harts ≤ 4) }
+    ensures few_harts { IfOk result (λ asked. asked.harts ≤ 16) }
     ensures none { IfErr result (IsNoCommand (audit_words (map string_bytes words.now))) }
 {
     let Some((first, options)) = words.split_first() else {

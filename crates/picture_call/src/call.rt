@@ -23,7 +23,7 @@ use std::alloc::Global;
 /// Serves the words: reads a program, a line `%%` and an output of its run, and writes a picture of the output's journal, or
 /// tells on `err` why not.
 ///
-/// `text --harts N` and `svg --harts N`, N from 1 to 4, write it as text and as SVG. The input, the statuses and what is told
+/// `text --harts N` and `svg --harts N`, N from 1 to 16, write it as text and as SVG. The input, the statuses and what is told
 /// are those of `lithe` for `audit --harts N`, but for the lines that tell the forms of the words. Where the output isn't
 /// the program's, the status is Illegal; the picture then shows the journal up to its first fault, and tells it.
 /// The whole picture is built before its first byte is written.

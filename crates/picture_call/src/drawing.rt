@@ -19,7 +19,7 @@ use std::alloc::Global;
 pub fn drawn(alloc: Global, wanted: Wanted, bytes: &[u8]) -> Result<Picture, Fault>
     requires short { length bytes.now ≤ most_audited }
     requires some_hart { 1 ≤ wanted.harts }
-    requires few_harts { wanted.harts ≤ 4 }
+    requires few_harts { wanted.harts ≤ 16 }
     ensures picture { IfOk result
         (λ picture. HasPicture wanted.form wanted.harts bytes.now (picture_seen picture)) }
     ensures fault { IfErr result (IsNoOutput (Audit wanted.harts) bytes.now) }
@@ -38,7 +38,7 @@ fn picture(alloc: Global, wanted: Wanted, first: &[u8], second: &[u8]) -> Result
     requires short { length first.now ≤ most_bytes }
     requires short_output { length second.now ≤ most_audited }
     requires some_hart { 1 ≤ wanted.harts }
-    requires few_harts { wanted.harts ≤ 4 }
+    requires few_harts { wanted.harts ≤ 16 }
     ensures drawn { IfOk result (λ picture.
         AreDrawn wanted.form wanted.harts (picture_seen picture) first.now second.now) }
     ensures fault { IfErr result (HaveNoVerdict wanted.harts first.now second.now) }

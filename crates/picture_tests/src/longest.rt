@@ -7,41 +7,41 @@ use transfer_table::{Entry, Plan};
 // No picture is longer, in bytes.
 const MOST: usize = 2_000_000;
 
-// Adds all entries that one site can have with four harts.
-fn add_site(list: &mut Vec<Entry>, site: u16) -> Result<(), AllocError> {
+// Adds all entries that one site can have with so many harts.
+fn add_site(list: &mut Vec<Entry>, harts: u8, site: u16) -> Result<(), AllocError> {
     list.push(Entry::Register { hart: 0, site })?;
-    for _ in 0..3u8 {
+    for _ in 1..harts {
         list.push(Entry::Request {
             hart: 0,
             site,
             count: 1,
         })?;
     }
-    for hart in 1..4u8 {
+    for hart in 1..harts {
         list.push(Entry::Enter { hart, site })?;
     }
-    for hart in 1..4u8 {
+    for hart in 1..harts {
         list.push(Entry::Yield { hart, site })?;
     }
     list.push(Entry::Unregister { hart: 0, site })?;
     Ok(())
 }
 
-// The entries of 4,095 sites one after another.
-fn longest(alloc: Global) -> Result<Vec<Entry>, AllocError> {
+// The entries of so many sites one after another, with so many harts.
+fn longest(alloc: Global, harts: u8, sites: u16) -> Result<Vec<Entry>, AllocError> {
     let mut list = Vec::new(alloc);
-    for site in 1..4096u16 {
-        add_site(&mut list, site)?;
+    for site in 0..sites {
+        add_site(&mut list, harts, site + 1)?;
     }
     Ok(list)
 }
 
-// Each site is a pool of the first line.
-fn shapes(alloc: Global) -> Result<Vec<Shape>, AllocError> {
+// Each of so many sites is a pool of the first line.
+fn shapes(alloc: Global, sites: u16) -> Result<Vec<Shape>, AllocError> {
     vec![in alloc; Shape {
         kind: Kind::Pool,
         line: 1
-    }; 4095]
+    }; sites as usize]
 }
 
 // How many lines of the text are a bar: each begins with `<rect x='` but those of the legend, which are three.
@@ -56,12 +56,24 @@ fn bars(text: &[u8]) -> usize {
 }
 
 #[test]
-fn the_longest_journal_has_4096_bars(rt: HostRuntime) -> Result<(), Fail> {
+fn the_longest_journal_of_four_harts_has_4096_bars(rt: HostRuntime) -> Result<(), Fail> {
     let alloc = rt.alloc();
     let plan = Plan::new(alloc, 4, &[0; 4095])?;
-    let list = longest(alloc)?;
+    let list = longest(alloc, 4, 4095)?;
     assert_eq!(rt; list.len(), 45_045);
-    let text = svg_picture(alloc, &plan, &shapes(alloc)?, &list, b"legal 45045\n")?;
+    let text = svg_picture(alloc, &plan, &shapes(alloc, 4095)?, &list, b"legal 45045\n")?;
+    let fits = text.len() <= MOST && bars(&text) == 4096;
+    assert!(rt; fits);
+    Ok(())
+}
+
+#[test]
+fn the_longest_journal_of_sixteen_harts_has_4096_bars(rt: HostRuntime) -> Result<(), Fail> {
+    let alloc = rt.alloc();
+    let plan = Plan::new(alloc, 16, &[0; 1394])?;
+    let list = longest(alloc, 16, 1394)?;
+    assert_eq!(rt; list.len(), 65_518);
+    let text = svg_picture(alloc, &plan, &shapes(alloc, 1394)?, &list, b"legal 65518\n")?;
     let fits = text.len() <= MOST && bars(&text) == 4096;
     assert!(rt; fits);
     Ok(())
@@ -71,9 +83,9 @@ fn the_longest_journal_has_4096_bars(rt: HostRuntime) -> Result<(), Fail> {
 fn the_longest_journal_fits_as_text(rt: HostRuntime) -> Result<(), Fail> {
     let alloc = rt.alloc();
     let plan = Plan::new(alloc, 4, &[0; 4095])?;
-    let list = longest(alloc)?;
+    let list = longest(alloc, 4, 4095)?;
     assert_eq!(rt; list.len(), 45_045);
-    let shapes = shapes(alloc)?;
+    let shapes = shapes(alloc, 4095)?;
     assert_eq!(rt; shapes.len(), plan.sites() as usize);
     let text = text_picture(alloc, &plan, &shapes, &list, b"legal 45045\n")?;
     let fits = 1_700_000 <= text.len() && text.len() <= MOST;

@@ -12,5 +12,5 @@ returns-in-Err-clause-fault c =
 pub returns-in-Err-check-clause-fault : goal.returns-in-Err-check-clause-fault
 returns-in-Err-check-clause-fault c =
     no_verdict_of_no_run c.args.wanted.harts c.args.first.now c.args.second.now c.refusal.result
-    (refused_line c.args.wanted.harts c.args.first.now (program_of c.in-Ok.program) c.in-Err-check.fault c.refusal.result c.requires.few_harts c.requires.short c.in-Ok.ensures.found
+    (refused_line c.args.wanted.harts c.args.first.now (program_of c.in-Ok.program) c.in-Err-check.fault c.refusal.result c.requires.short c.in-Ok.ensures.found
     c.refusal.ensures c.in-Err-check.ensures.fault)
