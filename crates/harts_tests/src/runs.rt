@@ -3,7 +3,7 @@ ghost use Rattle.std.specs.Prelude.{◌≤◌};
 
 use array_tree::Program;
 use disjoint_check::check;
-use hart_loop::run_harts;
+use hart_loop::{Journal, run_harts};
 use lithe_call::{Status, lithe};
 use outside_io::{Gate, OpenGate, SureSink, SureSource};
 use sample_programs::parsed;
@@ -40,6 +40,10 @@ pub const TWO: &[&str] = &["run", "--harts", "2"];
 pub const THREE: &[&str] = &["run", "--harts", "3"];
 
 pub const FOUR: &[&str] = &["run", "--harts", "4"];
+
+const FIVE: &[&str] = &["run", "--harts", "5"];
+
+const SIXTEEN: &[&str] = &["run", "--harts", "16"];
 
 const SOLO: &[&str] = &["solo"];
 
@@ -108,6 +112,25 @@ fn all_programs_run_many_times(rt: HostRuntime) -> Result<(), Fail> {
     Ok(())
 }
 
+#[test]
+fn all_programs_run_on_five_and_sixteen_harts(rt: HostRuntime) -> Result<(), Fail> {
+    for _ in 0..5 {
+        for program in PROGRAMS {
+            assert!(rt; is_right(&rt, FIVE, program)? && is_right(&rt, SIXTEEN, program)?);
+        }
+    }
+    Ok(())
+}
+
+// Whether the journal is that of the board for so many harts.
+fn is_of_its_board(journal: &Journal, harts: u8) -> bool {
+    match journal {
+        Journal::Listed(_) => false,
+        Journal::Board(_) => harts <= 4,
+        Journal::Wide(_) => 4 < harts,
+    }
+}
+
 // Whether the table takes the journal of a run on so many harts as a complete one.
 fn is_complete<R: Threads + Wait + Sync>(
     rt: &R,
@@ -116,12 +139,13 @@ fn is_complete<R: Threads + Wait + Sync>(
     harts: u8,
 ) -> Result<bool, Fail>
     requires several { 2 ≤ harts }
-    requires few { harts ≤ 4 }
+    requires few { harts ≤ 16 }
 {
     let accepted = check(alloc, program, harts)?;
     let outcome = run_harts(rt, alloc, &accepted, &OpenGate)?;
     let all = vec![in alloc; true; accepted.plan().sites() as usize]?;
-    Ok(first_fault(alloc, accepted.plan(), &all, outcome.journal.entries())?.is_none())
+    let fault = first_fault(alloc, accepted.plan(), &all, outcome.journal.entries())?;
+    Ok(fault.is_none() && is_of_its_board(&outcome.journal, harts))
 }
 
 #[test]
@@ -131,6 +155,8 @@ fn each_journal_is_complete(rt: HostRuntime) -> Result<(), Fail> {
         assert!(rt; is_complete(&rt, rt.alloc(), &program, 2)?);
         assert!(rt; is_complete(&rt, rt.alloc(), &program, 3)?);
         assert!(rt; is_complete(&rt, rt.alloc(), &program, 4)?);
+        assert!(rt; is_complete(&rt, rt.alloc(), &program, 5)?);
+        assert!(rt; is_complete(&rt, rt.alloc(), &program, 16)?);
     }
     Ok(())
 }
