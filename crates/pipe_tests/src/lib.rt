@@ -1,4 +1,4 @@
-//! Tests of pipelines: the check of crossings.
+//! Tests of pipelines: the check of crossings, and the state of a pipeline.
 //!
 //! They stand apart since a crate is proved a second time with its tests.
 #![tactic(auto)]
@@ -7,3 +7,5 @@
 mod crossings;
 #[cfg(test)]
 mod samples;
+#[cfg(test)]
+mod states;

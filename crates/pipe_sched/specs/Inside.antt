@@ -1,0 +1,95 @@
+-- What only private contracts and proofs need: the places of a pipeline with what they hold.
+use Rattle.std.specs.Prelude.{◌≡◌, ℕ, zero, suc, ◌+◌, ◌-◌, ◌*◌, ◌%◌, ◌<◌, ◌≤◌, List, [], ◌∷◌, ◌++◌, true, map, length, slice_get, slice_index_or, Some}
+use Rattle.array_tree.specs.Trees.{statement_of}
+use Rattle.array_meaning.specs.Stores.{Write}
+use Rattle.array_jobs.specs.Jobs.{JobParts, job_of}
+use Rattle.array_jobs.specs.PieceParts.{piece_of_job}
+use Rattle.step_eval.specs.declared.shape.Kind.TheVariants as kind
+use Rattle.step_eval.specs.Nests.{NestedParts, NestedTree, nested_of, IsFitNest}
+use Rattle.step_eval.specs.Shapes.{kind_of}
+use Rattle.pipe_sched.specs.declared.slot.Slot.{Slot}
+use Rattle.pipe_sched.specs.declared.slot.Slot.TheVariants as slot
+use Rattle.pipe_sched.specs.Slots.{Mark, Waiting, Barred, Out, Filled, Lost, IsAt, IsClear, is_begun, is_settled, is_failed, phases_in, members_in}
+use Rattle.pipe_sched.specs.Pipes.{IsJobAt}
+
+abbrev pub mark_of : Slot → Mark
+mark_of slot.Waiting = Waiting
+mark_of slot.Barred = Barred
+mark_of (slot.Out job) = Out
+mark_of (slot.Filled job written) = Filled
+mark_of (slot.Lost job) = Lost
+
+-- It was handed out with this job.
+abbrev pub HasJob : Slot → JobParts → Type 0
+HasJob slot.Waiting job = ⊥
+HasJob slot.Barred job = ⊥
+HasJob (slot.Out own) job = job_of own ≡ job_of job
+HasJob (slot.Filled own written) job = job_of own ≡ job_of job
+HasJob (slot.Lost own) job = job_of own ≡ job_of job
+
+abbrev pub failed_slot : Slot → Slot
+failed_slot slot.Waiting = slot.Barred
+failed_slot slot.Barred = slot.Barred
+failed_slot (slot.Out job) = slot.Lost job
+failed_slot (slot.Filled job written) = slot.Filled job written
+failed_slot (slot.Lost job) = slot.Lost job
+
+-- Where it was handed out, its job is that of member j in phase k, and it is filled with what this job writes.
+abbrev pub IsRight : NestedTree → ℕ → ℕ → Slot → Type 0
+IsRight nested j k slot.Waiting = Unit {0}
+IsRight nested j k slot.Barred = Unit {0}
+IsRight nested j k (slot.Out job) = IsJobAt nested j k (job_of job)
+IsRight nested j k (slot.Filled job written) =
+    IsJobAt nested j k (job_of job) × (written.pairs ≡ piece_of_job (job_of job))
+IsRight nested j k (slot.Lost job) = IsJobAt nested j k (job_of job)
+
+-- All that come before a piece that was handed out are filled.
+abbrev pub AreInOrder : ℕ → List Mark → Type 0
+AreInOrder phases marks = (j k : ℕ) (mark : Mark) → IsAt phases marks j k mark → is_begun mark ≡ true → IsClear phases marks j k
+
+-- What the type keeps of a construct and the places of its pieces.
+pub record IsKept (nested : NestedParts) (slots : List Slot) : Type 0 where
+  pub team : kind_of (statement_of nested.construct) ≡ Some kind.Team
+  pub fit : IsFitNest (nested_of nested)
+  pub count : length slots ≡ members_in nested * phases_in nested
+  pub right : (j k : ℕ) (own : Slot) → k < phases_in nested →
+      slice_get slots (j * phases_in nested + k) ≡ Some own → IsRight (nested_of nested) j k own
+  pub order : AreInOrder (phases_in nested) (map mark_of slots)
+
+abbrev pub AreSettled : List Slot → Type 0
+AreSettled slots = (i : ℕ) (own : Slot) → slice_get slots i ≡ Some own → is_settled (mark_of own) ≡ true
+
+abbrev pub HaveFailed : List Slot → Type 0
+HaveFailed slots = (i : ℕ) × (own : Slot) × (slice_get slots i ≡ Some own) × (is_failed (mark_of own) ≡ true)
+
+-- The mark at a place.
+abbrev pub mark_at : List Slot → ℕ → Mark
+mark_at slots i = mark_of (slice_index_or slots i slot.Barred)
+
+-- The piece at a place waits, and the two are filled that come right before it: that of the same member in the phase before, and
+-- that of the member below in the same phase.
+pub record LooksReady (phases : ℕ) (slots : List Slot) (i : ℕ) : Type 0 where
+  pub waits : mark_at slots i ≡ Waiting
+  pub earlier : 0 < i % phases → mark_at slots (i - 1) ≡ Filled
+  pub below : phases ≤ i → mark_at slots (i - phases) ≡ Filled
+
+-- What a place holds of what its piece writes.
+abbrev pub written_in : Slot → List Write
+written_in slot.Waiting = []
+written_in slot.Barred = []
+written_in (slot.Out job) = []
+written_in (slot.Filled job written) = written.pairs
+written_in (slot.Lost job) = []
+
+-- What the first members have of a phase.
+abbrev pub column : ℕ → List Slot → ℕ → ℕ → List (List Write)
+column phases slots phase zero = []
+column phases slots phase (suc members) =
+    column phases slots phase members
+    ++ written_in (slice_index_or slots (members * phases + phase) slot.Barred) ∷ []
+
+-- What the first members have of the first phases.
+abbrev pub columns : ℕ → List Slot → ℕ → ℕ → List (List (List Write))
+columns phases slots members zero = []
+columns phases slots members (suc upto) =
+    columns phases slots members upto ++ column phases slots upto members ∷ []

@@ -1,0 +1,61 @@
+-- The pieces of a pipeline: their jobs, and how they are handed out and come back.
+use Rattle.std.specs.Prelude.{◌≡◌, ℕ, List, slice_get, Option, Some, None, Result, Ok, Err, true}
+use Rattle.array_meaning.specs.Stores.{Store, Write, arrays_of, after}
+use Rattle.array_jobs.specs.Jobs.{JobParts, JobTree, job_of}
+use Rattle.array_jobs.specs.PieceParts.{PieceParts}
+use Rattle.join_book.specs.declared.book.Deposit.{Deposit}
+use Rattle.join_book.specs.declared.book.Deposit.TheVariants.{Kept, Double, Stranger}
+use Rattle.step_eval.specs.Nests.{NestedTree, nested_of, rounds_of, jobs_in}
+use Rattle.phase_order.specs.Crossings.{HasNoCrossing}
+use Rattle.phase_order.specs.Pipes.{written_before, piped}
+use Rattle.pipe_sched.specs.Slots.{Mark, Out, Filled, PipeParts, IsMarked, IsDue, NoneIsDue, is_begun, marked_pipe}
+
+-- What the pieces of a construct write in a pipeline, phase after phase.
+abbrev pub piped_writes : NestedTree → List (List (List Write))
+piped_writes nested =
+    piped (arrays_of nested.arrays) (rounds_of nested.construct nested.vars) nested.store
+
+-- The store that the pieces leave that come before that of member j in phase k.
+abbrev pub piped_store : NestedTree → ℕ → ℕ → Store
+piped_store nested j k = after (written_before (piped_writes nested) j k) nested.store
+
+-- It is the job of member j in phase k: it starts from that store.
+abbrev pub IsJobAt : NestedTree → ℕ → ℕ → JobTree → Type 0
+IsJobAt nested j k job = slice_get (jobs_in nested k (piped_store nested j k)) j ≡ Some job
+
+-- No two pieces of the construct cross.
+abbrev pub IsUncrossed : NestedTree → Type 0
+IsUncrossed nested =
+    HasNoCrossing (arrays_of nested.arrays) (rounds_of nested.construct nested.vars)
+
+-- The job was handed out: it is that of the member and the phase that it names, and this piece was handed out.
+pub record WasHandedOut (pipe : PipeParts) (job : JobParts) : Type 0 where
+  pub mark : Mark
+  pub marked : IsMarked pipe job.place job.phase mark
+  pub begun : is_begun mark ≡ true
+  pub own : IsJobAt (nested_of pipe.nested) job.place job.phase (job_of job)
+
+-- What is handed out is the piece that is due, with its job: that of the member and the phase that the job names.
+pub record HandsOut (before : PipeParts) (job : JobParts) (after : PipeParts) : Type 0 where
+  pub due : IsDue before job.place job.phase
+  pub own : IsJobAt (nested_of before.nested) job.place job.phase (job_of job)
+  pub marked : after ≡ marked_pipe before job.place job.phase Out
+  pub out : IsMarked after job.place job.phase Out
+
+-- Of a pipeline, what it hands out and the pipeline afterwards. It hands out nothing only where no piece is due. Want of memory
+-- changes nothing.
+abbrev pub Gives : {E : Type 0} → PipeParts → Result (Option JobParts) E → PipeParts → Type 0
+Gives before (Ok (Some job)) after = HandsOut before job after
+Gives before (Ok None) after = NoneIsDue before × (after ≡ before)
+Gives before (Err refused) after = after ≡ before
+
+-- Of a pipeline and a piece, the answer and the pipeline afterwards.
+abbrev pub Deposits : PipeParts → PieceParts → Deposit → PipeParts → Type 0
+Deposits before piece Kept after =
+    WasHandedOut before piece.job × IsMarked before piece.job.place piece.job.phase Out
+    × (after ≡ marked_pipe before piece.job.place piece.job.phase Filled)
+Deposits before piece (Double back) after =
+    WasHandedOut before piece.job × (¬ IsMarked before piece.job.place piece.job.phase Out)
+    × (back ≡ piece) × (after ≡ before)
+Deposits before piece (Stranger back) after =
+    (¬ WasHandedOut before piece.job) × (back ≡ piece) × (after ≡ before)

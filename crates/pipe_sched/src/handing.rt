@@ -1,0 +1,128 @@
+//! Handing out the piece that is due.
+ghost use Rattle.std.specs.Prelude.{◌≡◌, ◌↔◌, ◌*◌, ◌<◌, ◌≤◌, ℕ, IsTrue, IfOk, IfSome, IfNone, Some, length, slice_get};
+ghost use Rattle.array_tree.specs.Trees.{statement_of};
+ghost use Rattle.array_jobs.specs.Jobs.{job_of};
+ghost use Rattle.step_eval.specs.Nests.{nested_of, phases_of, jobs_in};
+ghost use Rattle.step_eval.specs.Shapes.{members_of};
+ghost use Rattle.pipe_sched.specs.Slots.{Out, IsClear, IsDue, NoneIsDue, IsMarked, IsReady, marked_pipe, phases_in, members_in};
+ghost use Rattle.pipe_sched.specs.Pipes.{Gives, IsJobAt, piped_store};
+ghost use Rattle.pipe_sched.specs.Inside.{LooksReady};
+
+use crate::merging::{fresh_store, merge_phase, merge_phases};
+use crate::slot::Slot;
+use crate::state::PipeState;
+use array_eval::Store;
+use array_jobs::Job;
+use std::alloc::{AllocError, Global};
+use step_eval::{Nested, jobs_of};
+
+impl<'p> PipeState<'p> {
+    /// Hands out the piece that is due: of those that wait and after none that isn't filled, the one of the lowest member, and
+    /// of its phases the first. It is None exactly where there is none. The job starts from the construct's store with what
+    /// the pieces wrote that come before it.
+    pub fn next(&mut self) -> Result<Option<Job<'p>>, AllocError>
+        ensures { Gives self.old result self.new }
+    {
+        match self.due() {
+            None => Ok(None),
+            Some((member, phase)) => {
+                let job = self.job_at(member, phase)?;
+                let own = job.copy()?;
+                self.hand_out(member, phase, own);
+                Ok(Some(job))
+            }
+        }
+    }
+
+    // The member and the phase of the piece that is due, if there is one.
+    pub(crate) fn due(&self) -> Option<(u8, u8)>
+        ensures some { IfSome result (λ piece. IsDue self.now piece.0 piece.1) }
+        ensures none { IfNone result (NoneIsDue self.now) }
+    {
+        let phases = usize::from(self.nested.phases());
+        match first_ready(&self.slots, phases) {
+            Some(place) => Some(((place / phases) as u8, (place % phases) as u8)),
+            None => None,
+        }
+    }
+
+    // The job of a piece before which all are filled.
+    fn job_at(&self, member: u8, phase: u8) -> Result<Job<'p>, AllocError>
+        requires { IsReady (phases_in self.now.nested) self.now.marks member phase }
+        ensures own { IfOk result (λ job. IsJobAt (nested_of self.now.nested) member phase (job_of job)) }
+        ensures place { IfOk result (λ job. job.place ≡ member) }
+        ensures phase { IfOk result (λ job. job.phase ≡ phase) }
+    {
+        let store = self.store_before(member, phase)?;
+        one_job(self.alloc, &self.nested, member, phase, &store)
+    }
+
+    // The store that the pieces leave that come before this one.
+    fn store_before(&self, member: u8, phase: u8) -> Result<Store, AllocError>
+        requires { IsReady (phases_in self.now.nested) self.now.marks member phase }
+        ensures { IfOk result (λ store. store ≡ piped_store (nested_of self.now.nested) member phase) }
+    {
+        let phases = usize::from(self.nested.phases());
+        let below = usize::from(member);
+        let earlier = usize::from(phase);
+        let mut store = fresh_store(self.alloc, &self.nested)?;
+        merge_phases(&self.slots, phases, below + 1, earlier, &mut store);
+        merge_phase(&self.slots, phases, below, earlier, &mut store);
+        store.to_store(self.alloc)
+    }
+
+    // Keeps that a piece was handed out with this job.
+    fn hand_out(&mut self, member: u8, phase: u8, job: Job<'p>)
+        requires ready { IsReady (phases_in self.old.nested) self.old.marks member phase }
+        requires own { IsJobAt (nested_of self.old.nested) member phase (job_of job) }
+        ensures marked { self.new ≡ marked_pipe self.old member phase Out }
+        ensures out { IsMarked self.new member phase Out }
+    {
+        let phases = usize::from(self.nested.phases());
+        self.slots[usize::from(member) * phases + usize::from(phase)] = Slot::Out(job);
+    }
+}
+
+// The job of a member in a phase, which starts from this store.
+fn one_job<'p>(
+    alloc: Global,
+    nested: &Nested<'p>,
+    member: u8,
+    phase: u8,
+    store: &Store,
+) -> Result<Job<'p>, AllocError>
+    requires member { member < members_of (statement_of nested.now.construct) }
+    requires phase { phase < phases_of (statement_of nested.now.construct) }
+    requires cells { length store.now ≡ length nested.now.store }
+    ensures { IfOk result
+        (λ job. slice_get (jobs_in (nested_of nested.now) phase store.now) member ≡ Some (job_of job)) }
+{
+    let jobs = jobs_of(alloc, nested, phase, store)?;
+    jobs[usize::from(member)].copy()
+}
+
+// The first place that looks ready, if there is one.
+fn first_ready(slots: &[Slot], phases: usize) -> Option<usize>
+    requires { 0 < phases }
+    ensures there { IfSome result (λ place. (place < length slots.now) × LooksReady phases slots.now place) }
+    ensures first { IfSome result (λ place. (i : ℕ) → i < place → ¬ LooksReady phases slots.now i) }
+    ensures none { IfNone result ((i : ℕ) → i < length slots.now → ¬ LooksReady phases slots.now i) }
+{
+    for place in 0..slots.len() {
+        if looks_ready(slots, phases, place) {
+            return Some(place);
+        }
+    }
+    None
+}
+
+// Whether the piece at a place waits, and those are filled that come right before it.
+fn looks_ready(slots: &[Slot], phases: usize, place: usize) -> bool
+    requires phases { 0 < phases }
+    requires there { place < length slots.now }
+    ensures { IsTrue result ↔ LooksReady phases slots.now place }
+{
+    slots[place].is_waiting()
+        && (place % phases == 0 || slots[place - 1].is_filled())
+        && (place < phases || slots[place - phases].is_filled())
+}

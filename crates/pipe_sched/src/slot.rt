@@ -1,0 +1,83 @@
+//! Places for pieces.
+ghost use Rattle.std.specs.Prelude.{◌≡◌, ◌↔◌, IsTrue};
+ghost use Rattle.pipe_sched.specs.Slots.{Waiting, Out, Filled, is_settled, is_failed};
+ghost use Rattle.pipe_sched.specs.Inside.{mark_of, failed_slot, HasJob};
+
+use array_eval::Overlay;
+use array_jobs::Job;
+use std::mem;
+
+// What became of the piece of one member in one phase.
+#[derive(Debug, Drop)]
+pub(crate) enum Slot<'p> {
+    // It hasn't been handed out.
+    Waiting,
+    // It never will be, since one that must come before it found no memory.
+    Barred,
+    // It was handed out with this job.
+    Out(Job<'p>),
+    // What the job writes.
+    Filled(Job<'p>, Overlay),
+    // It was handed out and found no memory.
+    Lost(Job<'p>),
+}
+
+impl<'p> Slot<'p> {
+    pub(crate) fn is_waiting(&self) -> bool
+        ensures { IsTrue result ↔ (mark_of self.now ≡ Waiting) }
+    {
+        matches!(self, Slot::Waiting)
+    }
+
+    pub(crate) fn is_out(&self) -> bool
+        ensures { IsTrue result ↔ (mark_of self.now ≡ Out) }
+    {
+        matches!(self, Slot::Out(_))
+    }
+
+    pub(crate) fn is_filled(&self) -> bool
+        ensures { IsTrue result ↔ (mark_of self.now ≡ Filled) }
+    {
+        matches!(self, Slot::Filled(_, _))
+    }
+
+    // Whether the piece is filled or has failed.
+    pub(crate) fn is_settled(&self) -> bool
+        ensures { result ≡ is_settled (mark_of self.now) }
+    {
+        match self {
+            Slot::Filled(_, _) | Slot::Barred | Slot::Lost(_) => true,
+            Slot::Waiting | Slot::Out(_) => false,
+        }
+    }
+
+    pub(crate) fn is_failed(&self) -> bool
+        ensures { result ≡ is_failed (mark_of self.now) }
+    {
+        match self {
+            Slot::Barred | Slot::Lost(_) => true,
+            Slot::Waiting | Slot::Out(_) | Slot::Filled(_, _) => false,
+        }
+    }
+
+    // Whether it was handed out with an equal job.
+    pub(crate) fn has_job(&self, job: &Job) -> bool
+        ensures { IsTrue result ↔ HasJob self.now job.now }
+    {
+        match self {
+            Slot::Out(own) | Slot::Filled(own, _) | Slot::Lost(own) => *own == *job,
+            Slot::Waiting | Slot::Barred => false,
+        }
+    }
+
+    // Its piece, or one that must come before it, found no memory.
+    pub(crate) fn fail(&mut self)
+        ensures { self.new ≡ failed_slot self.old }
+    {
+        *self = match mem::replace(self, Slot::Barred) {
+            Slot::Waiting => Slot::Barred,
+            Slot::Out(job) => Slot::Lost(job),
+            slot => slot,
+        };
+    }
+}
