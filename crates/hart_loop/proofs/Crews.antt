@@ -1,5 +1,5 @@
 -- What the harts of a crew have done together.
-use Rattle.std.proofs.Common.{◌≡◌, ◌<◌, ◌∙◌, ◌-◌, ℕ, zero, suc, List, [], ◌∷◌, length, reverse, map, get_or, slice_set, slice_index_or, Option, Some, ap, sym, subst, refl, arith}
+use Rattle.std.proofs.Common.{◌≡◌, ◌<◌, ◌∙◌, ◌-◌, ℕ, zero, suc, List, [], ◌∷◌, length, reverse, map, get_or, slice_set, slice_index_or, Option, Some, IfSome, ap, sym, subst, refl, arith}
 use Rattle.std.specs.List.{All, AllZip}
 use Rattle.std.proofs.lemmas.List.{get_or-map, length-map, length-reverse, get_or-reverse}
 use Rattle.std.proofs.lemmas.List.Elements.{AllZip-get_or}
@@ -71,6 +71,14 @@ module _ {P S : Type 0} (seen : P → PortView) where
   first_ran [] ys d e j piece some ran = absurd (omega (arith, some))
   first_ran (x ∷ xs) [] d e j piece some ran = absurd ran
   first_ran (x ∷ xs) (y ∷ ys) d e j piece some ran = ran.0.gone j refl
+
+  -- and its piece, if there is one, is that of its job
+  pub first_made : (xs ys : List (Hart P S)) (d e : Hart P S) (j : JobParts) → 0 < length xs
+      → HaveRun seen (slice_set xs 0 (record (slice_index_or xs 0 d) { job = Some j })) ys
+      → IfSome (slice_index_or ys 0 e).piece (λ k. k.job ≡ j)
+  first_made [] ys d e j some ran = absurd (omega (arith, some))
+  first_made (x ∷ xs) [] d e j some ran = absurd ran
+  first_made (x ∷ xs) (y ∷ ys) d e j some ran = ran.0.piece j refl
 
   -- harts that have run in the opposite order have run
   pub run_reversed : (xs ys : List (Hart P S)) → HaveRun seen (reverse xs) ys → HaveRun seen xs (reverse ys)
