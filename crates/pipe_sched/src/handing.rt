@@ -1,10 +1,10 @@
 //! Handing out the piece that is due.
-ghost use Rattle.std.specs.Prelude.{◌≡◌, ◌↔◌, ◌*◌, ◌<◌, ◌≤◌, ℕ, IsTrue, IfOk, IfSome, IfNone, Some, length, slice_get};
+ghost use Rattle.std.specs.Prelude.{◌≡◌, ◌↔◌, ◌*◌, ◌<◌, ℕ, IsTrue, IfOk, IfSome, IfNone, Some, length, slice_get};
 ghost use Rattle.array_tree.specs.Trees.{statement_of};
 ghost use Rattle.array_jobs.specs.Jobs.{job_of};
 ghost use Rattle.step_eval.specs.Nests.{nested_of, phases_of, jobs_in};
 ghost use Rattle.step_eval.specs.Shapes.{members_of};
-ghost use Rattle.pipe_sched.specs.Slots.{Out, IsClear, IsDue, NoneIsDue, IsMarked, IsReady, marked_pipe, phases_in, members_in};
+ghost use Rattle.pipe_sched.specs.Slots.{Out, IsDue, NoneIsDue, IsMarked, IsReady, marked_pipe, phases_in};
 ghost use Rattle.pipe_sched.specs.Pipes.{Gives, IsJobAt, piped_store};
 ghost use Rattle.pipe_sched.specs.Inside.{LooksReady};
 
