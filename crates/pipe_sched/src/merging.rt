@@ -14,8 +14,8 @@ use std::alloc::{AllocError, Global};
 use step_eval::Nested;
 
 impl<'p> PipeState<'p> {
-    /// What the whole construct writes, each cell with its last value, in whatever order the pieces came. Every piece must be
-    /// filled or failed; where one has failed, the answer is want of memory. No two pieces of the construct may cross.
+    /// What the whole construct writes where no two of its pieces cross, each cell with its last value, in whatever order the
+    /// pieces came. Every piece must be filled or failed; where one has failed, the answer is want of memory.
     pub fn take_all(self) -> Result<Overlay, AllocError>
         requires { IsFull self }
         ensures failed { HasFailed self.entry → IsErr result }
