@@ -1,6 +1,6 @@
 -- A pool behind a lock, as far as it is known without what the lock holds.
-use Rattle.std.specs.Prelude.{◌≡◌, ℕ, List}
-use Rattle.array_jobs.specs.Jobs.{JobParts}
+use Rattle.std.specs.Prelude.{◌≡◌, ℕ, List, slice_get, Some}
+use Rattle.array_jobs.specs.Jobs.{JobParts, job_of}
 use Rattle.array_jobs.specs.PieceParts.{PieceParts}
 use Rattle.join_book.specs.declared.book.Deposit.{Deposit}
 use Rattle.join_book.specs.declared.book.Deposit.TheVariants.{Kept, Double, Stranger}
@@ -10,8 +10,14 @@ pub record SharedParts : Type 0 where
   pub site : ℕ
   pub jobs : List JobParts
 
--- A piece is kept, or is given back.
-abbrev pub GivesBack : PieceParts → Deposit → Type 0
-GivesBack piece Kept = Unit {0}
-GivesBack piece (Double back) = back ≡ piece
-GivesBack piece (Stranger back) = back ≡ piece
+-- The job is that of the place that it names.
+abbrev pub HasJob : SharedParts → JobParts → Type 0
+HasJob shared job = (own : JobParts) × (slice_get shared.jobs job.place ≡ Some own)
+    × (job_of own ≡ job_of job)
+
+-- What is known of a deposit without what the lock holds: a piece is kept, or is a Double, only where its job is that of its
+-- place, and what isn't kept is given back.
+abbrev pub Receives : SharedParts → PieceParts → Deposit → Type 0
+Receives shared piece Kept = HasJob shared piece.job
+Receives shared piece (Double back) = HasJob shared piece.job × (back ≡ piece)
+Receives shared piece (Stranger back) = back ≡ piece

@@ -2,7 +2,7 @@
 ghost use Rattle.std.specs.Prelude.{◌≡◌, ◌≤◌, ◌+◌, length, IfSome, IfErr};
 ghost use Rattle.deque_rows.specs.Rows.{home_log, row_room};
 ghost use Rattle.join_book.specs.Books.{IsFull};
-ghost use Rattle.forkjoin_sched.specs.Shared.{GivesBack};
+ghost use Rattle.forkjoin_sched.specs.Shared.{Receives};
 ghost use Rattle.forkjoin_sched.specs.HandCalls.{AnswersHand, IsStill, Offers, TakesReadyBy, LooksBy};
 
 use crate::hand::PoolHand;
@@ -32,12 +32,18 @@ impl<'a, 'r, 'p, R: Wait + 'a> PoolHand<'a, 'r, 'p, R> {
     }
 
     /// What `deposit` of the pool does. Where the pool was handed out, each piece is a Stranger.
+    ///
+    /// The piece's job is compared before the lock is taken, with the copy that stands beside it. A lock tells nothing of what
+    /// stands beside it, so behind it the piece lies with its own job: who takes the pool out has to compare its jobs.
     pub fn deposit(&self, rt: &R, piece: Piece<'p>) -> Deposit<'p>
-        ensures { GivesBack piece.entry result }
+        ensures { Receives self.now.shared.now piece.entry result }
     {
+        if !self.shared.has_job(&piece.job) {
+            return Deposit::Stranger(piece);
+        }
         match self.shared.kept().lock(rt).as_mut() {
             Some(pool) => {
-                let deposit = pool.deposit(piece);
+                let deposit = pool.put(piece);
                 self.shared.show_full(pool);
                 deposit
             }

@@ -6,7 +6,7 @@ ghost use Rattle.sched_api.specs.Wishes.{with_wishes, without_child};
 ghost use Rattle.array_jobs.specs.Jobs.{job_of};
 ghost use Rattle.array_jobs.specs.Groups.{IsGroup};
 ghost use Rattle.work_agenda.specs.Agenda.{GivesReady};
-ghost use Rattle.join_book.specs.Books.{Open, Filled, Failed, IsMarked, IsPlaceOf, IsFull, HasFailed, Deposits, marked_book, all_writes};
+ghost use Rattle.join_book.specs.Books.{Open, Filled, Failed, IsMarked, IsPlaceOf, IsFull, HasFailed, Deposits, Puts, marked_book, all_writes};
 ghost use Rattle.forkjoin_sched.specs.declared.work.PoolWork.TheVariants.{Begin};
 ghost use Rattle.forkjoin_sched.specs.Pools.{new_pool, Answers, Hears, Takes, with_book, with_agenda, GivesJob};
 
@@ -141,6 +141,22 @@ impl<'p> Pool<'p> {
         }
     }
 
+    /// Keeps a piece at the place that its job names, with that job in place of the place's own. It does what `put` of the book
+    /// does.
+    pub fn put(&mut self, piece: Piece<'p>) -> Deposit<'p>
+        ensures book { Puts self.old.book piece.entry result self.new.book }
+        ensures rest { self.new ≡ with_book self.old self.new.book }
+    {
+        match self.book.acquire(()) {
+            Acquired::Got(mut book, ()) => {
+                let deposit = book.put(piece);
+                self.book.release(book);
+                deposit
+            }
+            Acquired::Kept => unreachable!(),
+        }
+    }
+
     /// Keeps a piece at the place of its job, which must be open. The caller knows that it is that place, so no jobs are
     /// compared.
     pub fn keep(&mut self, piece: Piece<'p>)
@@ -202,7 +218,7 @@ impl<'p> Pool<'p> {
         }
     }
 
-    /// The jobs, in the order of their places.
+    /// The jobs, in the order of their places: those of the pool, and of pieces that were put in.
     pub fn jobs(&self) -> &[Job<'p>]
         ensures { result.now ≡ self.now.book.jobs }
     {

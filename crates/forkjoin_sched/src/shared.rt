@@ -1,5 +1,6 @@
 //! Pools that harts share.
-ghost use Rattle.std.specs.Prelude.{◌≡◌, length, IfOk, vec_len};
+ghost use Rattle.std.specs.Prelude.{◌≡◌, ◌↔◌, length, IfOk, IsTrue, vec_len};
+ghost use Rattle.forkjoin_sched.specs.Shared.{HasJob};
 
 use crate::pool::Pool;
 use array_jobs::{Job, copy_jobs};
@@ -66,6 +67,16 @@ impl<'p> SharedPool<'p> {
         ensures { result.now ≡ self.now.jobs }
     {
         &self.jobs
+    }
+
+    // Whether the job is that of the place that it names.
+    pub(crate) fn has_job(&self, job: &Job) -> bool
+        ensures { IsTrue result ↔ HasJob self.now job.now }
+    {
+        match self.jobs.get(usize::from(job.place)) {
+            Some(own) => *own == *job,
+            None => false,
+        }
     }
 
     // The site of the jobs.

@@ -22,11 +22,11 @@ use Rattle.array_meaning.proofs.KnownLemmas.{piece_inside}
 use Rattle.array_jobs.specs.Works.{steps_of}
 use Rattle.array_jobs.proofs.FitLemmas.{sized, known}
 use Rattle.array_jobs.specs.Jobs.{JobParts, JobTree, job_of, IsFit, names_around}
-use Rattle.array_jobs.specs.PieceParts.{piece_of_job}
+use Rattle.array_jobs.specs.PieceParts.{PieceParts, piece_of_job}
 use Rattle.join_book.specs.declared.place.Place.{Place}
 use Rattle.join_book.specs.declared.place.Place.TheVariants as place
 use Rattle.array_jobs.specs.Groups.{IsGroup, AreAlike}
-use Rattle.join_book.specs.Books.{BookParts, Mark, Open, Filled, Failed, mark_of, IsKept, HaveCells, IsPlaceOf, open_book, marked_book, filled_pieces}
+use Rattle.join_book.specs.Books.{BookParts, Mark, Open, Filled, Failed, mark_of, IsKept, HaveCells, IsPlaceOf, open_book, marked_book, with_piece, filled_pieces}
 
 -- ---- an element of a list that was written
 
@@ -73,24 +73,35 @@ group_some jobs group = let some_job = group.some in let same = length-map jobs 
 abbrev pub told_book : List JobParts → List Place → BookParts
 told_book jobs places = record { jobs = jobs; places = map mark_of places }
 
+-- each job names its place
+abbrev pub NamePlaces : List JobParts → Type 0
+NamePlaces jobs = (i : ℕ) (job : JobParts) → slice_get jobs i ≡ Some job → job.place ≡ i
+
 -- a job's place is the one that it names
 pub own_place : (jobs : List JobParts) (places : List Mark) → IsGroup (map job_of jobs) → (i : ℕ) (job : JobParts) →
     IsPlaceOf (record { jobs = jobs; places = places }) i job → i ≡ job.place
 own_place jobs places group i job is = sym (group_place jobs group i is.0 is.1) ∙ ap (λ tree. tree.place) is.2
 
 -- and so it is of a book that is told so
-pub only_place : (book : BookParts) (jobs : List JobParts) (places : List Place) → told_book jobs places ≡ book → IsGroup (map job_of jobs) → (job : JobParts) →
+pub only_place : (book : BookParts) (jobs : List JobParts) (places : List Place) → told_book jobs places ≡ book → NamePlaces jobs → (job : JobParts) →
     (i : ℕ) → IsPlaceOf book i job → i ≡ job.place
-only_place book jobs places e group job i is =
-    let G : List JobParts → Type 0 = λ js. IsGroup (map job_of js) in
-    own_place book.jobs book.places (subst G (ap (λ b. b.jobs) e) group) i job is
+only_place book jobs places e named job i is =
+    sym (subst NamePlaces (ap (λ b. b.jobs) e) named i is.0 is.1) ∙ ap (λ tree. tree.place) is.2
+
+-- the jobs' stores are of one size
+pub same_size : (jobs : List JobParts) → IsGroup (map job_of jobs) → ((i : ℕ) (job : JobParts) → slice_get jobs i ≡ Some job → IsFit (job_of job)) →
+    (i k : ℕ) (a b : JobParts) → slice_get jobs i ≡ Some a → slice_get jobs k ≡ Some b → length a.store ≡ length b.store
+same_size jobs group fit i k a b at there =
+    (fit i a at).cells ∙ ap (λ ds. cells_of (arrays_of ds)) (group_alike jobs group i k a b at there).arrays ∙ sym (fit k b there).cells
 
 -- no place of a new book is filled
 pub kept_open : (jobs : List JobParts) (places : List Place) → IsGroup (map job_of jobs) → ((i : ℕ) (job : JobParts) → slice_get jobs i ≡ Some job → IsFit (job_of job)) →
     places ≡ replicate (length jobs) place.Open → IsKept jobs places
 kept_open jobs places group fit e = record {
-  group = group;
+  some = group_some jobs group;
   fit = fit;
+  named = group_place jobs group;
+  cells = same_size jobs group fit;
   each = ap length e ∙ length-replicate (length jobs) place.Open;
   filled = λ i job written own is. let same = at_replicate (length jobs) i place.Open (place.Filled written) (subst (λ (ps : List Place). slice_get ps i ≡ Some (place.Filled written)) e is) in cc;
 }
@@ -110,8 +121,10 @@ pub kept_filled : (jobs : List JobParts) (places : List Place) (i : ℕ) (writte
     ((own : JobParts) → slice_get jobs i ≡ Some own → written.pairs ≡ piece_of_job (job_of own)) →
     IsKept jobs (slice_set places i (place.Filled written))
 kept_filled jobs places i written kept right = record {
-  group = kept.group;
+  some = kept.some;
   fit = kept.fit;
+  named = kept.named;
+  cells = kept.cells;
   each = length-set places i (place.Filled written) ∙ kept.each;
   filled = λ k job w own is. first_or_other (cases_eq k i) job w own is;
 }
@@ -127,8 +140,10 @@ kept_filled jobs places i written kept right = record {
 
 pub kept_failed : (jobs : List JobParts) (places : List Place) (i : ℕ) → IsKept jobs places → IsKept jobs (slice_set places i place.Failed)
 kept_failed jobs places i kept = record {
-  group = kept.group;
+  some = kept.some;
   fit = kept.fit;
+  named = kept.named;
+  cells = kept.cells;
   each = length-set places i place.Failed ∙ kept.each;
   filled = λ k job w own is. first_or_other (cases_eq k i) job w own is;
 }
@@ -139,6 +154,48 @@ kept_failed jobs places i kept = record {
         let P : ℕ → Type 0 = λ n. slice_get (slice_set places i place.Failed) n ≡ Some (place.Filled w) in
         let same = at_same places i place.Failed (place.Filled w) (subst P e is) in cc
     first_or_other {k} (inr ne) job w own is = kept.filled k job w own (sym (at_other places i k place.Failed ne) ∙ is)
+
+-- an element of a list that was written is the new one, or was there before
+set_cases : {A : Type 0} → (P : ℕ → A → Type 0) (xs : List A) (i k : ℕ) (x y : A) → (k ≡ i → P k x) →
+    (k ≢ i → slice_get xs k ≡ Some y → P k y) → slice_get (slice_set xs i x) k ≡ Some y → P k y
+set_cases P xs i k x y new old at = found (cases_eq k i)
+  where
+    found : (k ≡ i) ⊎ (k ≢ i) → P k y
+    found (inl e) =
+        let same : y ≡ x = at_same xs i x y (subst (λ (n : ℕ). slice_get (slice_set xs i x) n ≡ Some y) e at) in
+        subst (P k) (sym same) (new e)
+    found (inr ne) = old ne (sym (at_other xs i k x ne) ∙ at)
+
+-- a piece is put in with its job, which names the place and starts from as many cells as the one that stood there
+pub kept_put : (jobs : List JobParts) (places : List Place) (i : ℕ) (own job : JobParts) (written : Laid) → IsKept jobs places → slice_get jobs i ≡ Some own →
+    job.place ≡ i → length own.store ≡ length job.store → IsFit (job_of job) → written.pairs ≡ piece_of_job (job_of job) →
+    IsKept (slice_set jobs i job) (slice_set places i (place.Filled written))
+kept_put jobs places i own job written kept there at_place size is_fit right = record {
+  some = let n = length-set jobs i job in let m = kept.some in omega arith;
+  fit = λ k a at. set_cases (λ n j. IsFit (job_of j)) jobs i k job a (λ e. is_fit) (λ ne was. kept.fit k a was) at;
+  named = λ k a at. set_cases (λ n j. j.place ≡ n) jobs i k job a (λ e. at_place ∙ sym e) (λ ne was. kept.named k a was) at;
+  cells = λ k l a b at there. as_many k a at ∙ sym (as_many l b there);
+  each = length-set places i (place.Filled written) ∙ kept.each ∙ sym (length-set jobs i job);
+  filled = λ k a w at is. set_cases (λ n p. (w : Laid) → p ≡ place.Filled w → w.pairs ≡ piece_of_job (job_of a)) places i k (place.Filled written) (place.Filled w)
+      (λ e v same.
+      let is_job : a ≡ job = at_same jobs i job a (subst (λ (n : ℕ). slice_get (slice_set jobs i job) n ≡ Some a) e at) in
+      let is_written : written ≡ v = cc in
+      ap (λ (x : Laid). x.pairs) (sym is_written) ∙ right ∙ ap (λ j. piece_of_job (job_of j)) (sym is_job))
+      (λ ne was v same. let is_written : w ≡ v = cc in
+      ap (λ (x : Laid). x.pairs) (sym is_written) ∙ kept.filled k a w (sym (at_other jobs i k job ne) ∙ at) was)
+      is w refl;
+}
+  where
+    as_many : (k : ℕ) (a : JobParts) → slice_get (slice_set jobs i job) k ≡ Some a → length a.store ≡ length own.store
+    as_many k a at = set_cases (λ n j. length j.store ≡ length own.store) jobs i k job a (λ e. sym size) (λ ne was. kept.cells k i a own was there) at
+
+-- and so it is told
+pub told_put : (jobs : List JobParts) (places : List Place) (book : BookParts) (i : ℕ) (written : Laid) (piece : PieceParts) → told_book jobs places ≡ book → i ≡ piece.job.place →
+    told_book (slice_set jobs i piece.job) (slice_set places i (place.Filled written)) ≡ with_piece book piece
+told_put jobs places book i written piece e at =
+    ap (λ ms. record { jobs = slice_set jobs i piece.job; places = ms }) (map-set mark_of places i (place.Filled written))
+    ∙ ap (λ n. record { jobs = slice_set jobs n piece.job; places = slice_set (map mark_of places) n Filled }) at
+    ∙ ap (λ b. with_piece b piece) e
 
 -- ---- what is told of places
 
@@ -305,11 +362,3 @@ merged_from book store first none e = e ∙ ap (merged (filled_pieces book.jobs 
 pub carried : (jobs : List JobParts) (places : List Place) (book : BookParts) (xs : List Place) (P : BookParts → List Place → Type 0) →
     told_book jobs places ≡ book → xs ≡ places → P (told_book jobs places) places → P book xs
 carried jobs places book xs P e f h = subst (λ (ps : List Place). P book ps) (sym f) (subst (λ (b : BookParts). P b places) e h)
-
--- ---- all of a book
-
--- the jobs' stores are of one size
-pub same_size : (jobs : List JobParts) → IsGroup (map job_of jobs) → ((i : ℕ) (job : JobParts) → slice_get jobs i ≡ Some job → IsFit (job_of job)) →
-    (i k : ℕ) (a b : JobParts) → slice_get jobs i ≡ Some a → slice_get jobs k ≡ Some b → length a.store ≡ length b.store
-same_size jobs group fit i k a b at there =
-    (fit i a at).cells ∙ ap (λ ds. cells_of (arrays_of ds)) (group_alike jobs group i k a b at there).arrays ∙ sym (fit k b there).cells

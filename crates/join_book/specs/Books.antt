@@ -5,7 +5,6 @@ use Rattle.array_meaning.specs.Pieces.{merged}
 use Rattle.array_eval.specs.Overlays.{cell_numbers, Laid}
 use Rattle.array_eval.specs.Traces.{Trace, marked}
 use Rattle.array_jobs.specs.Jobs.{JobParts, job_of, IsFit}
-use Rattle.array_jobs.specs.Groups.{IsGroup}
 use Rattle.array_jobs.specs.PieceParts.{PieceParts, piece_of_job}
 use Rattle.join_book.specs.declared.place.Place.{Place}
 use Rattle.join_book.specs.declared.place.Place.TheVariants as place
@@ -27,10 +26,14 @@ mark_of place.Open = Open
 mark_of (place.Filled written) = Filled
 mark_of place.Failed = Failed
 
--- What the type keeps: the jobs are a group of fit jobs, each has a place, and what a place is filled with is what its job writes.
+-- What the type keeps: there are jobs, each is fit and names its place, and they start from stores of one size; each has a place,
+-- and what a place is filled with is what its job writes.
 pub record IsKept (jobs : List JobParts) (places : List Place) : Type 0 where
-  pub group : IsGroup (map job_of jobs)
+  pub some : 0 < length jobs
   pub fit : (i : ℕ) (job : JobParts) → slice_get jobs i ≡ Some job → IsFit (job_of job)
+  pub named : (i : ℕ) (job : JobParts) → slice_get jobs i ≡ Some job → job.place ≡ i
+  pub cells : (i k : ℕ) (a b : JobParts) → slice_get jobs i ≡ Some a → slice_get jobs k ≡ Some b
+      → length a.store ≡ length b.store
   pub each : length places ≡ length jobs
   pub filled : (i : ℕ) (job : JobParts) (written : Laid) → slice_get jobs i ≡ Some job
       → slice_get places i ≡ Some (place.Filled written) →
@@ -94,3 +97,27 @@ Deposits before piece (Double back) after =
     × (back ≡ piece) × (after ≡ before)
 Deposits before piece (Stranger back) after =
     ((i : ℕ) → ¬ IsPlaceOf before i piece.job) × (back ≡ piece) × (after ≡ before)
+
+-- The place that the job names is there, and its own job starts from as many cells.
+abbrev pub HasPlaceFor : BookParts → JobParts → Type 0
+HasPlaceFor book job = (own : JobParts) × (slice_get book.jobs job.place ≡ Some own)
+    × (length own.store ≡ length job.store)
+
+-- The place that the piece's job names is filled, and has that job in place of its own.
+abbrev pub with_piece : BookParts → PieceParts → BookParts
+with_piece book piece = record {
+  jobs = slice_set book.jobs piece.job.place piece.job;
+  places = slice_set book.places piece.job.place Filled;
+}
+
+-- Of a book and a piece that isn't compared, the answer and the book afterwards. A piece goes to the place that its job names,
+-- if that is open, and takes its job along.
+abbrev pub Puts : BookParts → PieceParts → Deposit → BookParts → Type 0
+Puts before piece Kept after =
+    HasPlaceFor before piece.job × IsMarked before piece.job.place Open
+    × (after ≡ with_piece before piece)
+Puts before piece (Double back) after =
+    HasPlaceFor before piece.job × (¬ IsMarked before piece.job.place Open) × (back ≡ piece)
+    × (after ≡ before)
+Puts before piece (Stranger back) after =
+    (¬ HasPlaceFor before piece.job) × (back ≡ piece) × (after ≡ before)

@@ -2,13 +2,13 @@
 ghost use Rattle.std.specs.Prelude.{◌≡◌, ◌↔◌, IsTrue, IfOk, IsErr, length, map, replicate, slice_get, Some, ℕ, []};
 ghost use Rattle.array_meaning.specs.Pieces.{merged, last_writes};
 ghost use Rattle.array_eval.specs.Traces.{marked};
-ghost use Rattle.join_book.specs.Books.{Open, Filled, Failed, open_book, IsMarked, IsFull, HasFailed, IsBlank, IsPlaceOf, Deposits, marked_book, filled_pieces, all_writes};
+ghost use Rattle.join_book.specs.Books.{Open, Filled, Failed, open_book, IsMarked, IsFull, HasFailed, IsBlank, IsPlaceOf, HasPlaceFor, Deposits, Puts, marked_book, with_piece, filled_pieces, all_writes};
 ghost use Rattle.array_jobs.specs.Jobs.{JobParts, IsFit, job_of};
 ghost use Rattle.join_book.specs.declared.place.Place.TheVariants as place;
 ghost use Rattle.array_jobs.specs.Groups.{IsGroup};
 
 use crate::place::Place;
-use array_eval::{MarkedStore, Overlay};
+use array_eval::{MarkedStore, Overlay, count_cells};
 use array_jobs::{Job, Piece};
 use std::alloc::{AllocError, Global};
 use std::marker::Model;
@@ -109,6 +109,34 @@ impl<'p> Book<'p> {
         self.places[usize::from(job.place)] = Place::Filled(written);
     }
 
+    /// Keeps a piece at the place that its job names, with that job in place of the place's own. The jobs are not compared, but
+    /// for how many cells they start from; so who wants the pieces of certain jobs has to compare `jobs` with them. Stranger
+    /// exactly where there is no such place, or its job starts from another number of cells.
+    pub fn put(&mut self, piece: Piece<'p>) -> Deposit<'p>
+        ensures { Puts self.old piece.entry result self.new }
+    {
+        if !self.has_place_for(&piece.job) {
+            return Deposit::Stranger(piece);
+        }
+        if !self.is_open(piece.job.place) {
+            return Deposit::Double(piece);
+        }
+        self.take_in(piece);
+        Deposit::Kept
+    }
+
+    // Puts a piece at its place, with its job.
+    fn take_in(&mut self, piece: Piece<'p>)
+        requires place { HasPlaceFor self.old piece.job }
+        requires open { IsMarked self.old piece.job.place Open }
+        ensures { self.new ≡ with_piece self.old piece.entry }
+    {
+        let Piece { job, written } = piece;
+        let place = usize::from(job.place);
+        self.jobs[place] = job;
+        self.places[place] = Place::Filled(written);
+    }
+
     /// Marks a place whose piece found no memory. The place must be open.
     pub fn fail(&mut self, place: u8)
         requires { IsMarked self.old place Open }
@@ -177,6 +205,16 @@ impl<'p> Book<'p> {
         let mut store = self.blank_store()?;
         self.merge_into(&mut store);
         store.written(self.alloc)
+    }
+
+    // Whether the place that the job names is there, and its own job starts from as many cells.
+    fn has_place_for(&self, job: &Job) -> bool
+        ensures { IsTrue result ↔ HasPlaceFor self.now job.now }
+    {
+        match self.jobs.get(usize::from(job.place)) {
+            Some(own) => count_cells(own.arrays) == count_cells(job.arrays),
+            None => false,
+        }
     }
 
     // Whether the place is that of the job.

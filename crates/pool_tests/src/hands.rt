@@ -21,7 +21,7 @@ pub fn shared_pool<'p>(alloc: Global, program: &'p Program) -> Result<SharedPool
 }
 
 // The rows of a hart that is alone.
-fn own_rows(alloc: Global) -> Result<HartRows, Fail>
+pub fn own_rows(alloc: Global) -> Result<HartRows, Fail>
     ensures { IfOk result (λ rows. 0 < rows.harts) }
 {
     let mut all = rows(alloc, 1)?;
@@ -81,7 +81,7 @@ pub fn is_offered<'a, R: Wait + 'a>(rt: &'a R, hand: &mut PoolHand<'a, '_, '_, R
 }
 
 // Deposits a piece.
-fn deposited<'a, 'p, R: Wait + 'a>(
+pub fn deposited<'a, 'p, R: Wait + 'a>(
     rt: &'a R,
     hand: &PoolHand<'a, '_, 'p, R>,
     piece: Piece<'p>,

@@ -7,3 +7,5 @@ mod hands;
 mod pools;
 #[cfg(test)]
 mod rows;
+#[cfg(test)]
+mod stores;

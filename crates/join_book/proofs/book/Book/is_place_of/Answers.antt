@@ -22,7 +22,7 @@ returns-in-None-clause-own c = (
 )
 
 pub returns-in-Some-clause-alone : goal.returns-in-Some-clause-alone
-returns-in-Some-clause-alone c = λ i is. only_place c.args.self.now c.self.inside.jobs.items c.self.inside.places.items c.self.view_is c.self.invariant.group c.args.job.now i is
+returns-in-Some-clause-alone c = λ i is. only_place c.args.self.now c.self.inside.jobs.items c.self.inside.places.items c.self.view_is c.self.invariant.named c.args.job.now i is
 
 pub returns-in-None-clause-alone : goal.returns-in-None-clause-alone
-returns-in-None-clause-alone c = λ i is. only_place c.args.self.now c.self.inside.jobs.items c.self.inside.places.items c.self.view_is c.self.invariant.group c.args.job.now i is
+returns-in-None-clause-alone c = λ i is. only_place c.args.self.now c.self.inside.jobs.items c.self.inside.places.items c.self.view_is c.self.invariant.named c.args.job.now i is
