@@ -187,7 +187,7 @@ not_filled : (n : ℕ) (marks : List Mark) (j k : ℕ) → IsAt n marks j k Out 
 not_filled n marks j k (inl out) filled = absurd (cc (out.1, filled.1))
 not_filled n marks j k (inr due) filled = absurd (cc (due.ready.waits.1, filled.1))
 
-it_follows_at : (n j k i h : ℕ) → h < n → j ≤ i → k ≤ h → follows n j k (0 + (i * n + h)) ≡ true
+pub it_follows_at : (n j k i h : ℕ) → h < n → j ≤ i → k ≤ h → follows n j k (0 + (i * n + h)) ≡ true
 it_follows_at n j k i h small member phase =
     let none : 0 + (i * n + h) ≡ i * n + h = omega arith in
     let row = div-mul-add i n h small in

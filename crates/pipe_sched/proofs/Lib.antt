@@ -5,3 +5,6 @@ pub mod Merges
 pub mod Writes
 pub mod Whole
 pub mod Told
+pub mod Failing
+pub mod Scheduling
+pub mod Crossings

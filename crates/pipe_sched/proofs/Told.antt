@@ -121,11 +121,9 @@ pub same_mark : (pipe : PipeParts) (j k : ℕ) (a b : Mark) → IsMarked pipe j 
 same_mark pipe j k a b x y = same_Some a b (sym x.1 ∙ y.1)
 
 -- A place that is there is marked as out exactly where its mark is so.
-pub mark_is_out : (pipe : PipeParts) (job : JobParts) (j k : ℕ) (mark : Mark) → j ≡ job.place → k ≡ job.phase → IsMarked pipe j k mark →
-    (mark ≡ Out) ↔ IsMarked pipe job.place job.phase Out
-mark_is_out pipe job j k mark a b marked =
-    let here = (mark_at_job pipe job j k mark a b).0 marked in
-    (λ e. subst (IsMarked pipe job.place job.phase) e here, λ out. same_mark pipe job.place job.phase mark Out here out)
+pub mark_is_out : (pipe : PipeParts) (j k : ℕ) (mark : Mark) → IsMarked pipe j k mark → (mark ≡ Out) ↔ IsMarked pipe j k Out
+mark_is_out pipe j k mark marked =
+    (λ e. subst (IsMarked pipe j k) e marked, λ out. same_mark pipe j k mark Out marked out)
 
 -- ---- what is due
 

@@ -1,5 +1,5 @@
 -- The pieces of a pipeline: their jobs, and how they are handed out and come back.
-use Rattle.std.specs.Prelude.{◌≡◌, ℕ, List, slice_get, Option, Some, None, Result, Ok, Err, true}
+use Rattle.std.specs.Prelude.{◌≡◌, ℕ, List, [], ◌∷◌, slice_get, Option, Some, None, Result, Ok, Err, true}
 use Rattle.array_meaning.specs.Stores.{Store, Write, arrays_of, after}
 use Rattle.array_jobs.specs.Jobs.{JobParts, JobTree, job_of}
 use Rattle.array_jobs.specs.PieceParts.{PieceParts}
@@ -8,7 +8,7 @@ use Rattle.join_book.specs.declared.book.Deposit.TheVariants.{Kept, Double, Stra
 use Rattle.step_eval.specs.Nests.{NestedTree, nested_of, rounds_of, jobs_in}
 use Rattle.phase_order.specs.Crossings.{HasNoCrossing}
 use Rattle.phase_order.specs.Pipes.{written_before, piped}
-use Rattle.pipe_sched.specs.Slots.{Mark, Out, Filled, PipeParts, IsMarked, IsDue, NoneIsDue, is_begun, marked_pipe}
+use Rattle.pipe_sched.specs.Slots.{Mark, Out, Filled, PipeParts, IsMarked, IsDue, NoneIsDue, is_begun, marked_pipe, failed_pipe}
 
 -- What the pieces of a construct write in a pipeline, phase after phase.
 abbrev pub piped_writes : NestedTree → List (List (List Write))
@@ -42,12 +42,29 @@ pub record HandsOut (before : PipeParts) (job : JobParts) (after : PipeParts) : 
   pub marked : after ≡ marked_pipe before job.place job.phase Out
   pub out : IsMarked after job.place job.phase Out
 
--- Of a pipeline, what it hands out and the pipeline afterwards. It hands out nothing only where no piece is due. Want of memory
--- changes nothing.
+-- Of a pipeline, what it hands out and the pipeline afterwards. It hands out nothing only where no piece is due.
+abbrev pub GivesDue : PipeParts → Option JobParts → PipeParts → Type 0
+GivesDue before (Some job) after = HandsOut before job after
+GivesDue before None after = NoneIsDue before × (after ≡ before)
+
+-- Want of memory changes nothing.
 abbrev pub Gives : {E : Type 0} → PipeParts → Result (Option JobParts) E → PipeParts → Type 0
-Gives before (Ok (Some job)) after = HandsOut before job after
-Gives before (Ok None) after = NoneIsDue before × (after ≡ before)
+Gives before (Ok given) after = GivesDue before given after
 Gives before (Err refused) after = after ≡ before
+
+-- Pieces that found no memory fail one after another, each when it is the one that is due.
+abbrev pub FailWhenDue : PipeParts → List (ℕ × ℕ) → PipeParts → Type 0
+FailWhenDue before [] after = after ≡ before
+FailWhenDue before ((j, k) ∷ pieces) after =
+    IsDue before j k × FailWhenDue (failed_pipe before j k) pieces after
+
+-- What is handed out once pieces have failed so.
+pub record GivesAfterFailing (before : PipeParts) (given : Option JobParts)
+    (after : PipeParts) : Type 0 where
+  pub failed : List (ℕ × ℕ)
+  pub left : PipeParts
+  pub fail : FailWhenDue before failed left
+  pub gives : GivesDue left given after
 
 -- Of a pipeline and a piece, the answer and the pipeline afterwards.
 abbrev pub Deposits : PipeParts → PieceParts → Deposit → PipeParts → Type 0

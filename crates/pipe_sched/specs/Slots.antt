@@ -128,6 +128,10 @@ failed_pipe pipe j k = record pipe {
   marks = changed_where (follows (phases_in pipe.nested) j k) failed_mark 0 pipe.marks;
 }
 
+-- The piece may fail: it is out, or is the one that is handed out next.
+abbrev pub MayFail : PipeParts → ℕ → ℕ → Type 0
+MayFail pipe j k = IsMarked pipe j k Out ⊎ IsDue pipe j k
+
 -- From this piece on all have failed.
 abbrev pub FailsFrom : PipeParts → ℕ → ℕ → Type 0
 FailsFrom pipe j k = (i h : ℕ) (mark : Mark) → j ≤ i → k ≤ h → IsMarked pipe i h mark

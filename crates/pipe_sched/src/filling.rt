@@ -1,6 +1,6 @@
 //! Pieces that come back, and pieces that find no memory.
-ghost use Rattle.std.specs.Prelude.{◌≡◌, ◌⊎◌, ◌↔◌, ◌<◌, IsTrue};
-ghost use Rattle.pipe_sched.specs.Slots.{Out, Filled, IsMarked, IsDue, marked_pipe, failed_pipe, changed_where, follows, FailsFrom};
+ghost use Rattle.std.specs.Prelude.{◌≡◌, ◌↔◌, ◌<◌, IsTrue};
+ghost use Rattle.pipe_sched.specs.Slots.{Out, Filled, IsMarked, IsDue, MayFail, marked_pipe, failed_pipe, changed_where, follows, FailsFrom};
 ghost use Rattle.pipe_sched.specs.Pipes.{Deposits, WasHandedOut};
 ghost use Rattle.pipe_sched.specs.Inside.{failed_slot};
 
@@ -27,7 +27,7 @@ impl<'p> PipeState<'p> {
     /// Tells that a piece found no memory. It must be handed out and not filled or failed, or the one that is due. Each piece
     /// that comes after it fails too, and no other.
     pub fn fail(&mut self, member: u8, phase: u8)
-        requires { IsMarked self.old member phase Out ⊎ IsDue self.old member phase }
+        requires { MayFail self.old member phase }
         ensures same { self.new ≡ failed_pipe self.old member phase }
         ensures failed { FailsFrom self.new member phase }
     {
@@ -38,6 +38,13 @@ impl<'p> PipeState<'p> {
             usize::from(member),
             usize::from(phase),
         );
+    }
+
+    // Whether the piece is out, or is the one that is due.
+    pub(crate) fn may_fail(&self, member: u8, phase: u8) -> bool
+        ensures { IsTrue result ↔ MayFail self.now member phase }
+    {
+        self.is_out_at(member, phase) || self.is_due(member, phase)
     }
 
     // Whether the piece was handed out with an equal job.
@@ -54,8 +61,25 @@ impl<'p> PipeState<'p> {
     fn is_out(&self, job: &Job) -> bool
         ensures { IsTrue result ↔ IsMarked self.now job.now.place job.now.phase Out }
     {
-        match self.slot_at(job.place, job.phase) {
+        self.is_out_at(job.place, job.phase)
+    }
+
+    // Whether the piece of a member in a phase is out.
+    fn is_out_at(&self, member: u8, phase: u8) -> bool
+        ensures { IsTrue result ↔ IsMarked self.now member phase Out }
+    {
+        match self.slot_at(member, phase) {
             Some(slot) => slot.is_out(),
+            None => false,
+        }
+    }
+
+    // Whether the piece of a member in a phase is the one that is due.
+    fn is_due(&self, member: u8, phase: u8) -> bool
+        ensures { IsTrue result ↔ IsDue self.now member phase }
+    {
+        match self.due() {
+            Some(piece) => piece.0 == member && piece.1 == phase,
             None => false,
         }
     }

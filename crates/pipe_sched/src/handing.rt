@@ -1,11 +1,11 @@
 //! Handing out the piece that is due.
-ghost use Rattle.std.specs.Prelude.{◌≡◌, ◌↔◌, ◌*◌, ◌<◌, ℕ, IsTrue, IfOk, IfSome, IfNone, Some, length, slice_get};
+ghost use Rattle.std.specs.Prelude.{◌≡◌, ◌↔◌, ◌*◌, ◌<◌, ℕ, IsTrue, IfOk, OnErr, IfSome, IfNone, Some, length, slice_get};
 ghost use Rattle.array_tree.specs.Trees.{statement_of};
 ghost use Rattle.array_jobs.specs.Jobs.{job_of};
 ghost use Rattle.step_eval.specs.Nests.{nested_of, phases_of, jobs_in};
 ghost use Rattle.step_eval.specs.Shapes.{members_of};
 ghost use Rattle.pipe_sched.specs.Slots.{Out, IsDue, NoneIsDue, IsMarked, IsReady, marked_pipe, phases_in};
-ghost use Rattle.pipe_sched.specs.Pipes.{Gives, IsJobAt, piped_store};
+ghost use Rattle.pipe_sched.specs.Pipes.{Gives, GivesAfterFailing, HandsOut, IsJobAt, piped_store};
 ghost use Rattle.pipe_sched.specs.Inside.{LooksReady};
 
 use crate::merging::{fresh_store, merge_phase, merge_phases};
@@ -25,13 +25,33 @@ impl<'p> PipeState<'p> {
     {
         match self.due() {
             None => Ok(None),
-            Some((member, phase)) => {
-                let job = self.job_at(member, phase)?;
-                let own = job.copy()?;
-                self.hand_out(member, phase, own);
-                Ok(Some(job))
+            Some((member, phase)) => Ok(Some(self.give(member, phase)?)),
+        }
+    }
+
+    // What `next` hands out, where a piece that is due and finds no memory fails, and the next one is asked for.
+    pub(crate) fn next_or_fail(&mut self) -> Option<Job<'p>>
+        ensures { GivesAfterFailing self.old result self.new }
+    {
+        'pieces: while let Some((member, phase)) = self.due() {
+            match self.give(member, phase) {
+                Ok(job) => return Some(job),
+                Err(AllocError) => self.fail(member, phase),
             }
         }
+        None
+    }
+
+    // Hands out the piece that is due.
+    fn give(&mut self, member: u8, phase: u8) -> Result<Job<'p>, AllocError>
+        requires { IsDue self.old member phase }
+        ensures given { IfOk result (λ job. HandsOut self.old job self.new) }
+        ensures same { OnErr result (self.new ≡ self.old) }
+    {
+        let job = self.job_at(member, phase)?;
+        let own = job.copy()?;
+        self.hand_out(member, phase, own);
+        Ok(job)
     }
 
     // The member and the phase of the piece that is due, if there is one.

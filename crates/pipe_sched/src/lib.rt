@@ -1,13 +1,25 @@
 //! The state of a pipeline: members of a `team` that overtake one another.
 //!
 //! No member waits at a barrier. It goes on to its next phase as soon as it has done its own and the members below it have
-//! done that next phase. The state tells which piece is due, and has what came of each. No scheduler stands over it yet.
+//! done that next phase. The state tells which piece is due, and has what came of each. A `Pipe` is the scheduler over it, for
+//! one hart. Harts share a `SharedPipe`, each by hands of its own.
 #![tactic(auto)]
 
 mod filling;
+mod hand;
 mod handing;
+mod looks;
 mod merging;
+mod pipe;
+mod shared;
 mod slot;
 mod state;
+mod under_lock;
+mod work;
 
+pub use hand::PipeHand;
+pub use looks::{Found, Looks};
+pub use pipe::{Pipe, PipeHeard};
+pub use shared::SharedPipe;
 pub use state::PipeState;
+pub use work::PipeWork;

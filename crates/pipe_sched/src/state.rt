@@ -4,7 +4,7 @@ ghost use Rattle.array_tree.specs.Trees.{statement_of};
 ghost use Rattle.step_eval.specs.declared.shape.Kind.TheVariants as kind;
 ghost use Rattle.step_eval.specs.Shapes.{kind_of};
 ghost use Rattle.pipe_sched.specs.declared.slot.Slot.TheVariants as slot;
-ghost use Rattle.step_eval.specs.Nests.{nested_of};
+ghost use Rattle.step_eval.specs.Nests.{nested_of, IsFitNest};
 ghost use Rattle.pipe_sched.specs.Slots.{Mark, IsFull, HasFailed, IsMarked, new_pipe};
 ghost use Rattle.pipe_sched.specs.Inside.{mark_of, IsRight, AreSettled, HaveFailed};
 
@@ -68,6 +68,14 @@ impl<'p> PipeState<'p> {
         ensures { IsTrue result ↔ IsFull self.now }
     {
         are_settled(&self.slots)
+    }
+
+    // The construct, with the variables and the store before it.
+    pub(crate) fn nested(&self) -> &Nested<'p>
+        ensures same { result.now ≡ self.now.nested }
+        ensures fit { IsFitNest (nested_of self.now.nested) }
+    {
+        &self.nested
     }
 
     // Whether some piece failed.

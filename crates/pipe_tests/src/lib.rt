@@ -1,4 +1,4 @@
-//! Tests of pipelines: the check of crossings, and the state of a pipeline.
+//! Tests of pipelines: the check of crossings, the state of a pipeline, and its scheduler, by itself and through hands.
 //!
 //! They stand apart since a crate is proved a second time with its tests.
 #![tactic(auto)]
@@ -6,6 +6,14 @@
 #[cfg(test)]
 mod crossings;
 #[cfg(test)]
+mod hands;
+#[cfg(test)]
+mod harts;
+#[cfg(test)]
+mod pipes;
+#[cfg(test)]
 mod samples;
 #[cfg(test)]
 mod states;
+#[cfg(test)]
+mod threads;

@@ -3,6 +3,22 @@
 pub const TWO_STEPS: &[u8] = b"array a[6]; array b[6];
     team i in 0..6 by 3 { a[i] = i + 1; } barrier { b[i] = a[i / 2] * 10; }";
 
+/// What its pieces write.
+pub const BOTH_STEPS: [(u16, i64); 12] = [
+    (0, 1),
+    (1, 2),
+    (2, 3),
+    (3, 4),
+    (4, 5),
+    (5, 6),
+    (6, 10),
+    (7, 10),
+    (8, 20),
+    (9, 20),
+    (10, 30),
+    (11, 30),
+];
+
 /// A wavefront: each member goes on from what the one below it left.
 pub const WAVEFRONT: &[u8] = b"array a[4]; array b[4]; array c[4];
     team i in 1..4 by 3 { a[i] = i; } barrier { b[i] = a[i - 1] + a[i]; } barrier { c[i] = b[i - 1] * 2 + b[i]; }";

@@ -1,5 +1,5 @@
 //! The state of a pipeline.
-use crate::samples::TWO_STEPS;
+use crate::samples::{BOTH_STEPS, TWO_STEPS};
 use array_jobs::{Job, Piece, piece_of};
 use array_tree::Program;
 use join_book::Deposit;
@@ -8,22 +8,6 @@ use sample_programs::{Came, first_construct, first_jobs, outcome_of, parsed, pie
 use std::alloc::Global;
 use std::test::Fail;
 use step_eval::Kind;
-
-// What the pieces of `TWO_STEPS` write.
-const BOTH_STEPS: [(u16, i64); 12] = [
-    (0, 1),
-    (1, 2),
-    (2, 3),
-    (3, 4),
-    (4, 5),
-    (5, 6),
-    (6, 10),
-    (7, 10),
-    (8, 20),
-    (9, 20),
-    (10, 30),
-    (11, 30),
-];
 
 // The pipeline of a program that begins with a `team`.
 fn pipe_of<'p>(alloc: Global, program: &'p Program) -> Result<PipeState<'p>, Fail> {

@@ -1,0 +1,49 @@
+-- What a pipe does as a scheduler.
+use Rattle.std.proofs.Common.{◌≡◌, inl, inr, [], Some, None, ap, ◌∙◌, subst}
+use Rattle.array_jobs.specs.Jobs.{JobParts}
+use Rattle.sched_api.specs.declared.scheduler.Next.{Next}
+use Rattle.sched_api.specs.declared.scheduler.Next.TheVariants.{Run, Lend, Nothing}
+use Rattle.work_agenda.specs.Agenda.{AgendaParts, TakesNext, GivesReady}
+use Rattle.pipe_sched.specs.declared.work.PipeWork.{PipeWork}
+use Rattle.pipe_sched.specs.declared.work.PipeWork.TheVariants.{Begin}
+use Rattle.pipe_sched.specs.Slots.{PipeParts}
+use Rattle.pipe_sched.specs.Pipes.{GivesAfterFailing}
+use Rattle.pipe_sched.specs.Schedulers.{SchedulerParts, Answers}
+
+abbrev pub told_scheduler : PipeParts → AgendaParts PipeWork → SchedulerParts
+told_scheduler state agenda = record { state = state; agenda = agenda }
+
+pub answers_begun : (state after : PipeParts) (agenda later : AgendaParts PipeWork) (job : JobParts) → GivesReady agenda None later →
+    GivesAfterFailing state (Some job) after → Answers (told_scheduler state agenda) (Run (Begin job)) (told_scheduler after later)
+answers_begun state after agenda later job none gives = inr (record {
+  none_ready = none.0;
+  failed = gives.failed;
+  left = gives.left;
+  fail = gives.fail;
+  answer = (gives.gives, ap (told_scheduler after) none.1);
+})
+
+-- Where no piece is due, the agenda has a wish at most.
+pub answers_rest : (state after : PipeParts) (agenda later last : AgendaParts PipeWork) (next : Next PipeWork) → agenda.unbegun ≡ [] → GivesReady agenda None later →
+    GivesAfterFailing state None after → TakesNext later next last → Answers (told_scheduler state agenda) next (told_scheduler after last)
+answers_rest state after agenda later last next empty none gives takes =
+    let P : AgendaParts PipeWork → Type 0 = λ a. TakesNext a next last in
+    by_next next (subst P none.1 takes)
+  where
+    by_next : (next : Next PipeWork) → TakesNext agenda next last → Answers (told_scheduler state agenda) next (told_scheduler after last)
+    by_next (Run work) (inl ready) = let first = ready.first in let nothing = none.0 in absurd (cc (nothing, first))
+    by_next (Run work) (inr taken) = let first = taken.first in absurd (cc (empty, first))
+    by_next (Lend child) wish = inr (record {
+      none_ready = none.0;
+      failed = gives.failed;
+      left = gives.left;
+      fail = gives.fail;
+      answer = (gives.gives.0, wish, ap (λ s. told_scheduler s last) gives.gives.1);
+    })
+    by_next Nothing idle = inr (record {
+      none_ready = none.0;
+      failed = gives.failed;
+      left = gives.left;
+      fail = gives.fail;
+      answer = (gives.gives.0, idle.0, ap (λ s. told_scheduler s last) gives.gives.1 ∙ ap (told_scheduler gives.left) idle.1);
+    })

@@ -1,0 +1,76 @@
+-- The scheduler of a pipeline.
+use Rattle.std.specs.Prelude.{◌≡◌, ◌⊎◌, ℕ, ◌*◌, List, [], Result}
+use Rattle.sched_api.specs.Wishes.{wishes_after}
+use Rattle.sched_api.specs.declared.hearing.Told.{Told}
+use Rattle.sched_api.specs.declared.scheduler.Next.{Next}
+use Rattle.sched_api.specs.declared.scheduler.Next.TheVariants.{Run, Lend, Nothing}
+use Rattle.work_agenda.specs.declared.agenda.TheConstants.{MOST_WISHES}
+use Rattle.work_agenda.specs.Agenda.{AgendaParts, TakesReady, TakesWish, IsIdle, PutsReady}
+use Rattle.step_eval.specs.Nests.{NestedParts}
+use Rattle.pipe_sched.specs.declared.work.PipeWork.{PipeWork}
+use Rattle.pipe_sched.specs.declared.work.PipeWork.TheVariants.{Begin, Ready}
+use Rattle.pipe_sched.specs.Slots.{PipeParts, NoneIsDue, phases_in, members_in, new_pipe}
+use Rattle.pipe_sched.specs.Pipes.{HandsOut, FailWhenDue}
+
+-- What contracts see of a pipe: its pieces, and what it has for harts beside them.
+pub record SchedulerParts : Type 0 where
+  pub state : PipeParts
+  pub agenda : AgendaParts PipeWork
+
+abbrev pub with_state : SchedulerParts → PipeParts → SchedulerParts
+with_state pipe state = record pipe { state = state }
+
+abbrev pub with_agenda : SchedulerParts → AgendaParts PipeWork → SchedulerParts
+with_agenda pipe agenda = record pipe { agenda = agenda }
+
+-- The pipe of which no piece was handed out, with room for one ready context of each piece.
+abbrev pub new_scheduler : NestedParts → SchedulerParts
+new_scheduler nested = record {
+  state = new_pipe nested;
+  agenda = record {
+    ready = [];
+    room = members_in nested * phases_in nested;
+    unbegun = [];
+    wishes = record { sites = []; room = MOST_WISHES };
+  };
+}
+
+-- The oldest context that is ready goes on.
+abbrev pub GoesOn : SchedulerParts → Next PipeWork → SchedulerParts → Type 0
+GoesOn before (Run work) after =
+    TakesReady before.agenda work after.agenda × (after ≡ with_agenda before after.agenda)
+GoesOn before (Lend child) after = ⊥
+GoesOn before Nothing after = ⊥
+
+-- The piece that is due is begun. Where none is, the hart is lent to the child of the oldest wish.
+abbrev pub BeginsDue : SchedulerParts → Next PipeWork → SchedulerParts → Type 0
+BeginsDue before (Run (Begin job)) after =
+    HandsOut before.state job after.state × (after ≡ with_state before after.state)
+BeginsDue before (Run (Ready context)) after = ⊥
+BeginsDue before (Lend child) after =
+    NoneIsDue before.state × TakesWish before.agenda child after.agenda
+    × (after ≡ with_agenda before after.agenda)
+BeginsDue before Nothing after = NoneIsDue before.state × IsIdle before.agenda × (after ≡ before)
+
+-- Where no context is ready, pieces that are due and find no memory fail one after another, and then the pipe answers.
+pub record AnswersDue (before : SchedulerParts) (next : Next PipeWork)
+    (after : SchedulerParts) : Type 0 where
+  pub none_ready : before.agenda.ready ≡ []
+  pub failed : List (ℕ × ℕ)
+  pub left : PipeParts
+  pub fail : FailWhenDue before.state failed left
+  pub answer : BeginsDue (with_state before left) next after
+
+-- What a pipe does as a scheduler: it answers by its lists, and a callback changes its wishes alone.
+abbrev pub Answers : SchedulerParts → Next PipeWork → SchedulerParts → Type 0
+Answers before next after = GoesOn before next after ⊎ AnswersDue before next after
+
+abbrev pub Hears : SchedulerParts → Told → SchedulerParts → Type 0
+Hears before told after =
+    after ≡ with_agenda before
+    (record before.agenda { wishes = wishes_after told before.agenda.wishes })
+
+pub record Takes (before : SchedulerParts) (c : PipeWork) (answer : Result (Unit {0}) PipeWork)
+    (after : SchedulerParts) : Type 0 where
+  pub ready : PutsReady before.agenda c answer after.agenda
+  pub rest : after ≡ with_agenda before after.agenda

@@ -1,0 +1,135 @@
+//! A hart's hand on a pipe that harts share.
+ghost use Rattle.std.specs.Prelude.{◌≡◌, IfSome, IfErr};
+ghost use Rattle.pipe_sched.specs.Slots.{IsFull};
+ghost use Rattle.pipe_sched.specs.Hands.{GivesBack, AnswersHand};
+
+use crate::looks::Looks;
+use crate::pipe::{Pipe, PipeHeard, heard};
+use crate::shared::SharedPipe;
+use crate::under_lock;
+use crate::work::PipeWork;
+use array_jobs::Piece;
+use join_book::Deposit;
+use sched_api::{Call, Next, Scheduler};
+use std::marker::PhantomData;
+use std::sync::Wait;
+
+/// One hart's hand on a shared pipe. Its calls do what those of `Pipe` do, under the lock, for which each may wait but `site`
+/// and the callbacks that change no list. Once the pipe is handed out, `enter` answers Nothing and `unblock` gives its context
+/// back.
+#[derive(Drop)]
+pub struct PipeHand<'a, 'p, R> {
+    /// The pipe.
+    pub shared: &'a SharedPipe<'p>,
+    /// What this hand found under the lock.
+    pub looks: Looks,
+    /// The runtime by which it waits.
+    pub of: PhantomData<R>,
+}
+
+impl<'a, 'p, R> PipeHand<'a, 'p, R> {
+    /// A hand on the pipe. It doesn't wait.
+    pub fn new(shared: &'a SharedPipe<'p>) -> PipeHand<'a, 'p, R>
+        ensures { result.shared ≡ shared.entry }
+    {
+        PipeHand {
+            shared,
+            looks: Looks::new(),
+            of: PhantomData,
+        }
+    }
+}
+
+impl<'a, 'p, R: Wait + 'a> PipeHand<'a, 'p, R> {
+    /// What `deposit` of the pipe does. Where the pipe was handed out, each piece is a Stranger.
+    pub fn deposit(&self, rt: &R, piece: Piece<'p>) -> Deposit<'p>
+        ensures { GivesBack piece.entry result }
+    {
+        let mut kept = self.shared.kept().lock(rt);
+        under_lock::deposit(&mut kept, piece)
+    }
+
+    /// What `fail` of the pipe does. Where the piece isn't handed out, or is filled or failed, and isn't the one that is due, it
+    /// does nothing.
+    pub fn fail(&self, rt: &R, member: u8, phase: u8) {
+        let mut kept = self.shared.kept().lock(rt);
+        under_lock::fail(&mut kept, member, phase);
+    }
+
+    /// Whether every piece of the pipe is filled or failed. One that was handed out is full.
+    pub fn is_full(&self, rt: &R) -> bool {
+        match self.shared.kept().lock(rt).as_ref() {
+            Some(pipe) => pipe.is_full(),
+            None => true,
+        }
+    }
+
+    /// Whether some piece of the pipe is failed. It is false where the pipe was handed out.
+    pub fn has_failed(&self, rt: &R) -> bool {
+        match self.shared.kept().lock(rt).as_ref() {
+            Some(pipe) => pipe.has_failed(),
+            None => false,
+        }
+    }
+
+    /// Hands the pipe out, once. None exactly where it was handed out before, or isn't full. A None changes nothing.
+    pub fn take_out(&self, rt: &R) -> Option<Pipe<'p>>
+        ensures { IfSome result (λ pipe. IsFull pipe.state) }
+    {
+        let mut kept = self.shared.kept().lock(rt);
+        under_lock::take_full(&mut kept)
+    }
+}
+
+impl<'a, 'p, R: Wait + 'a> Scheduler for PipeHand<'a, 'p, R> {
+    type Hold = &'a R;
+
+    type Heard = PipeHeard;
+
+    type Ctx = PipeWork<'p>;
+
+    ghost site_of = { λ hand. hand.shared.now.site };
+
+    // Nothing is known of what the lock has but what a look of the call found.
+    ghost answers = { λ before next after. AnswersHand before next after };
+
+    ghost hears = { λ before _ after. after ≡ before };
+
+    ghost takes = { λ before c answer after. IfErr answer (λ back. back ≡ c) × (after ≡ before) };
+
+    fn site(&self) -> u16 {
+        self.shared.nested().site
+    }
+
+    fn register(&mut self, _hold: &'a R, child: u16) -> PipeHeard {
+        heard(Call::Registered, child, 0)
+    }
+
+    fn unregister(&mut self, hold: &'a R, child: u16) -> PipeHeard {
+        let mut kept = self.shared.kept().lock(hold);
+        under_lock::unregister(&mut kept, child)
+    }
+
+    fn request(&mut self, hold: &'a R, child: u16, count: u8) -> PipeHeard {
+        let mut kept = self.shared.kept().lock(hold);
+        under_lock::request(&mut kept, child, count)
+    }
+
+    fn yielded(&mut self, _hold: &'a R, child: u16) -> PipeHeard {
+        heard(Call::Yielded, child, 0)
+    }
+
+    fn enter(&mut self, hold: &'a R) -> Next<PipeWork<'p>> {
+        let mut kept = self.shared.kept().lock(hold);
+        self.looks.enter(&mut kept)
+    }
+
+    fn block(&mut self, _hold: &'a R) -> PipeHeard {
+        heard(Call::Blocked, 0, 0)
+    }
+
+    fn unblock(&mut self, hold: &'a R, c: PipeWork<'p>) -> Result<(), PipeWork<'p>> {
+        let mut kept = self.shared.kept().lock(hold);
+        under_lock::unblock(&mut kept, c)
+    }
+}

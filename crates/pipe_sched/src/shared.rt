@@ -1,0 +1,53 @@
+//! Pipes that harts share.
+ghost use Rattle.std.specs.Prelude.{◌≡◌, IfOk};
+
+use crate::pipe::Pipe;
+use std::alloc::{AllocError, Global};
+use std::marker::Model;
+use std::sync::Mutex;
+use step_eval::Nested;
+
+/// A pipe that harts share until it is handed out. Beside the lock stands its construct, which never changes.
+#[derive(Drop)]
+pub struct SharedPipe<'p> {
+    lock: Mutex<Option<Pipe<'p>>>,
+    nested: Nested<'p>,
+}
+
+impl<'p> Model for SharedPipe<'p> {
+    ghost use Rattle.std.specs.Coded.{codes};
+    ghost use Rattle.array_tree.specs.contracts.tree.Arrays as arrays_type;
+    ghost use Rattle.array_tree.specs.contracts.tree.Stmt as stmt_type;
+    ghost use Rattle.step_eval.specs.Nests.{NestedParts};
+
+    ghost Value = { NestedParts };
+
+    ghost coded = { Prim.hlevel (codes, arrays_type.the_row.coded, stmt_type.the_row.coded) };
+
+    ghost view = { λ shared. shared.nested };
+}
+
+impl<'p> SharedPipe<'p> {
+    /// Puts the pipe behind a lock, and a copy of its construct beside it.
+    pub fn new(_alloc: Global, pipe: Pipe<'p>) -> Result<SharedPipe<'p>, AllocError>
+        ensures { IfOk result (λ shared. shared ≡ pipe.entry.state.nested) }
+    {
+        let nested = pipe.nested().copy()?;
+        Ok(SharedPipe {
+            lock: Mutex::new(Some(pipe)),
+            nested,
+        })
+    }
+
+    /// The copy of the pipe's construct, with the variables and the store before it. It doesn't wait.
+    pub fn nested(&self) -> &Nested<'p>
+        ensures { result.now ≡ self.now }
+    {
+        &self.nested
+    }
+
+    // The lock, with the pipe behind it until that is handed out.
+    pub(crate) fn kept(&self) -> &Mutex<Option<Pipe<'p>>> {
+        &self.lock
+    }
+}
