@@ -2,7 +2,10 @@
 //! the meaning enters those of one side.
 #![tactic(auto)]
 
+mod accepted;
+mod choice;
 mod walk;
 mod walker;
 
+pub use accepted::entered_by;
 pub use walk::entered;

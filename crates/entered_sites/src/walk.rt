@@ -7,6 +7,7 @@ ghost use Rattle.array_meaning.specs.Entered.{entered_of};
 ghost use Rattle.array_eval.specs.Views.{vars_of};
 ghost use Rattle.entered_sites.specs.Told.{statement_told, sequence_told, branches_told, loop_told, phases_told};
 
+use crate::choice::has_no_choice;
 use crate::walker::Walker;
 use array_eval::{Layout, Scope, Store};
 use array_tree::{Block, Blocks, Name, Program, Stmt};
@@ -16,10 +17,21 @@ use std::alloc::{AllocError, Global};
 /// Of each site of a program's plan, in the plan's order, whether the one-thread meaning enters it from zero cells.
 ///
 /// `sites` must be the number of the plan's sites. Each array must have a cell, and all at most 4,096. The error is want
-/// of memory alone.
+/// of memory alone. A program without a construct under an `if` enters all its sites, and isn't run for that.
 pub fn entered(alloc: Global, program: &Program, sites: u16) -> Result<Vec<bool>, AllocError>
     requires sized { AreSized (arrays_of (declarations_of program.now.arrays)) }
     requires sites { sites ≡ sites_in (program_of program.now).body }
+    ensures { IfOk result (λ list. list.items ≡ entered_of (program_of program.now)) }
+{
+    if has_no_choice(&program.body, false) {
+        return vec![in alloc; true; usize::from(sites)];
+    }
+    walked(alloc, program, sites)
+}
+
+// The same by a walk through a run of the program.
+fn walked(alloc: Global, program: &Program, sites: u16) -> Result<Vec<bool>, AllocError>
+    requires sized { AreSized (arrays_of (declarations_of program.now.arrays)) }
     ensures { IfOk result (λ list. list.items ≡ entered_of (program_of program.now)) }
 {
     let layout = Layout::new(alloc, &program.arrays)?;

@@ -1,6 +1,7 @@
 //! Of each site whether it is entered.
 
-use entered_sites::entered;
+use disjoint_check::check;
+use entered_sites::{entered, entered_by};
 use language_tests::programs::{are_sized, parsed};
 use site_counts::sites_in_block;
 use std::alloc::Global;
@@ -102,5 +103,17 @@ fn only_what_runs_writes(rt: HostRuntime) -> Result<(), Fail> {
     assert!(rt; enters(alloc, summed, [true].as_slice())?);
     let none = "array a[1]; a[0] = 1; for i in 3..3 { par { { } } }";
     assert!(rt; enters(alloc, none, [].as_slice())?);
+    Ok(())
+}
+
+#[test]
+fn an_accepted_program_tells_its_sites(rt: HostRuntime) -> Result<(), Fail> {
+    let alloc = rt.alloc();
+    let text =
+        "array a[4]; par { { team i in 0..2 by 2 { a[i] = i; } } { a[3] = 9; } } par { { } }";
+    let program = parsed(alloc, text)?;
+    let accepted = check(alloc, &program, 2)?;
+    let told = entered_by(alloc, &accepted)?;
+    assert!(rt; told.as_slice() == [true, true, true].as_slice());
     Ok(())
 }

@@ -2,7 +2,6 @@
 use Rattle.std.proofs.Common.{◌≡◌, ℕ, zero, suc, ◌+◌, ◌-◌, ◌<◌, ◌≤◌, ◌⊎◌, List, [], ◌∷◌, ◌++◌, length, slice_index, sym, ap, ◌∙◌, arith, length-append, append-nil}
 use Rattle.transfer_table.specs.Plan.{Plan, IsSite, parent, site_count}
 use Rattle.site_accounts.proofs.Ends.{all_over_is_complete}
-use Rattle.array_tree.specs.Trees.{ProgramTree}
 use Rattle.array_meaning.specs.Stores.{arrays_of}
 use Rattle.array_meaning.specs.Work.{first_store}
 use Rattle.array_meaning.specs.Plans.{plan_of, AreInside, AreOutside}
@@ -10,7 +9,7 @@ use Rattle.array_meaning.specs.Entered.{entered_of}
 use Rattle.array_meaning.proofs.EnteredLemmas as entered
 use Rattle.array_meaning.proofs.PlanLemmas as plans
 use Rattle.array_meaning.proofs.NestingLemmas.{stay_inside_parts}
-use Rattle.meant_sites.specs.Meant.{HasPartFrom, PartsAreSpans, ProgramsAreParts, EnteredIsComplete}
+use Rattle.meant_sites.specs.Meant.{HasPartFrom, PartsAreSpans, ProgramsAreParts, EnteredIsComplete, EverySiteIsTold}
 
 -- behind a list
 at_right : (xs ys : List ℕ) (i : ℕ) → slice_index (xs ++ ys) (length xs + i) ≡ slice_index ys i
@@ -71,11 +70,10 @@ programs_are_parts program p is = record {
   behind = tt;
 }
 
--- the account of a program has a value for each site of its plan
-counted : (program : ProgramTree) (p : Plan) → p.parents ≡ plan_of program → length (entered_of program) ≡ site_count p
-counted program p is =
+pub every_site_is_told : EverySiteIsTold
+every_site_is_told program p is =
     let arrays = arrays_of program.arrays in
     entered.sequence_length arrays program.body [] (first_store arrays) ∙ sym (plans.sequence_length program.body 0 1) ∙ sym (ap length is)
 
 pub entered_is_complete : EnteredIsComplete
-entered_is_complete program p es t is plan leads over = all_over_is_complete p (entered_of program) es t plan leads (counted program p is) over
+entered_is_complete program p es t is plan leads over = all_over_is_complete p (entered_of program) es t plan leads (every_site_is_told program p is) over

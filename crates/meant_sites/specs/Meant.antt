@@ -1,12 +1,13 @@
 -- The accounts of a program's sites: where parts of its plan stand, and what is complete.
-use Rattle.std.specs.Prelude.{◌≡◌, ℕ, ◌+◌, ◌<◌, List, ◌++◌, length}
-use Rattle.transfer_table.specs.Plan.{Plan, IsPlan}
+use Rattle.std.specs.Prelude.{◌≡◌, ℕ, ◌+◌, ◌<◌, false, List, ◌++◌, length, IsTrue}
+use Rattle.transfer_table.specs.Plan.{Plan, IsPlan, site_count}
 use Rattle.transfer_table.specs.Table.{TableState}
-use Rattle.transfer_table.specs.Journal.{Reaches, IsComplete}
+use Rattle.transfer_table.specs.Journal.{Reaches, IsComplete, all_meant}
 use Rattle.transfer_table.specs.declared.entry.Entry.{Entry}
 use Rattle.site_accounts.specs.Accounts.{AreOverAs, IsSpan}
 use Rattle.array_tree.specs.Trees.{ProgramTree}
 use Rattle.array_meaning.specs.Plans.{plan_of, AreInside, AreOutside}
+use Rattle.array_meaning.specs.Limits.{has_no_site_under_if}
 use Rattle.array_meaning.specs.Entered.{entered_of}
 
 -- From the site s on the plan has the parents of a part inside the site `around`, and no site behind it is inside the part.
@@ -35,3 +36,14 @@ EnteredIsComplete = (program : ProgramTree) (p : Plan) (es : List Entry) (t : Ta
     → p.parents ≡ plan_of program → IsPlan p → Reaches p es t
     → AreOverAs p es 1 (entered_of program)
     → IsComplete p (entered_of program) es
+
+-- Of each site of a program's plan it is told whether the meaning enters it.
+abbrev pub EverySiteIsTold : Type 0
+EverySiteIsTold = (program : ProgramTree) (p : Plan) → p.parents ≡ plan_of program
+    → length (entered_of program) ≡ site_count p
+
+-- A program without a construct under an `if` enters every site of its plan.
+abbrev pub AllSitesAreEntered : Type 0
+AllSitesAreEntered = (program : ProgramTree) (p : Plan) → p.parents ≡ plan_of program
+    → IsTrue (has_no_site_under_if program.body false)
+    → entered_of program ≡ all_meant p
