@@ -33,10 +33,12 @@ pub trait Resources {
     /// Its tools. No call changes them.
     ghost tools: { Self → Self.Tools };
 
-    /// The job of a machine and of a piece, and the place of a job.
+    /// The job of a machine and of a piece, and the phase and the place of a job.
     ghost job_of: { Self.Machine → Self.Job };
 
     ghost job_in: { Self.Piece → Self.Job };
+
+    ghost phase_of: { Self.Job → ℕ };
 
     ghost place_of: { Self.Job → ℕ };
 
@@ -101,6 +103,10 @@ pub trait Resources {
     /// The site of a construct.
     fn number(&self, nested: &Self::Nested) -> u16
         ensures { result ≡ number_of nested.now };
+
+    /// The phase of a job.
+    fn phase(&self, job: &Self::Job) -> u8
+        ensures { result ≡ phase_of job.now };
 
     /// The place of a job.
     fn place(&self, job: &Self::Job) -> u8

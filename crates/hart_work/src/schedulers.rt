@@ -147,9 +147,10 @@ pub trait Schedulers<R>: Resources {
         ensures left { left site.new ≤ left site.old }
         ensures tools { Self.tools self.new ≡ Self.tools self.old };
 
-    /// The piece at this place found no memory.
-    fn fail(&mut self, rt: &R, site: &mut Self::Site, place: u8)
-        requires { (job : Self.Job) × owed site.old job × (Self.place_of job ≡ place) }
+    /// The piece of this phase at this place found no memory.
+    fn fail(&mut self, rt: &R, site: &mut Self::Site, phase: u8, place: u8)
+        requires { (job : Self.Job) × owed site.old job
+            × (Self.phase_of job ≡ phase) × (Self.place_of job ≡ place) }
         ensures construct { Self.construct site.new ≡ Self.construct site.old }
         ensures settled { Self.settled site.new }
         ensures left { left site.new ≤ left site.old }

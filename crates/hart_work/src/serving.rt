@@ -181,11 +181,11 @@ fn run_job<P: PatientPort, R, H: Schedulers<R>, F: Fn(u8, &H::Job)>(
     ensures left { H.left site.new ≤ H.left site.old }
     ensures tools { H.tools schedulers.new ≡ H.tools schedulers.old }
 {
-    let place = schedulers.place(&job);
+    let (phase, place) = (schedulers.phase(&job), schedulers.place(&job));
     pass(port.hart(), &job);
     match run_piece(rt, alloc, tree, pass, port, hold, schedulers, site, job) {
         Ok(piece) => schedulers.deposit(rt, alloc, site, piece),
-        Err(AllocError) => schedulers.fail(rt, site, place),
+        Err(AllocError) => schedulers.fail(rt, site, phase, place),
     }
 }
 
