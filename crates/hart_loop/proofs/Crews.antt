@@ -9,7 +9,7 @@ use Rattle.hart_port.specs.PortView.{PortView}
 use Rattle.array_jobs.specs.Jobs.{JobParts}
 use Rattle.array_jobs.specs.PieceParts.{PieceParts}
 use Rattle.hart_loop.specs.declared.hart.Hart.{Hart}
-use Rattle.hart_loop.specs.Harts.{HasRun, AllStart, AreSame, FirstSawGone, HaveRun, AreTheSame}
+use Rattle.hart_loop.specs.Harts.{HasRun, AllStart, AreSame, HaveRun, AreTheSame}
 
 -- ---- lists
 
@@ -31,10 +31,6 @@ module _ {A B : Type 0} (f : A → B) where
   -- what is true of all that is made of items is true of the items
   pub all_of_map : (F : B → Type 0) (xs : List A) → All F (map f xs) → All (λ x. F (f x)) xs
   all_of_map F xs all k d below = subst F (get_or-map f xs k d (f d) below) (all k (f d) (omega (arith, below, length-map xs f)))
-
-  pub first_of_map : (seen : B → PortView) (xs : List A) → FirstSawGone (λ x. seen (f x)) xs → FirstSawGone seen (map f xs)
-  first_of_map seen [] gone = gone
-  first_of_map seen (x ∷ xs) gone = gone
 
 -- ---- harts
 
@@ -63,14 +59,6 @@ module _ {P S : Type 0} (seen : P → PortView) where
   crew_ran [] ys d e j piece some ran = absurd (omega (arith, some))
   crew_ran (x ∷ xs) [] d e j piece some ran = absurd ran
   crew_ran (x ∷ xs) (y ∷ ys) d e j piece some ran = ((ran.0.same, ran.0.lent), have_run xs ys ran.1)
-
-  -- and the first has seen each top site gone
-  pub first_ran : (xs ys : List (Hart P S)) (d e : Hart P S) (j : JobParts) (piece : Option PieceParts) → 0 < length xs
-      → HaveRun seen (slice_set xs 0 (record (slice_index_or xs 0 d) { job = Some j })) ys
-      → FirstSawGone (λ hart. seen hart.port) (slice_set ys 0 (record (slice_index_or ys 0 e) { piece = piece }))
-  first_ran [] ys d e j piece some ran = absurd (omega (arith, some))
-  first_ran (x ∷ xs) [] d e j piece some ran = absurd ran
-  first_ran (x ∷ xs) (y ∷ ys) d e j piece some ran = ran.0.gone j refl
 
   -- and its piece, if there is one, is that of its job
   pub first_made : (xs ys : List (Hart P S)) (d e : Hart P S) (j : JobParts) → 0 < length xs

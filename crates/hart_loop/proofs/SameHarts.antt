@@ -1,6 +1,5 @@
 -- A hart that is back is the hart that it was.
 use Rattle.std.proofs.Common.{◌∙◌, ap}
-use Rattle.transfer_table.specs.Entry.{skips_over}
 use Rattle.hart_port.specs.PortView.{PortView}
 use Rattle.site_steps.specs.Back.{IsBack, HasLooked}
 use Rattle.hart_loop.specs.Harts.{IsSameHart}
@@ -10,7 +9,6 @@ same_back v after back = record {
   plan = back.plan;
   hart = back.hart;
   table = back.table;
-  skipped = back.unskipped (λ never. never);
 }
 
 -- so is one that came back twice, and then looked at sites
@@ -19,5 +17,4 @@ same_looked v w u after ran swept looked = record {
   plan = ap (λ (h : PortView). h.plan) looked.same ∙ swept.plan ∙ ran.plan;
   hart = ap (λ (h : PortView). h.hart) looked.same ∙ swept.hart ∙ ran.hart;
   table = ap (λ (h : PortView). h.table) looked.same ∙ swept.table ∙ ran.table;
-  skipped = λ q s. ap (λ (h : PortView). skips_over q s h.mine) looked.same ∙ (swept.unskipped (λ never. never) q s ∙ ran.unskipped (λ never. never) q s);
 }

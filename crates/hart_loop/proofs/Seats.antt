@@ -1,5 +1,5 @@
 -- The seats of both boards, as harts.
-use Rattle.std.proofs.Common.{◌≡◌, ◌<◌, ℕ, List, get_or, length}
+use Rattle.std.proofs.Common.{List, get_or}
 use Rattle.atomic_table.specs.Seated.{TableId}
 use Rattle.transfer_table.specs.Plan.{Plan}
 use Rattle.word_board.specs.declared.seat.HartSeat.{HartSeat}

@@ -1,8 +1,7 @@
 -- How a hart of several begins and ends a run.
-use Rattle.std.specs.Prelude.{◌≡◌, ◌<◌, ℕ, true, List, length, slice_index_or, slice_get, Option, Some, IfSome, All}
+use Rattle.std.specs.Prelude.{◌≡◌, ◌<◌, ℕ, true, List, length, slice_index_or, Option, Some, IfSome, All}
 use Rattle.std.specs.List.{AllZip}
 use Rattle.transfer_table.specs.Plan.{Plan, IsSite, parent}
-use Rattle.transfer_table.specs.Entry.{skips_over}
 use Rattle.hart_port.specs.PortView.{PortView, is_in}
 use Rattle.site_steps.specs.Back.{IsSettled}
 use Rattle.array_jobs.specs.Jobs.{JobParts}
@@ -16,19 +15,17 @@ pub record StartsIn (p : Plan) (v : PortView) : Type 0 where
   pub base : v.owner ≡ 0
   pub inner : IsSettled v
 
--- it is this hart, of the table of this name and of the plan, and it has skipped no site
+-- it is this hart, of the table of this name and of the plan
 pub record IsAt (name : List ℕ) (p : Plan) (h : ℕ) (v : PortView) : Type 0 where
   pub plan : v.plan ≡ p
   pub hart : v.hart ≡ h
   pub table : v.table ≡ name
-  pub skipped : (q : Plan) (s : ℕ) → skips_over q s v.mine ≡ 0
 
--- it is a hart of the same number, of the same table and plan, and has skipped no more sites
+-- it is a hart of the same number, of the same table and plan
 pub record IsSameHart (v after : PortView) : Type 0 where
   pub plan : after.plan ≡ v.plan
   pub hart : after.hart ≡ v.hart
   pub table : after.table ≡ v.table
-  pub skipped : (q : Plan) (s : ℕ) → skips_over q s after.mine ≡ skips_over q s v.mine
 
 -- the hart has seen each top site gone
 abbrev pub TopSitesSeenGone : PortView → Type 0
@@ -53,17 +50,11 @@ AllStart seen p = All (λ q. StartsIn p (seen q))
 abbrev pub AreSame : {Q : Type 0} → (Q → PortView) → List Q → List Q → Type 0
 AreSame seen = AllZip (λ before after. IsSameHart (seen before) (seen after))
 
--- the first has seen each top site gone
-abbrev pub FirstSawGone : {Q : Type 0} → (Q → PortView) → List Q → Type 0
-FirstSawGone seen qs = IfSome (slice_get qs 0) (λ q. TopSitesSeenGone (seen q))
-
--- They have done their parts, on the table of this name: that of hart h is at place h, no hart has skipped a site, and the first
--- hart has seen each top site gone.
+-- they have done their parts, on the table of this name: that of hart h is at place h
 pub record AreBack {Q : Type 0} (seen : Q → PortView) (name : List ℕ) (p : Plan)
     (qs : List Q) : Type 0 where
   pub count : length qs ≡ p.harts
   pub each : (h : ℕ) (d : Q) → h < length qs → IsAt name p h (seen (slice_index_or qs h d))
-  pub gone : (d : Q) → TopSitesSeenGone (seen (slice_index_or qs 0 d))
 
 -- ---- of harts with ports, of which `seen` is what is known of the port
 

@@ -6,10 +6,11 @@ ghost use Rattle.array_jobs.specs.Bodies.{body_of};
 ghost use Rattle.deque_rows.specs.Rows.{kin as rows_kin};
 ghost use Rattle.claim_words.specs.Seats.{kin as seat_kin};
 ghost use Rattle.hart_tools.specs.Stocks.{AreTools};
-ghost use Rattle.hart_loop.specs.Harts.{AllStart, AreSame, FirstSawGone, HaveRun, AreTheSame};
+ghost use Rattle.hart_loop.specs.Harts.{AllStart, AreSame, HaveRun, AreTheSame};
 
 use crate::hart::{Hart, work};
 use crate::harts::HartSchedulers;
+use crate::members::Members;
 use array_jobs::{Job, Piece, body_job};
 use base_sched::Base;
 use deque_rows::laws::settle;
@@ -29,8 +30,8 @@ use std::thread::Threads;
 /// Runs an accepted program on harts that move by these ports, of which there is one for each hart of the plan, and settles the
 /// accounts of what the harts were lent. It waits until all of them are back.
 ///
-/// The piece is that of the program's body. Each port comes back as the same hart's, and the first of them has seen each top site
-/// gone.
+/// The members of each `team` go on as is said. The piece is that of the program's body, and each port comes back as the same
+/// hart's.
 pub fn run_ports<
     'p,
     R: Threads + Wait + Sync,
@@ -40,6 +41,7 @@ pub fn run_ports<
     rt: &R,
     alloc: Global,
     accepted: &Accepted<'p>,
+    members: Members,
     pass: &F,
     tree: &SiteTree,
     ports: Vec<P>,
@@ -50,10 +52,9 @@ pub fn run_ports<
     ensures piece { IfOk result
         (λ back. job_of back.0.job ≡ body_of (program_of accepted.now.program)) }
     ensures same { IfOk result (λ back. AreSame P.seen ports.items back.1.items) }
-    ensures gone { IfOk result (λ back. FirstSawGone P.seen back.1.items) }
 {
     let (words, stock) = lend(alloc, accepted, ports)?;
-    let (piece, stock) = run_lent(rt, alloc, accepted, pass, tree, &words, stock)?;
+    let (piece, stock) = run_lent(rt, alloc, accepted, members, pass, tree, &words, stock)?;
     let Stock {
         ports,
         rows,
@@ -120,6 +121,7 @@ fn run_lent<
     rt: &R,
     alloc: Global,
     accepted: &Accepted<'p>,
+    members: Members,
     pass: &F,
     tree: &SiteTree,
     words: &Claims,
@@ -135,7 +137,6 @@ fn run_lent<
         (λ piece. job_of piece.job ≡ body_of (program_of accepted.now.program))) }
     ensures same { IfOk result
         (λ back. AreSame P.seen stock.ports.items back.1.ports.items) }
-    ensures gone { IfOk result (λ back. FirstSawGone P.seen back.1.ports.items) }
     ensures tools { IfOk result
         (λ back. AreTools words.now.table back.1.rows.items back.1.claims.items) }
 {
@@ -143,7 +144,9 @@ fn run_lent<
     let base = Mutex::new(Base::new(alloc, sites)?);
     let cells = cells(alloc, sites)?;
     let job = body_job(alloc, accepted.program())?;
-    run_on(rt, alloc, pass, tree, words, stock, &base, &cells, job)
+    run_on(
+        rt, alloc, members, pass, tree, words, stock, &base, &cells, job,
+    )
 }
 
 // Runs all harts on these cells, the first of them with this job. Its piece, unless memory was wanting there, and what the harts
@@ -157,6 +160,7 @@ fn run_on<
 >(
     rt: &'x R,
     alloc: Global,
+    members: Members,
     pass: &F,
     tree: &SiteTree,
     words: &'x Claims,
@@ -174,11 +178,10 @@ fn run_on<
     ensures piece { IfOk result (λ back. IfSome back.0 (λ piece. piece.job ≡ job.entry)) }
     ensures same { IfOk result
         (λ back. AreSame P.seen stock.ports.items back.1.ports.items) }
-    ensures gone { IfOk result (λ back. FirstSawGone P.seen back.1.ports.items) }
     ensures tools { IfOk result
         (λ back. AreTools words.now.table back.1.rows.items back.1.claims.items) }
 {
-    let mut harts = crew(alloc, words, stock, base, cells)?;
+    let mut harts = crew(alloc, members, words, stock, base, cells)?;
     let piece = run_crew(rt, alloc, pass, tree, harts.as_mut_slice(), job);
     Ok((piece, stock_of(alloc, harts)?))
 }
@@ -202,7 +205,6 @@ fn run_crew<
     requires some { 0 < length harts.old }
     requires starts { AllStart (λ hart. P.seen hart.port) tree.now harts.old }
     ensures same { AreTheSame P.seen harts.old harts.new }
-    ensures gone { FirstSawGone (λ hart. P.seen hart.port) harts.new }
     ensures piece { IfSome result (λ piece. piece.job ≡ job.entry) }
 {
     harts[0].job = Some(job);
@@ -213,6 +215,7 @@ fn run_crew<
 // A hart for each port, in the base and with no job.
 fn crew<'x, 'p: 'x, P: Drop>(
     alloc: Global,
+    members: Members,
     words: &'x Claims,
     stock: Stock<P>,
     base: &'x Mutex<Base>,
@@ -243,7 +246,7 @@ fn crew<'x, 'p: 'x, P: Drop>(
         };
         harts.push(Hart {
             port,
-            schedulers: HartSchedulers::new(lines(alloc, cells)?, own),
+            schedulers: HartSchedulers::new(lines(alloc, cells)?, own, members),
             base,
             job: None,
             piece: None,

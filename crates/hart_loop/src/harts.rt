@@ -13,6 +13,7 @@ ghost use Rattle.hart_loop.specs.Offers.{opened_by, IsOpened, task_told};
 
 use crate::hart_site::{HartSite, Keeper};
 use crate::in_directory::InDirectory;
+use crate::members::Members;
 use crate::opened::OpenSite;
 use crate::turns::take_turn;
 use array_eval::Overlay;
@@ -37,17 +38,23 @@ use step_eval::{Nested, StepMachine, compute};
 pub struct HartSchedulers<'a, 'p, S> {
     lines: Vec<SiteLine<'a, S>>,
     tools: Tools<'a>,
+    members: Members,
     of: PhantomData<&'p Block>,
 }
 
 impl<'a, 'p, S> HartSchedulers<'a, 'p, S> {
-    /// What a hart has to work with, by its lines to the cells of all sites, and its tools.
-    pub fn new(lines: Vec<SiteLine<'a, S>>, tools: Tools<'a>) -> HartSchedulers<'a, 'p, S>
+    /// What a hart has to work with, by its lines to the cells of all sites, its tools, and how members go on.
+    pub fn new(
+        lines: Vec<SiteLine<'a, S>>,
+        tools: Tools<'a>,
+        members: Members,
+    ) -> HartSchedulers<'a, 'p, S>
         ensures { result.tools ≡ tools.entry }
     {
         HartSchedulers {
             lines,
             tools,
+            members,
             of: PhantomData,
         }
     }
@@ -59,6 +66,7 @@ impl<'a, 'p, S> HartSchedulers<'a, 'p, S> {
         let HartSchedulers {
             lines: _,
             tools,
+            members: _,
             of: _,
         } = self;
         tools
@@ -162,6 +170,8 @@ impl<'a, 'p, S: InDirectory<'p>> Resources for HartSchedulers<'a, 'p, S> {
 
     ghost job_in = { λ p. p.job };
 
+    ghost phase_of = { λ job. job.phase };
+
     ghost place_of = { λ job. job.place };
 
     ghost number_of = { λ n. n.site };
@@ -231,6 +241,10 @@ impl<'a, 'p, S: InDirectory<'p>> Resources for HartSchedulers<'a, 'p, S> {
         nested.site
     }
 
+    fn phase(&self, job: &Job<'p>) -> u8 {
+        job.phase
+    }
+
     fn place(&self, job: &Job<'p>) -> u8 {
         job.place
     }
@@ -247,7 +261,14 @@ impl<'a, 'p, S: InDirectory<'p>> Resources for HartSchedulers<'a, 'p, S> {
         let level = self.tools.level(nested.site);
         let has_room = self.tools.has_room(level, nested);
         let home = self.tools.hart();
-        let site = OpenSite::new(alloc, self.lines.as_mut_slice(), home, has_room, nested)?;
+        let site = OpenSite::new(
+            alloc,
+            self.lines.as_mut_slice(),
+            home,
+            has_room,
+            self.members,
+            nested,
+        )?;
         Ok(HartSite::new(Keeper::Home(site), level))
     }
 
@@ -360,9 +381,9 @@ impl<'a, 'p, S: InDirectory<'p>, R: Wait> Schedulers<R> for HartSchedulers<'a, '
         self.tools.deposit(rt, grip, piece);
     }
 
-    fn fail(&mut self, rt: &R, site: &mut HartSite<'a, 'p, S>, place: u8) {
+    fn fail(&mut self, rt: &R, site: &mut HartSite<'a, 'p, S>, phase: u8, place: u8) {
         let grip = site.grip(&self.tools);
-        self.tools.fail(rt, grip, place);
+        self.tools.fail(rt, grip, phase, place);
     }
 
     fn has_failed(&mut self, rt: &R, site: &HartSite<'a, 'p, S>) -> bool {

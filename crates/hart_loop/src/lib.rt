@@ -1,6 +1,7 @@
 //! Runs of accepted programs.
 //!
-//! `run_alone` runs a program on one hart, and `run_harts` on the harts of its plan, each on a thread. `HartSchedulers` is what
+//! `run_alone` runs a program on one hart, and `run_harts` on the harts of its plan, each on a thread; `run_piped` does so with
+//! members that overtake. `HartSchedulers` is what
 //! one of several harts has to work with: the schedulers stand behind locks, and a directory tells where. `work` is what one of
 //! them does from start to end, and `run_ports` runs a crew of them, for any port that waits.
 #![tactic(auto)]
@@ -10,6 +11,8 @@ mod hart;
 mod hart_site;
 mod harts;
 mod in_directory;
+mod members;
+mod on_plain_port;
 mod on_wide_board;
 mod on_word_board;
 mod opened;
@@ -21,6 +24,7 @@ pub use hart_site::HartSite;
 pub use harts::HartSchedulers;
 pub use in_directory::InDirectory;
 pub use lone_hart::{Journal, Outcome, run_alone};
-pub use several::run_harts;
+pub use members::Members;
+pub use several::{run_harts, run_piped};
 pub use wide_board::WideClosed;
 pub use word_board::Closed;

@@ -1,15 +1,21 @@
 //! Sites that a hart opens for all harts.
-ghost use Rattle.std.specs.Prelude.{◌≡◌, IfOk};
+ghost use Rattle.std.specs.Prelude.{◌≡◌, IfOk, Some};
 ghost use Rattle.array_tree.specs.Trees.{statement_of};
+ghost use Rattle.step_eval.specs.declared.shape.Kind.TheVariants as kind;
+ghost use Rattle.step_eval.specs.Shapes.{kind_of};
 ghost use Rattle.step_eval.specs.Nests.{nested_of, nested_writes, phases_of};
+ghost use Rattle.pipe_sched.specs.Pipes.{IsUncrossed};
 ghost use Rattle.hart_loop.specs.Openings.{IsMadeOf, on_shelf, IsSharedPoolOf};
 
 use crate::in_directory::InDirectory;
+use crate::members::Members;
 use array_eval::Overlay;
 use forkjoin_sched::SharedPool;
 use hart_tools::{Grip, Tools};
 use lone_hart::{open_pool, take_from_pool};
 use loop_team::{SharedTeam, Team};
+use pipe_sched::{Pipe, SharedPipe};
+use pipe_walk::uncrossed;
 use site_directory::{SharedSite, SiteLine};
 use std::alloc::{AllocError, Global};
 use std::sync::Wait;
@@ -38,13 +44,14 @@ impl<'a, 'p, S: InDirectory<'p>> OpenSite<'a, 'p, S> {
         lines: &mut [SiteLine<'a, S>],
         home: u8,
         has_room: bool,
+        members: Members,
         nested: &Nested<'p>,
     ) -> Result<OpenSite<'a, 'p, S>, AllocError>
         ensures nested { IfOk result (λ site. site.nested ≡ nested.now) }
         ensures made { IfOk result (λ site. IsMadeOf site.nested (S.held (on_shelf site.shelf))) }
     {
         let own = nested.copy()?;
-        let shared = Box::new(alloc, S::put(shared_site(alloc, home, nested)?))?;
+        let shared = Box::new(alloc, S::put(shared_site(alloc, home, members, nested)?))?;
         let shelf = if has_room {
             publish(lines, nested.site, shared)
         } else {
@@ -91,6 +98,8 @@ impl<'a, 'p, S: InDirectory<'p>> OpenSite<'a, 'p, S> {
                 take_pool(rt, alloc, tools, &self.nested, pool, *home, level)
             }
             SharedSite::Team(team) => take_team(rt, alloc, tools, &self.nested, team),
+            SharedSite::Pipe(pipe) => take_pipe(rt, alloc, tools, &self.nested, pipe),
+            SharedSite::Alone => compute(alloc, &self.nested),
         }
     }
 }
@@ -99,6 +108,7 @@ impl<'a, 'p, S: InDirectory<'p>> OpenSite<'a, 'p, S> {
 fn shared_site<'p>(
     alloc: Global,
     home: u8,
+    members: Members,
     nested: &Nested<'p>,
 ) -> Result<SharedSite<'p>, AllocError>
     ensures { IfOk result (λ shared. IsMadeOf nested.now shared) }
@@ -108,11 +118,29 @@ fn shared_site<'p>(
             let pool = SharedPool::new(alloc, open_pool(alloc, nested)?)?;
             Ok(SharedSite::Pool { home, pool })
         }
-        Kind::Team => {
-            let team = SharedTeam::new(alloc, Team::new(alloc, nested.copy()?)?)?;
-            Ok(SharedSite::Team(team))
-        }
+        Kind::Team => match members {
+            Members::Wait => {
+                let team = SharedTeam::new(alloc, Team::new(alloc, nested.copy()?)?)?;
+                Ok(SharedSite::Team(team))
+            }
+            Members::Overtake => shared_pipe(alloc, nested),
+        },
     }
+}
+
+// The pipe of a `team` whose pieces don't cross. Else there is none, and what the members write is known to the home alone.
+fn shared_pipe<'p>(alloc: Global, nested: &Nested<'p>) -> Result<SharedSite<'p>, AllocError>
+    requires { kind_of (statement_of nested.now.construct) ≡ Some kind.Team }
+    ensures { IfOk result (λ shared. IsMadeOf nested.now shared) }
+{
+    let is_clear = uncrossed(alloc, nested)?;
+    if !is_clear {
+        return Ok(SharedSite::Alone);
+    }
+    let own = nested.copy()?;
+    let pipe = Pipe::new(alloc, own)?;
+    let shared = SharedPipe::new(alloc, pipe)?;
+    Ok(SharedSite::Pipe(shared))
 }
 
 // Puts a scheduler into the cell of its site.
@@ -180,6 +208,32 @@ fn take_team<'b, 'p, R: Wait + 'b>(
             if *team.nested() == *nested {
                 return team.take_all();
             }
+        }
+    }
+    compute(alloc, nested)
+}
+
+// What a `team` writes whose pipe is full. Where a piece has failed, so has the construct, whatever is taken out.
+fn take_pipe<'b, 'p, R: Wait + 'b>(
+    rt: &'b R,
+    alloc: Global,
+    tools: &mut Tools<'_>,
+    nested: &Nested<'p>,
+    shared: &'b SharedPipe<'p>,
+) -> Result<Overlay, AllocError>
+    requires { IsUncrossed (nested_of nested.now) }
+    ensures written { IfOk result
+        (λ written. written.pairs ≡ nested_writes (nested_of nested.now)) }
+    ensures tools { tools.new ≡ tools.old }
+{
+    let has_failed = tools.has_failed(rt, Grip::Pipe(shared));
+    let taken = tools.take_pipe(rt, shared);
+    if has_failed {
+        return Err(AllocError);
+    }
+    if let Some(pipe) = taken {
+        if *pipe.nested() == *nested {
+            return pipe.take_all();
         }
     }
     compute(alloc, nested)

@@ -1,20 +1,26 @@
-//! Runs on several harts.
-ghost use Rattle.std.specs.Prelude.{◌≡◌, ◌≤◌, ◌<◌, IfOk, length};
+//! Runs on several harts, and runs whose members overtake.
+ghost use Rattle.std.specs.Prelude.{◌≡◌, ◌≤◌, ◌<◌, ◌↔◌, IfOk, IsTrue, length};
 ghost use Rattle.array_tree.specs.Trees.{program_of};
 ghost use Rattle.array_meaning.specs.Work.{final_store};
+ghost use Rattle.array_meaning.specs.Entered.{entered_of};
+ghost use Rattle.phase_order.specs.Crossings.{HasNoCrossings};
 ghost use Rattle.transfer_table.specs.Plan.{most_entries};
-ghost use Rattle.transfer_table.specs.Journal.{IsComplete, all_meant};
-ghost use Rattle.lone_hart.specs.Journals.{entries_in, IsBoard, IsWide};
+ghost use Rattle.transfer_table.specs.Journal.{IsComplete};
+ghost use Rattle.lone_hart.specs.Journals.{entries_in, IsListed, IsBoard, IsWide};
 
+use crate::members::Members;
+use crate::on_plain_port::on_plain_port;
 use crate::on_wide_board::on_wide_board;
 use crate::on_word_board::on_word_board;
 use disjoint_check::Accepted;
+use entered_sites::entered_by;
 use lone_hart::Outcome;
 use outside_io::Gate;
 use site_steps::SiteTree;
 use std::alloc::{AllocError, Global};
 use std::sync::Wait;
 use std::thread::Threads;
+use transfer_table::{Entry, first_fault};
 
 /// For so many harts the board word has a field.
 const MOST_ON_WORDS: u8 = 4;
@@ -22,7 +28,8 @@ const MOST_ON_WORDS: u8 = 4;
 /// Runs an accepted program on the harts of its plan, at least two, each on a thread. It waits until all of them are back.
 ///
 /// The store is that of the one-thread meaning, and the journal, which is that of a closed board, is complete for the plan and
-/// all its sites: every transfer is legal, and every site came and went. Up to four harts move on a word board, and more on a wide
+/// the sites that this meaning enters: every transfer is legal, every site is gone, and exactly the entered ones came and went.
+/// That is tested, and a run whose journal isn't so is made anew. Up to four harts move on a word board, and more on a wide
 /// one. Where memory is wanting anywhere, the whole run answers that. A hart that has taken a piece passes the gate before its
 /// first step.
 pub fn run_harts<R: Threads + Wait + Sync, G: Gate>(
@@ -34,21 +41,117 @@ pub fn run_harts<R: Threads + Wait + Sync, G: Gate>(
     requires { 2 ≤ accepted.now.plan.harts }
     ensures store { IfOk result
         (λ outcome. outcome.store ≡ final_store (program_of accepted.now.program)) }
-    ensures journal { IfOk result
-        (λ outcome. IsComplete accepted.now.plan (all_meant accepted.now.plan)
-        (entries_in outcome.journal)) }
+    ensures journal { IfOk result (λ outcome. IsComplete accepted.now.plan
+        (entered_of (program_of accepted.now.program)) (entries_in outcome.journal)) }
     ensures board { IfOk result
         (λ outcome. accepted.now.plan.harts ≤ 4 → IsBoard outcome.journal) }
     ensures wide { IfOk result
         (λ outcome. 4 < accepted.now.plan.harts → IsWide outcome.journal) }
     ensures short { IfOk result (λ outcome. length (entries_in outcome.journal) ≤ most_entries) }
 {
-    let plan = accepted.plan();
-    let tree = SiteTree::new(alloc, plan)?;
+    run_tested(rt, alloc, accepted, Members::Wait, gate)
+}
+
+/// Runs an accepted program, no two pieces of which cross, on the harts of its plan, each on a thread, with members that
+/// overtake: each goes on to its next phase as soon as those below it have done that phase. It waits until all harts are back.
+///
+/// The store and the journal are as those of `run_harts`, but for one hart the journal is the list that its port kept.
+pub fn run_piped<R: Threads + Wait + Sync, G: Gate>(
+    rt: &R,
+    alloc: Global,
+    accepted: &Accepted<'_>,
+    gate: &G,
+) -> Result<Outcome, AllocError>
+    requires { HasNoCrossings (program_of accepted.now.program) }
+    ensures store { IfOk result
+        (λ outcome. outcome.store ≡ final_store (program_of accepted.now.program)) }
+    ensures journal { IfOk result (λ outcome. IsComplete accepted.now.plan
+        (entered_of (program_of accepted.now.program)) (entries_in outcome.journal)) }
+    ensures listed { IfOk result
+        (λ outcome. accepted.now.plan.harts ≡ 1 → IsListed outcome.journal) }
+    ensures board { IfOk result (λ outcome. 2 ≤ accepted.now.plan.harts
+        → accepted.now.plan.harts ≤ 4 → IsBoard outcome.journal) }
+    ensures wide { IfOk result
+        (λ outcome. 4 < accepted.now.plan.harts → IsWide outcome.journal) }
+    ensures short { IfOk result (λ outcome. length (entries_in outcome.journal) ≤ most_entries) }
+{
+    run_tested(rt, alloc, accepted, Members::Overtake, gate)
+}
+
+// Runs the program until its journal is complete.
+fn run_tested<R: Threads + Wait + Sync, G: Gate>(
+    rt: &R,
+    alloc: Global,
+    accepted: &Accepted<'_>,
+    members: Members,
+    gate: &G,
+) -> Result<Outcome, AllocError>
+    ensures store { IfOk result
+        (λ outcome. outcome.store ≡ final_store (program_of accepted.now.program)) }
+    ensures journal { IfOk result (λ outcome. IsComplete accepted.now.plan
+        (entered_of (program_of accepted.now.program)) (entries_in outcome.journal)) }
+    ensures listed { IfOk result
+        (λ outcome. accepted.now.plan.harts ≡ 1 → IsListed outcome.journal) }
+    ensures board { IfOk result (λ outcome. 2 ≤ accepted.now.plan.harts
+        → accepted.now.plan.harts ≤ 4 → IsBoard outcome.journal) }
+    ensures wide { IfOk result
+        (λ outcome. 4 < accepted.now.plan.harts → IsWide outcome.journal) }
+    ensures short { IfOk result (λ outcome. length (entries_in outcome.journal) ≤ most_entries) }
+{
+    let tree = SiteTree::new(alloc, accepted.plan())?;
     let pass = |hart, site, phase, place| gate.passed(rt, hart, site, phase, place);
-    if plan.harts() <= MOST_ON_WORDS {
-        on_word_board(rt, alloc, accepted, &pass, &tree)
-    } else {
-        on_wide_board(rt, alloc, accepted, &pass, &tree)
+    for _ in rt.forever() {
+        let outcome = run_once(rt, alloc, accepted, members, &pass, &tree)?;
+        if is_complete(alloc, accepted, outcome.journal.entries())? {
+            return Ok(outcome);
+        }
     }
+    unreachable!()
+}
+
+// A run of the program, by ports of its own.
+fn run_once<R: Threads + Wait + Sync, F: Fn(u8, u16, u8, u8) + Sync>(
+    rt: &R,
+    alloc: Global,
+    accepted: &Accepted<'_>,
+    members: Members,
+    pass: &F,
+    tree: &SiteTree,
+) -> Result<Outcome, AllocError>
+    requires callable { F.IsAlwaysCallable pass.now }
+    requires tree { tree.now ≡ accepted.now.plan }
+    ensures store { IfOk result
+        (λ outcome. outcome.store ≡ final_store (program_of accepted.now.program)) }
+    ensures listed { IfOk result
+        (λ outcome. accepted.now.plan.harts ≡ 1 → IsListed outcome.journal) }
+    ensures board { IfOk result (λ outcome. 2 ≤ accepted.now.plan.harts
+        → accepted.now.plan.harts ≤ 4 → IsBoard outcome.journal) }
+    ensures wide { IfOk result
+        (λ outcome. 4 < accepted.now.plan.harts → IsWide outcome.journal) }
+    ensures short { IfOk result (λ outcome. length (entries_in outcome.journal) ≤ most_entries) }
+{
+    let harts = accepted.plan().harts();
+    if harts == 1 {
+        on_plain_port(rt, alloc, accepted, members, pass, tree)
+    } else if harts <= MOST_ON_WORDS {
+        on_word_board(rt, alloc, accepted, members, pass, tree)
+    } else {
+        on_wide_board(rt, alloc, accepted, members, pass, tree)
+    }
+}
+
+// Whether a run's journal is complete for the sites that the program enters. What stands behind a lock doesn't tell which sites
+// these are, so that no proof about the harts has it.
+fn is_complete(
+    alloc: Global,
+    accepted: &Accepted<'_>,
+    journal: &[Entry],
+) -> Result<bool, AllocError>
+    requires { length journal.now ≤ most_entries }
+    ensures { IfOk result (λ is. IsTrue is ↔ IsComplete accepted.now.plan
+        (entered_of (program_of accepted.now.program)) journal.now) }
+{
+    let entered = entered_by(alloc, accepted)?;
+    let fault = first_fault(alloc, accepted.plan(), &entered, journal)?;
+    Ok(fault.is_none())
 }

@@ -1,5 +1,5 @@
 -- Which claim rows the sites of a program have.
-use Rattle.std.specs.Prelude.{◌≡◌, ℕ, ◌-◌, ◌≤◌, ◌==◌, List, [], ◌∷◌, ◌++◌, length, map, replicate, take, slice_get, if◌then◌else◌, Option, Some, None}
+use Rattle.std.specs.Prelude.{◌≡◌, ℕ, ◌-◌, ◌==◌, List, [], ◌∷◌, ◌++◌, length, map, replicate, take, slice_get, if◌then◌else◌, Option, Some, None}
 use Rattle.claim_words.specs.declared.table.TheConstants.{MOST_ROWS}
 use Rattle.disjoint_check.specs.Shapes.{Shape}
 use Rattle.step_eval.specs.Nests.{NestedParts}

@@ -6,7 +6,7 @@ use Rattle.loop_team.specs.Rows.{RowsFit}
 use Rattle.hart_tools.specs.declared.pool_place.PoolPlace.{PoolPlace}
 use Rattle.hart_tools.specs.declared.team_place.TeamPlace.{TeamPlace}
 use Rattle.hart_tools.specs.declared.tools.Grip.{Grip}
-use Rattle.hart_tools.specs.declared.tools.Grip.TheVariants.{Base, Pool, Team, Nobody}
+use Rattle.hart_tools.specs.declared.tools.Grip.TheVariants.{Base, Pool, Team, Pipe, Nobody}
 use Rattle.hart_tools.specs.Kins.{ToolKins}
 
 -- there is a row of this home and level
@@ -22,6 +22,7 @@ abbrev pub Fits : ToolKins → Grip → Type 0
 Fits k (Base lock) = Unit {0}
 Fits k (Pool place) = PoolFits k.rows place
 Fits k (Team place) = TeamFits k.seat place
+Fits k (Pipe pipe) = Unit {0}
 Fits k Nobody = Unit {0}
 
 -- the site of a scheduler that can be entered
@@ -29,4 +30,5 @@ abbrev pub entrance_of : Grip → Option ℕ
 entrance_of (Base lock) = None
 entrance_of (Pool place) = Some place.pool.now.site
 entrance_of (Team place) = Some place.team.now.site
+entrance_of (Pipe pipe) = Some pipe.now.site
 entrance_of Nobody = None

@@ -6,6 +6,7 @@
 #![tactic(auto)]
 
 mod claims;
+mod pipe_place;
 mod pool_place;
 mod team_place;
 mod tools;

@@ -5,6 +5,7 @@ ghost use Rattle.transfer_table.specs.Plan.{IsSite, parent as parent_of};
 ghost use Rattle.hart_port.specs.PortView.{IsPortView, is_in, Registers, MayRequest, requested_by, yielded, MayUnregister, unregistered};
 ghost use Rattle.join_book.specs.Books.{IsFull};
 ghost use Rattle.loop_team.specs.Teams.{IsOver};
+ghost use Rattle.pipe_sched.specs.Slots.{IsFull as IsDone};
 ghost use Rattle.deque_rows.specs.Rows.{IsLevel, kin as rows_kin};
 ghost use Rattle.claim_words.specs.Seats.{IsOf, kin as seat_kin};
 ghost use Rattle.hart_tools.specs.Places.{Fits, PoolFits, TeamFits, entrance_of};
@@ -13,6 +14,7 @@ ghost use Rattle.hart_tools.specs.Trials.{HasTried, RoseUnlessTried};
 ghost use Rattle.hart_tools.specs.Stocks.{AreTools};
 
 use crate::claims::Claims;
+use crate::pipe_place::{next_of_pipe, try_pipe};
 use crate::pool_place::{PoolPlace, has_room};
 use crate::team_place::TeamPlace;
 use crate::trial::Trial;
@@ -22,6 +24,7 @@ use deque_rows::HartRows;
 use forkjoin_sched::{Pool, SharedPool};
 use hart_port::{Port, Taken};
 use loop_team::{ClaimSeat, SharedTeam, Team};
+use pipe_sched::{Pipe, PipeHand, SharedPipe};
 use sched_api::{
     Next, sched_reenter, sched_register, sched_request, sched_unregister, sched_yield,
 };
@@ -65,7 +68,10 @@ pub enum Grip<'t, 'b, 'p> {
     Pool(PoolPlace<'b, 'p>),
     /// A team, with its claim rows.
     Team(TeamPlace<'t, 'b, 'p>),
-    /// A scheduler for which the hart has no rows; no run comes to one. The hart tells it nothing, and is told nothing.
+    /// A pipe, behind its lock.
+    Pipe(&'b SharedPipe<'p>),
+    /// No scheduler, or one for which the hart has no rows; no run comes to such a one. The hart tells it nothing, and is told
+    /// nothing.
     Nobody,
 }
 
@@ -161,6 +167,8 @@ impl<'t> Tools<'t> {
                 Some(place) => Grip::Team(place),
                 None => Grip::Nobody,
             },
+            SharedSite::Pipe(pipe) => Grip::Pipe(pipe),
+            SharedSite::Alone => Grip::Nobody,
         }
     }
 
@@ -190,6 +198,18 @@ impl<'t> Tools<'t> {
         place.hand::<R>(&mut self.seat).take_out(rt)
     }
 
+    /// The pipe, once, where it is full.
+    pub fn take_pipe<'b, 'p, R: Wait + 'b>(
+        &mut self,
+        rt: &'b R,
+        pipe: &'b SharedPipe<'p>,
+    ) -> Option<Pipe<'p>>
+        ensures full { IfSome result (λ pipe. IsDone pipe.state) }
+        ensures tools { self.new ≡ self.old }
+    {
+        PipeHand::<R>::new(pipe).take_out(rt)
+    }
+
     /// Registers the child, and tells the scheduler.
     pub fn register<'b, P: Port, R: Wait + 'b>(
         &mut self,
@@ -217,6 +237,10 @@ impl<'t> Tools<'t> {
             }
             Grip::Team(place) => {
                 sched_register(port, hold, &mut place.hand(&mut self.seat), rt, child)?;
+                Ok(())
+            }
+            Grip::Pipe(pipe) => {
+                sched_register(port, hold, &mut PipeHand::new(pipe), rt, child)?;
                 Ok(())
             }
             Grip::Nobody => port.register(hold, child),
@@ -264,6 +288,9 @@ impl<'t> Tools<'t> {
                     count,
                 );
             }
+            Grip::Pipe(pipe) => {
+                sched_request(port, hold, &mut PipeHand::new(pipe), rt, child, count);
+            }
             Grip::Nobody => port.request(hold, child, count),
         }
     }
@@ -291,6 +318,9 @@ impl<'t> Tools<'t> {
             }
             Grip::Team(place) => {
                 sched_unregister(port, hold, &mut place.hand(&mut self.seat), rt);
+            }
+            Grip::Pipe(pipe) => {
+                sched_unregister(port, hold, &mut PipeHand::new(pipe), rt);
             }
             Grip::Nobody => port.unregister(hold),
         }
@@ -321,6 +351,9 @@ impl<'t> Tools<'t> {
             Grip::Team(place) => {
                 sched_yield(port, hold, &mut place.hand(&mut self.seat), rt);
             }
+            Grip::Pipe(pipe) => {
+                sched_yield(port, hold, &mut PipeHand::new(pipe), rt);
+            }
             Grip::Nobody => port.yield_hart(hold),
         }
     }
@@ -346,6 +379,7 @@ impl<'t> Tools<'t> {
         match grip {
             Grip::Pool(place) => place.try_enter(rt, &mut self.rows, port, hold, child),
             Grip::Team(place) => place.try_enter(rt, &mut self.seat, port, hold, child),
+            Grip::Pipe(pipe) => try_pipe(rt, pipe, port, hold, child),
             _ => {
                 // A look at the owner tells what every port keeps.
                 let _ = port.owner();
@@ -371,6 +405,7 @@ impl<'t> Tools<'t> {
             },
             Grip::Pool(place) => place.next(rt, &mut self.rows),
             Grip::Team(place) => place.next(rt, &mut self.seat),
+            Grip::Pipe(pipe) => next_of_pipe(rt, pipe),
             Grip::Nobody => Some(Next::Nothing),
         }
     }
@@ -390,11 +425,12 @@ impl<'t> Tools<'t> {
             Grip::Base(lock) => BaseHand::<R>::new(lock).is_shut(rt),
             Grip::Pool(place) => is_home && place.hand::<R>(&mut self.rows).is_full(rt),
             Grip::Team(place) => is_home && place.hand::<R>(&mut self.seat).is_over(rt),
+            Grip::Pipe(pipe) => is_home && PipeHand::<R>::new(pipe).is_full(rt),
             Grip::Nobody => true,
         }
     }
 
-    /// Lays the pieces of the site out for all harts. The members of a team are so always.
+    /// Lays the pieces of the site out for all harts. Those of a team and of a pipe are so always.
     pub fn offer<'b, R: Wait + 'b>(&mut self, rt: &'b R, grip: Grip<'t, 'b, '_>)
         requires { Fits self.old grip }
         ensures { self.new ≡ self.old }
@@ -421,18 +457,28 @@ impl<'t> Tools<'t> {
             Grip::Team(place) => {
                 let _ = place.hand::<R>(&mut self.seat).arrive(rt, piece);
             }
+            Grip::Pipe(pipe) => {
+                let _ = PipeHand::<R>::new(pipe).deposit(rt, piece);
+            }
             _ => {}
         }
     }
 
-    /// The piece at this place found no memory.
-    pub fn fail<'b, R: Wait + 'b>(&mut self, rt: &'b R, grip: Grip<'t, 'b, '_>, place: u8)
+    /// The piece of this phase at this place found no memory. A pool has one phase, and of a team it is the one that runs.
+    pub fn fail<'b, R: Wait + 'b>(
+        &mut self,
+        rt: &'b R,
+        grip: Grip<'t, 'b, '_>,
+        phase: u8,
+        place: u8,
+    )
         requires { Fits self.old grip }
         ensures { self.new ≡ self.old }
     {
         match grip {
             Grip::Pool(pool) => pool.hand::<R>(&mut self.rows).fail(rt, place),
             Grip::Team(team) => team.hand::<R>(&mut self.seat).fail(rt, place),
+            Grip::Pipe(pipe) => PipeHand::<R>::new(pipe).fail(rt, place, phase),
             _ => {}
         }
     }
@@ -447,6 +493,7 @@ impl<'t> Tools<'t> {
             Grip::Base(_) => false,
             Grip::Pool(place) => place.hand::<R>(&mut self.rows).has_failed(rt),
             Grip::Team(place) => place.hand::<R>(&mut self.seat).has_failed(rt),
+            Grip::Pipe(pipe) => PipeHand::<R>::new(pipe).has_failed(rt),
             Grip::Nobody => true,
         }
     }

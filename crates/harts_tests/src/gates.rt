@@ -53,6 +53,15 @@ impl NotingGate {
         self.notes.lock(rt).reports.len()
     }
 
+    /// Whether the piece at this place of this phase was reported.
+    pub fn has<R: Wait>(&self, rt: &R, phase: u8, place: u8) -> bool {
+        let notes = self.notes.lock(rt);
+        notes
+            .reports
+            .iter()
+            .any(|report| report.phase == phase && report.place == place)
+    }
+
     /// All reports, in their order, where none was lost.
     pub fn reports<R: Wait>(&self, rt: &R, alloc: Global) -> Result<Vec<Report>, AllocError> {
         let notes = self.notes.lock(rt);
@@ -129,6 +138,55 @@ impl Gate for MeetingGate {
             place,
         };
         if self.noted.note(rt, report) == 1 {
+            self.hold(rt);
+        }
+    }
+}
+
+/// A gate that holds the hart that reports member 1 in phase 0 until member 0 is reported in phase 1, for so many looks at most.
+#[derive(Drop)]
+pub struct OvertakingGate {
+    noted: NotingGate,
+    ran_out: Mutex<bool>,
+}
+
+impl OvertakingGate {
+    /// A gate that nobody has passed.
+    pub fn new(alloc: Global) -> Result<OvertakingGate, AllocError> {
+        Ok(OvertakingGate {
+            noted: NotingGate::new(alloc)?,
+            ran_out: Mutex::new(false),
+        })
+    }
+
+    /// Whether a hart was held until its looks ran out.
+    pub fn has_run_out<R: Wait>(&self, rt: &R) -> bool {
+        *self.ran_out.lock(rt)
+    }
+
+    // Looks until member 0 was reported in phase 1.
+    fn hold<R: Wait>(&self, rt: &R) {
+        let backoff = Backoff::new();
+        for _ in 0..LOOKS {
+            if self.noted.has(rt, 1, 0) {
+                return;
+            }
+            backoff.snooze();
+        }
+        *self.ran_out.lock(rt) = true;
+    }
+}
+
+impl Gate for OvertakingGate {
+    fn passed<R: Threads + Wait + Sync>(&self, rt: &R, hart: u8, site: u16, phase: u8, place: u8) {
+        let report = Report {
+            hart,
+            site,
+            phase,
+            place,
+        };
+        let _ = self.noted.note(rt, report);
+        if phase == 0 && place == 1 {
             self.hold(rt);
         }
     }

@@ -7,6 +7,8 @@ mod gates;
 #[cfg(test)]
 mod meeting;
 #[cfg(test)]
+mod pipes;
+#[cfg(test)]
 mod runs;
 #[cfg(test)]
 mod sites;

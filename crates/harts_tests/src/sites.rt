@@ -8,7 +8,7 @@ use array_jobs::{Piece, piece_of};
 use array_tree::Program;
 use deque_rows::rows;
 use disjoint_check::check;
-use hart_loop::{HartSchedulers, HartSite, InDirectory};
+use hart_loop::{HartSchedulers, HartSite, InDirectory, Members};
 use hart_tools::{Claims, Tools, tools_of};
 use hart_work::{Resources, Schedulers, Task};
 use loop_team::ClaimSeat;
@@ -85,7 +85,7 @@ fn by_the_home<'a, 'p, R: Wait, S: InDirectory<'p>>(
     tools: Tools<'a>,
 ) -> Result<Overlay, Fail> {
     let nested = first_construct(alloc, program)?;
-    let mut home = HartSchedulers::new(lines(alloc, cells)?, tools);
+    let mut home = HartSchedulers::new(lines(alloc, cells)?, tools, Members::Wait);
     let mut site = home.open(alloc, &nested)?;
     home.offer(rt, &site);
     let first = does_a_piece(rt, alloc, &mut home, &mut site);
@@ -196,8 +196,8 @@ fn by_two<'a, 'p, R: Wait, S: InDirectory<'p>>(
     tools: (Tools<'a>, Tools<'a>),
 ) -> Result<Overlay, Fail> {
     let (first, second) = tools;
-    let mut home = HartSchedulers::new(lines(alloc, cells)?, first);
-    let mut guest = HartSchedulers::new(lines(alloc, cells)?, second);
+    let mut home = HartSchedulers::new(lines(alloc, cells)?, first, Members::Wait);
+    let mut guest = HartSchedulers::new(lines(alloc, cells)?, second, Members::Wait);
     with_a_guest(rt, alloc, nested, &mut home, &mut guest)
 }
 
@@ -228,7 +228,7 @@ fn untouched<'a, 'p, R: Wait, S: InDirectory<'p>>(
     tools: Tools<'a>,
 ) -> Result<(Overlay, u8), Fail> {
     let nested = first_construct(alloc, program)?;
-    let mut home = HartSchedulers::new(lines(alloc, cells)?, tools);
+    let mut home = HartSchedulers::new(lines(alloc, cells)?, tools, Members::Wait);
     let site = home.open(alloc, &nested)?;
     let wishes = home.wishes(&site);
     Ok((home.take(rt, alloc, site)?, wishes))

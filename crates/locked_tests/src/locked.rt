@@ -10,7 +10,7 @@ use array_tree::Program;
 use base_sched::Base;
 use deque_rows::rows;
 use disjoint_check::{Accepted, check};
-use hart_loop::{Hart, HartSchedulers, HartSite, work};
+use hart_loop::{Hart, HartSchedulers, HartSite, Members, work};
 use hart_port::{Ledger, LockedPort};
 use hart_tools::{Claims, Tools, tools_of};
 use hart_work::{Resources, Schedulers, run_construct};
@@ -45,7 +45,7 @@ fn hart<'x, 'p: 'x, R: Threads + Wait + Sync>(
     ensures { IfOk result (λ hart. StartsIn plan.now hart.port.port.view) }
 {
     let port = WaitingPort::new(LockedPort::new(alloc, lock, plan, number)?, rt);
-    let schedulers = HartSchedulers::new(lines(alloc, cells)?, tools);
+    let schedulers = HartSchedulers::new(lines(alloc, cells)?, tools, Members::Wait);
     Ok(Hart {
         port,
         schedulers,
@@ -284,7 +284,7 @@ fn run_first<'x, 'p: 'x, R: Threads + Wait + Sync>(
 {
     let nested = first_construct(alloc, program)?;
     let mut port = WaitingPort::new(LockedPort::new(alloc, lock, plan, 1)?, rt);
-    let mut schedulers = HartSchedulers::new(lines(alloc, cells)?, tools);
+    let mut schedulers = HartSchedulers::new(lines(alloc, cells)?, tools, Members::Wait);
     let mut around: HartSite<'x, 'p, SharedSite<'p>> = HartSite::base(base);
     Ok(run_construct(
         rt,
@@ -356,7 +356,7 @@ fn open_first<'x, 'p: 'x>(
     tools: Tools<'x>,
 ) -> Result<(), Fail> {
     let nested = first_construct(alloc, program)?;
-    let mut home = HartSchedulers::new(lines, tools);
+    let mut home = HartSchedulers::new(lines, tools, Members::Wait);
     let _opened = home.open(alloc, &nested)?;
     Ok(())
 }
@@ -374,7 +374,7 @@ fn enters_second<'x, 'p: 'x, R: Threads + Wait + Sync>(
     requires cells { length cells.now ≡ 3 }
 {
     let mut port = WaitingPort::new(LockedPort::new(alloc, lock, plan, 1)?, rt);
-    let mut schedulers = HartSchedulers::new(lines(alloc, cells)?, tools);
+    let mut schedulers = HartSchedulers::new(lines(alloc, cells)?, tools, Members::Wait);
     match schedulers.find(rt, 2) {
         Some(mut found) => Ok(schedulers.enter(rt, &mut port, rt, &mut found, 2).is_some()),
         None => Err(Fail::new("nothing is found")),

@@ -1,18 +1,13 @@
 -- Where the hart is back in the base and each top site is over, every site is gone; and where none was skipped, every site came
 -- and went.
-use Rattle.std.proofs.Common.{◌≡◌, ℕ, zero, suc, ◌<◌, ◌≤◌, ◌*◌, ◌-◌, Bool, true, false, not, nat_le, ◌&&◌, if◌then◌else◌, List, length, replicate, refl, sym, ap, ◌∙◌, subst, arith, inl, inr}
-use Rattle.std.specs.Option.{is_some}
+use Rattle.std.proofs.Common.{◌≡◌, ℕ, zero, suc, ◌≤◌, true, List, refl, sym, ◌∙◌, subst, arith, inl, inr}
 use Rattle.std.proofs.lemmas.Bool.{cases_eq}
-use Rattle.std.proofs.lemmas.Nat.{mul-le}
-use Rattle.std.proofs.lemmas.List.{get_or-replicate}
-use Rattle.transfer_table.specs.Plan.{Plan, IsPlan, IsSite, parent, site_count}
-use Rattle.transfer_table.specs.Table.{TableState, row, is_gone}
-use Rattle.transfer_table.specs.Journal.{Reaches, AllGone, AreMeant, IsComplete, is_meant, all_meant}
-use Rattle.transfer_table.specs.Entry.{registers, skips_over}
-use Rattle.transfer_table.specs.declared.entry.Stage.{Stage}
+use Rattle.transfer_table.specs.Plan.{Plan, IsPlan, IsSite, parent}
+use Rattle.transfer_table.specs.Table.{TableState, row}
+use Rattle.transfer_table.specs.Journal.{Reaches, AllGone, IsComplete, all_meant}
+use Rattle.transfer_table.specs.Entry.{skips_over}
 use Rattle.transfer_table.specs.declared.entry.Entry.{Entry}
 use Rattle.transfer_table.specs.declared.entry.Stage.TheVariants.{Gone}
-use Rattle.transfer_table.proofs.Balance.{rows_tell}
 use Rattle.transfer_table.proofs.Stages.{legal_children}
 use Rattle.transfer_table.proofs.Meant.{all_came}
 use Rattle.hart_port.specs.PortView.{PortView}

@@ -1,38 +1,18 @@
 -- While no construct stands under an `if`, no machine tells of sites to skip.
-use Rattle.std.proofs.Common.{◌≡◌, ℕ, ◌+◌, Bool, true, false, cond, List, [], ◌∷◌, Some, None, refl, sym, ◌∙◌, arith}
+use Rattle.std.proofs.Common.{◌≡◌, ℕ, ◌+◌, Bool, true, false, cond, List, [], ◌∷◌, Some, None, refl, sym, ◌∙◌}
 use Rattle.std.specs.Prelude.{◌&&◌}
-use Rattle.std.proofs.lemmas.Bool.{false≢true, and_parts}
-use Rattle.array_tree.specs.Trees.{Statement, Assign, For, If, Par, Team, Sequence, ended, followed, declarations_of}
+use Rattle.std.proofs.lemmas.Bool.{and_parts}
+use Rattle.array_tree.specs.Trees.{Assign, For, If, Par, Team, ended, followed, declarations_of}
 use Rattle.array_meaning.specs.Values.{holds}
 use Rattle.array_meaning.specs.Stores.{Arrays, Vars, Store, arrays_of, value_of}
-use Rattle.array_meaning.specs.Plans.{statement_sites_in, sites_in}
-use Rattle.array_meaning.specs.Limits.{has_no_site_under_if, statement_has_no_site_under_if}
+use Rattle.array_meaning.specs.Plans.{sites_in}
+use Rattle.array_meaning.specs.Limits.{has_no_site_under_if}
+use Rattle.meant_sites.proofs.Entering.{no_sites}
 use Rattle.array_jobs.specs.Works.{WorkTree, branch_of, member_of, statements_of}
 use Rattle.array_jobs.specs.Jobs.{JobTree, job_of}
 use Rattle.step_eval.specs.Rest.{WorkAt, AreFit}
 use Rattle.step_eval.specs.Passes.{some_span, work_pass, pass_of}
 use Rattle.step_eval.specs.Machines.{Progress, HasJustPassed}
-
--- what has no site though it stands inside an `if` has none
-mutual
-  no_sites : (s : Sequence) → has_no_site_under_if s true ≡ true → sites_in s ≡ 0
-  no_sites ended h = refl
-  no_sites (followed first rest) h =
-      let parts = and_parts (statement_has_no_site_under_if first true) (has_no_site_under_if rest true) h in
-      let one = no_sites_first first parts.0 in
-      let more = no_sites rest parts.1 in
-      rw (one, more) refl
-
-  no_sites_first : (s : Statement) → statement_has_no_site_under_if s true ≡ true → statement_sites_in s ≡ 0
-  no_sites_first (Assign line array index value) h = refl
-  no_sites_first (For line var low high body) h = let none = no_sites body h in rw none (omega arith)
-  no_sites_first (If line cond then_block else_block) h =
-      let parts = and_parts (has_no_site_under_if then_block true) (has_no_site_under_if else_block true) h in
-      let one = no_sites then_block parts.0 in
-      let more = no_sites else_block parts.1 in
-      rw (one, more) refl
-  no_sites_first (Par line branches) h = absurd (false≢true h)
-  no_sites_first (Team line var low high members phases) h = absurd (false≢true h)
 
 work_tells_none : (arrays : Arrays) (store : Store) (next : ℕ) (w : WorkTree) (vars : Vars) → has_no_site_under_if (statements_of w) false ≡ true → work_pass arrays store next w vars ≡ None
 work_tells_none arrays store next (branch_of ended) vars h = refl

@@ -61,6 +61,8 @@ impl<'p> Resources for LoneSchedulers<'p> {
 
     ghost job_in = { λ p. p.job };
 
+    ghost phase_of = { λ job. job.phase };
+
     ghost place_of = { λ job. job.place };
 
     ghost number_of = { λ n. n.site };
@@ -124,6 +126,10 @@ impl<'p> Resources for LoneSchedulers<'p> {
 
     fn number(&self, nested: &Nested<'p>) -> u16 {
         nested.site
+    }
+
+    fn phase(&self, job: &Job<'p>) -> u8 {
+        job.phase
     }
 
     fn place(&self, job: &Job<'p>) -> u8 {
@@ -285,7 +291,7 @@ impl<'p, R> Schedulers<R> for LoneSchedulers<'p> {
         }
     }
 
-    fn fail(&mut self, _rt: &R, site: &mut LoneSite<'p>, place: u8) {
+    fn fail(&mut self, _rt: &R, site: &mut LoneSite<'p>, _phase: u8, place: u8) {
         match site {
             LoneSite::Base(_) => unreachable!(),
             LoneSite::Pool { pool, .. } => fail_in_pool(pool, place),

@@ -2,8 +2,9 @@
 ghost use Rattle.std.specs.Prelude.{◌≡◌, ◌≤◌, IfOk, length};
 ghost use Rattle.array_tree.specs.Trees.{ProgramTree, program_of};
 ghost use Rattle.array_meaning.specs.Work.{final_store};
+ghost use Rattle.array_meaning.specs.Entered.{entered_of};
 ghost use Rattle.transfer_table.specs.Plan.{most_entries};
-ghost use Rattle.transfer_table.specs.Journal.{IsComplete, all_meant};
+ghost use Rattle.transfer_table.specs.Journal.{IsComplete};
 ghost use Rattle.array_jobs.specs.Jobs.{job_of};
 ghost use Rattle.array_jobs.specs.Bodies.{body_of};
 ghost use Rattle.array_jobs.specs.PieceParts.{piece_of_job};
@@ -24,14 +25,15 @@ use std::alloc::{AllocError, Global};
 
 /// Runs an accepted program on one hart, and returns. The plan must have one hart.
 ///
-/// The store is that of the one-thread meaning, and the journal, which is listed, is complete for the plan and all its sites:
-/// every transfer is legal, and every site came and went. Where memory is wanting anywhere, the whole run answers that.
+/// The store is that of the one-thread meaning, and the journal, which is listed, is complete for the plan and the sites that
+/// this meaning enters: every transfer is legal, every site is gone, and exactly the entered ones came and went. Where memory
+/// is wanting anywhere, the whole run answers that.
 pub fn run_alone(alloc: Global, accepted: &Accepted<'_>) -> Result<Outcome, AllocError>
     requires { accepted.now.plan.harts ≡ 1 }
     ensures store { IfOk result
         (λ outcome. outcome.store ≡ final_store (program_of accepted.now.program)) }
     ensures journal { IfOk result
-        (λ outcome. IsComplete accepted.now.plan (all_meant accepted.now.plan)
+        (λ outcome. IsComplete accepted.now.plan (entered_of (program_of accepted.now.program))
         (entries_in outcome.journal)) }
     ensures listed { IfOk result (λ outcome. IsListed outcome.journal) }
     ensures short { IfOk result (λ outcome. length (entries_in outcome.journal) ≤ most_entries) }

@@ -11,6 +11,7 @@ use Rattle.forkjoin_sched.specs.contracts.work.PoolWork as PoolWork
 use Rattle.forkjoin_sched.specs.contracts.pool.Pool as Pool
 use Rattle.forkjoin_sched.specs.contracts.shared.SharedPool as SharedPool
 use Rattle.loop_team.proofs.Crossings.{job_send, paused_send, book_send, shared_team_send, shared_team_sync}
+use Rattle.pipe_sched.proofs.Crossings.{shared_pipe_send, shared_pipe_sync}
 use Rattle.once_cell.specs.contracts.race.once_box.OnceBox as OnceBox
 use Rattle.once_cell.specs.contracts.race.note.Note as Note
 use Rattle.once_cell.proofs.race.once_box.OnceBox.TheSendSync as OnceBoxCrosses
@@ -38,10 +39,10 @@ module _ (l : NamedLft) where
   shared_pool_sync = let pool = pool_send in let job = job_send l in let jobs = job_sync in search (crosses, sendable) depth 60 fits 20000
 
   pub shared_site_send : IsSend (SharedSite.the_row l)
-  shared_site_send = let pool = shared_pool_send in let team = shared_team_send l in search (crosses, sendable) depth 60 fits 20000
+  shared_site_send = let pool = shared_pool_send in let team = shared_team_send l in let pipe = shared_pipe_send l in search (crosses, sendable) depth 60 fits 20000
 
   pub shared_site_sync : IsSync (SharedSite.the_row l)
-  shared_site_sync = let pool = shared_pool_sync in let team = shared_team_sync l in search (crosses, sendable) depth 60 fits 20000
+  shared_site_sync = let pool = shared_pool_sync in let team = shared_team_sync l in let pipe = shared_pipe_sync l in search (crosses, sendable) depth 60 fits 20000
 
 -- a line to a cell goes from thread to thread with what the cell shares
 pub line_send : (a p : NamedLft) → IsSend (SiteLine.the_row a (SharedSite.the_row p))

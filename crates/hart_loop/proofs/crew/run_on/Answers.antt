@@ -3,8 +3,8 @@ use Rattle.std.proofs.lemmas.List.{with_items_is}
 use Rattle.std.proofs.lemmas.Slice.Zip.{AllZip-long}
 use Rattle.deque_rows.specs.Rows as rows
 use Rattle.claim_words.specs.Seats as claims
-use Rattle.hart_loop.specs.Harts.{StartsIn, AreSame, FirstSawGone}
-use Rattle.hart_loop.proofs.Crews.{port_of, all_of_map, first_of_map, ports_stay, rows_stay, claims_stay}
+use Rattle.hart_loop.specs.Harts.{StartsIn, AreSame}
+use Rattle.hart_loop.proofs.Crews.{port_of, all_of_map, ports_stay, rows_stay, claims_stay}
 use Rattle.hart_loop.proofs.crew.run_on.Goals as goal
 
 pub run_crew-piece-requires-clause-starts : goal.run_crew-piece-requires-clause-starts
@@ -22,14 +22,6 @@ returns-clause-same g c =
     let back = ap (map port_of) (with_items_is c.in_ok-harts.harts ys (AllZip-long _ xs ys c.run_crew-piece.ensures.same ∙ c.as_mut_slice.ensures.len)) in
     subst (λ ports. AreSame seen ports c.in_ok-stock_of.field-0.ports.items) are
     (subst (AreSame seen (map port_of xs)) (sym (c.in_ok-stock_of.ensures.ports ∙ back)) (ports_stay seen xs ys c.run_crew-piece.ensures.same))
-
-pub returns-clause-gone : goal.returns-clause-gone
-returns-clause-gone g c =
-    let seen = g.P.Port.seen in
-    let xs = c.as_mut_slice.result.now in
-    let ys = c.run_crew-piece.new.harts in
-    let back = ap (map port_of) (with_items_is c.in_ok-harts.harts ys (AllZip-long _ xs ys c.run_crew-piece.ensures.same ∙ c.as_mut_slice.ensures.len)) in
-    subst (FirstSawGone seen) (sym (c.in_ok-stock_of.ensures.ports ∙ back)) (first_of_map port_of seen ys c.run_crew-piece.ensures.gone)
 
 pub returns-clause-tools : goal.returns-clause-tools
 returns-clause-tools g c =

@@ -1,12 +1,12 @@
 use Rattle.std.proofs.Common.{◌≡◌, ◌∙◌, length, sym, ap, subst}
 use Rattle.array_tree.specs.Trees.{program_of}
 use Rattle.transfer_table.specs.Plan.{Plan}
-use Rattle.transfer_table.specs.Journal.{IsComplete, all_meant}
+use Rattle.transfer_table.proofs.Bounds.{few_entries}
 use Rattle.word_board.specs.PortViews.{table_name}
 use Rattle.wide_board.specs.PortViews.{port_view}
 use Rattle.wide_board.specs.Seats.{AreSeats}
 use Rattle.hart_loop.specs.Harts.{AllStart}
-use Rattle.hart_loop.proofs.Boards.{ports_start, ports_back, complete_journal}
+use Rattle.hart_loop.proofs.Boards.{ports_start, ports_back}
 use Rattle.hart_loop.proofs.Seats.{wide_seat, wide_new, wide_all}
 use Rattle.hart_loop.proofs.on_wide_board.on_wide_board.Goals as goal
 
@@ -27,22 +27,13 @@ close-requires g c =
     let ws = c.in_ok-seats.seats.items in
     let new = subst (λ (q : Plan). AreSeats z q qs) (sym c.in_ok-board.ensures.plan) c.in_ok-board.ensures.seats.1 in
     let count : length qs ≡ p.harts = sym c.in_ok-board.seats.ok.0 ∙ c.in_ok-board.ensures.seats.0 ∙ ap (λ (q : Plan). q.harts) (sym c.in_ok-board.ensures.plan) in
-    wide_all z p ws (ports_back port_view wide_seat (table_name z) p qs ws c.in_ok-ports.ports.items c.in_ok-piece.ports.items c.in_ok-board.board.is_plan count (wide_new z p qs new)
-    c.in_ok-ports.ensures c.in_ok-seats.ensures c.in_ok-piece.ensures.same c.in_ok-piece.ensures.gone)
+    wide_all z p ws (ports_back port_view wide_seat (table_name z) p qs ws c.in_ok-ports.ports.items c.in_ok-piece.ports.items count (wide_new z p qs new)
+    c.in_ok-ports.ensures c.in_ok-seats.ensures c.in_ok-piece.ensures.same)
 
 pub returns-in-Ok-clause-store : goal.returns-in-Ok-clause-store
 returns-in-Ok-clause-store g c = c.in_ok-store.ensures (program_of c.args.accepted.now.program) c.in_ok-piece.ensures.piece
 
-pub returns-in-Ok-clause-journal : goal.returns-in-Ok-clause-journal
-returns-in-Ok-clause-journal g c =
-    let z = c.in_ok-board.board.table.shared.table_id in
-    let p = c.in_ok-board.board.plan in
-    let qs = c.in_ok-board.seats.items in
-    let ws = c.in_ok-seats.seats.items in
-    let new = subst (λ (q : Plan). AreSeats z q qs) (sym c.in_ok-board.ensures.plan) c.in_ok-board.ensures.seats.1 in
-    let count : length qs ≡ p.harts = sym c.in_ok-board.seats.ok.0 ∙ c.in_ok-board.ensures.seats.0 ∙ ap (λ (q : Plan). q.harts) (sym c.in_ok-board.ensures.plan) in
-    let back = ports_back port_view wide_seat (table_name z) p qs ws c.in_ok-ports.ports.items c.in_ok-piece.ports.items c.in_ok-board.board.is_plan count (wide_new z p qs new)
-    c.in_ok-ports.ensures c.in_ok-seats.ensures c.in_ok-piece.ensures.same c.in_ok-piece.ensures.gone in
+pub returns-in-Ok-clause-short : goal.returns-in-Ok-clause-short
+returns-in-Ok-clause-short g c =
     let journal = c.in-Ok.ensures.journal in
-    subst (λ (q : Plan). IsComplete q (all_meant q) c.in-Ok.closed) (c.in_ok-board.ensures.plan ∙ c.plan.ensures.same)
-    (complete_journal port_view (table_name z) p ws c.in-Ok.closed journal.table c.in_ok-board.board.is_plan back journal.legal journal.each journal.gone journal.complete)
+    few_entries c.in_ok-board.board.plan c.in_ok-board.board.is_plan c.in-Ok.closed journal.table journal.legal

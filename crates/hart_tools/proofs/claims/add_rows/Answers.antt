@@ -1,4 +1,4 @@
-use Rattle.std.proofs.Common.{◌≡◌, ◌∙◌, ◌++◌, ◌<◌, ◌≤◌, ◌∷◌, [], ℕ, Vec, Global, append-nil, length, replicate, take, ap, sym, subst, arith}
+use Rattle.std.proofs.Common.{◌∙◌, ◌++◌, ◌<◌, ◌≤◌, ◌∷◌, [], ℕ, Vec, Global, append-nil, length, replicate, take, ap, sym, arith}
 use Rattle.std.proofs.lemmas.List.{take_all}
 use Rattle.claim_words.specs.declared.table.TheConstants.{MOST_ROWS}
 use Rattle.hart_tools.proofs.ClaimRows.{take_room, take_full, row_next}

@@ -1,10 +1,13 @@
--- The body is the program's, and the hart has come back from it to the base.
-use Rattle.std.proofs.Common.{◌≡◌, ℕ, ◌≤◌, List, true, length, sym, ap, ◌∙◌, subst}
+-- The body is the program's, and the hart has come back from it to the base. While no construct stands under an `if`, all sites
+-- are entered.
+use Rattle.std.proofs.Common.{◌≡◌, ℕ, ◌≤◌, Bool, List, true, length, sym, ap, ◌∙◌, subst}
 use Rattle.array_tree.specs.Trees.{program_of}
 use Rattle.transfer_table.specs.Plan.{IsPlan}
+use Rattle.transfer_table.specs.Journal.{IsComplete}
 use Rattle.transfer_table.specs.Entry.{skips_over}
 use Rattle.transfer_table.specs.declared.entry.Entry.{Entry}
 use Rattle.transfer_table.proofs.Bounds.{few_entries}
+use Rattle.meant_sites.proofs.Entering.{all_sites_are_entered}
 use Rattle.lone_hart.proofs.Ends.{complete}
 use Rattle.lone_hart.proofs.run.run_alone.Goals as goal
 
@@ -23,7 +26,9 @@ returns-clause-journal c =
     let home : port.view.owner ≡ 0 = rest.owner ∙ run.owner ∙ ap (λ p. p.view.owner) first in
     let is_plan : IsPlan c.args.accepted.now.plan = subst IsPlan (c.tree.view_is ∙ c.in_ok-tree.ensures ∙ accepted) c.tree.invariant.plan in
     let none : (s : ℕ) → skips_over port.view.plan s port.view.mine ≡ 0 = λ s. rest.unskipped (λ never. never) port.view.plan s ∙ run.unskipped (λ never. never) port.view.plan s ∙ ap (λ p. skips_over port.view.plan s p.view.mine) first in
-    complete c.args.accepted.now.plan port.view port.state c.finish.result is_plan plan c.finish.ensures.entries c.finish.ensures.legal home alone c.sweep_children.ensures.over none
+    let entered = all_sites_are_entered (program_of c.args.accepted.now.program) c.args.accepted.now.plan c.plan-plan.ensures.kept.parents c.plan-plan.ensures.kept.accepted.no_site_under_if in
+    subst (λ (meant : List Bool). IsComplete c.args.accepted.now.plan meant c.finish.result) (sym entered)
+    (complete c.args.accepted.now.plan port.view port.state c.finish.result is_plan plan c.finish.ensures.entries c.finish.ensures.legal home alone c.sweep_children.ensures.over none)
 
 pub returns-clause-short : goal.returns-clause-short
 returns-clause-short c =

@@ -2,7 +2,7 @@ use Rattle.std.proofs.Common.{◌≡◌, ◌∙◌, Some, ap, sym, subst}
 use Rattle.std.proofs.lemmas.Option.{same_Some}
 use Rattle.step_eval.specs.Nests.{NestedParts}
 use Rattle.loop_team.specs.Rows.{RowsFit}
-use Rattle.hart_tools.specs.ClaimRows.{IsFirstRow, shape_of, at_site}
+use Rattle.hart_tools.specs.ClaimRows.{IsFirstRow, at_site}
 use Rattle.hart_tools.proofs.ClaimRows.{first_row, only_row}
 use Rattle.hart_tools.proofs.claims.Claims.row_of.Goals as goal
 

@@ -1,0 +1,10 @@
+//! How the members of a `team` go on.
+
+/// How the members of each `team` of a run go from phase to phase.
+#[derive(Clone, Copy, Debug, PartialEq, Eq, Drop)]
+pub enum Members {
+    /// They wait for one another behind each phase.
+    Wait,
+    /// They overtake: each goes on as soon as the members below it have done its next phase.
+    Overtake,
+}

@@ -1,0 +1,47 @@
+//! Runs of a crew of one hart, by its own port.
+ghost use Rattle.std.specs.Prelude.{◌≡◌, ◌≤◌, IfOk, length};
+ghost use Rattle.array_tree.specs.Trees.{program_of};
+ghost use Rattle.array_meaning.specs.Work.{final_store};
+ghost use Rattle.transfer_table.specs.Plan.{most_entries};
+ghost use Rattle.lone_hart.specs.Journals.{entries_in, IsListed};
+
+use crate::crew::run_ports;
+use crate::members::Members;
+use disjoint_check::Accepted;
+use hart_port::PlainPort;
+use lone_hart::{Journal, Outcome, store_after};
+use site_steps::{SiteTree, WaitingPort};
+use std::alloc::{AllocError, Global};
+use std::sync::Wait;
+use std::thread::Threads;
+
+/// Runs an accepted program once on the one hart of its plan, by shared schedulers.
+pub fn on_plain_port<R: Threads + Wait + Sync, F: Fn(u8, u16, u8, u8) + Sync>(
+    rt: &R,
+    alloc: Global,
+    accepted: &Accepted<'_>,
+    members: Members,
+    pass: &F,
+    tree: &SiteTree,
+) -> Result<Outcome, AllocError>
+    requires callable { F.IsAlwaysCallable pass.now }
+    requires one { accepted.now.plan.harts ≡ 1 }
+    requires tree { tree.now ≡ accepted.now.plan }
+    ensures store { IfOk result
+        (λ outcome. outcome.store ≡ final_store (program_of accepted.now.program)) }
+    ensures short { IfOk result (λ outcome. length (entries_in outcome.journal) ≤ most_entries) }
+    ensures listed { IfOk result (λ outcome. IsListed outcome.journal) }
+{
+    let port = PlainPort::new(alloc, tree.plan())?;
+    let mut ports = Vec::with_capacity(alloc, 1)?;
+    ports.push(WaitingPort::new(port, rt))?;
+    let (piece, mut ports) = run_ports(rt, alloc, accepted, members, pass, tree, ports)?;
+    let store = store_after(piece)?;
+    let Some(port) = ports.pop() else {
+        unreachable!()
+    };
+    Ok(Outcome {
+        store,
+        journal: Journal::Listed(port.into_port().finish()),
+    })
+}
