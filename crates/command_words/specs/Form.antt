@@ -7,7 +7,7 @@ use Rattle.std.specs.Str.{bytes_eq, all_ascii_digits}
 use Rattle.std.specs.Str.Parse.{digits_value}
 use Rattle.clap.specs.Lexer.{long_of}
 use Rattle.command_words.specs.declared.command.Command.{Command}
-use Rattle.command_words.specs.declared.command.Command.TheVariants.{Run, Tally, Solo, Audit, Make}
+use Rattle.command_words.specs.declared.command.Command.TheVariants.{Run, Tally, Pipe, Solo, Audit, Make}
 
 -- an option with its value
 abbrev pub Given : Type 0
@@ -88,7 +88,8 @@ make_of options =
 
 -- the commands that have a number of harts alone, and what such a number makes of each
 abbrev pub harts_commands : List (List ℕ × (ℕ → Command))
-harts_commands = (codes "run", Run) ∷ (codes "tally", Tally) ∷ (codes "audit", Audit) ∷ []
+harts_commands =
+    (codes "run", Run) ∷ (codes "tally", Tally) ∷ (codes "pipe", Pipe) ∷ (codes "audit", Audit) ∷ []
 
 -- the one of these with this name
 abbrev pub harts_command : List ℕ → Option (ℕ → Command)

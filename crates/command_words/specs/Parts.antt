@@ -1,12 +1,13 @@
 -- What a command has.
 use Rattle.std.specs.Prelude.{ℕ, ◌≤◌}
 use Rattle.command_words.specs.declared.command.Command.{Command}
-use Rattle.command_words.specs.declared.command.Command.TheVariants.{Run, Tally, Solo, Audit, Make}
+use Rattle.command_words.specs.declared.command.Command.TheVariants.{Run, Tally, Pipe, Solo, Audit, Make}
 
 -- how many harts a command's plan has: `solo` makes no transfer, so one will do
 abbrev pub harts_in : Command → ℕ
 harts_in (Run harts) = harts
 harts_in (Tally harts) = harts
+harts_in (Pipe harts) = harts
 harts_in Solo = 1
 harts_in (Audit harts) = harts
 harts_in (Make seed size harts) = harts

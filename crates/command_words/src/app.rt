@@ -8,7 +8,7 @@ use clap::{Arg, ArgAction, Command};
 use std::alloc::{AllocError, Global};
 
 // The commands that have a number of harts alone.
-const HARTS_COMMANDS: [&str; 3] = ["run", "tally", "audit"];
+const HARTS_COMMANDS: [&str; 4] = ["run", "tally", "pipe", "audit"];
 
 /// The commands, each with its options. None has help or a version.
 pub fn commands<'a>(alloc: Global) -> Result<Command<'a>, AllocError>

@@ -8,6 +8,9 @@ pub enum Command {
     /// To run the program of the input, whose branches and members may add into one cell of an array whose name ends in
     /// `_sum`, on so many harts, 1 to 16, and to write its arrays and the journal of its transfers.
     Tally(u8),
+    /// To run the program of the input, the members of whose `team` constructs overtake, on so many harts, 1 to 16, and to write
+    /// its arrays and the journal of its transfers.
+    Pipe(u8),
     /// To write the arrays of the program by the one-thread evaluator.
     Solo,
     /// To audit an output of the program's run on so many harts, 1 to 16.

@@ -75,6 +75,7 @@ fn command_at(name: &str, given: &ArgMatches<'_>) -> Option<Command>
         "make" => make(given),
         "run" => Some(Command::Run(harts(given)?)),
         "tally" => Some(Command::Tally(harts(given)?)),
+        "pipe" => Some(Command::Pipe(harts(given)?)),
         "audit" => Some(Command::Audit(harts(given)?)),
         _ => None,
     }

@@ -1,3 +1,4 @@
 pub mod SyntaxText
 pub mod RefusalText
 pub mod TallyText
+pub mod CrossingText

@@ -52,7 +52,7 @@ fn add_fault(
             length,
         } => add_index(alloc, text, line, index, length),
         CheckFault::Overlap { line, cell } => {
-            add_overlap(alloc, text, &program.arrays, line, cell)
+            add_on_cell(alloc, text, "overlap on ", &program.arrays, line, cell)
         }
         CheckFault::Memory => unreachable!(),
     }
@@ -147,18 +147,20 @@ fn add_index(
     add_line(alloc, text, line)
 }
 
-fn add_overlap(
+// Adds what is wrong on a cell, and at which line.
+pub(crate) fn add_on_cell(
     alloc: Global,
     text: &mut Vec<u8>,
+    what: &str,
     arrays: &Arrays,
     line: u32,
     cell: u16,
 ) -> Result<(), AllocError>
     ensures { OnOk result (text.new.items ≡ text.old.items
-        ++ (codes "overlap on " ++ cell_text (arrays_of (declarations_of arrays.now)) cell
+        ++ (what.now ++ cell_text (arrays_of (declarations_of arrays.now)) cell
         ++ line_text line)) }
 {
-    text.extend_from_slice(b"overlap on ".as_slice())?;
+    text.extend_from_slice(what.as_bytes())?;
     add_cell(alloc, text, arrays, cell)?;
     add_line(alloc, text, line)
 }

@@ -1,7 +1,8 @@
 //! The lines by the faults that they tell.
-use crate::{refusal_line, syntax_line, tally_line};
+use crate::{crossing_line, refusal_line, syntax_line, tally_line};
 use array_lang::{SyntaxFault, parse};
 use disjoint_check::{CheckFault, Limit};
+use pipe_walk::PipeFault;
 use std::test::Fail;
 use tally_cells::TallyFault;
 
@@ -67,5 +68,16 @@ fn faults_of_adds_tell_their_lines(rt: HostRuntime) -> Result<(), Fail> {
         line.as_slice(),
         b"refused: name taken at line 1\n".as_slice()
     );
+    Ok(())
+}
+
+#[test]
+fn crossings_tell_their_cells(rt: HostRuntime) -> Result<(), Fail> {
+    let alloc = rt.alloc();
+    let program = parse(alloc, b"array a[2]; array b[3];")
+        .ok()
+        .ok_or("no program")?;
+    let line = crossing_line(alloc, &program, PipeFault::Crossing { line: 2, cell: 3 })?;
+    assert!(rt; line.as_slice() == b"refused: crossing on b[1] at line 2\n".as_slice());
     Ok(())
 }

@@ -1,27 +1,24 @@
--- What is drawn of a list of entries: those before its first fault, and the state to which they lead.
+-- What is drawn of a list of entries: those before its first fault, by the sites that are meant to be entered, and the state to
+-- which they lead.
 use Rattle.std.specs.Prelude.{Bool, List, [], ◌∷◌, take, Option, Some, None, Result, Ok, Err}
 use Rattle.std.specs.Option.{is_some}
 use Rattle.transfer_table.specs.Plan.{Plan}
 use Rattle.transfer_table.specs.Table.{TableState, admit_of, first_state}
-use Rattle.transfer_table.specs.Journal.{first_fault_of, all_meant}
+use Rattle.transfer_table.specs.Journal.{first_fault_of}
 use Rattle.transfer_table.specs.declared.entry.Entry.{Entry}
 use Rattle.transfer_table.specs.declared.entry.NotAdmitted.{NotAdmitted}
 use Rattle.transfer_table.specs.declared.fault.Fault.{Fault}
-
--- the first fault of the list, where all sites are meant to be entered
-abbrev pub fault_of : Plan → List Entry → Option Fault
-fault_of p es = first_fault_of p (all_meant p) es
 
 -- the entries before the fault
 abbrev pub before : Option Fault → List Entry → List Entry
 before None es = es
 before (Some fault) es = take fault.place es
 
-abbrev pub drawn : Plan → List Entry → List Entry
-drawn p es = before (fault_of p es) es
+abbrev pub drawn : Plan → List Bool → List Entry → List Entry
+drawn p meant es = before (first_fault_of p meant es) es
 
-abbrev pub has_fault : Plan → List Entry → Bool
-has_fault p es = is_some (fault_of p es)
+abbrev pub has_fault : Plan → List Bool → List Entry → Bool
+has_fault p meant es = is_some (first_fault_of p meant es)
 
 -- the state after an entry; a refused one would change nothing
 abbrev pub or_same : TableState → Result TableState NotAdmitted → TableState

@@ -319,5 +319,6 @@ abbrev pub svg_of : Plan → List Shape → List Entry → Bool → List ℕ →
 svg_of p shapes es faulty told =
     shown_svg p (state_after p es) shapes es (is_folded p es) faulty ++ end_svg told
 
-abbrev pub svg_picture : Plan → List Shape → List Entry → List ℕ → List ℕ
-svg_picture p shapes es told = svg_of p shapes (drawn p es) (has_fault p es) told
+abbrev pub svg_picture : Plan → List Bool → List Shape → List Entry → List ℕ → List ℕ
+svg_picture p meant shapes es told =
+    svg_of p shapes (drawn p meant es) (has_fault p meant es) told

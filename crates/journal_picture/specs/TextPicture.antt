@@ -164,5 +164,6 @@ abbrev pub text_of : Plan → List Shape → List Entry → Bool → List ℕ �
 text_of p shapes es faulty told =
     shown_text p (state_after p es) shapes es (lanes_of p es 0 p.harts) faulty ++ told
 
-abbrev pub text_picture : Plan → List Shape → List Entry → List ℕ → List ℕ
-text_picture p shapes es told = text_of p shapes (drawn p es) (has_fault p es) told
+abbrev pub text_picture : Plan → List Bool → List Shape → List Entry → List ℕ → List ℕ
+text_picture p meant shapes es told =
+    text_of p shapes (drawn p meant es) (has_fault p meant es) told

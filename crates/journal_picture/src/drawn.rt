@@ -1,24 +1,10 @@
 //! What is drawn of a list of entries.
-ghost use Rattle.std.specs.Prelude.{◌≡◌, ◌<◌, ◌^◌, ◌≤◌, IfOk, length};
-ghost use Rattle.transfer_table.specs.Plan.{IsPlan};
+ghost use Rattle.std.specs.Prelude.{◌≡◌, ◌≤◌, IfOk, length};
 ghost use Rattle.transfer_table.specs.Table.{first_state, admit_of};
-ghost use Rattle.journal_picture.specs.Drawn.{before, fault_of, or_same, state_from, state_after};
+ghost use Rattle.journal_picture.specs.Drawn.{before, or_same, state_from, state_after};
 
 use std::alloc::{AllocError, Global};
-use transfer_table::{Board, Entry, Fault, Plan, first_fault};
-
-/// The first fault of the list, where all sites of the plan are meant to be entered.
-pub(crate) fn fault_of(
-    alloc: Global,
-    plan: &Plan,
-    list: &[Entry],
-) -> Result<Option<Fault>, AllocError>
-    requires { length list.now < 2 ^ 32 }
-    ensures { IfOk result (λ fault. fault ≡ fault_of plan.now list.now) }
-{
-    let all = vec![in alloc; true; plan.sites() as usize]?;
-    first_fault(alloc, plan, &all, list)
-}
+use transfer_table::{Board, Entry, Fault, Plan};
 
 /// The entries before the fault, if there is one.
 pub(crate) fn before(fault: Option<Fault>, list: &[Entry]) -> &[Entry]

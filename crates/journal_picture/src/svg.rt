@@ -5,29 +5,32 @@ ghost use Rattle.journal_picture.specs.SvgPicture.{end_svg, fault_svg, folded_no
 
 use crate::axis::{write_marks, write_ticks};
 use crate::bars::{fill, is_folded, write_lanes, write_rect};
-use crate::drawn::{before, board_after, fault_of};
+use crate::drawn::{before, board_after};
 use crate::scale::{ends_of, lanes_bottom, place_x, step_of, width_of};
 use crate::shape::{Kind, Shape};
 use std::alloc::{AllocError, Global};
-use transfer_table::{Board, Entry, Plan};
+use transfer_table::{Board, Entry, Plan, first_fault};
 
 /// The picture of the list as SVG 1.1, up to its first fault; the plan's sites have these shapes. What is told of the list stands
-/// below the title. The list has at most 65,535 entries.
+/// below the title. The list has at most 65,535 entries. Which sites are meant to be entered is a truth value for each, that of
+/// site `s` at place `s - 1`.
 ///
 /// It has at most 4,096 bars: if there are more stays, each lane has its first 512 and its last 512, with more than four harts as many as
 /// 4,096 bars allow, and the picture says so.
 pub fn svg_picture(
     alloc: Global,
     plan: &Plan,
+    meant: &[bool],
     shapes: &[Shape],
     list: &[Entry],
     told: &[u8],
 ) -> Result<Vec<u8>, AllocError>
-    requires { length list.now ≤ most_entries }
+    requires few { length list.now ≤ most_entries }
+    requires meant { length meant.now ≡ site_count plan.now }
     ensures { IfOk result
-        (λ text. text.items ≡ svg_picture plan.now shapes.now list.now told.now) }
+        (λ text. text.items ≡ svg_picture plan.now meant.now shapes.now list.now told.now) }
 {
-    let fault = fault_of(alloc, plan, list)?;
+    let fault = first_fault(alloc, plan, meant, list)?;
     let drawn = before(fault, list);
     svg_of(alloc, plan, shapes, drawn, fault.is_some(), told)
 }

@@ -4,29 +4,32 @@ ghost use Rattle.transfer_table.specs.Plan.{site_count, most_entries};
 ghost use Rattle.journal_picture.specs.TextPicture.{band_count, band_text, bands_text, deed, deeds_line, deeds_text, lanes_text, mark_text, numbers_line, numbers_text, shown_text, sites_text, text_of, text_picture};
 ghost use Rattle.journal_picture.specs.Drawn.{state_after};
 
-use crate::drawn::{before, board_after, fault_of};
+use crate::drawn::{before, board_after};
 use crate::lanes::{Lane, lanes_of};
 use crate::shape::Shape;
 use crate::tree::write_tree;
 use crate::words::{site_name, write_cell};
 use std::alloc::{AllocError, Global};
-use transfer_table::{Board, Entry, Plan};
+use transfer_table::{Board, Entry, Plan, first_fault};
 
 /// The picture of the list in text, up to its first fault, with the tree of the sites, which have these shapes, and what is told
-/// of the list at its end. The list has at most 65,535 entries.
+/// of the list at its end. The list has at most 65,535 entries. Which sites are meant to be entered is a truth value for each,
+/// that of site `s` at place `s - 1`.
 pub fn text_picture(
     alloc: Global,
     plan: &Plan,
+    meant: &[bool],
     shapes: &[Shape],
     list: &[Entry],
     told: &[u8],
 ) -> Result<Vec<u8>, AllocError>
     requires few { length list.now ≤ most_entries }
+    requires meant { length meant.now ≡ site_count plan.now }
     requires shapes { length shapes.now ≡ site_count plan.now }
     ensures { IfOk result
-        (λ text. text.items ≡ text_picture plan.now shapes.now list.now told.now) }
+        (λ text. text.items ≡ text_picture plan.now meant.now shapes.now list.now told.now) }
 {
-    let fault = fault_of(alloc, plan, list)?;
+    let fault = first_fault(alloc, plan, meant, list)?;
     let drawn = before(fault, list);
     text_of(alloc, plan, shapes, drawn, fault.is_some(), told)
 }

@@ -12,15 +12,16 @@ use Rattle.journal_text.specs.Reading.{lines_of, is_word}
 use Rattle.run_audit.specs.Parts.{parts_of, parts_in, with_front}
 use Rattle.run_audit.specs.declared.verdict.Verdict.{Verdict}
 use Rattle.command_words.specs.declared.command.Command.{Command}
-use Rattle.command_words.specs.declared.command.Command.TheVariants.{Run, Tally, Solo, Audit, Make}
+use Rattle.command_words.specs.declared.command.Command.TheVariants.{Run, Tally, Pipe, Solo, Audit, Make}
 use Rattle.lithe_call.specs.Inputs.{limit_of, AreInput, ReadsAll, GivesTooMuch, FailsToRead}
 use Rattle.command_words.specs.Form.{form_of}
 use Rattle.command_words.specs.Parts.{size_in}
 use Rattle.lithe_call.specs.Programs.{SpellAccepted, made_text}
 use Rattle.lithe_call.specs.Tallies.{IsTallied, SpellTallied}
+use Rattle.lithe_call.specs.Pipelines.{IsPiped, SpellPiped}
 use Rattle.lithe_call.specs.Auditing.{HasParts, AreFound, found_in, status_by}
 use Rattle.lithe_call.specs.Output.{IsOutputOf, EndsMade, EndsWith}
-use Rattle.lithe_call.specs.Faults.{SpellNothing, SpellRefused, SpellUntallied, AreNoOutput, IsNoText, IsRefused, IsLong, IsFault, IsNoRun, IsNoOutput, HaveNoVerdict}
+use Rattle.lithe_call.specs.Faults.{SpellNothing, SpellRefused, SpellUntallied, SpellUnpiped, AreNoOutput, IsNoText, IsRefused, IsLong, IsFault, IsNoRun, IsNoOutput, HaveNoVerdict}
 use Rattle.lithe_call.specs.FaultOf.{status_of}
 use Rattle.lithe_call.specs.Served.{IsOutputFor, IsTooLong, IsToldOf, IsTextOf}
 use Rattle.lithe_call.specs.Told.{IsLineOf}
@@ -65,6 +66,9 @@ refused_accepted harts bytes line program fails is = fails.refused (subst (λ (p
 untallied_tallied : (harts : ℕ) (bytes line : List ℕ) (program : ProgramTree) → SpellUntallied harts bytes line → SpellTallied harts bytes program → ⊥
 untallied_tallied harts bytes line program fails is = fails.refused (subst (IsTallied harts) (one_text bytes program fails.program is.spelled fails.spelled) is.tallied)
 
+unpiped_piped : (harts : ℕ) (bytes line : List ℕ) (program : ProgramTree) → SpellUnpiped harts bytes line → SpellPiped harts bytes program → ⊥
+unpiped_piped harts bytes line program fails is = fails.refused (subst (IsPiped harts) (one_text bytes program fails.program is.spelled fails.spelled) is.piped)
+
 parts_meet : (P Q : List ℕ → List ℕ → Type 0) (bytes : List ℕ) → ((first second : List ℕ) → P first second → Q first second → ⊥) → HasParts P bytes → HasParts Q bytes → ⊥
 parts_meet P Q bytes never p q =
     let same = same_parts bytes p.first p.second q.first q.second p.parts q.parts in
@@ -78,6 +82,7 @@ no_output_found harts line first second verdict fails is =
 pub no_text_ends : (command : Command) (bytes line : List ℕ) (status : Status) → IsNoText command bytes line → EndsWith command bytes status → ⊥
 no_text_ends (Run harts) bytes line status fails ends = nothing_spelled bytes line harts ends.1.0 fails ends.1.1
 no_text_ends (Tally harts) bytes line status fails ends = fails.nothing ends.1.0 ends.1.1.spelled
+no_text_ends (Pipe harts) bytes line status fails ends = fails.nothing ends.1.0 ends.1.1.spelled
 no_text_ends Solo bytes line status fails ends = nothing_spelled bytes line 1 ends.1.0 fails ends.1.1
 no_text_ends (Audit harts) bytes line status (inl mark) ends = let bad : None ≡ Some (ends.1.1.first, ends.1.1.second) = sym mark.none ∙ ends.1.1.parts in cc bad
 no_text_ends (Audit harts) bytes line status (inr parts) ends =
@@ -102,6 +107,7 @@ refused_made harts text line status.NoMemory fails ends = absurd ends
 pub refused_ends : (command : Command) (bytes line : List ℕ) (ended : Status) → IsRefused command bytes line → EndsWith command bytes ended → ended ≡ status.Refused
 refused_ends (Run harts) bytes line ended fails ends = absurd (refused_accepted harts bytes line ends.1.0 fails ends.1.1)
 refused_ends (Tally harts) bytes line ended fails ends = absurd (untallied_tallied harts bytes line ends.1.0 fails ends.1.1)
+refused_ends (Pipe harts) bytes line ended fails ends = absurd (unpiped_piped harts bytes line ends.1.0 fails ends.1.1)
 refused_ends Solo bytes line ended fails ends = absurd (refused_accepted 1 bytes line ends.1.0 fails ends.1.1)
 refused_ends (Audit harts) bytes line ended fails ends =
     absurd (parts_meet (λ first second. SpellRefused harts first line) (AreFound harts ends.1.0) bytes (λ first second fails is. refused_accepted harts first line is.program fails is.input) fails ends.1.1)
@@ -110,6 +116,7 @@ refused_ends (Make seed size harts) bytes line ended fails ends = refused_made h
 pub long_ends : (command : Command) (bytes : List ℕ) (status : Status) → IsLong command bytes → EndsWith command bytes status → ⊥
 long_ends (Run harts) bytes status fails ends = absurd fails
 long_ends (Tally harts) bytes status fails ends = absurd fails
+long_ends (Pipe harts) bytes status fails ends = absurd fails
 long_ends Solo bytes status fails ends = absurd fails
 long_ends (Audit harts) bytes status fails ends =
     parts_meet (λ first second. 65536 < length first) (AreFound harts ends.1.0) bytes (λ first second long is. absurd (omega (arith, long, is.input.short))) fails ends.1.1
@@ -119,6 +126,7 @@ long_ends (Make seed size harts) bytes status fails ends = absurd fails
 pub too_much : (command : Command) (left left' : Option (List ℕ)) (bytes : List ℕ) → GivesTooMuch command left left' → AreInput command left bytes → limit_of command < length bytes
 too_much (Run harts) left left' bytes more e = more_of_left left left' 65536 more bytes e
 too_much (Tally harts) left left' bytes more e = more_of_left left left' 65536 more bytes e
+too_much (Pipe harts) left left' bytes more e = more_of_left left left' 65536 more bytes e
 too_much Solo left left' bytes more e = more_of_left left left' 65536 more bytes e
 too_much (Audit harts) left left' bytes more e = more_of_left left left' 4194304 more bytes e
 too_much (Make seed size harts) left left' bytes more e = absurd more
@@ -126,6 +134,7 @@ too_much (Make seed size harts) left left' bytes more e = absurd more
 much_ends : (command : Command) (left left' : Option (List ℕ)) (bytes : List ℕ) (status : Status) → GivesTooMuch command left left' → AreInput command left bytes → EndsWith command bytes status → ⊥
 much_ends (Run harts) left left' bytes status more e ends = absurd (omega (arith, too_much (Run harts) left left' bytes more e, ends.1.1.short))
 much_ends (Tally harts) left left' bytes status more e ends = absurd (omega (arith, too_much (Tally harts) left left' bytes more e, ends.1.1.short))
+much_ends (Pipe harts) left left' bytes status more e ends = absurd (omega (arith, too_much (Pipe harts) left left' bytes more e, ends.1.1.short))
 much_ends Solo left left' bytes status more e ends = absurd (omega (arith, too_much Solo left left' bytes more e, ends.1.1.short))
 much_ends (Audit harts) left left' bytes status more e ends = absurd (omega (arith, too_much (Audit harts) left left' bytes more e, ends.0))
 much_ends (Make seed size harts) left left' bytes status more e ends = absurd more
@@ -135,6 +144,7 @@ pub with_input : (IsSo : Command → List ℕ → Type 0) → ((seed size harts 
     → (command : Command) (bytes read : List ℕ) (left left' : Option (List ℕ)) → AreInput command left bytes → ReadsAll command left read left' → IsSo command read → IsSo command bytes
 with_input IsSo any (Run harts) bytes read left left' e all is = subst (λ (b : List ℕ). IsSo (Run harts) b) (sym (given_bytes bytes read left left' e all)) is
 with_input IsSo any (Tally harts) bytes read left left' e all is = subst (λ (b : List ℕ). IsSo (Tally harts) b) (sym (given_bytes bytes read left left' e all)) is
+with_input IsSo any (Pipe harts) bytes read left left' e all is = subst (λ (b : List ℕ). IsSo (Pipe harts) b) (sym (given_bytes bytes read left left' e all)) is
 with_input IsSo any Solo bytes read left left' e all is = subst (λ (b : List ℕ). IsSo Solo b) (sym (given_bytes bytes read left left' e all)) is
 with_input IsSo any (Audit harts) bytes read left left' e all is = subst (λ (b : List ℕ). IsSo (Audit harts) b) (sym (given_bytes bytes read left left' e all)) is
 with_input IsSo any (Make seed size harts) bytes read left left' e all is = any seed size harts read bytes is
@@ -190,6 +200,7 @@ made_done harts text status.NoMemory program is ends = absurd ends
 ends_one : (command : Command) (bytes : List ℕ) (status ending : Status) (text : List ℕ) → IsOutputOf command bytes ending text → EndsWith command bytes status → ending ≡ status
 ends_one (Run harts) bytes status ending text out ends = out.0 ∙ sym ends.0
 ends_one (Tally harts) bytes status ending text out ends = out.0 ∙ sym ends.0
+ends_one (Pipe harts) bytes status ending text out ends = out.0 ∙ sym ends.0
 ends_one Solo bytes status ending text out ends = out.0 ∙ sym ends.0
 ends_one (Audit harts) bytes status ending text out ends = out.same ∙ ap status_by (verdicts_one harts bytes out.verdict ends.1.0 out.has ends.1.1) ∙ sym ends.1.2
 ends_one (Make seed size harts) bytes status ending text out ends = out.0 ∙ sym (made_done harts (made_text seed size) status out.1.program out.1.input ends)
@@ -217,6 +228,7 @@ too_long_told words fault.Memory left left' faults faults' h e = cc e
 failed_rose : (command : Command) (faults faults' : ℕ) → FailsToRead command faults faults' → Rose faults faults'
 failed_rose (Run harts) faults faults' h = h
 failed_rose (Tally harts) faults faults' h = h
+failed_rose (Pipe harts) faults faults' h = h
 failed_rose Solo faults faults' h = h
 failed_rose (Audit harts) faults faults' h = h
 failed_rose (Make seed size harts) faults faults' h = absurd h

@@ -1,8 +1,8 @@
 -- What an audit is of, and what it finds.
 use Rattle.std.specs.Prelude.{◌≡◌, ℕ, List, Some, Result, Ok}
-use Rattle.transfer_table.specs.Journal.{all_meant}
 use Rattle.array_tree.specs.Trees.{ProgramTree}
 use Rattle.array_meaning.specs.Work.{final_store}
+use Rattle.array_meaning.specs.Entered.{entered_of}
 use Rattle.array_eval.specs.ArrayText.{array_text}
 use Rattle.journal_text.specs.declared.fault.TextFault.{TextFault}
 use Rattle.run_audit.specs.Parts.{parts_of}
@@ -25,7 +25,7 @@ pub record HasParts (AreSo : List ℕ → List ℕ → Type 0) (bytes : List ℕ
 -- what an audit finds in an output of the program's run on so many harts
 abbrev pub found_in : ℕ → ProgramTree → List ℕ → Result Verdict TextFault
 found_in harts program output =
-    audit_of (table_plan program harts) (all_meant (table_plan program harts))
+    audit_of (table_plan program harts) (entered_of program)
     (array_text program (final_store program)) output
 
 -- a first part that spells an accepted program, and this verdict on the second

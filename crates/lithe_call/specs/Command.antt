@@ -1,10 +1,11 @@
 -- What commands do.
 use Rattle.std.specs.Prelude.{Bool, true, false}
 use Rattle.command_words.specs.declared.command.Command.{Command}
-use Rattle.command_words.specs.declared.command.Command.TheVariants.{Tally, Audit}
+use Rattle.command_words.specs.declared.command.Command.TheVariants.{Tally, Pipe, Audit}
 
--- those that run a program as it stands
+-- those that run each accepted program as it stands
 abbrev pub runs_programs : Command → Bool
 runs_programs (Tally harts) = false
+runs_programs (Pipe harts) = false
 runs_programs (Audit harts) = false
 runs_programs command = true

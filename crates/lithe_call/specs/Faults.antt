@@ -12,16 +12,21 @@ use Rattle.disjoint_check.specs.declared.fault.CheckFault.TheVariants as check
 use Rattle.error_text.specs.SyntaxText.{syntax_text}
 use Rattle.error_text.specs.RefusalText.{refusal_text}
 use Rattle.error_text.specs.TallyText.{tally_text}
+use Rattle.error_text.specs.CrossingText.{crossing_text}
+use Rattle.pipe_walk.specs.FirstCrossing.{IsFaultOf}
+use Rattle.pipe_walk.specs.declared.fault.PipeFault.{PipeFault}
+use Rattle.pipe_walk.specs.declared.fault.PipeFault.TheVariants as pipe
 use Rattle.spread_laws.specs.Faults.{SpreadFault, spread_fault_of}
 use Rattle.spread_laws.specs.Spread.{spread_of}
 use Rattle.tally_cells.specs.FaultOf.{told_of}
 use Rattle.lithe_call.specs.Inputs.{ReadsAll, GivesTooMuch, FailsToRead}
 use Rattle.lithe_call.specs.Programs.{made_text, SpellAccepted}
 use Rattle.lithe_call.specs.Tallies.{IsTallied}
+use Rattle.lithe_call.specs.Pipelines.{IsPiped}
 use Rattle.lithe_call.specs.Auditing.{HasParts, found_in}
 use Rattle.command_words.specs.Form.{form_of}
 use Rattle.command_words.specs.declared.command.Command.{Command}
-use Rattle.command_words.specs.declared.command.Command.TheVariants.{Run, Tally, Solo, Audit, Make}
+use Rattle.command_words.specs.declared.command.Command.TheVariants.{Run, Tally, Pipe, Solo, Audit, Make}
 use Rattle.journal_text.specs.declared.fault.TextFault.{TextFault}
 use Rattle.journal_text.specs.declared.fault.TextFault.TheVariants as text
 use Rattle.run_audit.specs.Parts.{parts_of}
@@ -80,6 +85,27 @@ pub record SpellUntallied (harts : ℕ) (bytes line : List ℕ) : Type 0 where
   pub refused : IsTallied harts program → ⊥
   pub first : IsUntallied harts program line
 
+-- the program is accepted, but two pieces cross at one of its sites, and the line tells the first such site and its least cell
+pub record IsCrossed (harts : ℕ) (program : ProgramTree) (line : List ℕ) : Type 0 where
+  pub accepted : IsAcceptedFor program harts
+  pub fault : PipeFault
+  pub is : IsFaultOf program fault
+  pub real : fault ≢ pipe.Memory
+  pub told : line ≡ crossing_text program fault
+
+-- the first of the two that refuses a program to `pipe`: the check, or the one for crossings
+abbrev pub IsUnpiped : ℕ → ProgramTree → List ℕ → Type 0
+IsUnpiped harts program line =
+    IsToldFault (check_fault_of program harts) program line ⊎ IsCrossed harts program line
+
+-- bytes within the limit spell a program that isn't piped by so many harts, and the line tells why
+pub record SpellUnpiped (harts : ℕ) (bytes line : List ℕ) : Type 0 where
+  pub short : length bytes ≤ most_bytes
+  pub program : ProgramTree
+  pub spelled : Spells bytes program
+  pub refused : IsPiped harts program → ⊥
+  pub first : IsUnpiped harts program line
+
 -- an input without a line `%%`, and the line that says so
 pub record HasNoMark (bytes line : List ℕ) : Type 0 where
   pub none : parts_of bytes ≡ None
@@ -109,6 +135,7 @@ IsNoText command bytes line = SpellNothing bytes line
 abbrev pub IsRefused : Command → List ℕ → List ℕ → Type 0
 IsRefused (Run harts) bytes line = SpellRefused harts bytes line
 IsRefused (Tally harts) bytes line = SpellUntallied harts bytes line
+IsRefused (Pipe harts) bytes line = SpellUnpiped harts bytes line
 IsRefused Solo bytes line = SpellRefused 1 bytes line
 IsRefused (Audit harts) bytes line = HasParts (λ first second. SpellRefused harts first line) bytes
 IsRefused (Make seed size harts) bytes line = SpellRefused harts (made_text seed size) line
@@ -159,6 +186,12 @@ abbrev pub TellsUntallied : ℕ → ProgramTree → Fault → Type 0
 TellsUntallied harts program (fault.Refused line) = IsUntallied harts program line.items
 TellsUntallied harts program fault.Memory = Unit {0}
 TellsUntallied harts program why = ⊥
+
+-- the fault tells why the program isn't piped, or memory ran out
+abbrev pub TellsUnpiped : ℕ → ProgramTree → Fault → Type 0
+TellsUnpiped harts program (fault.Refused line) = IsUnpiped harts program line.items
+TellsUnpiped harts program fault.Memory = Unit {0}
+TellsUnpiped harts program why = ⊥
 
 -- why the command has no output for these bytes
 abbrev pub IsNoOutput : Command → List ℕ → Fault → Type 0

@@ -2,6 +2,7 @@ pub mod Telling
 pub mod Command
 pub mod Programs
 pub mod Tallies
+pub mod Pipelines
 pub mod Inputs
 pub mod Auditing
 pub mod Output

@@ -11,6 +11,9 @@ use Rattle.run_audit.specs.AuditText.{text_fault_text}
 use Rattle.error_text.specs.SyntaxText.{syntax_text}
 use Rattle.error_text.specs.RefusalText.{refusal_text}
 use Rattle.error_text.specs.TallyText.{tally_text}
+use Rattle.error_text.specs.CrossingText.{crossing_text}
+use Rattle.pipe_walk.specs.declared.fault.PipeFault.{PipeFault}
+use Rattle.pipe_walk.specs.declared.fault.PipeFault.TheVariants as pipe
 use Rattle.tally_cells.specs.declared.fault.TallyFault.{TallyFault}
 use Rattle.tally_cells.specs.declared.fault.TallyFault.TheVariants as tally
 use Rattle.lithe_call.specs.declared.fault.Fault.{Fault}
@@ -34,6 +37,13 @@ abbrev pub TellsTally : TallyFault → Fault → Type 0
 TellsTally cause (fault.Refused line) = (cause ≢ tally.Memory) × (line.items ≡ tally_text cause)
 TellsTally cause fault.Memory = Unit {0}
 TellsTally cause why = ⊥
+
+-- the fault tells where two pieces cross, or memory ran out
+abbrev pub TellsCrossing : ProgramTree → PipeFault → Fault → Type 0
+TellsCrossing program cause (fault.Refused line) =
+    (cause ≢ pipe.Memory) × (line.items ≡ crossing_text program cause)
+TellsCrossing program cause fault.Memory = Unit {0}
+TellsCrossing program cause why = ⊥
 
 -- the fault tells that of an output's text, or memory ran out
 abbrev pub TellsText : TextFault → Fault → Type 0

@@ -25,6 +25,7 @@ usage_text =
     ++ line (codes "       lithe_run audit --harts N")
     ++ line (codes "       lithe_run make --seed X --size K --harts N")
     ++ line (codes "       lithe_run tally --harts N")
+    ++ line (codes "       lithe_run pipe --harts N")
 
 -- the text that a status writes to the stream of errors, where it is always the same
 abbrev pub constant_text : Status → List ℕ

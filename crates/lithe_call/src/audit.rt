@@ -14,6 +14,7 @@ use crate::fault::Fault;
 use crate::run::{refusal, syntax_fault};
 use array_lang::parse;
 use disjoint_check::check;
+use entered_sites::entered_by;
 use journal_text::TextFault;
 use run_audit::{Verdict, audit, parts_of, text_fault_line, verdict_line};
 use std::alloc::Global;
@@ -66,8 +67,8 @@ fn verdict(alloc: Global, harts: u8, first: &[u8], second: &[u8]) -> Result<Verd
         Ok(accepted) => accepted,
         Err(fault) => return Err(refusal(alloc, &program, fault)),
     };
-    let all = vec![in alloc; true; accepted.plan().sites() as usize]?;
-    match audit(alloc, &accepted, &all, second) {
+    let entered = entered_by(alloc, &accepted)?;
+    match audit(alloc, &accepted, &entered, second) {
         Ok(verdict) => Ok(verdict),
         Err(fault) => Err(text_fault(alloc, fault)),
     }

@@ -11,8 +11,8 @@ ghost use Rattle.command_words.specs.Parts.{harts_in, size_in};
 ghost use Rattle.lithe_call.specs.Command.{runs_programs};
 ghost use Rattle.lithe_call.specs.Inputs.{limit_of, AreInput, ReadsAll, GivesTooMuch, FailsToRead};
 ghost use Rattle.lithe_call.specs.Auditing.{status_of_ending};
-ghost use Rattle.lithe_call.specs.Output.{IsOutputOf, IsRunOf, IsTallyOf};
-ghost use Rattle.lithe_call.specs.Faults.{SpellRefused, SpellUntallied, IsFault, IsNoOutput, IsNoRun};
+ghost use Rattle.lithe_call.specs.Output.{IsOutputOf, IsRunOf, IsTallyOf, IsPipeOf};
+ghost use Rattle.lithe_call.specs.Faults.{SpellRefused, SpellUntallied, SpellUnpiped, IsFault, IsNoOutput, IsNoRun};
 ghost use Rattle.lithe_call.specs.FaultOf.{status_of, line_of};
 ghost use Rattle.lithe_call.specs.Status.{constant_text};
 ghost use Rattle.lithe_call.specs.Served.{IsOutputFor, AreServed};
@@ -21,6 +21,7 @@ use crate::answer::{Answer, Ending};
 use crate::audit::audited;
 use crate::command::{asked_command, limit};
 use crate::fault::Fault;
+use crate::pipe::piped;
 use crate::reading::{ReadError, read_all};
 use crate::run::answer;
 use crate::status::{Status, constant_text};
@@ -37,7 +38,8 @@ use std::thread::Threads;
 ///
 /// `run --harts N`, N from 1 to 16, runs the program on N harts, each of several on a thread, and writes its arrays and the
 /// journal of its transfers; `tally --harts N` does so where branches and members add into one cell of an array whose name
-/// ends in `_sum`; `solo` writes the arrays alone. `audit --harts N` reads a program, a line `%%` and an output of
+/// ends in `_sum`; `pipe --harts N` does so with members that overtake, where no two of their pieces cross; `solo` writes the
+/// arrays alone. `audit --harts N` reads a program, a line `%%` and an output of
 /// `run`, and writes whether the output is the program's; where it isn't, the status is Illegal. `make --seed X --size K
 /// --harts N`, K from 1 to 40, reads nothing: it makes a program, runs its printed text as `run` does, and writes the
 /// summary of the run. The whole output is built before its first byte is written.
@@ -158,9 +160,11 @@ fn input<A: Source>(alloc: Global, source: &mut A, command: Command) -> Result<V
 {
     match command {
         Command::Make { .. } => Ok(Vec::new(alloc)),
-        Command::Run(_) | Command::Tally(_) | Command::Solo | Command::Audit(_) => {
-            read_all(alloc, source, limit(command))
-        }
+        Command::Run(_)
+        | Command::Tally(_)
+        | Command::Pipe(_)
+        | Command::Solo
+        | Command::Audit(_) => read_all(alloc, source, limit(command)),
     }
 }
 
@@ -207,6 +211,27 @@ fn tally_of<R: Threads + Wait + Sync, G: Gate>(
     })
 }
 
+// What `pipe` of the program of these bytes comes to.
+fn pipe_of<R: Threads + Wait + Sync, G: Gate>(
+    rt: &R,
+    alloc: Global,
+    gate: &G,
+    harts: u8,
+    bytes: &[u8],
+) -> Result<Answer, Fault>
+    requires short { length bytes.now ≤ most_bytes }
+    requires some_hart { 1 ≤ harts }
+    requires few_harts { harts ≤ 16 }
+    ensures output { IfOk result (λ answer. IsPipeOf harts bytes.now answer.text.items) }
+    ensures done { IfOk result (λ answer. status_of_ending answer.ending ≡ Status.Done) }
+    ensures fault { IfErr result (IsNoRun (SpellUnpiped harts) bytes.now) }
+{
+    Ok(Answer {
+        text: piped(rt, alloc, gate, harts, bytes)?,
+        ending: Ending::Written,
+    })
+}
+
 // The output of the command for these bytes.
 fn answer_to<R: Threads + Wait + Sync, G: Gate>(
     rt: &R,
@@ -228,6 +253,7 @@ fn answer_to<R: Threads + Wait + Sync, G: Gate>(
         Command::Audit(harts) => audited(alloc, harts, bytes),
         Command::Run(_) | Command::Solo => run_of(rt, alloc, gate, command, bytes),
         Command::Tally(harts) => tally_of(rt, alloc, gate, harts, bytes),
+        Command::Pipe(harts) => pipe_of(rt, alloc, gate, harts, bytes),
         Command::Make { seed, size, .. } => {
             let text = made_text(alloc, seed, size)?;
             run_of(rt, alloc, gate, command, &text)

@@ -36,7 +36,10 @@ pub fn harts(command: Command) -> u8
     ensures { result ≡ harts_in command }
 {
     match command {
-        Command::Run(harts) | Command::Tally(harts) | Command::Audit(harts) => harts,
+        Command::Run(harts)
+        | Command::Tally(harts)
+        | Command::Pipe(harts)
+        | Command::Audit(harts) => { harts }
         Command::Solo => 1,
         Command::Make { harts, .. } => harts,
     }
@@ -48,7 +51,7 @@ pub fn limit(command: Command) -> usize
     ensures few { result ≤ most_audited }
 {
     match command {
-        Command::Run(_) | Command::Tally(_) | Command::Solo => MOST_BYTES,
+        Command::Run(_) | Command::Tally(_) | Command::Pipe(_) | Command::Solo => MOST_BYTES,
         Command::Audit(_) => MOST_AUDITED,
         Command::Make { .. } => 0,
     }

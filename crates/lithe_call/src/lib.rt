@@ -11,6 +11,7 @@ mod call;
 mod command;
 mod fault;
 mod laws;
+mod pipe;
 mod reading;
 mod run;
 mod status;

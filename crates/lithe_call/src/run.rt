@@ -11,9 +11,10 @@ ghost use Rattle.lithe_call.specs.Faults.{SpellRefused, IsNoRun};
 ghost use Rattle.lithe_call.specs.Lines.{TellsSyntax, TellsRefusal};
 ghost use Rattle.array_meaning.specs.Bounds.{most_bytes};
 ghost use Rattle.array_meaning.specs.Work.{final_store};
+ghost use Rattle.array_meaning.specs.Entered.{entered_of};
 ghost use Rattle.array_eval.specs.ArrayText.{array_text};
 ghost use Rattle.transfer_table.specs.Plan.{most_entries};
-ghost use Rattle.transfer_table.specs.Journal.{IsComplete, all_meant};
+ghost use Rattle.transfer_table.specs.Journal.{IsComplete};
 ghost use Rattle.lone_hart.specs.Journals.{entries_in};
 
 use crate::command::harts;
@@ -105,7 +106,7 @@ fn output<R: Threads + Wait + Sync, G: Gate>(
         Command::Run(_) => run(rt, alloc, gate, accepted),
         Command::Solo => arrays(alloc, accepted),
         Command::Make { .. } => summary(rt, alloc, gate, accepted),
-        Command::Tally(_) | Command::Audit(_) => unreachable!(),
+        Command::Tally(_) | Command::Pipe(_) | Command::Audit(_) => unreachable!(),
     }
 }
 
@@ -130,6 +131,22 @@ fn run<R: Threads + Wait + Sync, G: Gate>(
         IsRunOutput (program_of accepted.now.program) accepted.now.plan.harts text.items) }
 {
     let outcome = outcome(rt, alloc, gate, accepted)?;
+    run_text(alloc, accepted, &outcome)
+}
+
+/// The arrays and the journal of what a run came to.
+pub(crate) fn run_text(
+    alloc: Global,
+    accepted: &Accepted<'_>,
+    outcome: &Outcome,
+) -> Result<Vec<u8>, AllocError>
+    requires store { outcome.now.store ≡ final_store (program_of accepted.now.program) }
+    requires journal { IsComplete accepted.now.plan (entered_of (program_of accepted.now.program))
+        (entries_in outcome.now.journal) }
+    requires short { length (entries_in outcome.now.journal) ≤ most_entries }
+    ensures { IfOk result (λ text.
+        IsRunOutput (program_of accepted.now.program) accepted.now.plan.harts text.items) }
+{
     let mut text = write_arrays(alloc, accepted.program(), &outcome.store)?;
     let entries = write_entries(alloc, accepted.plan(), outcome.journal.entries())?;
     text.extend_from_slice(&entries)?;
@@ -167,7 +184,7 @@ pub(crate) fn outcome<R: Threads + Wait + Sync, G: Gate>(
     ensures store { IfOk result
         (λ outcome. outcome.store ≡ final_store (program_of accepted.now.program)) }
     ensures journal { IfOk result
-        (λ outcome. IsComplete accepted.now.plan (all_meant accepted.now.plan)
+        (λ outcome. IsComplete accepted.now.plan (entered_of (program_of accepted.now.program))
         (entries_in outcome.journal)) }
     ensures short { IfOk result (λ outcome. length (entries_in outcome.journal) ≤ most_entries) }
 {

@@ -35,7 +35,7 @@ impl Status {
 }
 
 const USAGE: &[u8] =
-    b"usage: lithe_run run --harts N\n       lithe_run solo\n       lithe_run audit --harts N\n       lithe_run make --seed X --size K --harts N\n       lithe_run tally --harts N\n";
+    b"usage: lithe_run run --harts N\n       lithe_run solo\n       lithe_run audit --harts N\n       lithe_run make --seed X --size K --harts N\n       lithe_run tally --harts N\n       lithe_run pipe --harts N\n";
 
 /// The text that the status writes to the stream of errors, where it is always the same.
 pub fn constant_text(status: Status) -> &'static [u8]

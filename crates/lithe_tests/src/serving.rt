@@ -15,7 +15,7 @@ pub const SOLO: &[&str] = &["solo"];
 
 /// What is told of words that are no form.
 pub const USAGE: &[u8] =
-    b"usage: lithe_run run --harts N\n       lithe_run solo\n       lithe_run audit --harts N\n       lithe_run make --seed X --size K --harts N\n       lithe_run tally --harts N\n";
+    b"usage: lithe_run run --harts N\n       lithe_run solo\n       lithe_run audit --harts N\n       lithe_run make --seed X --size K --harts N\n       lithe_run tally --harts N\n       lithe_run pipe --harts N\n";
 
 /// Serves the words, and answers the status.
 pub fn status_of<R: AllocGlobal + Threads + Wait + Sync, A: Source, B: Sink, E: Sink>(

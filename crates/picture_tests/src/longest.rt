@@ -44,6 +44,11 @@ fn shapes(alloc: Global, sites: u16) -> Result<Vec<Shape>, AllocError> {
     }; sites as usize]
 }
 
+// Each of so many sites is meant to be entered.
+fn all(alloc: Global, sites: u16) -> Result<Vec<bool>, AllocError> {
+    vec![in alloc; true; sites as usize]
+}
+
 // How many lines of the text are a bar: each begins with `<rect x='` but those of the legend, which are three.
 fn bars(text: &[u8]) -> usize {
     let mut count = 0usize;
@@ -61,7 +66,16 @@ fn the_longest_journal_of_four_harts_has_4096_bars(rt: HostRuntime) -> Result<()
     let plan = Plan::new(alloc, 4, &[0; 4095])?;
     let list = longest(alloc, 4, 4095)?;
     assert_eq!(rt; list.len(), 45_045);
-    let text = svg_picture(alloc, &plan, &shapes(alloc, 4095)?, &list, b"legal 45045\n")?;
+    let all = all(alloc, 4095)?;
+    assert_eq!(rt; all.len(), plan.sites() as usize);
+    let text = svg_picture(
+        alloc,
+        &plan,
+        &all,
+        &shapes(alloc, 4095)?,
+        &list,
+        b"legal 45045\n",
+    )?;
     let fits = text.len() <= MOST && bars(&text) == 4096;
     assert!(rt; fits);
     Ok(())
@@ -73,7 +87,16 @@ fn the_longest_journal_of_sixteen_harts_has_4096_bars(rt: HostRuntime) -> Result
     let plan = Plan::new(alloc, 16, &[0; 1394])?;
     let list = longest(alloc, 16, 1394)?;
     assert_eq!(rt; list.len(), 65_518);
-    let text = svg_picture(alloc, &plan, &shapes(alloc, 1394)?, &list, b"legal 65518\n")?;
+    let all = all(alloc, 1394)?;
+    assert_eq!(rt; all.len(), plan.sites() as usize);
+    let text = svg_picture(
+        alloc,
+        &plan,
+        &all,
+        &shapes(alloc, 1394)?,
+        &list,
+        b"legal 65518\n",
+    )?;
     let fits = text.len() <= MOST && bars(&text) == 4096;
     assert!(rt; fits);
     Ok(())
@@ -87,7 +110,9 @@ fn the_longest_journal_fits_as_text(rt: HostRuntime) -> Result<(), Fail> {
     assert_eq!(rt; list.len(), 45_045);
     let shapes = shapes(alloc, 4095)?;
     assert_eq!(rt; shapes.len(), plan.sites() as usize);
-    let text = text_picture(alloc, &plan, &shapes, &list, b"legal 45045\n")?;
+    let all = all(alloc, 4095)?;
+    assert_eq!(rt; all.len(), plan.sites() as usize);
+    let text = text_picture(alloc, &plan, &all, &shapes, &list, b"legal 45045\n")?;
     let fits = 1_700_000 <= text.len() && text.len() <= MOST;
     assert!(rt; fits);
     Ok(())

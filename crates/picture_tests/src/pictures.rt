@@ -44,6 +44,20 @@ reg registers a site, req requests harts, unreg unregisters the site
 illegal: entry 4, s2 is skipped
 ";
 
+const PASSED_TEXT: &[u8] = b"   entry     0     1     2     3
+           reg  skip  skip unreg
+h0  base    s1    s1    s1  base
+h1  base  base  base  base  base
+
+base
+  s1 pool, line 4, home h0
+    s2 team, line 6, skipped
+    s3 pool, line 10, skipped
+
+reg registers a site, req requests harts, unreg unregisters the site
+legal 4
+";
+
 const FAULTY_TEXT: &[u8] = b"   entry     0     1     2 fault
            reg   req   reg
 h0  base    s1    s1    s2
@@ -305,11 +319,14 @@ const THREE: [Shape; 3] = [
     },
 ];
 
+// All three sites are meant to be entered.
+const ALL: [bool; 3] = [true, true, true];
+
 #[test]
 fn the_first_run_in_text(rt: HostRuntime) -> Result<(), Fail> {
     let alloc = rt.alloc();
     let plan = Plan::new(alloc, 2, &[0])?;
-    let text = text_picture(alloc, &plan, &ONE, &FIRST, b"legal 5\n")?;
+    let text = text_picture(alloc, &plan, &[true], &ONE, &FIRST, b"legal 5\n")?;
     let same = text.as_slice() == FIRST_TEXT;
     assert!(rt; same);
     Ok(())
@@ -319,7 +336,7 @@ fn the_first_run_in_text(rt: HostRuntime) -> Result<(), Fail> {
 fn the_first_run_as_svg(rt: HostRuntime) -> Result<(), Fail> {
     let alloc = rt.alloc();
     let plan = Plan::new(alloc, 2, &[0])?;
-    let text = svg_picture(alloc, &plan, &ONE, &FIRST, b"legal 5\n")?;
+    let text = svg_picture(alloc, &plan, &[true], &ONE, &FIRST, b"legal 5\n")?;
     let same = text.as_slice() == FIRST_SVG;
     assert!(rt; same);
     Ok(())
@@ -329,7 +346,7 @@ fn the_first_run_as_svg(rt: HostRuntime) -> Result<(), Fail> {
 fn a_nested_run_in_text(rt: HostRuntime) -> Result<(), Fail> {
     let alloc = rt.alloc();
     let plan = Plan::new(alloc, 2, &[0, 1, 1])?;
-    let text = text_picture(alloc, &plan, &THREE, &NESTED, b"legal 11\n")?;
+    let text = text_picture(alloc, &plan, &ALL, &THREE, &NESTED, b"legal 11\n")?;
     let same = text.as_slice() == NESTED_TEXT;
     assert!(rt; same);
     Ok(())
@@ -342,6 +359,7 @@ fn sites_are_skipped_in_text(rt: HostRuntime) -> Result<(), Fail> {
     let text = text_picture(
         alloc,
         &plan,
+        &ALL,
         &THREE,
         &SKIPPED,
         b"illegal: entry 4, s2 is skipped\n",
@@ -352,10 +370,27 @@ fn sites_are_skipped_in_text(rt: HostRuntime) -> Result<(), Fail> {
 }
 
 #[test]
+fn sites_that_are_not_meant_are_skipped_without_a_fault(rt: HostRuntime) -> Result<(), Fail> {
+    let alloc = rt.alloc();
+    let plan = Plan::new(alloc, 2, &[0, 1, 1])?;
+    let text = text_picture(
+        alloc,
+        &plan,
+        &[true, false, false],
+        &THREE,
+        &SKIPPED,
+        b"legal 4\n",
+    )?;
+    let same = text.as_slice() == PASSED_TEXT;
+    assert!(rt; same);
+    Ok(())
+}
+
+#[test]
 fn a_nested_run_as_svg(rt: HostRuntime) -> Result<(), Fail> {
     let alloc = rt.alloc();
     let plan = Plan::new(alloc, 2, &[0, 1, 1])?;
-    let text = svg_picture(alloc, &plan, &THREE, &NESTED, b"legal 11\n")?;
+    let text = svg_picture(alloc, &plan, &ALL, &THREE, &NESTED, b"legal 11\n")?;
     let same = text.as_slice() == NESTED_SVG;
     assert!(rt; same);
     Ok(())
@@ -368,6 +403,7 @@ fn a_list_is_drawn_up_to_its_fault(rt: HostRuntime) -> Result<(), Fail> {
     let text = text_picture(
         alloc,
         &plan,
+        &ALL,
         &THREE,
         &FAULTY,
         b"illegal: entry 3, owner is s0\n",
@@ -384,6 +420,7 @@ fn the_fault_is_marked_in_svg(rt: HostRuntime) -> Result<(), Fail> {
     let text = svg_picture(
         alloc,
         &plan,
+        &ALL,
         &THREE,
         &FAULTY,
         b"illegal: entry 3, owner is s0\n",

@@ -1,13 +1,13 @@
 -- What a picture of an output tells and shows.
-use Rattle.std.specs.Prelude.{ℕ, nat_lt, if◌then◌else◌, List, [], length, drop, Result, Ok, Err}
+use Rattle.std.specs.Prelude.{ℕ, Bool, nat_lt, if◌then◌else◌, List, [], length, drop, Result, Ok, Err}
 use Rattle.transfer_table.specs.Plan.{Plan}
-use Rattle.transfer_table.specs.Journal.{all_meant}
 use Rattle.transfer_table.specs.declared.entry.Entry.{Entry}
 use Rattle.journal_text.specs.Reading.{lines_of, journal_in, and_then}
 use Rattle.journal_text.specs.declared.fault.TextFault.{TextFault}
 use Rattle.journal_text.specs.declared.fault.TextFault.TheVariants.{BadLine}
 use Rattle.array_tree.specs.Trees.{ProgramTree}
 use Rattle.array_meaning.specs.Work.{final_store}
+use Rattle.array_meaning.specs.Entered.{entered_of}
 use Rattle.array_eval.specs.ArrayText.{array_text}
 use Rattle.run_audit.specs.Audit.{audit_of}
 use Rattle.run_audit.specs.AuditText.{verdict_text}
@@ -35,23 +35,23 @@ or_none (Err fault) = []
 abbrev pub entries_behind : Plan → ℕ → List ℕ → List Entry
 entries_behind plan arrays output = or_none (journal_behind plan arrays output)
 
--- a list of entries as a picture, with a line that tells a verdict
-abbrev pub drawn_in : Form → Plan → List Shape → List Entry → List ℕ → List ℕ
-drawn_in Text plan shapes list told = text_picture plan shapes list told
-drawn_in Svg plan shapes list told = svg_picture plan shapes list told
+-- a list of entries as a picture, by the sites that are meant to be entered, with a line that tells a verdict
+abbrev pub drawn_in : Form → Plan → List Bool → List Shape → List Entry → List ℕ → List ℕ
+drawn_in Text plan meant shapes list told = text_picture plan meant shapes list told
+drawn_in Svg plan meant shapes list told = svg_picture plan meant shapes list told
 
 -- a verdict, and a picture that tells it
 pub record Pictured : Type 0 where
   pub verdict : Verdict
   pub text : List ℕ
 
-abbrev pub pictured : Form → Plan → List Shape → Verdict → List Entry → Pictured
-pictured form plan shapes verdict list =
-    record { verdict = verdict; text = drawn_in form plan shapes list (verdict_text verdict) }
+abbrev pub pictured : Form → Plan → List Bool → List Shape → Verdict → List Entry → Pictured
+pictured form plan meant shapes verdict list =
+    record { verdict = verdict; text = drawn_in form plan meant shapes list (verdict_text verdict) }
 
 abbrev pub picture_by : Form → ProgramTree → Plan → List ℕ → Verdict → Pictured
 picture_by form program plan output verdict =
-    pictured form plan (shapes_of program) verdict
+    pictured form plan (entered_of program) (shapes_of program) verdict
     (entries_behind plan (length program.arrays) output)
 
 -- The verdict of the audit on an output of a program's run by this plan, and the picture of the output's journal; or the first
@@ -59,4 +59,4 @@ picture_by form program plan output verdict =
 abbrev pub picture_of : Form → ProgramTree → Plan → List ℕ → Result Pictured TextFault
 picture_of form program plan output =
     and_then (λ verdict. Ok (picture_by form program plan output verdict))
-    (audit_of plan (all_meant plan) (array_text program (final_store program)) output)
+    (audit_of plan (entered_of program) (array_text program (final_store program)) output)

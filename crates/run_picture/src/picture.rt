@@ -3,10 +3,10 @@ ghost use Rattle.std.specs.Prelude.{◌≡◌, ◌≤◌, IfOk, MatchResult, Ok,
 ghost use Rattle.array_tree.specs.Trees.{program_of};
 ghost use Rattle.transfer_table.specs.Plan.{site_count, most_entries};
 ghost use Rattle.array_meaning.specs.Work.{final_store};
+ghost use Rattle.array_meaning.specs.Entered.{entered_of};
 ghost use Rattle.array_eval.specs.ArrayText.{array_text};
 ghost use Rattle.journal_text.specs.Reading.{lines_of};
 ghost use Rattle.journal_text.specs.Seen.{Reads};
-ghost use Rattle.transfer_table.specs.Journal.{all_meant};
 ghost use Rattle.run_audit.specs.Audit.{audit_of};
 ghost use Rattle.run_audit.specs.Parts.{most_audited};
 ghost use Rattle.run_picture.specs.Picture.{behind, drawn_in, entries_behind, journal_behind, picture_by, picture_of, pictured};
@@ -14,6 +14,7 @@ ghost use Rattle.run_picture.specs.Seen.{picture_seen};
 
 use crate::shapes::shapes_of;
 use disjoint_check::Accepted;
+use entered_sites::entered_by;
 use journal_picture::{Shape, svg_picture, text_picture};
 use journal_text::{TextFault, cut_line, read_entries};
 use run_audit::{Verdict, audit, verdict_line};
@@ -49,23 +50,44 @@ pub fn picture_of(
     ensures picture { Reads picture_seen
         (picture_of form (program_of accepted.now.program) accepted.now.plan output.now) result }
     ensures verdict { Reads (λ picture. picture.verdict) (audit_of accepted.now.plan
-        (all_meant accepted.now.plan) (array_text (program_of accepted.now.program)
+        (entered_of (program_of accepted.now.program)) (array_text (program_of accepted.now.program)
         (final_store (program_of accepted.now.program))) output.now) result }
 {
-    let verdict = verdict_on(alloc, accepted, output)?;
-    let picture = picture_by(alloc, accepted, form, verdict, output)?;
+    let entered = entered_by(alloc, accepted)?;
+    let verdict = verdict_on(alloc, accepted, &entered, output)?;
+    let picture = picture_by(alloc, accepted, &entered, form, verdict, output)?;
     Ok(picture)
 }
 
-// The picture that tells this verdict.
+// The verdict of the audit, by the sites that the program enters.
+fn verdict_on(
+    alloc: Global,
+    accepted: &Accepted<'_>,
+    entered: &[bool],
+    output: &[u8],
+) -> Result<Verdict, TextFault>
+    requires short { length output.now ≤ most_audited }
+    requires entered { entered.now ≡ entered_of (program_of accepted.now.program) }
+    requires each { length entered.now ≡ site_count accepted.now.plan }
+    ensures { Reads (λ verdict. verdict) (audit_of accepted.now.plan
+        (entered_of (program_of accepted.now.program)) (array_text (program_of accepted.now.program)
+        (final_store (program_of accepted.now.program))) output.now) result }
+{
+    audit(alloc, accepted, entered, output)
+}
+
+// The picture that tells this verdict, by the sites that the program enters.
 fn picture_by(
     alloc: Global,
     accepted: &Accepted<'_>,
+    entered: &[bool],
     form: Form,
     verdict: Verdict,
     output: &[u8],
 ) -> Result<Picture, AllocError>
-    requires { length output.now ≤ most_audited }
+    requires short { length output.now ≤ most_audited }
+    requires entered { entered.now ≡ entered_of (program_of accepted.now.program) }
+    requires each { length entered.now ≡ site_count accepted.now.plan }
     ensures { IfOk result (λ picture. picture_seen picture ≡ picture_by form
         (program_of accepted.now.program) accepted.now.plan output.now verdict) }
 {
@@ -74,18 +96,15 @@ fn picture_by(
     let arrays = program.arrays.declarations.len();
     let list = entries_behind(alloc, plan, arrays, output)?;
     let shapes = shapes_of(alloc, program)?;
-    pictured(alloc, form, plan, &shapes, verdict, list.as_slice())
-}
-
-// The verdict of the audit, where all sites are meant to be entered.
-fn verdict_on(alloc: Global, accepted: &Accepted<'_>, output: &[u8]) -> Result<Verdict, TextFault>
-    requires { length output.now ≤ most_audited }
-    ensures { Reads (λ verdict. verdict) (audit_of accepted.now.plan (all_meant accepted.now.plan)
-        (array_text (program_of accepted.now.program)
-        (final_store (program_of accepted.now.program))) output.now) result }
-{
-    let all = vec![in alloc; true; accepted.plan().sites() as usize]?;
-    audit(alloc, accepted, &all, output)
+    pictured(
+        alloc,
+        form,
+        plan,
+        entered,
+        &shapes,
+        verdict,
+        list.as_slice(),
+    )
 }
 
 // The entries of the journal that stands behind so many array lines, if one does.
@@ -143,17 +162,19 @@ fn pictured(
     alloc: Global,
     form: Form,
     plan: &Plan,
+    meant: &[bool],
     shapes: &[Shape],
     verdict: Verdict,
     list: &[Entry],
 ) -> Result<Picture, AllocError>
     requires few { length list.now ≤ most_entries }
+    requires meant { length meant.now ≡ site_count plan.now }
     requires shapes { length shapes.now ≡ site_count plan.now }
     ensures { IfOk result (λ picture.
-        picture_seen picture ≡ pictured form plan.now shapes.now verdict list.now) }
+        picture_seen picture ≡ pictured form plan.now meant.now shapes.now verdict list.now) }
 {
     let told = verdict_line(alloc, verdict)?;
-    let text = drawn_in(alloc, form, plan, shapes, list, &told)?;
+    let text = drawn_in(alloc, form, plan, meant, shapes, list, &told)?;
     Ok(Picture { verdict, text })
 }
 
@@ -162,17 +183,19 @@ fn drawn_in(
     alloc: Global,
     form: Form,
     plan: &Plan,
+    meant: &[bool],
     shapes: &[Shape],
     list: &[Entry],
     told: &[u8],
 ) -> Result<Vec<u8>, AllocError>
     requires few { length list.now ≤ most_entries }
+    requires meant { length meant.now ≡ site_count plan.now }
     requires shapes { length shapes.now ≡ site_count plan.now }
     ensures { IfOk result
-        (λ text. text.items ≡ drawn_in form plan.now shapes.now list.now told.now) }
+        (λ text. text.items ≡ drawn_in form plan.now meant.now shapes.now list.now told.now) }
 {
     match form {
-        Form::Text => text_picture(alloc, plan, shapes, list, told),
-        Form::Svg => svg_picture(alloc, plan, shapes, list, told),
+        Form::Text => text_picture(alloc, plan, meant, shapes, list, told),
+        Form::Svg => svg_picture(alloc, plan, meant, shapes, list, told),
     }
 }

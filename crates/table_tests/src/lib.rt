@@ -10,6 +10,8 @@ mod forged;
 #[cfg(test)]
 mod limits;
 #[cfg(test)]
+mod overtaking;
+#[cfg(test)]
 mod prefixes;
 #[cfg(test)]
 mod serving;

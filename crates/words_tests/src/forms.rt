@@ -33,6 +33,8 @@ fn tallies_have_one_to_sixteen_harts(rt: HostRuntime) -> Result<(), Fail> {
     let alloc = rt.alloc();
     assert_eq!(rt; asked(alloc, "tally|--harts|1")?, Some(Command::Tally(1)));
     assert_eq!(rt; asked(alloc, "tally|--harts=16")?, Some(Command::Tally(16)));
+    assert_eq!(rt; asked(alloc, "pipe|--harts|4")?, Some(Command::Pipe(4)));
+    assert_eq!(rt; asked(alloc, "pipe|--harts=17")?, None);
     assert_eq!(rt; asked(alloc, "tally|--harts|0")?, None);
     assert_eq!(rt; asked(alloc, "tally|--harts=17")?, None);
     assert_eq!(rt; asked(alloc, "tally")?, None);

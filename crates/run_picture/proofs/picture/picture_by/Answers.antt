@@ -1,9 +1,10 @@
-use Rattle.std.proofs.Common.{◌≡◌, ◌∙◌, ℕ, List, length, ap, sym, arith}
+use Rattle.std.proofs.Common.{◌≡◌, ◌∙◌, ℕ, Bool, List, length, ap, sym, arith}
 use Rattle.std.proofs.lemmas.List.{length-map}
 use Rattle.transfer_table.specs.Plan.{Plan, site_count}
 use Rattle.transfer_table.specs.declared.entry.Entry.{Entry}
 use Rattle.array_tree.specs.declared.tree.Program.{Program}
 use Rattle.array_tree.specs.Trees.{program_of, declaration_of}
+use Rattle.array_meaning.specs.Entered.{entered_of}
 use Rattle.journal_picture.specs.declared.shape.Shape.{Shape}
 use Rattle.run_picture.specs.Picture.{entries_behind, pictured}
 use Rattle.run_picture.specs.Seen.{picture_seen}
@@ -36,8 +37,10 @@ returns c =
     ∙ ap (λ (n : ℕ). entries_behind own.plan n output) many in
     let shapes : c.deref.result.now ≡ shapes_of program =
     c.deref.ensures.value ∙ c.in_ok-shapes.ensures ∙ ap (λ (p : Program). shapes_of (program_of p)) c.program-program.ensures.same in
-    let whole = ap (λ (p : Plan). pictured form p c.deref.result.now verdict c.as_slice.result.now) c.plan-plan.ensures.same
-    ∙ ap (λ (s : List Shape). pictured form own.plan s verdict c.as_slice.result.now) shapes
-    ∙ ap (λ (l : List Entry). pictured form own.plan (shapes_of program) verdict l) list in
-    same_answer c.pictured.result picture_seen (pictured form plan c.deref.result.now verdict c.as_slice.result.now)
-    (pictured form own.plan (shapes_of program) verdict (entries_behind own.plan (length program.arrays) output)) whole c.pictured.ensures
+    let meant = c.args.entered.now in
+    let whole = ap (λ (p : Plan). pictured form p meant c.deref.result.now verdict c.as_slice.result.now) c.plan-plan.ensures.same
+    ∙ ap (λ (m : List Bool). pictured form own.plan m c.deref.result.now verdict c.as_slice.result.now) c.requires.entered
+    ∙ ap (λ (s : List Shape). pictured form own.plan (entered_of program) s verdict c.as_slice.result.now) shapes
+    ∙ ap (λ (l : List Entry). pictured form own.plan (entered_of program) (shapes_of program) verdict l) list in
+    same_answer c.pictured.result picture_seen (pictured form plan meant c.deref.result.now verdict c.as_slice.result.now)
+    (pictured form own.plan (entered_of program) (shapes_of program) verdict (entries_behind own.plan (length program.arrays) output)) whole c.pictured.ensures

@@ -1,7 +1,7 @@
 use Rattle.std.proofs.Common.{◌≡◌, Ok, ap, sym, subst}
 use Rattle.array_tree.specs.Trees.{program_of}
-use Rattle.transfer_table.specs.Journal.{all_meant}
 use Rattle.array_meaning.specs.Work.{final_store}
+use Rattle.array_meaning.specs.Entered.{entered_of}
 use Rattle.array_eval.specs.ArrayText.{array_text}
 use Rattle.run_audit.specs.Audit.{audit_of}
 use Rattle.run_audit.specs.declared.verdict.Verdict.{Verdict}
@@ -15,7 +15,7 @@ returns-clause-picture c =
     let a = c.args.accepted.now in
     let program = program_of a.program in
     go_on (λ (v : Verdict). v) picture_seen (λ (v : Verdict). picture_by c.args.form program a.plan c.args.output.now v)
-    (audit_of a.plan (all_meant a.plan) (array_text program (final_store program)) c.args.output.now) c.in_ok-verdict.verdict c.in_ok-picture.picture
+    (audit_of a.plan (entered_of program) (array_text program (final_store program)) c.args.output.now) c.in_ok-verdict.verdict c.in_ok-picture.picture
     c.in_ok-verdict.ensures c.in_ok-picture.ensures
 
 pub returns-clause-verdict : goal.returns-clause-verdict
@@ -23,4 +23,4 @@ returns-clause-verdict c =
     let a = c.args.accepted.now in
     let program = program_of a.program in
     let own = ap (λ (p : Pictured). p.verdict) c.in_ok-picture.ensures in
-    subst (λ (v : Verdict). audit_of a.plan (all_meant a.plan) (array_text program (final_store program)) c.args.output.now ≡ Ok v) (sym own) c.in_ok-verdict.ensures
+    subst (λ (v : Verdict). audit_of a.plan (entered_of program) (array_text program (final_store program)) c.args.output.now ≡ Ok v) (sym own) c.in_ok-verdict.ensures

@@ -1,0 +1,80 @@
+//! From bytes to the output of a program whose members overtake.
+ghost use Rattle.std.specs.Prelude.{◌≡◌, ◌≢◌, ◌≤◌, IfOk, IfErr, length};
+ghost use Rattle.array_tree.specs.Trees.{program_of};
+ghost use Rattle.array_meaning.specs.Bounds.{most_bytes};
+ghost use Rattle.phase_order.specs.Crossings.{HasNoCrossings};
+ghost use Rattle.lithe_call.specs.Faults.{SpellUnpiped, IsNoRun};
+ghost use Rattle.lithe_call.specs.Lines.{TellsCrossing};
+ghost use Rattle.lithe_call.specs.Output.{IsRunOutput, IsPipeOf};
+
+use crate::fault::Fault;
+use crate::run::{refusal, run_text, syntax_fault};
+use array_lang::parse;
+use array_tree::Program;
+use disjoint_check::{Accepted, check};
+use error_text::crossing_line;
+use hart_loop::run_piped;
+use outside_io::Gate;
+use pipe_walk::{PipeFault, pipe_check};
+use std::alloc::{AllocError, Global};
+use std::sync::Wait;
+use std::thread::Threads;
+
+/// What `pipe` writes for the program that the bytes spell, or why there is nothing to write.
+pub fn piped<R: Threads + Wait + Sync, G: Gate>(
+    rt: &R,
+    alloc: Global,
+    gate: &G,
+    harts: u8,
+    bytes: &[u8],
+) -> Result<Vec<u8>, Fault>
+    requires short { length bytes.now ≤ most_bytes }
+    requires some_hart { 1 ≤ harts }
+    requires few_harts { harts ≤ 16 }
+    ensures output { IfOk result (λ text. IsPipeOf harts bytes.now text.items) }
+    ensures fault { IfErr result (IsNoRun (SpellUnpiped harts) bytes.now) }
+{
+    let program = match parse(alloc, bytes) {
+        Ok(program) => program,
+        Err(fault) => return Err(syntax_fault(alloc, fault)),
+    };
+    let accepted = match check(alloc, &program, harts) {
+        Ok(accepted) => accepted,
+        Err(fault) => return Err(refusal(alloc, &program, fault)),
+    };
+    if let Err(fault) = pipe_check(alloc, &accepted) {
+        return Err(crossing_fault(alloc, &program, fault));
+    }
+    match overtaken(rt, alloc, gate, &accepted) {
+        Ok(text) => Ok(text),
+        Err(_) => Err(Fault::Memory),
+    }
+}
+
+// The fault of a program two pieces of which cross.
+fn crossing_fault(alloc: Global, program: &Program, fault: PipeFault) -> Fault
+    ensures { TellsCrossing (program_of program.now) fault result }
+{
+    if fault == PipeFault::Memory {
+        return Fault::Memory;
+    }
+    match crossing_line(alloc, program, fault) {
+        Ok(line) => Fault::Refused(line),
+        Err(_) => Fault::Memory,
+    }
+}
+
+// The arrays and the journal that a run leaves whose members overtake.
+fn overtaken<R: Threads + Wait + Sync, G: Gate>(
+    rt: &R,
+    alloc: Global,
+    gate: &G,
+    accepted: &Accepted<'_>,
+) -> Result<Vec<u8>, AllocError>
+    requires { HasNoCrossings (program_of accepted.now.program) }
+    ensures { IfOk result (λ text.
+        IsRunOutput (program_of accepted.now.program) accepted.now.plan.harts text.items) }
+{
+    let outcome = run_piped(rt, alloc, accepted, gate)?;
+    run_text(alloc, accepted, &outcome)
+}

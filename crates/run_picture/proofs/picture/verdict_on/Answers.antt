@@ -1,0 +1,14 @@
+use Rattle.std.proofs.Common.{Bool, List, subst}
+use Rattle.array_tree.specs.Trees.{program_of}
+use Rattle.array_meaning.specs.Work.{final_store}
+use Rattle.array_eval.specs.ArrayText.{array_text}
+use Rattle.journal_text.specs.Seen.{Reads}
+use Rattle.run_audit.specs.Audit.{audit_of}
+use Rattle.run_picture.proofs.picture.verdict_on.Goals as goal
+
+pub returns : goal.returns
+returns c =
+    let a = c.args.accepted.now in
+    let program = program_of a.program in
+    subst (λ (meant : List Bool). Reads (λ verdict. verdict) (audit_of a.plan meant (array_text program (final_store program)) c.args.output.now) c.audit.result)
+    c.requires.entered c.audit.ensures
