@@ -1,4 +1,6 @@
 //! Runs whose members overtake.
+ghost use Rattle.std.specs.Prelude.{◌≤◌};
+
 use crate::gates::OvertakingGate;
 use crate::runs::output_of;
 use disjoint_check::check;
@@ -35,7 +37,9 @@ fn ends_with_journal<R: AllocGlobal + Threads + Wait + Sync>(
 {
     let program = parsed(rt.alloc(), TWO_STEPS)?;
     let accepted = check(rt.alloc(), &program, harts)?;
-    pipe_check(rt.alloc(), &accepted).ok().ok_or("a crossing")?;
+    if let Err(_) = pipe_check(rt.alloc(), &accepted) {
+        return Err(Fail::new("a crossing"));
+    }
     let outcome = run_piped(rt, rt.alloc(), &accepted, &OpenGate)?;
     let kind = match outcome.journal {
         Journal::Listed(_) => harts == 1,
