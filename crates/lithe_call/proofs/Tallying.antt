@@ -1,6 +1,5 @@
 -- Programs that are tallied: why one isn't, and what the run of the one with rows leaves of the given one.
 use Rattle.std.proofs.Common.{◌≡◌, ◌⊎◌, ◌≤◌, ◌∙◌, ℕ, List, length, take, Option, Some, None, refl, sym, ap, subst, inl, inr, arith}
-use Rattle.std.specs.Prelude.{false, IsTrue}
 use Rattle.std.specs.Option.{option_map}
 use Rattle.std.proofs.lemmas.List.{length-take}
 use Rattle.std.proofs.lemmas.Option.{same_Some}
@@ -8,11 +7,6 @@ use Rattle.array_tree.specs.Trees.{ProgramTree}
 use Rattle.array_lang.specs.Spelled.{Spells}
 use Rattle.array_meaning.specs.Stores.{Store, arrays_of, cells_of}
 use Rattle.array_meaning.specs.Work.{final_store}
-use Rattle.array_meaning.specs.Plans.{plan_of}
-use Rattle.array_meaning.specs.Limits.{has_no_site_under_if}
-use Rattle.array_meaning.specs.Entered.{entered_of}
-use Rattle.transfer_table.specs.Plan.{Plan}
-use Rattle.meant_sites.proofs.Entering.{all_sites_are_entered}
 use Rattle.disjoint_check.specs.declared.fault.CheckFault.{CheckFault}
 use Rattle.disjoint_check.specs.declared.fault.CheckFault.TheVariants as check
 use Rattle.disjoint_check.specs.FaultOf.{meaning_fault_of, check_fault_of}
@@ -38,7 +32,6 @@ meaning_of program harts m = record {
   single_names = m.limits.single_names;
   known_names = m.limits.known_names;
   ranges = m.limits.ranges;
-  no_site_under_if = m.limits.no_site_under_if;
   levels = m.limits.levels;
   work = m.limits.work;
   sites = m.limits.sites;
@@ -120,12 +113,6 @@ rows_told harts program rows cause (fault.Refused line) meaning shaped same tell
   }))
 ]
 rows_told harts program rows cause fault.Memory meaning shaped same tells first = tt
-
--- ---- the given program enters what the one with rows enters: both enter all sites, while no construct stands under an `if`
-pub same_entered : (program rows : ProgramTree) (p : Plan) → HasMeaning program → IsTallyKept program rows → p.parents ≡ plan_of rows → IsTrue (has_no_site_under_if rows.body false)
-    → entered_of rows ≡ entered_of program
-same_entered program rows p meaning kept is none =
-    all_sites_are_entered rows p is none ∙ sym (all_sites_are_entered program p (is ∙ kept.plan) meaning.no_site_under_if)
 
 -- ---- the cells of the given program are the first of those that the one with rows leaves
 pub kept_cells : (program rows : ProgramTree) (store : Store) → IsTallyKept program rows → store ≡ final_store rows

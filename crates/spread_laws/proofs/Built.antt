@@ -25,7 +25,7 @@ use Rattle.spread_laws.proofs.Around.{tally_of}
 use Rattle.spread_laws.proofs.Behind.{arrays_append, cells_append, base_behind, names_apart, rows_of, arrays_kept, cells_longer}
 use Rattle.spread_laws.proofs.Teams.{at_least_one, small_team}
 use Rattle.spread_laws.proofs.Plans.{plan_kept}
-use Rattle.spread_laws.proofs.Final.{store_kept}
+use Rattle.spread_laws.proofs.Final.{run_kept}
 use Rattle.spread_laws.proofs.Outside.{IsBuilt, AreBuilt, HasBuilt}
 use Rattle.spread_laws.proofs.Named.{statement_known, not_declared, rows_needed, AreSingle, single, member_named, member_other, rows_other, name_self}
 use Rattle.spread_laws.proofs.Declared.{member_left, member_right, up_to_greatest, tallied_by, chosen_name, chosen_length, rows_named, rows_long}
@@ -292,4 +292,5 @@ module _ (program : ProgramTree) (meaning : HasMeaning program) (free : taken_at
 pub tally_kept : (program : ProgramTree) → HasMeaning program → IsNarrow program → spread_fault_of program ≡ None → IsTallyKept program (spread_of program)
 tally_kept program meaning narrow sound =
     let f = no_fault program sound in
-    record { store = store_kept program meaning narrow f.0 (program_built program meaning f.1); plan = plan_kept program }
+    let run = run_kept program meaning narrow f.0 (program_built program meaning f.1) in
+    record { store = run.0; plan = plan_kept program; entered = run.1 }

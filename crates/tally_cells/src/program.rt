@@ -23,7 +23,7 @@ use std::alloc::{AllocError, Global};
 /// Behind the arrays the rows are declared, `x_rows`, as many as any construct that adds to `x` has branches or members.
 /// Before such a construct its rows become 0; inside it the adds go to the row of their branch or member; behind it
 /// all cells of the rows are added to those of `x`. Nothing else changes: run with one hart, the result leaves in the
-/// given arrays what the given program leaves there, and its plan of sites is the same.
+/// given arrays what the given program leaves there, its plan of sites is the same, and it enters the same of them.
 ///
 /// An `Err` is `Unshaped` where, inside constructs, an accumulating array is mentioned otherwise; else `NameTaken` where a
 /// declaration or a loop has the name of rows or of the variable that goes through their cells, `x_cell`; or `Memory`.

@@ -2,6 +2,7 @@
 ghost use Rattle.array_tree.specs.Trees.{program_of};
 ghost use Rattle.spread_laws.specs.Served.{HasMeaning};
 
+use crate::chosen::{chosen_constructs, chosen_members};
 use crate::programs::{looped_team, two_adds, uneven_team};
 use crate::spreads::refusal;
 use crate::wider::{
@@ -98,6 +99,26 @@ fn adds_under_an_if_are_summed(rt: HostRuntime) -> Result<(), Fail> {
     Ok(())
 }
 
+// The first turn enters the `par`, which adds 7, and the second the team, which adds 6.
+#[test]
+fn constructs_under_an_if_are_summed(rt: HostRuntime) -> Result<(), Fail> {
+    let alloc = rt.alloc();
+    let program = chosen_constructs(alloc)?;
+    let expected = b"q_sum = 13\nq_sum_rows = 1 5\n".as_slice();
+    assert!(rt; sums_to(alloc, &program, expected)?);
+    Ok(())
+}
+
+// Member 1 adds 5, and member 0 enters a construct that adds nothing.
+#[test]
+fn members_choose_by_other_cells(rt: HostRuntime) -> Result<(), Fail> {
+    let alloc = rt.alloc();
+    let program = chosen_members(alloc)?;
+    let expected = b"a = 3 1\nq_sum = 5\nq_sum_rows = 0 5\n".as_slice();
+    assert!(rt; sums_to(alloc, &program, expected)?);
+    Ok(())
+}
+
 #[test]
 fn members_without_an_iteration_add_nothing(rt: HostRuntime) -> Result<(), Fail> {
     let alloc = rt.alloc();
@@ -162,6 +183,27 @@ fn each_construct_has_as_many_rows_as_pieces(rt: HostRuntime) -> Result<(), Fail
         = q_sum_rows[((i - 0 + 1) * 2 - 1) / 2 * 1 + 0] + i; } \
         for q_sum_cell in 0..2 { \
         q_sum[q_sum_cell % 1] = q_sum[q_sum_cell % 1] + q_sum_rows[q_sum_cell]; }";
+    let expected = parse(alloc, text)?;
+    let result = spread(alloc, &program)?;
+    assert!(rt; result == expected);
+    Ok(())
+}
+
+#[test]
+fn loops_of_rows_stand_on_the_side_of_their_construct(rt: HostRuntime) -> Result<(), Fail> {
+    let alloc = rt.alloc();
+    let program = chosen_constructs(alloc)?;
+    let text = b"array q_sum[1]; array q_sum_rows[2]; for k in 0..2 { if q_sum[0] < 5 { \
+        for q_sum_cell in 0..2 { q_sum_rows[q_sum_cell] = 0; } \
+        par { { q_sum_rows[0 * 1 + 0] = q_sum_rows[0 * 1 + 0] + 3; } \
+        { q_sum_rows[1 * 1 + 0] = q_sum_rows[1 * 1 + 0] + 4; } } \
+        for q_sum_cell in 0..2 { \
+        q_sum[q_sum_cell % 1] = q_sum[q_sum_cell % 1] + q_sum_rows[q_sum_cell]; } } else { \
+        for q_sum_cell in 0..2 { q_sum_rows[q_sum_cell] = 0; } \
+        team i in 0..4 by 2 { q_sum_rows[((i - 0 + 1) * 2 - 1) / 4 * 1 + 0] \
+        = q_sum_rows[((i - 0 + 1) * 2 - 1) / 4 * 1 + 0] + i; } \
+        for q_sum_cell in 0..2 { \
+        q_sum[q_sum_cell % 1] = q_sum[q_sum_cell % 1] + q_sum_rows[q_sum_cell]; } } }";
     let expected = parse(alloc, text)?;
     let result = spread(alloc, &program)?;
     assert!(rt; result == expected);

@@ -226,8 +226,8 @@ fn three_adds(alloc: Global) -> Result<Stmt, AllocError>
     })
 }
 
-// A `par` of two branches.
-fn two_branches(alloc: Global, first: Block, second: Block) -> Result<Stmt, AllocError>
+/// A `par` of two branches.
+pub fn two_branches(alloc: Global, first: Block, second: Block) -> Result<Stmt, AllocError>
     ensures { IfOk result (λ s. statement_of s
         ≡ two_branches (sequence_of first) (sequence_of second)) }
 {
@@ -240,8 +240,8 @@ fn two_branches(alloc: Global, first: Block, second: Block) -> Result<Stmt, Allo
     })
 }
 
-// A block of two statements.
-fn pair(alloc: Global, first: Stmt, second: Stmt) -> Result<Block, AllocError>
+/// A block of two statements.
+pub fn pair(alloc: Global, first: Stmt, second: Stmt) -> Result<Block, AllocError>
     ensures { IfOk result (λ block. sequence_of block
         ≡ pair (statement_of first) (statement_of second)) }
 {
@@ -265,15 +265,15 @@ fn add_to_second(alloc: Global, array: &[u8], value: Expr) -> Result<Stmt, Alloc
     })
 }
 
-// The variable i.
-fn variable(alloc: Global) -> Result<Expr, AllocError>
+/// The variable i.
+pub fn variable(alloc: Global) -> Result<Expr, AllocError>
     ensures { IfOk result (λ e. expression_of e ≡ Var (codes "i")) }
 {
     Ok(Expr::Var(Name::new(alloc, b"i")?))
 }
 
-// Two arrays.
-fn two_arrays(alloc: Global, first: ArrayDecl, second: ArrayDecl) -> Result<Arrays, AllocError>
+/// Two arrays.
+pub fn two_arrays(alloc: Global, first: ArrayDecl, second: ArrayDecl) -> Result<Arrays, AllocError>
     ensures { IfOk result (λ arrays. declarations_of arrays
         ≡ declaration_of first ∷ declaration_of second ∷ []) }
 {
@@ -283,8 +283,8 @@ fn two_arrays(alloc: Global, first: ArrayDecl, second: ArrayDecl) -> Result<Arra
     Ok(Arrays { declarations })
 }
 
-// The declaration of an array of so many cells.
-fn declared_long(alloc: Global, name: &[u8], length: u32) -> Result<ArrayDecl, AllocError>
+/// The declaration of an array of so many cells.
+pub fn declared_long(alloc: Global, name: &[u8], length: u32) -> Result<ArrayDecl, AllocError>
     ensures { IfOk result (λ array. declaration_of array ≡ declared_long name.now length) }
 {
     Ok(ArrayDecl {
