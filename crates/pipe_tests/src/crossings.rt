@@ -15,6 +15,28 @@ const CROSSED_LAST: &[u8] = b"array a[8]; array b[8];
 const UNEVEN: &[u8] = b"array a[8]; array b[8];
     team i in 1..8 by 3 { a[i] = i; } barrier { b[i] = a[i - 1] + a[i]; }";
 
+// A wavefront of eight members with much to do, so that its text is looked at: what they touch are stretches apart.
+const LONG_WAVE: &[u8] = b"array a[9]; array b[9]; array c[9];
+    team i in 1..9 by 8 { for j in 0..90 { a[i] = a[i] + j; } }
+    barrier { b[i] = a[i - 1]; if i < 5 { for j in 0..90 { b[i] = b[i] * 3 + j; } } }
+    barrier { c[i] = a[i] + b[i - 1]; for j in 0..90 { c[i] = c[i] - j; } }";
+
+// A stencil with many turns, whose three members are uneven and read what lies below them.
+const LONG_UNEVEN: &[u8] = b"array a[200]; array b[200];
+    team i in 1..200 by 3 { a[i] = i; } barrier { b[i] = a[i - 1] + a[i]; } barrier { b[i] = b[i] + a[0]; }";
+
+// Two members, the one with the even cells and the other with the odd ones, whose stretches aren't apart.
+const INTERLEAVED: &[u8] = b"array a[200];
+    team i in 0..200 by 2 { a[i % 100 * 2 + i / 100] = i; } barrier { a[i % 100 * 2 + i / 100] = i + 1; }";
+
+// Members whose indexes have no bounds that the text shows.
+const UNTOLD: &[u8] = b"array a[200]; array b[200];
+    team i in 0..200 by 4 { a[i] = i; } barrier { b[i % (i - i + 200)] = a[i]; }";
+
+// Four members of fifty cells each, which read a cell above in the last phase, and only the last of them one below.
+const LONG_CROSSED_LAST: &[u8] = b"array a[200]; array b[200];
+    team i in 0..200 by 4 { a[i] = i; } barrier { b[i] = a[i]; } barrier { b[i] = a[(i + 1) % 200]; }";
+
 // What the check answers.
 fn checked(alloc: Global, text: &[u8]) -> Result<Result<(), PipeFault>, Fail> {
     let program = parsed(alloc, text)?;
@@ -33,6 +55,25 @@ fn members_may_read_what_lies_below_them(rt: HostRuntime) -> Result<(), Fail> {
     assert_eq!(rt; checked(rt.alloc(), TWO_STEPS)?, Ok(()));
     assert_eq!(rt; checked(rt.alloc(), UNEVEN)?, Ok(()));
     assert_eq!(rt; checked(rt.alloc(), WAVEFRONT)?, Ok(()));
+    Ok(())
+}
+
+#[test]
+fn stretches_that_are_apart_are_clear(rt: HostRuntime) -> Result<(), Fail> {
+    assert_eq!(rt; checked(rt.alloc(), LONG_WAVE)?, Ok(()));
+    assert_eq!(rt; checked(rt.alloc(), LONG_UNEVEN)?, Ok(()));
+    assert!(rt; is_clear(rt.alloc(), LONG_WAVE)?);
+    Ok(())
+}
+
+#[test]
+fn where_stretches_meet_the_cells_decide(rt: HostRuntime) -> Result<(), Fail> {
+    assert_eq!(rt; checked(rt.alloc(), INTERLEAVED)?, Ok(()));
+    assert_eq!(rt; checked(rt.alloc(), UNTOLD)?, Ok(()));
+    assert!(rt; is_clear(rt.alloc(), INTERLEAVED)?);
+    let fault = PipeFault::Crossing { line: 2, cell: 50 };
+    assert_eq!(rt; checked(rt.alloc(), LONG_CROSSED_LAST)?, Err(fault));
+    assert!(rt; !is_clear(rt.alloc(), LONG_CROSSED_LAST)?);
     Ok(())
 }
 

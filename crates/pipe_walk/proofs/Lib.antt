@@ -5,3 +5,4 @@ pub mod PieceLemmas
 pub mod PhaseLemmas
 pub mod SiteLemmas
 pub mod FitLemmas
+pub mod StretchLemmas

@@ -28,6 +28,7 @@ pub fn pipe_check(alloc: Global, accepted: &Accepted) -> Result<(), PipeFault>
     };
     let mut found = None;
     seek_block(
+        alloc,
         &layout,
         &program.body,
         &Scope::Outermost,

@@ -1,5 +1,6 @@
 //! The least cell on which two pieces of a construct cross.
-ghost use Rattle.std.specs.Prelude.{◌≡◌, ℕ, ◌<◌, IfOk};
+ghost use Rattle.std.specs.Prelude.{◌≡◌, ℕ, ◌<◌, None, IfOk};
+ghost use Rattle.std.specs.Bool.{OnTrue};
 ghost use Rattle.array_tree.specs.Trees.{sequence_of, sequences_of};
 ghost use Rattle.array_meaning.specs.Stores.{cells_of};
 ghost use Rattle.array_meaning.specs.Work.{sequence_work};
@@ -12,10 +13,12 @@ ghost use Rattle.pipe_walk.specs.Inside.Tables.{past_in, IsFor};
 ghost use Rattle.pipe_walk.specs.Inside.Marks.{with_pieces};
 
 use crate::mark::mark_loop;
+use crate::stretches::members_are_clear;
 use crate::table::Table;
-use array_eval::{Layout, Scope, start_of_member};
+use array_eval::{Layout, Scope, span, start_of_member};
 use array_tree::{Block, Blocks, Name};
 use std::alloc::{AllocError, Global};
+use touch_bounds::{Ranges, branches_pay, phase_pays};
 
 // Marks what the members of a `team` do in one phase.
 fn mark_members<'s>(
@@ -85,9 +88,50 @@ fn least_crossed(layout: &Layout, table: &Table) -> Option<u16>
     None
 }
 
-/// The least cell on which two pieces of a `team` cross. A member alone is crossed by none, nor are the pieces of one phase,
-/// and then nothing is walked through.
-pub(crate) fn crossing_in<'s>(
+// Whether it pays to look at the texts of phases twice for each member, before so many turns are walked through: if turns are
+// many, or if each has much to do.
+fn looking_pays(phases: &Blocks, turns: u64, members: u64) -> bool {
+    if turns >= members && branches_pay(phases) {
+        return true;
+    }
+    for phase in &phases.blocks {
+        if !phase_pays(phase, turns, members.saturating_mul(2)) {
+            return false;
+        }
+    }
+    true
+}
+
+// Whether no two pieces of a `team` are seen to cross, so that nothing needs to be walked through. A member alone is crossed by
+// none, nor are the pieces of one phase.
+fn is_seen_clear<'s>(
+    alloc: Global,
+    layout: &Layout,
+    phases: &'s Blocks,
+    var: &'s Name,
+    low: i64,
+    high: i64,
+    members: u64,
+    scope: &'s Scope<'s>,
+) -> bool
+    ensures { OnTrue result (crossing layout.now (cells_of layout.now)
+        (phase_rounds (sequences_of phases.now) var.now low high members (vars_of scope.now)) ≡ None) }
+{
+    if members < 2 {
+        return true;
+    }
+    if phases.blocks.len() < 2 {
+        return true;
+    }
+    if !looking_pays(phases, span(low, high), members) {
+        return false;
+    }
+    let ranges = Ranges::Fixed(scope);
+    members_are_clear(alloc, layout, phases, var, low, high, members, &ranges)
+}
+
+// The least cell on which two pieces of a `team` cross, by a walk.
+fn walked_crossing<'s>(
     layout: &Layout,
     phases: &'s Blocks,
     var: &'s Name,
@@ -102,14 +146,31 @@ pub(crate) fn crossing_in<'s>(
     ensures found { result ≡ crossing layout.now (cells_of layout.now)
         (phase_rounds (sequences_of phases.now) var.now low high members (vars_of scope.now)) }
 {
-    if members < 2 {
-        return None;
-    }
-    if phases.blocks.len() < 2 {
-        return None;
-    }
     walk_phases(layout, phases, var, low, high, members, scope, table);
     least_crossed(layout, table)
+}
+
+/// The least cell on which two pieces of a `team` cross. Where the text shows that there is none, nothing is walked through.
+pub(crate) fn crossing_in<'s>(
+    alloc: Global,
+    layout: &Layout,
+    phases: &'s Blocks,
+    var: &'s Name,
+    low: i64,
+    high: i64,
+    members: u64,
+    scope: &'s Scope<'s>,
+    table: &mut Table,
+) -> Option<u16>
+    requires { IsFor layout.now table.old }
+    ensures table { IsFor layout.now table.new }
+    ensures found { result ≡ crossing layout.now (cells_of layout.now)
+        (phase_rounds (sequences_of phases.now) var.now low high members (vars_of scope.now)) }
+{
+    if is_seen_clear(alloc, layout, phases, var, low, high, members, scope) {
+        return None;
+    }
+    walked_crossing(layout, phases, var, low, high, members, scope, table)
 }
 
 /// The least cell on which two pieces cross of a `team` of so many members, if it has these phases and the variables of this
@@ -127,6 +188,9 @@ pub fn crossing_of<'s>(
     ensures { IfOk result (λ found. found ≡ crossing layout.now (cells_of layout.now)
         (phase_rounds (sequences_of phases.now) var.now low high members (vars_of scope.now))) }
 {
+    if is_seen_clear(alloc, layout, phases, var, low, high, members, scope) {
+        return Ok(None);
+    }
     let mut table = Table::new(alloc, layout)?;
-    Ok(crossing_in(layout, phases, var, low, high, members, scope, &mut table))
+    Ok(walked_crossing(layout, phases, var, low, high, members, scope, &mut table))
 }

@@ -1,8 +1,9 @@
 //! Which cells the pieces of a construct touch, phase after phase, and whether two pieces cross: then its members must
 //! wait for one another, and a pipeline won't do.
 //!
-//! A walk marks for each cell the lowest and the highest member that reads it in a phase, and those that change it. So each
-//! phase costs its walk and one pass over the cells.
+//! Where the text shows that no two pieces cross, by the stretches of cells that each member can touch, nothing is walked
+//! through. Elsewhere a walk marks for each cell the lowest and the highest member that reads it in a phase, and those that
+//! change it. So each phase costs its walk and one pass over the cells.
 #![tactic(auto)]
 
 mod check;
@@ -14,6 +15,7 @@ mod members;
 mod owners;
 mod past;
 mod seek;
+mod stretches;
 mod table;
 mod touch;
 

@@ -13,9 +13,11 @@ use crate::table::Table;
 use array_eval::{Layout, Scope};
 use array_tree::{Block, Blocks, Name, Stmt};
 use site_counts::sites_in_block;
+use std::alloc::Global;
 
 // Keeps the crossing of a `team` itself, unless something was found before.
 fn keep_team<'s>(
+    alloc: Global,
     layout: &Layout,
     line: u32,
     phases: &'s Blocks,
@@ -35,16 +37,18 @@ fn keep_team<'s>(
     }) }
 {
     if found.is_none() {
-        if let Some(cell) = crossing_in(layout, phases, var, low, high, members, scope, table) {
+        if let Some(cell) = crossing_in(
+            alloc, layout, phases, var, low, high, members, scope, table,
+        ) {
             *found = Some(PipeFault::Crossing { line, cell });
         }
     }
 }
 
-/// Keeps the first crossing of the sites of a block, in the order in which it enters them, unless something was found
-/// before.
+/// Keeps the first crossing of the sites of a block, in the order of the plan, unless something was found before.
 #[cycle(seek)]
 pub(crate) fn seek_block<'s>(
+    alloc: Global,
     layout: &Layout,
     block: &'s Block,
     scope: &'s Scope<'s>,
@@ -58,13 +62,14 @@ pub(crate) fn seek_block<'s>(
         (vars_of scope.now)) found.old }
 {
     for statement in &block.statements {
-        seek_statement(layout, statement, scope, table, found);
+        seek_statement(alloc, layout, statement, scope, table, found);
     }
 }
 
 // The same of a statement.
 #[cycle(seek)]
 fn seek_statement<'s>(
+    alloc: Global,
     layout: &Layout,
     statement: &'s Stmt,
     scope: &'s Scope<'s>,
@@ -85,16 +90,16 @@ fn seek_statement<'s>(
             high,
             body,
             ..
-        } => seek_loop(layout, body, var, *low, *high, scope, table, found),
+        } => seek_loop(alloc, layout, body, var, *low, *high, scope, table, found),
         Stmt::If {
             then_block,
             else_block,
             ..
         } => {
-            seek_block(layout, then_block, scope, table, found);
-            seek_block(layout, else_block, scope, table, found);
+            seek_block(alloc, layout, then_block, scope, table, found);
+            seek_block(alloc, layout, else_block, scope, table, found);
         }
-        Stmt::Par { branches, .. } => seek_branches(layout, branches, scope, table, found),
+        Stmt::Par { branches, .. } => seek_branches(alloc, layout, branches, scope, table, found),
         Stmt::Team {
             line,
             var,
@@ -104,6 +109,7 @@ fn seek_statement<'s>(
             phases,
         } => {
             keep_team(
+                alloc,
                 layout,
                 *line,
                 phases,
@@ -115,7 +121,7 @@ fn seek_statement<'s>(
                 table,
                 found,
             );
-            seek_phases(layout, phases, var, *low, *high, scope, table, found);
+            seek_phases(alloc, layout, phases, var, *low, *high, scope, table, found);
         }
     }
 }
@@ -124,6 +130,7 @@ fn seek_statement<'s>(
 // it has.
 #[cycle(seek)]
 fn seek_loop<'s>(
+    alloc: Global,
     layout: &Layout,
     body: &'s Block,
     var: &'s Name,
@@ -148,13 +155,14 @@ fn seek_loop<'s>(
             value: number,
             outer: scope,
         };
-        seek_block(layout, body, &turn, table, found);
+        seek_block(alloc, layout, body, &turn, table, found);
     }
 }
 
 // The same of the branches of a `par`.
 #[cycle(seek)]
 fn seek_branches<'s>(
+    alloc: Global,
     layout: &Layout,
     branches: &'s Blocks,
     scope: &'s Scope<'s>,
@@ -168,13 +176,14 @@ fn seek_branches<'s>(
         (vars_of scope.now)) found.old }
 {
     for branch in &branches.blocks {
-        seek_block(layout, branch, scope, table, found);
+        seek_block(alloc, layout, branch, scope, table, found);
     }
 }
 
 // The same of the phases of a `team`.
 #[cycle(seek)]
 fn seek_phases<'s>(
+    alloc: Global,
     layout: &Layout,
     phases: &'s Blocks,
     var: &'s Name,
@@ -191,6 +200,6 @@ fn seek_phases<'s>(
         (vars_of scope.now)) found.old }
 {
     for phase in &phases.blocks {
-        seek_loop(layout, phase, var, low, high, scope, table, found);
+        seek_loop(alloc, layout, phase, var, low, high, scope, table, found);
     }
 }

@@ -1,0 +1,199 @@
+//! Whether the text shows that no two pieces of a `team` cross, by the stretches of cells that its members touch.
+ghost use Rattle.std.specs.Prelude.{◌≡◌, ◌↔◌, ℕ, ◌<◌, length, IsTrue};
+ghost use Rattle.std.specs.Bool.{OnTrue};
+ghost use Rattle.array_tree.specs.Trees.{sequence_of, sequences_of};
+ghost use Rattle.array_meaning.specs.Work.{sequence_work};
+ghost use Rattle.array_meaning.specs.Sites.{phase_rounds};
+ghost use Rattle.touch_bounds.specs.Ranges.{bounds_of};
+ghost use Rattle.touch_bounds.specs.Touches.{DoClash, Includes, Widens};
+ghost use Rattle.pipe_walk.specs.Inside.Stretches.{AreTurnsTold, AreClear, IsMemberAlwaysClear, HasNeverCrossing};
+
+use array_eval::{Layout, start_of_member};
+use array_tree::{Block, Blocks, Name};
+use std::alloc::Global;
+use touch_bounds::{Interval, Ranges, Stretch, Touch, UNTOUCHED, tell_block};
+
+// Whether both stretches have a cell.
+fn meet(one: Stretch, other: Stretch) -> bool
+    ensures { IsTrue result ↔ ((cell : ℕ) × Includes one cell × Includes other cell) }
+{
+    one.from.max(other.from) < one.to.min(other.to)
+}
+
+// Whether one writes what the other touches.
+fn clash(one: Touch, other: Touch) -> bool
+    ensures { IsTrue result ↔ DoClash one other }
+{
+    meet(one.written, other.read)
+        || meet(one.written, other.written)
+        || meet(one.read, other.written)
+}
+
+// Whether what is told of one clashes with what is told of the other on no array.
+fn are_clear(layout: &Layout, one: &[Touch], other: &[Touch]) -> bool
+    requires one { length one.now ≡ length layout.now }
+    requires other { length other.now ≡ length layout.now }
+    ensures { OnTrue result (AreClear layout.now one.now other.now) }
+{
+    for number in 0..layout.count() {
+        if clash(one[number], other[number]) {
+            return false;
+        }
+    }
+    true
+}
+
+// Tells of a block that is run for each number from `low` to before `high`, and so of any turns of it. The result is whether
+// all could be told.
+fn tell_turns<'s>(
+    layout: &Layout,
+    body: &'s Block,
+    var: &'s Name,
+    low: i64,
+    high: i64,
+    ranges: &'s Ranges<'s>,
+    touches: &mut [Touch],
+) -> bool
+    requires { length touches.old ≡ length layout.now }
+    ensures wider { Widens touches.old touches.new }
+    ensures told { OnTrue result
+        (AreTurnsTold layout.now touches.new (bounds_of ranges.now) var.now low high
+        (sequence_work (sequence_of body.now))) }
+{
+    if low >= high {
+        return true;
+    }
+    let turns = Ranges::Loop {
+        name: var,
+        within: Interval {
+            least: low,
+            greatest: high - 1,
+        },
+        outer: ranges,
+    };
+    tell_block(layout, body, &turns, touches)
+}
+
+// Whether the turns of a member in a phase, from `start` to before `end`, are told, and to keep clear of what those above it
+// did in the phases before. If so, what they do in this one, up to before `last`, is told besides.
+fn phase_is_clear<'s>(
+    layout: &Layout,
+    phase: &'s Block,
+    var: &'s Name,
+    start: i64,
+    end: i64,
+    last: i64,
+    ranges: &'s Ranges<'s>,
+    own: &mut [Touch],
+    above: &mut [Touch],
+) -> bool
+    requires own { length own.old ≡ length layout.now }
+    requires above { length above.old ≡ length layout.now }
+    ensures wider { Widens above.old above.new }
+    ensures own { OnTrue result
+        (AreTurnsTold layout.now own.new (bounds_of ranges.now) var.now start end
+        (sequence_work (sequence_of phase.now))) }
+    ensures clear { OnTrue result (AreClear layout.now own.new above.old) }
+    ensures above { OnTrue result
+        (AreTurnsTold layout.now above.new (bounds_of ranges.now) var.now end last
+        (sequence_work (sequence_of phase.now))) }
+{
+    own.fill(UNTOUCHED);
+    if !tell_turns(layout, phase, var, start, end, ranges, own) {
+        return false;
+    }
+    if !are_clear(layout, own, above) {
+        return false;
+    }
+    tell_turns(layout, phase, var, end, last, ranges, above)
+}
+
+// Whether a member is seen to keep clear, in each phase, of what those above it did in the phases before.
+fn member_is_clear<'s>(
+    layout: &Layout,
+    phases: &'s Blocks,
+    var: &'s Name,
+    low: i64,
+    high: i64,
+    members: u64,
+    member: u64,
+    ranges: &'s Ranges<'s>,
+    own: &mut [Touch],
+    above: &mut [Touch],
+) -> bool
+    requires member { member < members }
+    requires own { length own.old ≡ length layout.now }
+    requires above { length above.old ≡ length layout.now }
+    ensures { OnTrue result
+        (IsMemberAlwaysClear layout.now (bounds_of ranges.now) member
+        (phase_rounds (sequences_of phases.now) var.now low high members)) }
+{
+    let start = start_of_member(low, high, members, member);
+    let end = start_of_member(low, high, members, member + 1);
+    let last = start_of_member(low, high, members, members);
+    above.fill(UNTOUCHED);
+    for phase in &phases.blocks {
+        if !phase_is_clear(layout, phase, var, start, end, last, ranges, own, above) {
+            return false;
+        }
+    }
+    true
+}
+
+// Whether each member is seen to do so.
+fn each_is_clear<'s>(
+    layout: &Layout,
+    phases: &'s Blocks,
+    var: &'s Name,
+    low: i64,
+    high: i64,
+    members: u64,
+    ranges: &'s Ranges<'s>,
+    own: &mut [Touch],
+    above: &mut [Touch],
+) -> bool
+    requires own { length own.old ≡ length layout.now }
+    requires above { length above.old ≡ length layout.now }
+    ensures { OnTrue result
+        (HasNeverCrossing layout.now (bounds_of ranges.now)
+        (phase_rounds (sequences_of phases.now) var.now low high members)) }
+{
+    for member in 0..members {
+        if !member_is_clear(
+            layout, phases, var, low, high, members, member, ranges, own, above,
+        ) {
+            return false;
+        }
+    }
+    true
+}
+
+/// Whether no two pieces of a `team` are seen to cross, whatever values the variables have between their bounds: what each
+/// member touches in a phase, array by array, is a stretch into which none above it wrote in the phases before, and it writes
+/// into none that those touched. Where it isn't seen, or memory is wanting, it may yet be so.
+///
+/// It costs the text of the phases twice for each member, however many turns there are.
+pub(crate) fn members_are_clear<'s>(
+    alloc: Global,
+    layout: &Layout,
+    phases: &'s Blocks,
+    var: &'s Name,
+    low: i64,
+    high: i64,
+    members: u64,
+    ranges: &'s Ranges<'s>,
+) -> bool
+    ensures { OnTrue result
+        (HasNeverCrossing layout.now (bounds_of ranges.now)
+        (phase_rounds (sequences_of phases.now) var.now low high members)) }
+{
+    let Ok(mut own) = vec![in alloc; UNTOUCHED; layout.count()] else {
+        return false;
+    };
+    let Ok(mut above) = vec![in alloc; UNTOUCHED; layout.count()] else {
+        return false;
+    };
+    each_is_clear(
+        layout, phases, var, low, high, members, ranges, &mut own, &mut above,
+    )
+}
