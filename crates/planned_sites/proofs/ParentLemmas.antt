@@ -1,5 +1,6 @@
 -- Parts of a plan.
 use Rattle.std.proofs.Common.{◌≡◌, ℕ, suc, ◌+◌, ◌-◌, ◌≤◌, List, [], ◌∷◌, ◌++◌, length, refl, sym, ap, ◌∙◌, arith, get_or, append_assoc, length-append, slice_index}
+use Rattle.array_meaning.specs.Plans.{Parents, StayInside}
 use Rattle.planned_sites.specs.Planned.{HasParentsFrom}
 
 pub splits : (ps : List ℕ) (n : ℕ) (a b : List ℕ) → HasParentsFrom ps n (a ++ b) → HasParentsFrom ps n a × HasParentsFrom ps (n + length a) b
@@ -13,6 +14,13 @@ splits ps n a b s =
         is = joined ∙ sym (append_assoc s.before a (b ++ s.after));
       },
     )
+
+-- What is so of two parts of a plan, the second behind the first, is so of each, if the second stays inside the site around.
+abbrev pub Cuts : (ℕ → List ℕ → Type 0) → ℕ → Type 0
+Cuts Has around = (n : ℕ) (a : List ℕ) (f : Parents) → StayInside f → Has n (a ++ f around (n + length a)) → Has n a × Has (n + length a) (f around (n + length a))
+
+pub planned_cuts : (ps : List ℕ) (around : ℕ) → Cuts (HasParentsFrom ps) around
+planned_cuts ps around n a f stay has = splits ps n a (f around (n + length a)) has
 
 at_length : (xs : List ℕ) (q : ℕ) (ys : List ℕ) → get_or (xs ++ q ∷ ys) (length xs) 0 ≡ q
 at_length [] q ys = refl

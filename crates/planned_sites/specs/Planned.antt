@@ -33,12 +33,17 @@ pub record HasParentsFrom (ps : List ℕ) (next : ℕ) (part : List ℕ) : Type 
   pub place : length before + 1 ≡ next
   pub is : ps ≡ before ++ (part ++ after)
 
--- The sites of each work stand there, one work after another, those behind a work before those of the next.
+-- What is said of a first number and of parents holds of the sites of each work, one work after another, those behind a work
+-- before those of the next.
+abbrev pub WorksHave : (ℕ → List ℕ → Type 0) → ℕ → ℕ → List WorkAt → Type 0
+WorksHave Has around next [] = Unit {0}
+WorksHave Has around next (w ∷ more) =
+    Has next (work_parents w.work around next)
+    × WorksHave Has around (next + sites_of w.work + w.after) more
+
+-- The sites of each work stand there.
 abbrev pub ArePlanned : List ℕ → ℕ → ℕ → List WorkAt → Type 0
-ArePlanned ps around next [] = Unit {0}
-ArePlanned ps around next (w ∷ more) =
-    HasParentsFrom ps next (work_parents w.work around next)
-    × ArePlanned ps around (next + sites_of w.work + w.after) more
+ArePlanned ps around next works = WorksHave (HasParentsFrom ps) around next works
 
 -- A step leaves the works planned.
 abbrev pub WorksStayPlanned : Type 0
@@ -59,11 +64,15 @@ ConstructsArePlanned = (ps : List ℕ) (around next : ℕ) (w : WorkAt) (more : 
     construct_of w.work ≡ Some construct → ArePlanned ps around next (w ∷ more)
     → IsPlannedAt ps around next construct
 
+-- What is said of a first number and of parents holds of the sites of each job.
+abbrev pub JobsHave : (ℕ → List ℕ → Type 0) → List JobTree → Type 0
+JobsHave Has [] = Unit {0}
+JobsHave Has (job ∷ more) =
+    Has job.first (work_parents job.work job.site job.first) × JobsHave Has more
+
 -- The sites of each job stand there, from the number of its first on.
 abbrev pub AreJobsPlanned : List ℕ → List JobTree → Type 0
-AreJobsPlanned ps [] = Unit {0}
-AreJobsPlanned ps (job ∷ more) =
-    HasParentsFrom ps job.first (work_parents job.work job.site job.first) × AreJobsPlanned ps more
+AreJobsPlanned ps jobs = JobsHave (HasParentsFrom ps) jobs
 
 -- Where the sites inside a construct stand behind its own, those of its pieces' jobs stand where the jobs say.
 abbrev pub JobsArePlanned : Type 0

@@ -1,0 +1,4 @@
+pub mod Going
+pub mod Jobs
+pub mod Closing
+pub mod Orders
