@@ -3,14 +3,14 @@ use Rattle.std.proofs.Common.{◌≡◌, ℕ, ◌+◌, ◌≤◌, Bool, true, fa
 use Rattle.std.specs.Prelude.{◌&&◌, length, nat_le, int_lt, int_le}
 use Rattle.std.proofs.lemmas.Bool.{false≢true, and_parts}
 use Rattle.std.proofs.lemmas.Int.{ints}
-use Rattle.array_tree.specs.Trees.{Expression, Statement, Assign, For, If, Par, Team, Sequence, ended, followed, Declaration}
+use Rattle.array_tree.specs.Trees.{Expression, Statement, For, If, Sequence, ended, followed, Declaration}
 use Rattle.array_meaning.specs.Stores.{Arrays, Vars, arrays_of, cells_of}
 use Rattle.array_meaning.specs.Steps.{Steps, Done, Choose, followed_by}
 use Rattle.array_meaning.specs.Work.{span, loop, statement_work, sequence_work}
 use Rattle.array_meaning.specs.Touch.{Visit, reads_in, walk}
 use Rattle.array_meaning.specs.Sites.{Site, AreSitesApart, turn_sites, statement_sites, sequence_sites}
 use Rattle.array_meaning.specs.Names.{has_new_variables, statement_has_new_variables, names_of, uses_known_names, has_known_names, statement_has_known_names}
-use Rattle.array_meaning.specs.Limits.{have_right_lengths, has_right_ranges, statement_has_right_ranges, has_no_site_under_if, statement_has_no_site_under_if}
+use Rattle.array_meaning.specs.Limits.{have_right_lengths, has_right_ranges, statement_has_right_ranges}
 use Rattle.array_meaning.specs.Accepted.{are_inside}
 use Rattle.array_meaning.proofs.FrameLemmas.{walk_followed_by}
 use Rattle.array_meaning.proofs.StepLemmas.{loop_next, span_next}
@@ -68,23 +68,6 @@ pub apart_append : (arrays : Arrays) (xs ys : List Site) → AreSitesApart array
 apart_append arrays [] ys h k = k
 apart_append arrays (x ∷ xs) ys h k = (h.0, apart_append arrays xs ys h.1 k)
 
--- ---- no site under an `if`
-
--- What has no site though it stands inside an `if` has none under an `if` outside of it either.
-mutual
-  pub outside : (s : Sequence) → has_no_site_under_if s true ≡ true → has_no_site_under_if s false ≡ true
-  outside ended h = refl
-  outside (followed first rest) h =
-      let parts = and_parts (statement_has_no_site_under_if first true) (has_no_site_under_if rest true) h in
-      and_true (statement_has_no_site_under_if first false) (has_no_site_under_if rest false) (outside_first first parts.0) (outside rest parts.1)
-
-  pub outside_first : (s : Statement) → statement_has_no_site_under_if s true ≡ true → statement_has_no_site_under_if s false ≡ true
-  outside_first (Assign line array index value) h = refl
-  outside_first (For line var low high body) h = outside body h
-  outside_first (If line cond then_block else_block) h = h
-  outside_first (Par line branches) h = absurd (false≢true h)
-  outside_first (Team line var low high members phases) h = absurd (false≢true h)
-
 -- ---- the parts of a fit work
 
 -- What makes statements fit, but for what depends on the job alone: over these arrays, with these loop variables
@@ -93,7 +76,6 @@ pub record AreFitParts (arrays : List Declaration) (vars : Vars) (s : Sequence) 
   pub new_variables : has_new_variables s (names_around vars ++ names_of arrays) ≡ true
   pub known_names : has_known_names s (names_of arrays) (names_around vars) ≡ true
   pub ranges : has_right_ranges s ≡ true
-  pub no_site_under_if : has_no_site_under_if s false ≡ true
   pub indices : are_inside (arrays_of arrays) (walk (arrays_of arrays) steps) ≡ true
   pub apart : AreSitesApart (arrays_of arrays) (sequence_sites s vars)
 
@@ -111,7 +93,6 @@ parts_of job next w fit = record {
   new_variables = fit.new_variables;
   known_names = fit.known_names;
   ranges = (and_parts (right_arrays job) (has_right_ranges (statements_of w.work)) fit.ranges).1;
-  no_site_under_if = fit.no_site_under_if;
   indices = fit.indices;
   apart = fit.apart;
 }
@@ -125,7 +106,6 @@ refit job before old next new fit parts room = record {
   known_names = parts.known_names;
   ranges = and_true (right_arrays job) (has_right_ranges (statements_of new.work))
       (and_parts (right_arrays job) (has_right_ranges (statements_of old.work)) fit.ranges).0 parts.ranges;
-  no_site_under_if = parts.no_site_under_if;
   indices = parts.indices;
   apart = parts.apart;
   cells = fit.cells;
@@ -147,14 +127,12 @@ sequence_parts arrays vars first rest parts =
     let around = names_around vars in
     let known_ones = and_parts (statement_has_known_names first names around) (has_known_names rest names around) parts.known_names in
     let ranges = and_parts (statement_has_right_ranges first) (has_right_ranges rest) parts.ranges in
-    let no_site = and_parts (statement_has_no_site_under_if first false) (has_no_site_under_if rest false) parts.no_site_under_if in
     let indices = inside_followed (arrays_of arrays) (statement_work first vars) (sequence_work rest vars) parts.indices in
     let apart = apart_parts (arrays_of arrays) (statement_sites first vars) (sequence_sites rest vars) parts.apart in (
       record {
         new_variables = and_true (statement_has_new_variables first taken) true new_ones.0 refl;
         known_names = and_true (statement_has_known_names first names around) true known_ones.0 refl;
         ranges = and_true (statement_has_right_ranges first) true ranges.0 refl;
-        no_site_under_if = and_true (statement_has_no_site_under_if first false) true no_site.0 refl;
         indices = indices.0;
         apart = apart_append (arrays_of arrays) (statement_sites first vars) [] apart.0 tt;
       },
@@ -162,7 +140,6 @@ sequence_parts arrays vars first rest parts =
         new_variables = new_ones.1;
         known_names = known_ones.1;
         ranges = ranges.1;
-        no_site_under_if = no_site.1;
         indices = indices.1;
         apart = apart.1;
       },
@@ -175,7 +152,6 @@ member_parts arrays vars line var low high body steps parts = record {
   new_variables = parts.new_variables;
   known_names = parts.known_names;
   ranges = parts.ranges;
-  no_site_under_if = parts.no_site_under_if;
   indices = parts.indices;
   apart = parts.apart;
 }
@@ -203,7 +179,6 @@ turn_parts arrays vars line var low high body below parts =
     let new_ones = and_parts _ (has_new_variables body (var ∷ taken)) (and_parts _ true parts.new_variables).0 in
     let known_one = and_parts (has_known_names body names (var ∷ around)) true parts.known_names in
     let ranges = and_parts (int_le low high) (has_right_ranges body) (and_parts _ true parts.ranges).0 in
-    let no_site = and_parts (has_no_site_under_if body false) true parts.no_site_under_if in
     let indices = inside_followed cells (sequence_work body ((var, low) ∷ vars)) more
     (sym (ap (λ steps. are_inside cells (walk cells steps)) (loop_next var low high (sequence_work body) vars (below_of_test low high below)))
     ∙ parts.indices) in
@@ -216,7 +191,6 @@ turn_parts arrays vars line var low high body below parts =
         new_variables = new_ones.1;
         known_names = known_one.0;
         ranges = ranges.1;
-        no_site_under_if = no_site.0;
         indices = indices.0;
         apart = apart.0;
       },
@@ -225,7 +199,6 @@ turn_parts arrays vars line var low high body below parts =
         known_names = parts.known_names;
         ranges = and_true (int_le (low +ℤ pos 1) high && has_right_ranges body) true
             (and_true (int_le (low +ℤ pos 1) high) (has_right_ranges body) (one_more_in_range low high below) ranges.1) refl;
-        no_site_under_if = parts.no_site_under_if;
         indices = indices.1;
         apart = apart_append cells turns_left [] apart.1 tt;
       },
@@ -244,7 +217,6 @@ side_parts arrays vars line cond then_block else_block parts =
     let known_ones = and_parts (has_known_names then_block names around) (has_known_names else_block names around)
     (and_parts (uses_known_names cond names around) _ (and_parts _ true parts.known_names).0).1 in
     let ranges = and_parts (has_right_ranges then_block) (has_right_ranges else_block) (and_parts _ true parts.ranges).0 in
-    let no_site = and_parts (has_no_site_under_if then_block true) (has_no_site_under_if else_block true) (and_parts _ true parts.no_site_under_if).0 in
     let indices = inside_sides cells line vars cond (sequence_work then_block vars) (sequence_work else_block vars) Done parts.indices in
     let all = apart_parts cells (sequence_sites then_block vars ++ sequence_sites else_block vars) [] parts.apart in
     let apart = apart_parts cells (sequence_sites then_block vars) (sequence_sites else_block vars) all.0 in (
@@ -252,7 +224,6 @@ side_parts arrays vars line cond then_block else_block parts =
         new_variables = new_ones.0;
         known_names = known_ones.0;
         ranges = ranges.0;
-        no_site_under_if = outside then_block no_site.0;
         indices = indices.0;
         apart = apart.0;
       },
@@ -260,7 +231,6 @@ side_parts arrays vars line cond then_block else_block parts =
         new_variables = new_ones.1;
         known_names = known_ones.1;
         ranges = ranges.1;
-        no_site_under_if = outside else_block no_site.1;
         indices = indices.1;
         apart = apart.1;
       },

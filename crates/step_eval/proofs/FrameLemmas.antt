@@ -15,7 +15,7 @@ use Rattle.array_tree.specs.declared.tree.Stmt.{Stmt}
 use Rattle.array_tree.specs.Trees.{Statement, Assign, For, If, Par, Team, Sequence, followed, sequence, statement_of}
 use Rattle.array_meaning.specs.Stores.{Arrays, Vars, Store}
 use Rattle.array_jobs.specs.Works.{branch_of}
-use Rattle.step_eval.specs.Rest.{at, before}
+use Rattle.step_eval.specs.Rest.{before}
 use Rattle.step_eval.specs.Moves.{work_moved}
 use Rattle.step_eval.specs.Machines.{construct_of, next_construct}
 use Rattle.step_eval.specs.declared.told.Told.TheVariants.{Nothing}

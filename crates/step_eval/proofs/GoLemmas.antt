@@ -14,59 +14,66 @@ use Rattle.array_eval.specs.Traces.{Trace}
 use Rattle.step_eval.specs.declared.found.Found.{Found}
 use Rattle.step_eval.specs.declared.found.Found.TheVariants as found
 use Rattle.step_eval.specs.declared.stage.Stage.{Stage}
-use Rattle.step_eval.specs.declared.stage.Stage.TheVariants.{Going, Awaiting, Failed}
+use Rattle.step_eval.specs.declared.stage.Stage.TheVariants.{Going}
 use Rattle.step_eval.specs.declared.frames.Frames.{Frames}
 use Rattle.step_eval.specs.Rest.{WorkAt}
 use Rattle.step_eval.specs.Moves.{rest_left}
-use Rattle.step_eval.specs.Machines.{Progress, IsRight, Advances, HasMoved, HasGone, HasGoneOn, to_do, next_nest}
+use Rattle.step_eval.specs.Machines.{Progress, IsRight, Advances, HasMoved, RunsTo, stands, moves, skims, HasGone, HasGoneOn, to_do, next_nest}
 use Rattle.step_eval.specs.Inside.Frames.{works_of, IsStacked, Ran}
 use Rattle.step_eval.specs.Inside.Parts.{IsSound, while_going}
 use Rattle.step_eval.proofs.LeftLemmas.{left_dropped}
 use Rattle.step_eval.proofs.MoveLemmas.{right_run}
 use Rattle.step_eval.proofs.MachineLemmas.{length_noted}
 
--- A machine that goes on is right.
-pub right_inside : (stage : Stage) (job : JobParts) (frames : Frames) (store : Trace) (room : Laid) (next : ℕ) → IsSound stage job frames store room next →
-    stage ≡ Going → IsRight (job_of job) (works_of frames job.vars) store next
-right_inside Going job frames store room next sound is = sound.kept
-right_inside Awaiting job frames store room next sound is = sound.kept.0
-right_inside Failed job frames store room next sound is = cc
+-- What comes to one place and from there to another comes to that.
+pub runs_further : (first mid last : Progress) → RunsTo first mid → RunsTo mid last → RunsTo first last
+runs_further first mid last a stands = a
+runs_further first mid last a (moves m l b going none untold moved) = moves m l (runs_further first mid m a b) going none untold moved
+runs_further first mid last a (skims m l b going whole) = skims m l (runs_further first mid m a b) going whole
 
 -- One step goes on.
-pub gone_step : (before after : Progress) (s : Step Found) → (before.stage ≡ Going → IsRight (job_of before.job) before.rest before.store before.next) →
-    Advances before s after → Steps (to_do before) s (to_do after) → HasGone before s after
-gone_step before after step.More right advances steps = moved before.rest advances.3
+pub gone_step : (before after : Progress) (s : Step Found) → Advances before s after → Steps (to_do before) s (to_do after) → HasGone before s after
+gone_step before after step.More advances steps = moved before.rest advances.3
   where
     moved : (works : List WorkAt) → HasMoved works before after → HasGone before step.More after
     moved [] m = absurd m
-    moved (w ∷ more) m = (ap (λ x. x.job) m, ap (λ x. x.stage) m, steps.2)
-gone_step before after (step.Nest (found.Pass first end)) right advances steps = moved before.rest advances.2
+    moved (w ∷ more) m = (ap (λ x. x.job) m, ap (λ x. x.stage) m, steps.2, moves before after stands advances.0 advances.1 advances.2 advances.3)
+gone_step before after (step.Nest (found.Pass first end)) advances steps = moved before.rest advances.2
   where
     moved : (works : List WorkAt) → HasMoved works before after → HasGone before (step.Nest (found.Pass first end)) after
     moved [] m = absurd m
-    moved (w ∷ more) m =
-        let same = ap (λ x. x.job) m in
-        (same, ap (λ x. x.stage) m, record { before = before; job = same; right = right advances.0; told = advances.1; moved = advances.2 }, steps.1)
-gone_step before after (step.Nest (found.Nest nested)) right advances steps =
+    moved (w ∷ more) m = (
+      ap (λ x. x.job) m,
+      ap (λ x. x.stage) m,
+      record { before = before; ran = stands; stage = advances.0; told = advances.1; moved = advances.2 },
+      steps.1,
+    )
+gone_step before after (step.Nest (found.Nest nested)) advances steps =
     let is = advances.2 in
-    (ap (λ x. x.job) is, ap (λ x. x.stage) is, ap next_nest is ∙ advances.1, steps.1)
-gone_step before after step.Finished right advances steps =
+    let same : record after { stage = Going } ≡ before = ap (λ (x : Progress). record x { stage = Going }) is ∙ ap (λ (g : Stage). record before { stage = g }) (sym advances.0) in
+    (ap (λ x. x.job) is, ap (λ x. x.stage) is, ap next_nest is ∙ advances.1, steps.1, subst (RunsTo before) (sym same) stands)
+gone_step before after step.Finished advances steps =
     let is = advances.2 in
-    (ap (λ x. x.job) is, record { stage = ap (λ x. x.stage) is ∙ advances.0; rest = ap (λ x. x.rest) is ∙ advances.1 })
-gone_step before after step.NoMemory right advances steps = advances
+    (ap (λ x. x.job) is, record { stage = ap (λ x. x.stage) is ∙ advances.0; rest = ap (λ x. x.rest) is ∙ advances.1 }, subst (RunsTo before) (sym is) stands)
+gone_step before after step.NoMemory advances steps = advances
 
 -- One after another they do.
 pub gone_further : (first between last : Progress) (s : Step Found) → HasGone first step.More between → HasGone between s last → HasGone first s last
 gone_further first between last step.More a b =
     let fewer = a.2 in let less = b.2 in
-    (b.0 ∙ a.0, b.1, omega (arith, fewer, less))
+    (b.0 ∙ a.0, b.1, omega (arith, fewer, less), runs_further first between last a.3 b.3)
 gone_further first between last (step.Nest (found.Pass start end)) a b =
     let fewer = a.2 in let less = b.3 in
-    (b.0 ∙ a.0, b.1, b.2, omega (arith, fewer, less))
+    let passed = b.2 in (
+      b.0 ∙ a.0,
+      b.1,
+      record { before = passed.before; ran = runs_further first between passed.before a.3 passed.ran; stage = passed.stage; told = passed.told; moved = passed.moved },
+      omega (arith, fewer, less),
+    )
 gone_further first between last (step.Nest (found.Nest nested)) a b =
     let fewer = a.2 in let less = b.3 in
-    (b.0 ∙ a.0, b.1, b.2, omega (arith, fewer, less))
-gone_further first between last step.Finished a b = (b.0 ∙ a.0, b.1)
+    (b.0 ∙ a.0, b.1, b.2, omega (arith, fewer, less), runs_further first between (record last { stage = Going }) a.3 b.4)
+gone_further first between last step.Finished a b = (b.0 ∙ a.0, b.1, runs_further first between last a.3 b.2)
 gone_further first between last step.NoMemory a b = b
 
 -- A machine that stood as it stood and then went on has gone on.
@@ -87,9 +94,10 @@ gone_through job before after store store' next true done = run (works_of before
         HasGoneOn true (while_going job works store next) (while_going job (works_of after job.vars) store' next)
     run [] done = absurd done.0
     run (w ∷ more) done =
+        let m = while_going job (w ∷ more) store next in
         let is : works_of after job.vars ≡ more = done.1.0 in
         let fewer : rest_left (works_of after job.vars) < rest_left (w ∷ more) = rw is (left_dropped w more) in
-        (refl, refl, fewer)
+        (refl, refl, fewer, skims m (while_going job (works_of after job.vars) store' next) stands refl (done.0, rw (done.1.0, done.1.1) refl))
 
 right_through : (job : JobParts) (works rest : List WorkAt) (store store' : Trace) (next : ℕ) → IsRight (job_of job) works store next →
     Ran (arrays_of (declarations_of job.arrays)) true works store rest store' → IsRight (job_of job) rest store' next

@@ -48,7 +48,6 @@ fit_piece job before old site phase place first new store fit same parts few_pha
       new_variables = there.new_variables;
       known_names = there.known_names;
       ranges = there.ranges;
-      no_site_under_if = there.no_site_under_if;
       indices = there.indices;
       apart = there.apart;
       cells = same ∙ fit.cells;

@@ -1,6 +1,6 @@
 -- How the fitness of a construct is taken apart: by the branches of a `par`, and by the phases of a `team` and the
 -- members' own iterations.
-use Rattle.std.proofs.Common.{◌≡◌, ℕ, zero, suc, ◌+◌, ◌-◌, ◌*◌, ◌<◌, ◌≤◌, true, false, List, [], ◌∷◌, ◌++◌, ℤ, pos, ◌+ℤ◌, refl, sym, ap, subst, ◌∙◌, arith}
+use Rattle.std.proofs.Common.{◌≡◌, ℕ, zero, suc, ◌+◌, ◌-◌, ◌*◌, ◌<◌, ◌≤◌, true, List, [], ◌∷◌, ◌++◌, ℤ, pos, ◌+ℤ◌, refl, sym, ap, subst, ◌∙◌, arith}
 use Rattle.std.specs.Prelude.{◌&&◌, not, int_le}
 use Rattle.std.proofs.lemmas.Int.{ints}
 use Rattle.std.proofs.Math.Nat.{mul-div_cancel, zero-div}
@@ -13,7 +13,7 @@ use Rattle.array_meaning.specs.Members.{first_of, start_of}
 use Rattle.array_meaning.specs.Touch.{walk}
 use Rattle.array_meaning.specs.Sites.{Site, AreSitesApart, turn_sites, loop_sites, sequence_sites, branches_sites, phases_sites}
 use Rattle.array_meaning.specs.Names.{is_among, has_new_variables, have_new_variables, names_of, has_known_names, have_known_names}
-use Rattle.array_meaning.specs.Limits.{is_up_to, count_of, has_right_ranges, have_right_ranges, has_no_site_under_if, have_no_site_under_if}
+use Rattle.array_meaning.specs.Limits.{is_up_to, count_of, has_right_ranges, have_right_ranges}
 use Rattle.array_meaning.specs.Accepted.{are_inside}
 use Rattle.array_meaning.proofs.FrameLemmas.{walk_followed_by}
 use Rattle.array_meaning.proofs.MemberLemmas.{span_cut, first_of_far}
@@ -28,7 +28,6 @@ pub record AreFitBranches (arrays : List Declaration) (vars : Vars) (bs : Sequen
   pub new_variables : have_new_variables bs (names_around vars ++ names_of arrays) ≡ true
   pub known_names : have_known_names bs (names_of arrays) (names_around vars) ≡ true
   pub ranges : have_right_ranges bs ≡ true
-  pub no_site_under_if : have_no_site_under_if bs false ≡ true
   pub indices : are_inside (arrays_of arrays) (walk (arrays_of arrays) (branches_work bs vars)) ≡ true
   pub apart : AreSitesApart (arrays_of arrays) (branches_sites bs vars)
 
@@ -42,7 +41,6 @@ par_parts arrays vars line bs parts =
         new_variables = (and_parts _ true parts.new_variables).0;
         known_names = (and_parts _ true parts.known_names).0;
         ranges = ranges.1;
-        no_site_under_if = (and_parts _ true parts.no_site_under_if).0;
         indices = parts.indices;
         apart = (apart_parts (arrays_of arrays) (branches_sites bs vars) [] parts.apart.1).0;
       },
@@ -59,14 +57,12 @@ branch_parts arrays vars first rest parts =
     let new_ones = and_parts (has_new_variables first taken) (have_new_variables rest taken) parts.new_variables in
     let known_ones = and_parts (has_known_names first names around) (have_known_names rest names around) parts.known_names in
     let ranges = and_parts (has_right_ranges first) (have_right_ranges rest) parts.ranges in
-    let no_site = and_parts (has_no_site_under_if first false) (have_no_site_under_if rest false) parts.no_site_under_if in
     let indices = inside_followed (arrays_of arrays) (sequence_work first vars) (branches_work rest vars) parts.indices in
     let apart = apart_parts (arrays_of arrays) (sequence_sites first vars) (branches_sites rest vars) parts.apart in (
       record {
         new_variables = new_ones.0;
         known_names = known_ones.0;
         ranges = ranges.0;
-        no_site_under_if = no_site.0;
         indices = indices.0;
         apart = apart.0;
       },
@@ -74,7 +70,6 @@ branch_parts arrays vars first rest parts =
         new_variables = new_ones.1;
         known_names = known_ones.1;
         ranges = ranges.1;
-        no_site_under_if = no_site.1;
         indices = indices.1;
         apart = apart.1;
       },
@@ -89,7 +84,6 @@ pub record AreFitPhases (arrays : List Declaration) (vars : Vars) (var : List �
   pub known_names : have_known_names ps (names_of arrays) (var ∷ names_around vars) ≡ true
   pub bounds : int_le low high ≡ true
   pub ranges : have_right_ranges ps ≡ true
-  pub no_site_under_if : have_no_site_under_if ps false ≡ true
   pub indices : are_inside (arrays_of arrays) (walk (arrays_of arrays) (phases_work ps var low high vars)) ≡ true
   pub apart : AreSitesApart (arrays_of arrays) (phases_sites ps var low high vars)
 
@@ -110,7 +104,6 @@ team_parts arrays vars line var low high members ps parts =
         known_names = (and_parts _ true parts.known_names).0;
         bounds = bounds.0;
         ranges = counts.1;
-        no_site_under_if = (and_parts _ true parts.no_site_under_if).0;
         indices = parts.indices;
         apart = (apart_parts (arrays_of arrays) (phases_sites ps var low high vars) [] parts.apart.1).0;
       },
@@ -135,7 +128,6 @@ phase_parts arrays vars var low high first rest parts =
     let new_ones = and_parts (has_new_variables first (var ∷ taken)) (have_new_variables rest (var ∷ taken)) parts.new_variables in
     let known_ones = and_parts (has_known_names first names (var ∷ around)) (have_known_names rest names (var ∷ around)) parts.known_names in
     let ranges = and_parts (has_right_ranges first) (have_right_ranges rest) parts.ranges in
-    let no_site = and_parts (has_no_site_under_if first false) (have_no_site_under_if rest false) parts.no_site_under_if in
     let indices = inside_followed cells (loop var low high (sequence_work first) vars) (phases_work rest var low high vars) parts.indices in
     let sites = loop_sites var low high (sequence_sites first) vars in
     let apart = apart_parts cells sites (phases_sites rest var low high vars) parts.apart in (
@@ -143,7 +135,6 @@ phase_parts arrays vars var low high first rest parts =
         new_variables = and_true _ true (and_true (not (is_among var taken)) (has_new_variables first (var ∷ taken)) parts.new_variable new_ones.0) refl;
         known_names = and_true (has_known_names first names (var ∷ around)) true known_ones.0 refl;
         ranges = and_true _ true (and_true (int_le low high) (has_right_ranges first) parts.bounds ranges.0) refl;
-        no_site_under_if = and_true (has_no_site_under_if first false) true no_site.0 refl;
         indices = indices.0;
         apart = apart_append cells sites [] apart.0 tt;
       },
@@ -153,7 +144,6 @@ phase_parts arrays vars var low high first rest parts =
         known_names = known_ones.1;
         bounds = parts.bounds;
         ranges = ranges.1;
-        no_site_under_if = no_site.1;
         indices = indices.1;
         apart = apart.1;
       },
@@ -229,7 +219,6 @@ loop_parts arrays vars var low high body a b ordered within parts =
       new_variables = parts.new_variables;
       known_names = parts.known_names;
       ranges = and_true _ true (and_true (int_le (low +ℤ pos a) (low +ℤ pos b)) (has_right_ranges body) (bounds_cut low a b ordered) ranges.1) refl;
-      no_site_under_if = parts.no_site_under_if;
       indices = subst (λ k. are_inside cells (walk cells (turns steps (low +ℤ pos a) k)) ≡ true) count indices;
       apart = apart_append cells (turn_sites sites (low +ℤ pos a) (span (low +ℤ pos a) (low +ℤ pos b))) [] apart tt;
     }

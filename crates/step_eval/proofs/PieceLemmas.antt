@@ -91,7 +91,6 @@ refit_store nested phase store other place first work e fit =
         new_variables = one.new_variables;
         known_names = one.known_names;
         ranges = one.ranges;
-        no_site_under_if = one.no_site_under_if;
         indices = one.indices;
         apart = one.apart;
         cells = e ∙ one.cells;

@@ -7,9 +7,9 @@ use Rattle.array_tree.specs.Trees.{Statement, Assign, For, If, Par, Team, ended,
 use Rattle.array_meaning.specs.Stores.{Write, arrays_of}
 use Rattle.array_meaning.specs.Steps.{writes_of}
 use Rattle.array_meaning.specs.Pieces.{last_writes}
-use Rattle.array_eval.specs.Traces.{Trace, fresh, marked, noted_all}
-use Rattle.array_jobs.specs.Works.{WorkTree, branch_of, member_of, work_of, sites_of}
-use Rattle.array_jobs.specs.Jobs.{JobParts, JobTree, job_of}
+use Rattle.array_eval.specs.Traces.{Trace, fresh, marked, noted_all, traced}
+use Rattle.array_jobs.specs.Works.{WorkTree, branch_of, member_of, work_of, steps_of, sites_of}
+use Rattle.array_jobs.specs.Jobs.{JobParts, JobTree}
 use Rattle.array_jobs.specs.PieceParts.{piece_of_job}
 use Rattle.step_eval.specs.declared.found.Found.{Found}
 use Rattle.step_eval.specs.declared.found.Found.TheVariants as found
@@ -172,30 +172,56 @@ pub record IsFinished (machine : Progress) : Type 0 where
   pub stage : machine.stage ≡ Going
   pub rest : machine.rest ≡ []
 
--- Before its last step the machine, which was right, stood where an `if` was next whose side that isn't run has these sites,
--- and the step began it.
-pub record HasJustPassed (first end : ℕ) (after : Progress) : Type 0 where
+-- The first work was run whole, which has no site in it or behind it.
+abbrev pub HasRunWhole : List WorkAt → Progress → Progress → Type 0
+HasRunWhole [] before after = ⊥
+HasRunWhole (w ∷ more) before after =
+    let arrays = arrays_of (declarations_of before.job.arrays) in
+    (sites_of w.work + w.after ≡ 0)
+    × (after ≡ record {
+      job = before.job;
+      rest = more;
+      store = traced arrays (steps_of w.work w.vars) before.store;
+      next = before.next;
+      stage = Going;
+    })
+
+-- A machine comes from the first of these to the second with nothing for its hart to see to: by steps that hand out no
+-- construct and tell of no site, and by works without sites that are run whole.
+pub data RunsTo (first : Progress) : Progress → Type 0 where
+  stands : RunsTo first first
+  moves : (mid last : Progress) → RunsTo first mid → mid.stage ≡ Going → next_nest mid ≡ None
+      → next_pass mid ≡ None → HasMoved mid.rest mid last → RunsTo first last
+  skims : (mid last : Progress) → RunsTo first mid → mid.stage ≡ Going
+      → HasRunWhole mid.rest mid last → RunsTo first last
+
+-- Before its last step the machine stood where an `if` was next whose side that isn't run has these sites, and the step began
+-- it.
+pub record HasJustPassed (start : Progress) (first end : ℕ) (after : Progress) : Type 0 where
   pub before : Progress
-  pub job : after.job ≡ before.job
-  pub right : IsRight (job_of before.job) before.rest before.store before.next
+  pub ran : RunsTo start before
+  pub stage : before.stage ≡ Going
   pub told : next_pass before ≡ Some (first, end)
   pub moved : HasMoved before.rest before after
 
 -- Where a machine has gone, by the answer. Each time it is the same job, and the type keeps that the machine writes what
 -- the job writes. More: it goes on, with less left. A construct: it has come to the one that is handed out, and awaits
 -- what that writes. A pass: it has begun an `if`, and the hart is told of the sites of the side that isn't run. Finished:
--- nothing is left. NoMemory: the machine is failed.
+-- nothing is left. NoMemory: the machine is failed. On the way there was nothing for its hart to see to.
 abbrev pub HasGone : Progress → Step Found → Progress → Type 0
 HasGone before step.More after =
     (after.job ≡ before.job) × (after.stage ≡ Going)
     × (left_of after.stage after.rest < left_of before.stage before.rest)
+    × RunsTo before after
 HasGone before (step.Nest (found.Pass first end)) after =
-    (after.job ≡ before.job) × (after.stage ≡ Going) × HasJustPassed first end after
+    (after.job ≡ before.job) × (after.stage ≡ Going) × HasJustPassed before first end after
     × (left_of after.stage after.rest < left_of before.stage before.rest)
 HasGone before (step.Nest (found.Nest nested)) after =
     (after.job ≡ before.job) × (after.stage ≡ Awaiting) × (next_nest after ≡ Some (nested_of nested))
     × (left_of after.stage after.rest < left_of before.stage before.rest)
-HasGone before step.Finished after = (after.job ≡ before.job) × IsFinished after
+    × RunsTo before (record after { stage = Going })
+HasGone before step.Finished after =
+    (after.job ≡ before.job) × IsFinished after × RunsTo before after
 HasGone before step.NoMemory after = after.stage ≡ Failed
 
 -- A machine has gone on, or it stands as it stood.

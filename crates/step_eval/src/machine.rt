@@ -127,8 +127,6 @@ impl<'p> StepMachine<'p> {
         if self.run_through() {
             Step::More
         } else {
-            // What the type keeps is needed here: the machine is right before the step.
-            let _stage = self.stage;
             self.step()
         }
     }
