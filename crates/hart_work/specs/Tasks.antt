@@ -26,16 +26,16 @@ StaysSettled {J} settled owed settled' owed' =
     (settled → settled') × ((job : J) → owed job → owed' job)
 
 -- With each step that goes on what is left falls, and the job stays. Then the machine is ready for a step, or the writes of
--- the construct that it handed out are awaited. It tells of sites to skip only where it may.
-abbrev pub Goes : {N : Type 0} → (N → List (ℕ × ℤ)) → Type 0 → Step (Found N) → ℕ → ℕ → Type 0
+-- the construct that it handed out are awaited.
+abbrev pub Goes : {N : Type 0} → (N → List (ℕ × ℤ)) → Step (Found N) → ℕ → ℕ → Type 0
     → (List (ℕ × ℤ) → Type 0) → Type 0 → Type 0
-Goes writes passes More before after ready awaits same = (after < before) × ready × same
-Goes writes passes (Nest (found.Nest nested)) before after ready awaits same =
+Goes writes More before after ready awaits same = (after < before) × ready × same
+Goes writes (Nest (found.Nest nested)) before after ready awaits same =
     (after < before) × awaits (writes nested) × same
-Goes writes passes (Nest (found.Pass first end)) before after ready awaits same =
-    passes × (after < before) × ready × same
-Goes writes passes Finished before after ready awaits same = same
-Goes writes passes NoMemory before after ready awaits same = Unit {0}
+Goes writes (Nest (found.Pass first end)) before after ready awaits same =
+    (after < before) × ready × same
+Goes writes Finished before after ready awaits same = same
+Goes writes NoMemory before after ready awaits same = Unit {0}
 
 -- the hart is inside, or it was refused and is where it was
 abbrev pub HasEntered : {J : Type 0} → PortView → ℕ → Option (Task J) → PortView → Type 0

@@ -1,7 +1,11 @@
 //! What one hart has to work with.
-ghost use Rattle.std.specs.Prelude.{◌≡◌, ℕ, ℤ, List, Option, Some, IfOk, OnOk};
+ghost use Rattle.std.specs.Prelude.{◌≡◌, ℕ, ℤ, List, [], ◌∷◌, ◌++◌, Option, Some, IfOk, OnOk};
 ghost use Rattle.contexts.specs.declared.machine.Step.TheVariants.{Finished};
+ghost use Rattle.transfer_table.specs.Plan.{Plan, IsPlan};
+ghost use Rattle.transfer_table.specs.declared.entry.Entry.{Entry};
+ghost use Rattle.transfer_table.specs.declared.entry.Entry.TheVariants.{Register};
 ghost use Rattle.hart_work.specs.Tasks.{Goes};
+ghost use Rattle.hart_work.specs.Accounts.{Account, Accounts, IsFreshChild};
 
 use crate::found::Found;
 use contexts::{Running, Step};
@@ -9,7 +13,8 @@ use std::alloc::{AllocError, Global};
 
 /// What one hart has to work with: machines that run jobs, each a step at a time, and the schedulers of sites.
 ///
-/// Its ghost members tell what is known of each thing.
+/// Its ghost members tell what is known of each thing. Some of them are of an account that a hart keeps which shares the table
+/// with nobody, of what it did with each site; who keeps none says that they never hold.
 pub trait Resources {
     /// The work of a piece, and what it comes to.
     type Job;
@@ -59,26 +64,46 @@ pub trait Resources {
 
     ghost finished: { Self.Machine → Type 0 };
 
-    /// Whether its machines may tell of sites to skip.
-    ghost passes: { Type 0 };
-
     /// The construct that the site runs; the base runs none.
     ghost construct: { Self.Site → Option Self.Nested };
 
     /// Whether each job that the site gave this hart came back to it, as a piece or as a failure.
     ghost settled: { Self.Site → Type 0 };
 
+    /// Nothing was done yet with the sites of a job, and of a construct, which are inside this site.
+    ghost fresh_job: { Plan → ℕ → List Entry → Self.Job → Type 0 };
+
+    ghost fresh: { Plan → ℕ → List Entry → Self.Nested → Type 0 };
+
+    /// Between these entries a job was run, and a construct: its sites came and went, or were skipped, as it enters them, and
+    /// nothing was done with any other.
+    ghost ran_job: { Plan → List Entry → List Entry → Self.Job → Type 0 };
+
+    ghost ran: { Plan → List Entry → List Entry → Self.Nested → Type 0 };
+
+    /// Between these entries a machine ran its job up to here, and up to a construct that it awaits.
+    ghost going: { Self.Machine → Account };
+
+    ghost awaiting: { Self.Nested → Self.Machine → Account };
+
+    /// Between these entries the jobs of the site that came back were run; nothing is said where one of them failed.
+    ghost serving: { Self.Site → Account };
+
     /// A machine for a job.
     fn start(&mut self, alloc: Global, job: Self::Job) -> Result<Running<Self::Machine>, AllocError>
         ensures job { IfOk result (λ machine. job_of machine ≡ job) }
         ensures ready { IfOk result (λ machine. ready machine) }
+        ensures going { IfOk result (λ machine. (p : Plan) (around : ℕ) (es : List Entry)
+            → fresh_job p around es job → going machine p around es es) }
         ensures tools { tools self.new ≡ tools self.old };
 
     /// One step of a machine that awaits nothing.
     fn step(&mut self, running: &mut Running<Self::Machine>) -> Step<Found<Self::Nested>>
         requires { ready running.old }
-        ensures goes { Goes writes_of passes result (steps_left running.old) (steps_left running.new)
+        ensures goes { Goes writes_of result (steps_left running.old) (steps_left running.new)
             (ready running.new) (awaits running.new) (job_of running.new ≡ job_of running.old) }
+        ensures account { Accounts fresh (λ p start es. ran_job p start es (job_of running.old))
+            (going running.old) (going running.new) (λ nested. awaiting nested running.new) result }
         ensures finished { result ≡ Finished → finished running.new }
         ensures tools { tools self.new ≡ tools self.old };
 
@@ -92,6 +117,9 @@ pub trait Resources {
         ensures job { OnOk result (job_of running.new ≡ job_of running.old) }
         ensures ready { OnOk result (ready running.new) }
         ensures left { OnOk result (steps_left running.new ≡ steps_left running.old) }
+        ensures going { OnOk result ((nested : Self.Nested) (p : Plan) (around : ℕ)
+            (start es es' : List Entry) → awaiting nested running.old p around start es
+            → ran p es es' nested → going running.new p around start es') }
         ensures tools { tools self.new ≡ tools self.old };
 
     /// The piece of a machine whose job is done.
@@ -102,7 +130,9 @@ pub trait Resources {
 
     /// The site of a construct.
     fn number(&self, nested: &Self::Nested) -> u16
-        ensures { result ≡ number_of nested.now };
+        ensures number { result ≡ number_of nested.now }
+        ensures child { (p : Plan) (around : ℕ) (es : List Entry) → fresh p around es nested.now
+            → IsFreshChild p around es result };
 
     /// The phase of a job.
     fn phase(&self, job: &Self::Job) -> u8
@@ -121,6 +151,10 @@ pub trait Resources {
     fn open(&mut self, alloc: Global, nested: &Self::Nested) -> Result<Self::Site, AllocError>
         ensures construct { IfOk result (λ site. construct site ≡ Some nested.now) }
         ensures settled { IfOk result (λ site. settled site) }
+        ensures serving { IfOk result (λ site. (p : Plan) (around : ℕ) (es : List Entry) (hart : ℕ)
+            → IsPlan p → fresh p around es nested.now → serving site p (number_of nested.now)
+            (es ++ Register hart (number_of nested.now) ∷ [])
+            (es ++ Register hart (number_of nested.now) ∷ [])) }
         ensures tools { tools self.new ≡ tools self.old };
 
     /// How many harts more than its home the site has work for.

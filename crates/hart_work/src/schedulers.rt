@@ -1,11 +1,14 @@
 //! How a hart deals with the schedulers of sites.
-ghost use Rattle.std.specs.Prelude.{◌≡◌, ◌≤◌, ◌<◌, ℕ, Option, Some, IsSome, IfOk, OnOk, true, false};
+ghost use Rattle.std.specs.Prelude.{◌≡◌, ◌≤◌, ◌<◌, ℕ, List, [], ◌∷◌, ◌++◌, Option, Some, IsSome, IsErr, IfOk, OnOk, true, false};
 ghost use Rattle.std.specs.Option.{ForSome};
-ghost use Rattle.transfer_table.specs.Plan.{IsSite, parent as parent_of};
+ghost use Rattle.transfer_table.specs.Plan.{Plan, IsPlan, IsSite, parent as parent_of};
+ghost use Rattle.transfer_table.specs.declared.entry.Entry.{Entry};
+ghost use Rattle.transfer_table.specs.declared.entry.Entry.TheVariants.{Register, Unregister};
 ghost use Rattle.hart_port.specs.PortView.{IsPortView, is_in, Registers, MayRequest, requested_by, yielded, MayUnregister, unregistered};
 ghost use Rattle.sched_api.specs.declared.hearing.Told.{Told};
 ghost use Rattle.sched_api.specs.Calls.{registered_told, requested_told, unregistered_told, yielded_told};
 ghost use Rattle.hart_work.specs.Tasks.{HasNext, HasEntered, HasAccount, StaysSettled};
+ghost use Rattle.hart_work.specs.Accounts.{Account, Follows, HasServing, HaveEnded, StaysServed};
 
 use crate::resources::Resources;
 use hart_port::{Port, Taken};
@@ -35,6 +38,12 @@ pub trait Schedulers<R>: Resources {
 
     ghost over: { Self.Site → Type 0 };
 
+    /// Between these entries the jobs of the site that came back were run, and this one is out.
+    ghost lent: { Self.Site → Self.Job → Account };
+
+    /// Whether a job of the site came back as a failure.
+    ghost failed: { Self.Site → Type 0 };
+
     /// What a callback of the site's scheduler did that told this.
     ghost hears: { Self.Site → Told → Self.Site → Type 0 };
 
@@ -60,6 +69,8 @@ pub trait Schedulers<R>: Resources {
         ensures construct { Self.construct around.new ≡ Self.construct around.old }
         ensures stays { StaysSettled (Self.settled around.old) (owed around.old)
             (Self.settled around.new) (owed around.new) }
+        ensures served { StaysServed (Self.serving around.old) (lent around.old)
+            (Self.serving around.new) (lent around.new) }
         ensures left { left around.new ≤ left around.old }
         ensures tools { Self.tools self.new ≡ Self.tools self.old };
 
@@ -85,6 +96,8 @@ pub trait Schedulers<R>: Resources {
         ensures construct { Self.construct around.new ≡ Self.construct around.old }
         ensures stays { StaysSettled (Self.settled around.old) (owed around.old)
             (Self.settled around.new) (owed around.new) }
+        ensures served { StaysServed (Self.serving around.old) (lent around.old)
+            (Self.serving around.new) (lent around.new) }
         ensures left { left around.new ≤ left around.old }
         ensures tools { Self.tools self.new ≡ Self.tools self.old };
 
@@ -97,6 +110,8 @@ pub trait Schedulers<R>: Resources {
         ensures construct { Self.construct around.new ≡ Self.construct around.old }
         ensures stays { StaysSettled (Self.settled around.old) (owed around.old)
             (Self.settled around.new) (owed around.new) }
+        ensures served { StaysServed (Self.serving around.old) (lent around.old)
+            (Self.serving around.new) (lent around.new) }
         ensures left { left around.new ≤ left around.old }
         ensures tools { Self.tools self.new ≡ Self.tools self.old };
 
@@ -127,6 +142,8 @@ pub trait Schedulers<R>: Resources {
         ensures construct { Self.construct around.new ≡ Self.construct around.old }
         ensures stays { StaysSettled (Self.settled around.old) (owed around.old)
             (Self.settled around.new) (owed around.new) }
+        ensures served { StaysServed (Self.serving around.old) (lent around.old)
+            (Self.serving around.new) (lent around.new) }
         ensures left { left around.new ≤ left around.old }
         ensures tools { Self.tools self.new ≡ Self.tools self.old };
 
@@ -137,6 +154,9 @@ pub trait Schedulers<R>: Resources {
         ensures construct { Self.construct site.new ≡ Self.construct site.old }
         ensures account { HasAccount (Self.settled site.new) (owed site.new) result }
         ensures over { result ≡ Task.Nothing → is_home ≡ true → over site.new }
+        ensures served { Follows (Self.serving site.old) (λ p around start es.
+            HasServing (Self.serving site.new p around start es) (λ job.
+            lent site.new job p around start es × Self.fresh_job p around es job) result) }
         ensures tools { Self.tools self.new ≡ Self.tools self.old };
 
     /// A piece is done.
@@ -144,6 +164,10 @@ pub trait Schedulers<R>: Resources {
         requires { owed site.old (Self.job_in piece) }
         ensures construct { Self.construct site.new ≡ Self.construct site.old }
         ensures settled { Self.settled site.new }
+        ensures served { (p : Plan) (around : ℕ) (start es es' : List Entry)
+            → lent site.old (Self.job_in piece) p around start es
+            → Self.ran_job p es es' (Self.job_in piece)
+            → Self.serving site.new p around start es' }
         ensures left { left site.new ≤ left site.old }
         ensures tools { Self.tools self.new ≡ Self.tools self.old };
 
@@ -153,12 +177,19 @@ pub trait Schedulers<R>: Resources {
             × (Self.phase_of job ≡ phase) × (Self.place_of job ≡ place) }
         ensures construct { Self.construct site.new ≡ Self.construct site.old }
         ensures settled { Self.settled site.new }
+        ensures served { (job : Self.Job) (p : Plan) (around : ℕ) (start es es' : List Entry)
+            → lent site.old job p around start es → Self.serving site.new p around start es' }
         ensures left { left site.new ≤ left site.old }
         ensures tools { Self.tools self.new ≡ Self.tools self.old };
 
     /// Whether a piece of the site has failed.
     fn has_failed(&mut self, rt: &R, site: &Self::Site) -> bool
-        ensures { Self.tools self.new ≡ Self.tools self.old };
+        ensures ended { result ≡ false → over site.now → (p : Plan) (around : ℕ)
+            (start es : List Entry) → IsPlan p → Self.serving site.now p around start es
+            → HaveEnded p around es }
+        ensures failed { result ≡ true → (p : Plan) (around : ℕ) (start es : List Entry)
+            → Self.serving site.now p around start es → failed site.now }
+        ensures tools { Self.tools self.new ≡ Self.tools self.old };
 
     /// What all pieces of a site wrote whose work is over. Where the scheduler can't tell, the hart computes the construct
     /// itself.
@@ -167,5 +198,11 @@ pub trait Schedulers<R>: Resources {
         requires over { over site }
         ensures written { (nested : Self.Nested) → Self.construct site ≡ Some nested → IfOk result
             (λ written. Self.written_in written ≡ Self.writes_of nested) }
+        ensures failed { failed site → IsErr result }
+        ensures ran { (nested : Self.Nested) → Self.construct site ≡ Some nested → IfOk result (λ _.
+            (p : Plan) (before es : List Entry) (hart : ℕ) → IsPlan p
+            → Self.serving site p (Self.number_of nested)
+            (before ++ Register hart (Self.number_of nested) ∷ []) es
+            → Self.ran p before (es ++ Unregister hart (Self.number_of nested) ∷ []) nested) }
         ensures tools { Self.tools self.new ≡ Self.tools self.old };
 }

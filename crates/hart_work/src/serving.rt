@@ -1,17 +1,21 @@
 //! The procedure of a hart at a site.
-ghost use Rattle.std.specs.Prelude.{◌≡◌, ◌≤◌, ◌<◌, ◌+◌, ◌-◌, IfOk, OnOk, true, false};
-ghost use Rattle.transfer_table.specs.Plan.{IsSite, parent};
+ghost use Rattle.std.specs.Prelude.{◌≡◌, ◌≤◌, ◌<◌, ◌+◌, ◌-◌, ℕ, List, IfOk, OnOk, true, false};
+ghost use Rattle.transfer_table.specs.Plan.{Plan, IsSite, parent};
 ghost use Rattle.transfer_table.specs.Entry.{requested};
-ghost use Rattle.hart_port.specs.PortView.{IsPortView, HasEnded, is_in};
+ghost use Rattle.transfer_table.specs.declared.entry.Entry.{Entry};
+ghost use Rattle.hart_port.specs.PortView.{IsPortView, is_in};
+ghost use Rattle.site_accounts.specs.Accounts.{AreFresh, IsSpan};
+ghost use Rattle.site_accounts.specs.Laws.{IsSkippedSpan};
 ghost use Rattle.site_steps.specs.Back.{IsSettled, IsBack};
 ghost use Rattle.hart_work.specs.Tasks.{StaysSettled, HasAccount};
+ghost use Rattle.hart_work.specs.Accounts.{WhereAlone, StaysServed};
 
 use crate::found::Found;
 use crate::resources::Resources;
 use crate::schedulers::{Schedulers, Task};
 use contexts::{Running, Step, ctx_fini, ctx_pause, ctx_resume};
 use hart_port::Port;
-use site_steps::{PatientPort, SiteTree, finish_site, skip_sites, sweep_failed};
+use site_steps::{PatientPort, SiteTree, finish_site, skip_sites, sweep_if};
 use std::alloc::{AllocError, Global};
 
 /// Runs a job of the site that the hart is in, and brings the hart back to it.
@@ -30,10 +34,15 @@ pub fn run_piece<P: PatientPort, R, H: Schedulers<R>, F: Fn(u8, &H::Job)>(
     requires plan { (P.seen port.old).plan ≡ tree.now }
     requires callable { F.IsAlwaysCallable pass.now }
     requires inner { IsSettled (P.seen port.old) }
-    ensures back { IsBack H.passes (P.seen port.old) (P.seen port.new) }
+    requires fresh { WhereAlone (P.seen port.old) (λ p around es. H.fresh_job p around es job) }
+    ensures back { IsBack (P.seen port.old) (P.seen port.new) }
     ensures piece { IfOk result (λ piece. H.job_in piece ≡ job) }
+    ensures ran { WhereAlone (P.seen port.old)
+        (λ p around es. OnOk result (H.ran_job p es (P.seen port.new).mine job)) }
     ensures stays { StaysSettled (H.settled around.old) (H.owed around.old) (H.settled around.new)
         (H.owed around.new) }
+    ensures served { StaysServed (H.serving around.old) (H.lent around.old) (H.serving around.new)
+        (H.lent around.new) }
     ensures construct { H.construct around.new ≡ H.construct around.old }
     ensures left { H.left around.new ≤ H.left around.old }
     ensures tools { H.tools schedulers.new ≡ H.tools schedulers.old }
@@ -53,7 +62,7 @@ pub fn run_piece<P: PatientPort, R, H: Schedulers<R>, F: Fn(u8, &H::Job)>(
                     return Err(AllocError);
                 }
             }
-            Step::Nest(Found::Pass { first, end }) => skip_sites(tree, port, hold, first, end),
+            Step::Nest(Found::Pass { first, end }) => skip_span(tree, port, hold, first, end),
             Step::Finished => return Ok(schedulers.end(ctx_fini(running).into_machine())),
             Step::NoMemory => {
                 let _ = running.abandon();
@@ -79,14 +88,15 @@ pub fn run_construct<P: PatientPort, R, H: Schedulers<R>, F: Fn(u8, &H::Job)>(
     requires plan { (P.seen port.old).plan ≡ tree.now }
     requires callable { F.IsAlwaysCallable pass.now }
     requires inner { IsSettled (P.seen port.old) }
-    ensures back { IsBack H.passes (P.seen port.old) (P.seen port.new) }
+    requires fresh { WhereAlone (P.seen port.old) (λ p around es. H.fresh p around es nested) }
+    ensures back { IsBack (P.seen port.old) (P.seen port.new) }
     ensures written { IfOk result (λ written. H.written_in written ≡ H.writes_of nested) }
-    ensures own { OnOk result (IsSite tree.now (H.number_of nested)
-        → parent tree.now (H.number_of nested) ≡ (P.seen port.old).owner
-        → (P.seen port.new).alone ≡ true
-        → HasEnded (P.seen port.new) (H.number_of nested)) }
+    ensures ran { WhereAlone (P.seen port.old)
+        (λ p around es. OnOk result (H.ran p es (P.seen port.new).mine nested)) }
     ensures stays { StaysSettled (H.settled around.old) (H.owed around.old) (H.settled around.new)
         (H.owed around.new) }
+    ensures served { StaysServed (H.serving around.old) (H.lent around.old) (H.serving around.new)
+        (H.lent around.new) }
     ensures construct { H.construct around.new ≡ H.construct around.old }
     ensures left { H.left around.new ≤ H.left around.old }
     ensures tools { H.tools schedulers.new ≡ H.tools schedulers.old }
@@ -112,7 +122,7 @@ pub fn run_construct<P: PatientPort, R, H: Schedulers<R>, F: Fn(u8, &H::Job)>(
             serve(
                 rt, alloc, tree, pass, port, hold, schedulers, &mut site, true,
             );
-            sweep_failed(tree, port, hold, schedulers.has_failed(rt, &site));
+            sweep_if(tree, port, hold, schedulers.has_failed(rt, &site));
             finish_site(tree, port, hold);
             schedulers.unregister(rt, port, hold, around);
             schedulers.take(rt, alloc, site)
@@ -142,9 +152,14 @@ pub fn serve<P: PatientPort, R, H: Schedulers<R>, F: Fn(u8, &H::Job)>(
     requires callable { F.IsAlwaysCallable pass.now }
     requires inner { IsSettled (P.seen port.old) }
     requires settled { H.settled site.old }
-    ensures back { IsBack H.passes (P.seen port.old) (P.seen port.new) }
+    requires serving { WhereAlone (P.seen port.old)
+        (λ p around es. (start : List Entry) × H.serving site.old p around start es) }
+    ensures back { IsBack (P.seen port.old) (P.seen port.new) }
     ensures settled { H.settled site.new }
     ensures over { is_home ≡ true → H.over site.new }
+    ensures served { WhereAlone (P.seen port.old) (λ p around es. (start : List Entry)
+        → H.serving site.old p around start es
+        → H.serving site.new p around start (P.seen port.new).mine) }
     ensures construct { H.construct site.new ≡ H.construct site.old }
     ensures left { H.left site.new ≤ H.left site.old }
     ensures tools { H.tools schedulers.new ≡ H.tools schedulers.old }
@@ -175,8 +190,12 @@ fn run_job<P: PatientPort, R, H: Schedulers<R>, F: Fn(u8, &H::Job)>(
     requires callable { F.IsAlwaysCallable pass.now }
     requires inner { IsSettled (P.seen port.old) }
     requires owed { H.owed site.old job }
-    ensures back { IsBack H.passes (P.seen port.old) (P.seen port.new) }
+    requires fresh { WhereAlone (P.seen port.old) (λ p around es. H.fresh_job p around es job) }
+    ensures back { IsBack (P.seen port.old) (P.seen port.new) }
     ensures settled { H.settled site.new }
+    ensures served { WhereAlone (P.seen port.old) (λ p around es. (start : List Entry)
+        → H.lent site.old job p around start es
+        → H.serving site.new p around start (P.seen port.new).mine) }
     ensures construct { H.construct site.new ≡ H.construct site.old }
     ensures left { H.left site.new ≤ H.left site.old }
     ensures tools { H.tools schedulers.new ≡ H.tools schedulers.old }
@@ -189,7 +208,7 @@ fn run_job<P: PatientPort, R, H: Schedulers<R>, F: Fn(u8, &H::Job)>(
     }
 }
 
-// Enters a child that wants a hart, does what it has to do, and comes back.
+// Enters a child that wants a hart and that another hart opened, does what it has to do, and comes back.
 #[cycle(serve)]
 fn visit<P: PatientPort, R, H: Schedulers<R>, F: Fn(u8, &H::Job)>(
     rt: &R,
@@ -205,9 +224,12 @@ fn visit<P: PatientPort, R, H: Schedulers<R>, F: Fn(u8, &H::Job)>(
     requires plan { (P.seen port.old).plan ≡ tree.now }
     requires callable { F.IsAlwaysCallable pass.now }
     requires inner { IsSettled (P.seen port.old) }
-    ensures back { IsBack H.passes (P.seen port.old) (P.seen port.new) }
+    requires shared { (P.seen port.old).alone ≡ false }
+    ensures back { IsBack (P.seen port.old) (P.seen port.new) }
     ensures stays { StaysSettled (H.settled around.old) (H.owed around.old) (H.settled around.new)
         (H.owed around.new) }
+    ensures served { StaysServed (H.serving around.old) (H.lent around.old) (H.serving around.new)
+        (H.lent around.new) }
     ensures construct { H.construct around.new ≡ H.construct around.old }
     ensures left { H.left around.new ≤ H.left around.old }
     ensures tools { H.tools schedulers.new ≡ H.tools schedulers.old }
@@ -245,8 +267,9 @@ fn be_guest<P: PatientPort, R, H: Schedulers<R>, F: Fn(u8, &H::Job)>(
     requires plan { (P.seen port.old).plan ≡ tree.now }
     requires callable { F.IsAlwaysCallable pass.now }
     requires inner { IsSettled (P.seen port.old) }
+    requires shared { (P.seen port.old).alone ≡ false }
     requires account { HasAccount (H.settled site.old) (H.owed site.old) task }
-    ensures back { IsBack H.passes (P.seen port.old) (P.seen port.new) }
+    ensures back { IsBack (P.seen port.old) (P.seen port.new) }
     ensures tools { H.tools schedulers.new ≡ H.tools schedulers.old }
 {
     match task {
@@ -255,6 +278,21 @@ fn be_guest<P: PatientPort, R, H: Schedulers<R>, F: Fn(u8, &H::Job)>(
         Task::Nothing => {}
     }
     serve(rt, alloc, tree, pass, port, hold, schedulers, site, false);
+}
+
+// Skips sites that the hart is told of. Where it is alone and these are whole subtrees with which nobody has done anything, they
+// are over then as sites that nobody is to enter.
+fn skip_span<P: PatientPort>(tree: &SiteTree, port: &mut P, hold: P::Hold, first: u16, end: u16)
+    requires plan { (P.seen port.old).plan ≡ tree.now }
+    requires inner { IsSettled (P.seen port.old) }
+    ensures back { IsBack (P.seen port.old) (P.seen port.new) }
+    ensures skipped { WhereAlone (P.seen port.old) (λ p around es.
+        IsSpan p around first (end - first) → AreFresh p es first (end - first)
+        → IsSkippedSpan p es (P.seen port.new).mine first (end - first)) }
+{
+    // What the tree keeps of its plan.
+    let _plan = tree.plan();
+    skip_sites(tree, port, hold, first, end);
 }
 
 // Asks for as many harts as the site has work for and the plan has besides this one.
@@ -275,9 +313,13 @@ fn ask<P: PatientPort, R, H: Schedulers<R>>(
     requires is_open { is_in (P.seen port.old).closed site ≡ false }
     requires none_yet { requested site (P.seen port.old).mine ≡ 0 }
     requires inner { IsSettled (P.seen port.old) }
-    ensures back { IsBack H.passes (P.seen port.old) (P.seen port.new) }
+    requires kept { IsPortView (P.seen port.old) }
+    ensures back { IsBack (P.seen port.old) (P.seen port.new) }
+    ensures quiet { (P.seen port.old).alone ≡ true → P.seen port.new ≡ P.seen port.old }
     ensures stays { StaysSettled (H.settled around.old) (H.owed around.old) (H.settled around.new)
         (H.owed around.new) }
+    ensures served { StaysServed (H.serving around.old) (H.lent around.old) (H.serving around.new)
+        (H.lent around.new) }
     ensures construct { H.construct around.new ≡ H.construct around.old }
     ensures left { H.left around.new ≤ H.left around.old }
     ensures tools { H.tools schedulers.new ≡ H.tools schedulers.old }
@@ -298,6 +340,9 @@ fn supply<H: Resources>(
     ensures job { OnOk result (H.job_of running.new ≡ H.job_of running.old) }
     ensures ready { OnOk result (H.ready running.new) }
     ensures left { OnOk result (H.steps_left running.new ≡ H.steps_left running.old) }
+    ensures going { OnOk result ((nested : H.Nested) (p : Plan) (around : ℕ)
+        (start es es' : List Entry) → H.awaiting nested running.old p around start es
+        → OnOk written (H.ran p es es' nested) → H.going running.new p around start es') }
     ensures tools { H.tools schedulers.new ≡ H.tools schedulers.old }
 {
     schedulers.supply(running, written?)

@@ -13,28 +13,11 @@ use Rattle.site_steps.specs.Children.{NextChild}
 use Rattle.site_steps.proofs.Overs.{over_stays, skips_stay, taken_over}
 use Rattle.site_steps.proofs.Children.{before_next}
 
-pub back_refl : (may : Type 0) (h : PortView) → IsSettled h → IsBack may h h
-back_refl may h inner = record { plan = refl; hart = refl; alone = refl; table = refl; owner = refl; homes = λ s le. refl; inner = inner; closed = λ s le. refl; gone = λ s is. is; over = λ s. omega arith; skipped = λ p s. omega arith; unskipped = λ no p s. refl }
+pub back_refl : (h : PortView) → IsSettled h → IsBack h h
+back_refl h inner = record { plan = refl; hart = refl; alone = refl; table = refl; owner = refl; homes = λ s le. refl; inner = inner; closed = λ s le. refl; gone = λ s is. is; over = λ s. omega arith; skipped = λ p s. omega arith }
 
--- what may not be is no matter where more may be
-pub back_wider : (may more : Type 0) (h a : PortView) → (may → more) → IsBack may h a → IsBack more h a
-back_wider may more h a wider back = record {
-  plan = back.plan;
-  hart = back.hart;
-  alone = back.alone;
-  table = back.table;
-  owner = back.owner;
-  homes = back.homes;
-  inner = back.inner;
-  closed = back.closed;
-  gone = back.gone;
-  over = back.over;
-  skipped = back.skipped;
-  unskipped = λ no. back.unskipped (λ x. no (wider x));
-}
-
-pub back_then : (may : Type 0) (a b c : PortView) → IsBack may a b → IsBack may b c → IsBack may a c
-back_then may a b c f g = record {
+pub back_then : (a b c : PortView) → IsBack a b → IsBack b c → IsBack a c
+back_then a b c f g = record {
   plan = g.plan ∙ f.plan;
   hart = g.hart ∙ f.hart;
   alone = g.alone ∙ f.alone;
@@ -46,13 +29,12 @@ back_then may a b c f g = record {
   gone = λ s is. g.gone s (f.gone s is);
   over = λ s. let x = f.over s in let y = g.over s in omega arith;
   skipped = λ p s. let x = f.skipped p s in let y = g.skipped p s in omega arith;
-  unskipped = λ no p s. g.unskipped no p s ∙ f.unskipped no p s;
 }
 
 -- the hart registers a child, comes back to it, looks until it is empty, and unregisters it
-pub back_over : (may : Type 0) (h a b c : PortView) (s : ℕ) → IsPlan h.plan → IsSite h.plan s → h.owner ≡ parent h.plan s → IsSettled h → a ≡ registered h s → IsBack may a b → HasLooked b c →
-    IsBack may h (unregistered c) × HasEnded (unregistered c) s
-back_over may h a b c s is_plan site around settled is back looked = (
+pub back_over : (h a b c : PortView) (s : ℕ) → IsPlan h.plan → IsSite h.plan s → h.owner ≡ parent h.plan s → IsSettled h → a ≡ registered h s → IsBack a b → HasLooked b c →
+    IsBack h (unregistered c) × HasEnded (unregistered c) s
+back_over h a b c s is_plan site around settled is back looked = (
   record {
     plan = ap (λ (x : PortView). x.plan) looked.same ∙ plan;
     hart = ap (λ (x : PortView). x.hart) looked.same ∙ back.hart ∙ ap (λ (x : PortView). x.hart) is;
@@ -72,7 +54,6 @@ back_over may h a b c s is_plan site around settled is back looked = (
     gone = λ x g. looked.gone x (back.gone x (ap (λ (y : PortView). is_in y.gone x) is ∙ g));
     over = λ x. omega (arith, over_stays x h.mine (Register h.hart s), ap (λ (y : PortView). unregisters x y.mine) is, back.over x, ap (λ (y : PortView). unregisters x y.mine) looked.same, over_stays x c.mine (Unregister c.hart c.owner));
     skipped = λ p x. omega (arith, late p x, back.skipped p x, early p x);
-    unskipped = λ no p x. late p x ∙ back.unskipped no p x ∙ early p x;
   },
   (let one = unregisters-here c.mine (Unregister c.hart c.owner) in
       subst (λ y. 1 ≤ unregisters y (c.mine ++ Unregister c.hart c.owner ∷ []) + skips_over c.plan y (c.mine ++ Unregister c.hart c.owner ∷ [])) here (omega arith)),
@@ -141,8 +122,8 @@ seen_more h a n next looked seen is more c site up below =
     ]
 
 -- one child more is over
-pub over_more : (may : Type 0) (h a : PortView) (n : ℕ) (next : Option ℕ) → IsBack may h a → ChildrenOverBefore h (Some n) → NextChild h.plan h.owner n next → (a.alone ≡ true → HasEnded a n) → ChildrenOverBefore a next
-over_more may h a n next back over is more alone c site up below =
+pub over_more : (h a : PortView) (n : ℕ) (next : Option ℕ) → IsBack h a → ChildrenOverBefore h (Some n) → NextChild h.plan h.owner n next → (a.alone ≡ true → HasEnded a n) → ChildrenOverBefore a next
+over_more h a n next back over is more alone c site up below =
     let site' = subst (λ p. IsSite p c) back.plan site in
     let up' : parent h.plan c ≡ h.owner = subst (λ p. parent p c ≡ h.owner) back.plan (up ∙ back.owner) in
     let most = before_next h.plan h.owner n c next is site' up' below in
@@ -153,8 +134,8 @@ over_more may h a n next back over is more alone c site up below =
     ]
 
 -- the hart enters a child, comes back to it, and yields
-pub back_visited : (may : Type 0) (h a b : PortView) (s : ℕ) → IsPlan h.plan → IsSite h.plan s → h.owner ≡ parent h.plan s → IsSettled h → a ≡ entered h s → IsBack may a b → IsBack may h (yielded b)
-back_visited may h a b s is_plan site around settled is back = record {
+pub back_visited : (h a b : PortView) (s : ℕ) → IsPlan h.plan → IsSite h.plan s → h.owner ≡ parent h.plan s → IsSettled h → a ≡ entered h s → IsBack a b → IsBack h (yielded b)
+back_visited h a b s is_plan site around settled is back = record {
   plan = plan;
   hart = back.hart ∙ ap (λ (x : PortView). x.hart) is;
   alone = back.alone ∙ ap (λ (x : PortView). x.alone) is;
@@ -169,7 +150,6 @@ back_visited may h a b s is_plan site around settled is back = record {
   gone = λ x g. back.gone x (ap (λ (y : PortView). is_in y.gone x) is ∙ g);
   over = λ x. omega (arith, over_stays x h.mine (Enter h.hart s), ap (λ (y : PortView). unregisters x y.mine) is, back.over x, over_stays x b.mine (Yield b.hart b.owner));
   skipped = λ p x. omega (arith, late p x, back.skipped p x, early p x);
-  unskipped = λ no p x. late p x ∙ back.unskipped no p x ∙ early p x;
 }
   where
     less : h.owner < s

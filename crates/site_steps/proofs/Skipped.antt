@@ -85,8 +85,8 @@ claimed_then b c first middle end made one two alone x low high site child = eli
 ]
 
 -- the hart is where it was
-pub skipped_back : (h a : PortView) (first end : ℕ) → IsSettled h → HasSkipped h a first end → IsBack (Unit {0}) h a
-skipped_back h a first end settled made = subst (IsBack (Unit {0}) h) (sym made.same) record {
+pub skipped_back : (h a : PortView) (first end : ℕ) → IsSettled h → HasSkipped h a first end → IsBack h a
+skipped_back h a first end settled made = subst (IsBack h) (sym made.same) record {
   plan = refl;
   hart = refl;
   alone = refl;
@@ -98,5 +98,4 @@ skipped_back h a first end settled made = subst (IsBack (Unit {0}) h) (sym made.
   gone = λ s is. is;
   over = λ s. went_more s h.mine made.made;
   skipped = λ p s. skipped_more p s h.mine made.made;
-  unskipped = λ no. absurd (no tt);
 }

@@ -20,11 +20,11 @@ rose_within a b c d before (inr last) after = elim (cases_lt a d) [
   | inr not ↦ let top = last.0 in let same = last.1 in inr (omega arith, omega arith)
 ]
 
-swept_within : {P : Type 0} (gives : Gives P) (h a b c : PortView) (r r' r'' r''' s : ℕ) → IsBack ⊥ h a → r ≤ r' → IsSwept gives a r' b r'' s → IsBack ⊥ b c → r'' ≤ r''' → IsSwept gives h r c r''' s
+swept_within : {P : Type 0} (gives : Gives P) (h a b c : PortView) (r r' r'' r''' s : ℕ) → IsBack h a → r ≤ r' → IsSwept gives a r' b r'' s → IsBack b c → r'' ≤ r''' → IsSwept gives h r c r''' s
 swept_within gives h a b c r r' r'' r''' s before less (inl made) after more = let early = before.over s in let late = after.over s in inl (omega arith)
 swept_within gives h a b c r r' r'' r''' s before less (inr (rose, refused)) after more = inr (rose_within r r' r'' r''' less rose more, refused)
 
-pub swept_more : {P : Type 0} (gives : Gives P) (h a b : PortView) (r r' r'' n : ℕ) (next : Option ℕ) → IsBack ⊥ h h → IsBack ⊥ b b → IsBack ⊥ h a → IsBack ⊥ a b → r ≤ r' → r' ≤ r'' →
+pub swept_more : {P : Type 0} (gives : Gives P) (h a b : PortView) (r r' r'' n : ℕ) (next : Option ℕ) → IsBack h h → IsBack b b → IsBack h a → IsBack a b → r ≤ r' → r' ≤ r'' →
     AreSweptBefore gives h r a r' (Some n) → NextChild h.plan h.owner n next → IsSwept gives a r' b r'' n → AreSweptBefore gives h r b r'' next
 swept_more gives h a b r r' r'' n next start end before after less more swept is here s site up below =
     let most = before_next h.plan h.owner n s next is site up below in
@@ -34,7 +34,7 @@ swept_more gives h a b r r' r'' n next start end before after less more swept is
     ]
 
 -- the hart registers a child, comes back to it, looks until it is empty, and unregisters it
-pub swept_site : (h a b c : PortView) (s : ℕ) → a ≡ registered h s → IsBack ⊥ a b → HasLooked b c → unregisters s h.mine < unregisters s (unregistered c).mine
+pub swept_site : (h a b c : PortView) (s : ℕ) → a ≡ registered h s → IsBack a b → HasLooked b c → unregisters s h.mine < unregisters s (unregistered c).mine
 swept_site h a b c s is back looked =
     let here : c.owner ≡ s = ap (λ (x : PortView). x.owner) looked.same ∙ back.owner ∙ ap (λ (x : PortView). x.owner) is in
     let one = unregisters-here c.mine (Unregister c.hart c.owner) in

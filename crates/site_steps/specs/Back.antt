@@ -9,8 +9,8 @@ abbrev pub IsSettled : PortView → Type 0
 IsSettled h = (s : ℕ) → h.owner < s → is_in h.homes s ≡ false
 
 -- The hart is back in the site that it was in, and the home of no site inside. Nothing of the sites around has changed, and what
--- was gone, over or skipped is so still. Where it may not skip sites, it has skipped none.
-pub record IsBack (may_skip : Type 0) (h after : PortView) : Type 0 where
+-- was gone, over or skipped is so still.
+pub record IsBack (h after : PortView) : Type 0 where
   pub plan : after.plan ≡ h.plan
   pub hart : after.hart ≡ h.hart
   pub alone : after.alone ≡ h.alone
@@ -22,8 +22,6 @@ pub record IsBack (may_skip : Type 0) (h after : PortView) : Type 0 where
   pub gone : (s : ℕ) → is_in h.gone s ≡ true → is_in after.gone s ≡ true
   pub over : (s : ℕ) → unregisters s h.mine ≤ unregisters s after.mine
   pub skipped : (p : Plan) (s : ℕ) → skips_over p s h.mine ≤ skips_over p s after.mine
-  pub unskipped : (may_skip → ⊥) → (p : Plan) (s : ℕ)
-      → skips_over p s after.mine ≡ skips_over p s h.mine
 
 -- where no other hart shares the table, each child of the hart's owner was unregistered or skipped
 abbrev pub ChildrenOver : PortView → Type 0

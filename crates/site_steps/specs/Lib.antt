@@ -3,3 +3,4 @@ pub mod Children
 pub mod Visits
 pub mod Skips
 pub mod Sweeps
+pub mod Shared

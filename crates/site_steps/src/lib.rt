@@ -17,6 +17,6 @@ mod waiting;
 pub use ending::{finish_base, finish_site};
 pub use patience::PatientPort;
 pub use skipping::skip_sites;
-pub use sweeping::{sweep_children, sweep_failed};
+pub use sweeping::{sweep_children, sweep_if};
 pub use tree::SiteTree;
 pub use waiting::WaitingPort;

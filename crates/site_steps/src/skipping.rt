@@ -11,7 +11,7 @@ use hart_port::Port;
 pub fn skip_sites<P: Port>(tree: &SiteTree, port: &mut P, hold: P::Hold, first: u16, end: u16)
     requires plan { (P.seen port.old).plan ≡ tree.now }
     requires inner { IsSettled (P.seen port.old) }
-    ensures back { IsBack (Unit {0}) (P.seen port.old) (P.seen port.new) }
+    ensures back { IsBack (P.seen port.old) (P.seen port.new) }
     ensures skipped { HasSkipped (P.seen port.old) (P.seen port.new) first end }
     ensures claimed { ChildrenClaimed (P.seen port.new) first end }
 {

@@ -1,5 +1,5 @@
 //! How the sites that nobody entered come and go.
-ghost use Rattle.std.specs.Prelude.{◌≡◌, ◌≤◌, true};
+ghost use Rattle.std.specs.Prelude.{◌≡◌, ◌≤◌, true, false};
 ghost use Rattle.transfer_table.specs.Plan.{IsSite, parent};
 ghost use Rattle.hart_port.specs.PortView.{HasEnded};
 ghost use Rattle.site_steps.specs.Back.{IsSettled, IsBack, ChildrenOver};
@@ -9,17 +9,19 @@ use crate::ending::finish_site;
 use crate::patience::PatientPort;
 use crate::tree::SiteTree;
 
-/// Sweeps the owner where a piece of it has failed, or where the hart is alone and nothing else tells that each child came
-/// and went.
-pub fn sweep_failed<P: PatientPort>(tree: &SiteTree, port: &mut P, hold: P::Hold, has_failed: bool)
+/// Sweeps the owner where that is needed: where a piece of it has failed, or nothing tells that each child came and went or was
+/// skipped.
+pub fn sweep_if<P: PatientPort>(tree: &SiteTree, port: &mut P, hold: P::Hold, is_needed: bool)
     requires plan { (P.seen port.old).plan ≡ tree.now }
     requires inner { IsSettled (P.seen port.old) }
-    ensures back { IsBack ⊥ (P.seen port.old) (P.seen port.new) }
+    requires told { is_needed ≡ false → ChildrenOver (P.seen port.old) }
+    ensures back { IsBack (P.seen port.old) (P.seen port.new) }
     ensures over { ChildrenOver (P.seen port.new) }
-    ensures swept { has_failed ≡ true → AreSwept P.register_gives (P.seen port.old)
+    ensures quiet { is_needed ≡ false → P.seen port.new ≡ P.seen port.old }
+    ensures swept { is_needed ≡ true → AreSwept P.register_gives (P.seen port.old)
         (P.refused port.old) (P.seen port.new) (P.refused port.new) }
 {
-    if has_failed || port.is_alone() {
+    if is_needed {
         sweep_children(tree, port, hold);
     }
 }
@@ -30,7 +32,7 @@ pub fn sweep_failed<P: PatientPort>(tree: &SiteTree, port: &mut P, hold: P::Hold
 pub fn sweep_children<P: PatientPort>(tree: &SiteTree, port: &mut P, hold: P::Hold)
     requires plan { (P.seen port.old).plan ≡ tree.now }
     requires inner { IsSettled (P.seen port.old) }
-    ensures back { IsBack ⊥ (P.seen port.old) (P.seen port.new) }
+    ensures back { IsBack (P.seen port.old) (P.seen port.new) }
     ensures over { ChildrenOver (P.seen port.new) }
     ensures count { P.refused port.old ≤ P.refused port.new }
     ensures swept { AreSwept P.register_gives (P.seen port.old) (P.refused port.old)
@@ -50,7 +52,7 @@ fn sweep_site<P: PatientPort>(tree: &SiteTree, port: &mut P, hold: P::Hold, site
     requires inner { IsSettled (P.seen port.old) }
     requires known { IsSite tree.now site }
     requires child { (P.seen port.old).owner ≡ parent tree.now site }
-    ensures back { IsBack ⊥ (P.seen port.old) (P.seen port.new) }
+    ensures back { IsBack (P.seen port.old) (P.seen port.new) }
     ensures over { (P.seen port.new).alone ≡ true → HasEnded (P.seen port.new) site }
     ensures count { P.refused port.old ≤ P.refused port.new }
     ensures swept { IsSwept P.register_gives (P.seen port.old) (P.refused port.old)

@@ -1,7 +1,7 @@
 //! The sites of a small plan: sites 1 and 5 at the top, 2 and 4 inside 1, 3 inside 2.
 ghost use Rattle.std.specs.Prelude.{◌≡◌, IfOk, ◌∷◌, []};
 
-use crate::{SiteTree, WaitingPort, finish_base, skip_sites, sweep_children, sweep_failed};
+use crate::{SiteTree, WaitingPort, finish_base, skip_sites, sweep_children, sweep_if};
 use hart_port::{Entered, PlainPort, Port};
 use std::alloc::Global;
 use std::test::Fail;
@@ -77,8 +77,8 @@ fn a_second_sweep_adds_nothing(rt: HostRuntime) -> Result<(), Fail> {
     let plan = Plan::new(rt.alloc(), 1, &[0, 0])?;
     let tree = SiteTree::new(rt.alloc(), &plan)?;
     let mut port = PlainPort::new(rt.alloc(), &plan)?;
-    sweep_failed(&tree, &mut port, (), false);
-    sweep_failed(&tree, &mut port, (), true);
+    sweep_if(&tree, &mut port, (), true);
+    sweep_if(&tree, &mut port, (), true);
     let entries = port.finish();
     let expected = [register(1), unregister(1), register(2), unregister(2)];
     assert!(rt; entries.as_slice() == expected.as_slice());
@@ -108,7 +108,7 @@ fn sites_come_and_go_over_a_port_that_waits(rt: HostRuntime) -> Result<(), Fail>
     let plan = Plan::new(rt.alloc(), 1, &[0, 0])?;
     let tree = SiteTree::new(rt.alloc(), &plan)?;
     let mut port = WaitingPort::new(PlainPort::new(rt.alloc(), &plan)?, &rt);
-    assert!(rt; port.is_alone() && port.hart() == 0 && port.owner() == 0);
+    assert!(rt; !port.is_alone() && port.hart() == 0 && port.owner() == 0);
     sweep_children(&tree, &mut port, ());
     finish_base(&tree, &mut port, ());
     let entries = port.into_port().finish();

@@ -6,7 +6,8 @@ use crossbeam_utils::Backoff;
 use hart_port::{Entered, Port, Seen, Taken};
 use std::sync::Wait;
 
-/// A port whose waits may last: each looks again and again, with a pause between two looks.
+/// A port whose waits may last: each looks again and again, with a pause between two looks. It doesn't tell whether another hart
+/// shares the table, so who moves by it rests nothing on that.
 pub struct WaitingPort<'a, P, R> {
     port: P,
     rt: &'a R,
@@ -38,7 +39,9 @@ impl<'a, P, R> WaitingPort<'a, P, R> {
 impl<'a, P: Port, R: Wait> Port for WaitingPort<'a, P, R> {
     type Hold = P::Hold;
 
-    ghost seen = { λ w. P.seen w.port };
+    ghost use Rattle.site_steps.specs.Shared.{shared};
+
+    ghost seen = { λ w. shared (P.seen w.port) };
 
     ghost refused = { λ w. P.refused w.port };
 
@@ -61,7 +64,9 @@ impl<'a, P: Port, R: Wait> Port for WaitingPort<'a, P, R> {
     }
 
     fn is_alone(&self) -> bool {
-        self.port.is_alone()
+        // What the port keeps.
+        let _ = self.port.owner();
+        false
     }
 
     fn register(&mut self, hold: P::Hold, site: u16) -> Result<(), Taken> {

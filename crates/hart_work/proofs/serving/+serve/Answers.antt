@@ -1,10 +1,16 @@
-use Rattle.std.proofs.Common.{◌≡◌, ℕ, true, sym, ◌∙◌, ap, subst, arith, rules, Result, Ok, Err}
+use Rattle.std.proofs.Common.{◌≡◌, ℕ, ◌-◌, ◌++◌, ◌∷◌, [], List, Bool, true, false, Some, refl, sym, ◌∙◌, ap, subst, arith, rules}
 use Rattle.std.specs.Prelude.{OnOk}
 use Rattle.std.proofs.lemmas.Grind.{common_steps}
-use Rattle.transfer_table.specs.Plan.{IsSite, parent, Plan}
-use Rattle.hart_port.specs.PortView.{PortView, HasEnded}
+use Rattle.transfer_table.specs.Plan.{IsSite, IsPlan, parent, Plan}
+use Rattle.hart_port.specs.PortView.{PortView, registered}
+use Rattle.transfer_table.specs.declared.entry.Entry.{Entry}
+use Rattle.transfer_table.specs.declared.entry.Entry.TheVariants.{Unregister}
+use Rattle.site_accounts.specs.Accounts.{IsSpan, AreFresh}
+use Rattle.site_accounts.specs.Laws.{IsSkippedSpan}
 use Rattle.site_steps.specs.Back.{IsBack}
-use Rattle.site_steps.proofs.Backs.{back_refl, back_wider, back_then, back_over, back_visited, refused_over}
+use Rattle.hart_work.specs.Accounts.{WhereAlone}
+use Rattle.hart_work.proofs.Served.{at_back, back_at, begun, serves_first, at_ok, on_err, on_ok}
+use Rattle.site_steps.proofs.Backs.{back_refl, back_then, back_over, back_visited, refused_over}
 use Rattle.hart_work.proofs.serving.+serve.Goals as goal
 use Rattle.hart_work.proofs.serving.+serve.Goals.{be_guest-in-Piece, be_guest-in-Visit, be_guest-in-Nothing}
 
@@ -28,33 +34,41 @@ run_construct-returns-in-Ok-clause-back g t c =
     let a = g.P.Port.seen c.register.new.port in
     let asked = g.P.Port.seen c.ask.new.port in
     let served = g.P.Port.seen c.serve.new.port in
-    let settled = g.P.Port.seen c.sweep_failed.new.port in
+    let settled = g.P.Port.seen c.sweep_if.new.port in
     let done = g.P.Port.seen c.finish_site.new.port in
     let s = c.number-number.result in
     let yes : c.is_child.result ≡ true = search rules in
     let is_one = c.is_child.ensures.0 yes in
     let child = child_of c.args.tree.now h s c.owner.result c.requires.plan c.owner.ensures.same is_one.0 is_one.1 in
-    let back = back_then g.H.Resources.passes a served settled (back_then g.H.Resources.passes a asked served c.ask.ensures.back c.serve.ensures.back) (back_wider ⊥ g.H.Resources.passes served settled (λ never. absurd never) c.sweep_failed.ensures.back) in
-    let all = back_over g.H.Resources.passes h a settled done s c.owner.ensures.kept.plan child.0 child.1 c.requires.inner c.in-Ok.ensures.does.0 back c.finish_site.ensures.looked in
-    subst (IsBack g.H.Resources.passes h) (sym c.unregister.ensures.does) all.0
+    let back = back_then a served settled (back_then a asked served c.ask.ensures.back c.serve.ensures.back) c.sweep_if.ensures.back in
+    let all = back_over h a settled done s c.owner.ensures.kept.plan child.0 child.1 c.requires.inner c.in-Ok.ensures.does.0 back c.finish_site.ensures.looked in
+    subst (IsBack h) (sym c.unregister.ensures.does) all.0
 
 pub run_piece-returns-then-is_err-clause-back : goal.run_piece-returns-then-is_err-clause-back
 run_piece-returns-then-is_err-clause-back g t c =
-    back_then g.H.Resources.passes (g.P.Port.seen c.args.port.now) (g.P.Port.seen c.steps.port) (g.P.Port.seen c.run_construct-written.new.port) c.steps.invariant.back c.run_construct-written.ensures.back
+    back_then (g.P.Port.seen c.args.port.now) (g.P.Port.seen c.steps.port) (g.P.Port.seen c.run_construct-written.new.port) c.steps.invariant.back c.run_construct-written.ensures.back
 
 pub run_piece-steps-preserved : goal.run_piece-steps-preserved
 run_piece-steps-preserved g t c =
     let inv = c.steps.invariant in
     let from = g.P.Port.seen c.steps.port in
-    let to = g.P.Port.seen c.skip_sites.new.port in
+    let to = g.P.Port.seen c.skip_span.new.port in
     let told = rw c.in-Nest-Pass.field-0-is at c.in-Nest-Pass.ensures.goes in
     record {
-      back = back_then g.H.Resources.passes (g.P.Port.seen c.args.port.now) from to inv.back (back_wider (Unit {0}) g.H.Resources.passes from to (λ _. told.0) c.skip_sites.ensures.back);
+      back = back_then (g.P.Port.seen c.args.port.now) from to inv.back c.skip_span.ensures.back;
       construct = inv.construct;
       stays = inv.stays;
+      served = inv.served;
       left = inv.left;
-      job = told.3 ∙ inv.job;
-      ready = told.2;
+      account = (λ alone.
+          let f = g.P.Port.seen c.args.port.now in
+          let skips = rw c.in-Nest-Pass.field-0-is at c.in-Nest-Pass.ensures.account in
+          let next = skips f.plan f.owner f.mine from.mine (inv.account alone) in
+          next.2 to.mine (back_at f from inv.back (λ p o. IsSpan p o c.in-Nest-Pass.first (c.in-Nest-Pass.end - c.in-Nest-Pass.first)
+          → AreFresh p from.mine c.in-Nest-Pass.first (c.in-Nest-Pass.end - c.in-Nest-Pass.first) → IsSkippedSpan p from.mine to.mine c.in-Nest-Pass.first (c.in-Nest-Pass.end - c.in-Nest-Pass.first))
+          (c.skip_span.ensures.skipped (inv.back.alone ∙ alone)) next.0 next.1));
+      job = told.2 ∙ inv.job;
+      ready = told.1;
       tools = c.in-Nest-Pass.ensures.tools ∙ inv.tools;
     }
 
@@ -63,9 +77,21 @@ run_piece-steps-preserved-else-is_err g t c =
     let inv = c.steps.invariant in
     let run = c.run_construct-written.ensures in
     record {
-      back = back_then g.H.Resources.passes (g.P.Port.seen c.args.port.now) (g.P.Port.seen c.steps.port) (g.P.Port.seen c.run_construct-written.new.port) inv.back run.back;
+      back = back_then (g.P.Port.seen c.args.port.now) (g.P.Port.seen c.steps.port) (g.P.Port.seen c.run_construct-written.new.port) inv.back run.back;
       construct = run.construct ∙ inv.construct;
       stays = (λ was. run.stays.0 (inv.stays.0 was), λ job was. run.stays.1 job (inv.stays.1 job was));
+      served = (λ p around start es was. run.served.0 p around start es (inv.served.0 p around start es was), λ job p around start es was. run.served.1 job p around start es (inv.served.1 job p around start es was));
+      account = (λ alone.
+          let f = g.P.Port.seen c.args.port.now in
+          let from = g.P.Port.seen c.steps.port in
+          let to = g.P.Port.seen c.run_construct-written.new.port in
+          let nests = rw c.in-Nest-Nest.field-0-is at c.in-Nest-Nest.ensures.account in
+          let next = nests f.plan f.owner f.mine from.mine (inv.account alone) in
+          let n = c.in-Nest-Nest.nested in
+          let same : c.ctx_resume-running.result ≡ c.step.new.running = c.ctx_resume-running.ensures ∙ c.ctx_pause-paused.ensures in
+          let ran = subst (λ p. OnOk c.run_construct-written.result (g.H.Resources.ran p from.mine to.mine n)) inv.back.plan (run.ran (inv.back.alone ∙ alone)) in
+          at_ok c.supply.result _ (sym (c.if-is_err.ensures.value)) c.supply.ensures.going n f.plan f.owner f.mine from.mine to.mine
+          (subst (λ m. g.H.Resources.awaiting n m f.plan f.owner f.mine from.mine) (sym same) next.0) ran);
       left = (let a = run.left in let b = inv.left in omega arith);
       job = first_of (search rules, grind (arith, common_steps));
       ready = first_of (search rules, grind (arith, common_steps));
@@ -77,7 +103,13 @@ serve-tasks-preserved-in-Piece g t c =
     let inv = c.tasks.invariant in
     let run = c.run_job.ensures in
     record {
-      back = back_then g.H.Resources.passes (g.P.Port.seen c.args.port.now) (g.P.Port.seen c.tasks.port) (g.P.Port.seen c.run_job.new.port) inv.back run.back;
+      served = (λ alone start first.
+          let f = g.P.Port.seen c.args.port.now in
+          let tv = g.P.Port.seen c.tasks.port in
+          let next = c.in-Piece.ensures.served f.plan f.owner start tv.mine (inv.served alone start first) in
+          back_at f tv inv.back (λ p o. g.H.Schedulers.lent c.next.new.site c.in-Piece.job p o start tv.mine → g.H.Resources.serving c.run_job.new.site p o start (g.P.Port.seen c.run_job.new.port).mine)
+          (run.served (inv.back.alone ∙ alone) start) next.0);
+      back = back_then (g.P.Port.seen c.args.port.now) (g.P.Port.seen c.tasks.port) (g.P.Port.seen c.run_job.new.port) inv.back run.back;
       construct = run.construct ∙ c.in-Piece.ensures.construct ∙ inv.construct;
       settled = run.settled;
       left = (let a = run.left in let b = inv.left in let n = c.in-Piece.ensures.left in omega arith);
@@ -89,7 +121,10 @@ serve-tasks-preserved g t c =
     let inv = c.tasks.invariant in
     let run = c.visit.ensures in
     record {
-      back = back_then g.H.Resources.passes (g.P.Port.seen c.args.port.now) (g.P.Port.seen c.tasks.port) (g.P.Port.seen c.visit.new.port) inv.back run.back;
+      served = (λ alone start first.
+          let f = g.P.Port.seen c.args.port.now in
+          absurd (c.in-Visit.ensures.served f.plan f.owner start (g.P.Port.seen c.tasks.port).mine (inv.served alone start first)));
+      back = back_then (g.P.Port.seen c.args.port.now) (g.P.Port.seen c.tasks.port) (g.P.Port.seen c.visit.new.port) inv.back run.back;
       construct = run.construct ∙ c.in-Visit.ensures.construct ∙ inv.construct;
       settled = run.stays.0 c.in-Visit.ensures.account;
       left = (let a = run.left in let b = inv.left in let n = c.in-Visit.ensures.left in omega arith);
@@ -105,18 +140,18 @@ visit-returns-in-Some-enter-clause-back g t c =
     let yes : c.is_child.result ≡ true = search rules in
     let is_one = c.is_child.ensures.0 yes in
     let child = child_of c.args.tree.now h s c.owner.result c.requires.plan c.owner.ensures.same is_one.0 is_one.1 in
-    subst (IsBack g.H.Resources.passes h) (sym c.give_back.ensures.does) (back_visited g.H.Resources.passes h a served s c.owner.ensures.kept.plan child.0 child.1 c.requires.inner c.in-Some-enter.ensures.does c.be_guest.ensures.back)
+    subst (IsBack h) (sym c.give_back.ensures.does) (back_visited h a served s c.owner.ensures.kept.plan child.0 child.1 c.requires.inner c.in-Some-enter.ensures.does c.be_guest.ensures.back)
 
 pub be_guest-returns-clause-back : goal.be_guest-returns-clause-back
 be_guest-returns-clause-back g t c =
     let a = g.P.Port.seen c.args.port.now in
     let begun = g.P.Port.seen c.match-task.port in
-    let first : IsBack g.H.Resources.passes a begun = elim c.match-task.branch [
-      | be_guest-in-Piece w ↦ subst (λ x. IsBack g.H.Resources.passes a (g.P.Port.seen x)) (sym w.port-is) w.run_job.ensures.back
-      | be_guest-in-Visit w ↦ subst (λ x. IsBack g.H.Resources.passes a (g.P.Port.seen x)) (sym w.port-is) w.visit.ensures.back
-      | be_guest-in-Nothing w ↦ subst (λ x. IsBack g.H.Resources.passes a (g.P.Port.seen x)) (sym w.port-is) (back_refl g.H.Resources.passes a c.requires.inner)
+    let first : IsBack a begun = elim c.match-task.branch [
+      | be_guest-in-Piece w ↦ subst (λ x. IsBack a (g.P.Port.seen x)) (sym w.port-is) w.run_job.ensures.back
+      | be_guest-in-Visit w ↦ subst (λ x. IsBack a (g.P.Port.seen x)) (sym w.port-is) w.visit.ensures.back
+      | be_guest-in-Nothing w ↦ subst (λ x. IsBack a (g.P.Port.seen x)) (sym w.port-is) (back_refl a c.requires.inner)
     ] in
-    back_then g.H.Resources.passes a begun (g.P.Port.seen c.serve.new.port) first c.serve.ensures.back
+    back_then a begun (g.P.Port.seen c.serve.new.port) first c.serve.ensures.back
 
 pub be_guest-returns-clause-tools : goal.be_guest-returns-clause-tools
 be_guest-returns-clause-tools g t c =
@@ -127,36 +162,64 @@ be_guest-returns-clause-tools g t c =
     ] in
     c.serve.ensures.tools ∙ first
 
--- what holds at any answer
-at_any : {A E : Type 0} (r : Result A E) (Q : Type 0) → Q → OnOk r Q
-at_any (Ok x) Q q = q
-at_any (Err e) Q q = tt
+pub run_construct-serve-requires : goal.run_construct-serve-requires
+run_construct-serve-requires g t c =
+    let h = g.P.Port.seen c.args.port.now in
+    let asked = g.P.Port.seen c.ask.new.port in
+    let serving : WhereAlone asked (λ p around es. (start : List Entry) × g.H.Resources.serving c.in_ok-site.site p around start es) = λ alone. (
+      begun h c.number-number.result,
+      serves_first (g.H.Resources.serving c.in_ok-site.site) h (g.P.Port.seen c.register.new.port) asked c.number-number.result (g.H.Resources.number_of c.args.nested) c.number-number.ensures.number
+          c.in-Ok.ensures.does.0 c.ask.ensures.quiet c.ask.ensures.back.alone (λ whole. c.in_ok-site.ensures.serving h.plan h.owner h.mine h.hart c.owner.ensures.kept.plan (c.requires.fresh whole)) alone,
+    ) in
+    search rules
 
-pub run_construct-returns-in-Ok-clause-own : goal.run_construct-returns-in-Ok-clause-own
-run_construct-returns-in-Ok-clause-own g t c =
+pub run_construct-sweep_if-requires-clause-told : goal.run_construct-sweep_if-requires-clause-told
+run_construct-sweep_if-requires-clause-told g t c = λ well alone.
+    let h = g.P.Port.seen c.args.port.now in
+    let asked = g.P.Port.seen c.ask.new.port in
+    let v = g.P.Port.seen c.serve.new.port in
+    let back = c.serve.ensures.back in
+    let start = begun h c.number-number.result in
+    let was : asked.alone ≡ true = sym back.alone ∙ alone in
+    let served = at_back asked v back (λ p o. g.H.Resources.serving c.serve.new.site p o start v.mine) (c.serve.ensures.served was start (serves_first (g.H.Resources.serving c.in_ok-site.site) h (g.P.Port.seen c.register.new.port) asked c.number-number.result (g.H.Resources.number_of c.args.nested) c.number-number.ensures.number
+    c.in-Ok.ensures.does.0 c.ask.ensures.quiet c.ask.ensures.back.alone (λ whole. c.in_ok-site.ensures.serving h.plan h.owner h.mine h.hart c.owner.ensures.kept.plan (c.requires.fresh whole)) was)) in
+    let whole : asked ≡ registered h c.number-number.result = c.ask.ensures.quiet (sym c.ask.ensures.back.alone ∙ was) ∙ c.in-Ok.ensures.does.0 in
+    let plan : v.plan ≡ h.plan = back.plan ∙ ap (λ (x : PortView). x.plan) whole in
+    c.has_failed.ensures.ended well (c.serve.ensures.over refl) v.plan v.owner start v.mine (subst IsPlan (sym plan) c.owner.ensures.kept.plan) served
+
+pub run_construct-returns-in-Ok-clause-ran : goal.run_construct-returns-in-Ok-clause-ran
+run_construct-returns-in-Ok-clause-ran g t c = λ alone.
     let h = g.P.Port.seen c.args.port.now in
     let a = g.P.Port.seen c.register.new.port in
     let asked = g.P.Port.seen c.ask.new.port in
-    let served = g.P.Port.seen c.serve.new.port in
-    let settled = g.P.Port.seen c.sweep_failed.new.port in
+    let v = g.P.Port.seen c.serve.new.port in
+    let settled = g.P.Port.seen c.sweep_if.new.port in
     let done = g.P.Port.seen c.finish_site.new.port in
+    let u = g.P.Port.seen c.unregister.new.port in
     let s = c.number-number.result in
-    let yes : c.is_child.result ≡ true = search rules in
-    let is_one = c.is_child.ensures.0 yes in
-    let child = child_of c.args.tree.now h s c.owner.result c.requires.plan c.owner.ensures.same is_one.0 is_one.1 in
-    let back = back_then g.H.Resources.passes a served settled (back_then g.H.Resources.passes a asked served c.ask.ensures.back c.serve.ensures.back) (back_wider ⊥ g.H.Resources.passes served settled (λ never. absurd never) c.sweep_failed.ensures.back) in
-    let all = back_over g.H.Resources.passes h a settled done s c.owner.ensures.kept.plan child.0 child.1 c.requires.inner c.in-Ok.ensures.does.0 back c.finish_site.ensures.looked in
-    let over = subst (λ (x : PortView). HasEnded x s) (sym c.unregister.ensures.does) all.1 in
-    at_any c.take.result _ (λ _ _ _. subst (HasEnded (g.P.Port.seen c.unregister.new.port)) c.number-number.ensures over)
-
-pub run_construct-returns-in-Err-clause-own : goal.run_construct-returns-in-Err-clause-own
-run_construct-returns-in-Err-clause-own g t c =
-    let h = g.P.Port.seen c.args.port.now in
-    let a = g.P.Port.seen c.register.new.port in
-    let s = c.number-number.result in
-    let yes : c.is_child.result ≡ true = search rules in
-    let is_one = c.is_child.ensures.0 yes in
-    let child = child_of c.args.tree.now h s c.owner.result c.requires.plan c.owner.ensures.same is_one.0 is_one.1 in
-    let over = refused_over h a s c.in-Err.ensures.kept child.0 child.1 c.in-Err.ensures.does.0 c.in-Err.ensures.does.2 in
-    let seen = subst (λ (x : PortView). x.alone ≡ true → HasEnded x s) (sym c.until_gone.ensures.does) over in
-    at_any c.compute-in-Err.result _ (λ _ _ alone. subst (HasEnded (g.P.Port.seen c.until_gone.new.self)) c.number-number.ensures (seen alone))
+    let n = g.H.Resources.number_of c.args.nested in
+    let Q = g.H.Resources.serving c.serve.new.site in
+    let is = c.in-Ok.ensures.does.0 in
+    let one : a.alone ≡ true = ap (λ (x : PortView). x.alone) is ∙ alone in
+    let whole : asked ≡ registered h s = c.ask.ensures.quiet one ∙ is in
+    let served : Q h.plan s (begun h s) v.mine = subst (λ (x : PortView). Q x.plan x.owner (begun h s) v.mine) whole
+    (c.serve.ensures.served (c.ask.ensures.back.alone ∙ one) (begun h s) (serves_first (g.H.Resources.serving c.in_ok-site.site) h (g.P.Port.seen c.register.new.port) asked c.number-number.result (g.H.Resources.number_of c.args.nested) c.number-number.ensures.number
+    c.in-Ok.ensures.does.0 c.ask.ensures.quiet c.ask.ensures.back.alone (λ whole. c.in_ok-site.ensures.serving h.plan h.owner h.mine h.hart c.owner.ensures.kept.plan (c.requires.fresh whole)) (c.ask.ensures.back.alone ∙ one))) in
+    let nested : g.H.Resources.construct c.serve.new.site ≡ Some c.args.nested = c.serve.ensures.construct ∙ c.in_ok-site.ensures.construct in
+    let Ran = g.H.Resources.ran in
+    let well : c.has_failed.result ≡ false → OnOk c.take.result (Ran h.plan h.mine u.mine c.args.nested) = λ none.
+    let looked = c.finish_site.ensures.looked.same in
+    let quiet = c.sweep_if.ensures.quiet none in
+    let there : done.owner ≡ s = ap (λ (x : PortView). x.owner) (looked ∙ ap (λ (x : PortView). record x { closed = done.closed; empty = done.empty; gone = done.gone }) quiet) ∙ c.serve.ensures.back.owner ∙ ap (λ (x : PortView). x.owner) whole in
+    let hart : done.hart ≡ h.hart = ap (λ (x : PortView). x.hart) (looked ∙ ap (λ (x : PortView). record x { closed = done.closed; empty = done.empty; gone = done.gone }) quiet) ∙ c.serve.ensures.back.hart ∙ ap (λ (x : PortView). x.hart) whole in
+    let mine : done.mine ≡ v.mine = ap (λ (x : PortView). x.mine) looked ∙ ap (λ (x : PortView). x.mine) quiet in
+    let all : u.mine ≡ v.mine ++ Unregister h.hart n ∷ [] = ap (λ (x : PortView). x.mine) c.unregister.ensures.does
+    ∙ ap (λ es. es ++ Unregister done.hart done.owner ∷ []) mine ∙ ap (λ k. v.mine ++ Unregister k done.owner ∷ []) hart ∙ ap (λ k. v.mine ++ Unregister h.hart k ∷ []) (there ∙ c.number-number.ensures.number) in
+    on_ok c.take.result _ _ (λ ran. subst (λ es. Ran h.plan h.mine es c.args.nested) (sym all)
+    (ran h.plan h.mine v.mine h.hart c.owner.ensures.kept.plan (subst (λ k. Q h.plan k (begun h k) v.mine) c.number-number.ensures.number served)))
+    (c.take.ensures.ran c.args.nested nested) in
+    by_failed c.has_failed.result well (λ yes. on_err c.take.result _ (c.take.ensures.failed (c.has_failed.ensures.failed yes h.plan s (begun h s) v.mine served)))
+  where
+    by_failed : {A : Type 0} → (b : Bool) → (b ≡ false → A) → (b ≡ true → A) → A
+    by_failed false well ill = well refl
+    by_failed true well ill = ill refl

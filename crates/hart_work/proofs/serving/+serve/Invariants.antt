@@ -1,7 +1,9 @@
-use Rattle.std.proofs.Common.{◌≡◌, ◌≤◌, ◌+◌, ◌-◌, ◌*◌}
+use Rattle.std.proofs.Common.{◌≡◌, ◌≤◌, ◌+◌, ◌-◌, ◌*◌, List}
 use Rattle.transfer_table.specs.Plan.{site_count}
 use Rattle.site_steps.specs.Back.{IsBack}
+use Rattle.transfer_table.specs.declared.entry.Entry.{Entry}
 use Rattle.hart_work.specs.Tasks.{StaysSettled}
+use Rattle.hart_work.specs.Accounts.{WhereAlone, StaysServed}
 use Rattle.hart_work.proofs.serving.+serve.Given as goal
 
 -- each site is above the one around it; at one site a hart is a guest, serves, runs a job, runs its piece, and then a construct in it
@@ -25,10 +27,12 @@ decreases-visit g l = 5 * (site_count l.tree.now - (g.P.Port.seen l.port.now).ow
 
 abbrev pub invariant-serve-tasks : goal.invariant-serve-tasks
 invariant-serve-tasks g l = record {
-  back : IsBack g.H.Resources.passes (g.P.Port.seen l.fn.port) (g.P.Port.seen l.port);
+  back : IsBack (g.P.Port.seen l.fn.port) (g.P.Port.seen l.port);
   construct : g.H.Resources.construct l.site ≡ g.H.Resources.construct l.fn.site;
   settled : g.H.Resources.settled l.site;
   left : g.H.Schedulers.left l.site ≤ g.H.Schedulers.left l.fn.site;
+  served : WhereAlone (g.P.Port.seen l.fn.port) (λ p around es. (start : List Entry) → g.H.Resources.serving l.fn.site p around start es
+      → g.H.Resources.serving l.site p around start (g.P.Port.seen l.port).mine);
   tools : g.H.Resources.tools l.schedulers ≡ g.H.Resources.tools l.fn.schedulers;
 }
 
@@ -37,10 +41,12 @@ decreases-serve-tasks g l = g.H.Schedulers.left l.site
 
 abbrev pub invariant-run_piece-steps : goal.invariant-run_piece-steps
 invariant-run_piece-steps g l = record {
-  back : IsBack g.H.Resources.passes (g.P.Port.seen l.fn.port) (g.P.Port.seen l.port);
+  back : IsBack (g.P.Port.seen l.fn.port) (g.P.Port.seen l.port);
   construct : g.H.Resources.construct l.around ≡ g.H.Resources.construct l.fn.around;
   stays : StaysSettled (g.H.Resources.settled l.fn.around) (g.H.Schedulers.owed l.fn.around) (g.H.Resources.settled l.around) (g.H.Schedulers.owed l.around);
+  served : StaysServed (g.H.Resources.serving l.fn.around) (g.H.Schedulers.lent l.fn.around) (g.H.Resources.serving l.around) (g.H.Schedulers.lent l.around);
   left : g.H.Schedulers.left l.around ≤ g.H.Schedulers.left l.fn.around;
+  account : WhereAlone (g.P.Port.seen l.fn.port) (λ p around es. g.H.Resources.going l.running p around es (g.P.Port.seen l.port).mine);
   job : g.H.Resources.job_of l.running ≡ l.fn.job;
   ready : g.H.Resources.ready l.running;
   tools : g.H.Resources.tools l.schedulers ≡ g.H.Resources.tools l.fn.schedulers;

@@ -26,11 +26,11 @@ sweep_children-children-preserved g t c =
     subst (λ o. NextChild h.plan o c.in-Some.child c.next_sibling-next.result) (sym back.owner)
     (subst (λ (p : Plan). NextChild p start.owner c.in-Some.child c.next_sibling-next.result) plan next) in
     record {
-      back = back_then ⊥ start h a back c.sweep_site.ensures.back;
-      over = over_more ⊥ h a c.in-Some.child c.next_sibling-next.result c.sweep_site.ensures.back over here c.sweep_site.ensures.over;
+      back = back_then start h a back c.sweep_site.ensures.back;
+      over = over_more h a c.in-Some.child c.next_sibling-next.result c.sweep_site.ensures.back over here c.sweep_site.ensures.over;
       count = omega (arith, c.children.invariant.count, c.sweep_site.ensures.count);
       swept = swept_more g.P.Port.register_gives start h a (g.P.Port.refused c.args.port.now) (g.P.Port.refused c.children.port) (g.P.Port.refused c.sweep_site.new.port) c.in-Some.child c.next_sibling-next.result
-          (back_refl ⊥ start c.requires.inner) (back_refl ⊥ a c.sweep_site.ensures.back.inner) back c.sweep_site.ensures.back c.children.invariant.count c.sweep_site.ensures.count
+          (back_refl start c.requires.inner) (back_refl a c.sweep_site.ensures.back.inner) back c.sweep_site.ensures.back c.children.invariant.count c.sweep_site.ensures.count
           (subst (AreSweptBefore g.P.Port.register_gives start (g.P.Port.refused c.args.port.now) h (g.P.Port.refused c.children.port)) c.in-Some.is c.children.invariant.swept)
           (subst (λ (p : Plan). NextChild p start.owner c.in-Some.child c.next_sibling-next.result) (sym c.requires.plan) next) c.sweep_site.ensures.swept;
       child = next_child c.args.tree.now start.owner c.in-Some.child c.next_sibling-next.result next;
@@ -56,8 +56,8 @@ sweep_site-returns-in-Ok-clause-back g t c =
     let is_plan : IsPlan h.plan = subst IsPlan (ap (λ (x : PortView). x.plan) is) c.in-Ok.ensures.kept.plan in
     let site = subst (λ p. IsSite p s) (sym c.requires.plan) c.requires.known in
     let child : h.owner ≡ parent h.plan s = subst (λ p. h.owner ≡ parent p s) (sym c.requires.plan) c.requires.child in
-    let all = back_over ⊥ h a b d s is_plan site child c.requires.inner is c.sweep_children.ensures.back c.finish_site.ensures.looked in
-    subst (IsBack ⊥ h) (sym c.unregister.ensures.does) all.0
+    let all = back_over h a b d s is_plan site child c.requires.inner is c.sweep_children.ensures.back c.finish_site.ensures.looked in
+    subst (IsBack h) (sym c.unregister.ensures.does) all.0
 
 pub sweep_site-returns-in-Ok-clause-swept : goal.sweep_site-returns-in-Ok-clause-swept
 sweep_site-returns-in-Ok-clause-swept g t c =

@@ -14,7 +14,7 @@ decreases-sweep_site g l = 2 * (site_count l.tree.now - (g.P.Port.seen l.port.no
 
 abbrev pub invariant-sweep_children-children : goal.invariant-sweep_children-children
 invariant-sweep_children-children g l = record {
-  back : IsBack ⊥ (g.P.Port.seen l.fn.port) (g.P.Port.seen l.port);
+  back : IsBack (g.P.Port.seen l.fn.port) (g.P.Port.seen l.port);
   over : ChildrenOverBefore (g.P.Port.seen l.port) l.next;
   count : g.P.Port.refused l.fn.port ≤ g.P.Port.refused l.port;
   swept : AreSweptBefore g.P.Port.register_gives (g.P.Port.seen l.fn.port) (g.P.Port.refused l.fn.port) (g.P.Port.seen l.port) (g.P.Port.refused l.port) l.next;

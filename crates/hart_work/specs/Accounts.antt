@@ -1,0 +1,72 @@
+-- The account of sites of a hart that shares the table with nobody, whose entries are so the whole journal: what is said of the plan,
+-- of the site that the hart is in, and of entries.
+use Rattle.std.specs.Prelude.{◌≡◌, ℕ, ◌+◌, ◌-◌, ◌≤◌, true, List}
+use Rattle.transfer_table.specs.Plan.{Plan, IsSite, parent}
+use Rattle.transfer_table.specs.Entry.{unregisters, skips_over}
+use Rattle.transfer_table.specs.declared.entry.Entry.{Entry}
+use Rattle.hart_port.specs.PortView.{PortView}
+use Rattle.site_accounts.specs.Accounts.{AreFresh, IsFresh, IsSpan}
+use Rattle.site_accounts.specs.Laws.{IsSkippedSpan}
+use Rattle.contexts.specs.declared.machine.Step.{Step}
+use Rattle.contexts.specs.declared.machine.Step.TheVariants.{More, Nest, Finished, NoMemory}
+use Rattle.hart_work.specs.declared.found.Found.{Found}
+use Rattle.hart_work.specs.declared.found.Found.TheVariants as found
+use Rattle.hart_work.specs.declared.schedulers.Task.{Task}
+use Rattle.hart_work.specs.declared.schedulers.Task.TheVariants.{Piece, Visit, Nothing}
+
+-- Of a machine in a site, between the entries with which it began its job and those of now.
+abbrev pub Account : Type 1
+Account = Plan → ℕ → List Entry → List Entry → Type 0
+
+-- The account that was in order is so, and of a construct it is told in what state it is.
+abbrev pub Follows : Account → Account → Type 0
+Follows before after = (p : Plan) (around : ℕ) (start es : List Entry) → before p around start es
+    → after p around start es
+
+-- The hart is told to skip whole subtrees with which nobody has done anything. Once they are skipped the account goes on.
+abbrev pub FollowsSkips : ℕ → ℕ → Account → Account → Type 0
+FollowsSkips first end before after =
+    (p : Plan) (around : ℕ) (start es : List Entry) → before p around start es
+    → IsSpan p around first (end - first) × AreFresh p es first (end - first)
+    × ((es' : List Entry) → IsSkippedSpan p es es' first (end - first) → after p around start es')
+
+-- With a step a machine's account goes on. A construct that it hands out is fresh, and the account waits for it; where it is
+-- finished, its job was run.
+abbrev pub Accounts : {N : Type 0} → (Plan → ℕ → List Entry → N → Type 0)
+    → (Plan → List Entry → List Entry → Type 0) → Account → Account → (N → Account)
+    → Step (Found N) → Type 0
+Accounts fresh ran before after awaiting More = Follows before after
+Accounts fresh ran before after awaiting (Nest (found.Nest nested)) =
+    Follows before (λ p around start es.
+    awaiting nested p around start es × fresh p around es nested)
+Accounts fresh ran before after awaiting (Nest (found.Pass first end)) =
+    FollowsSkips first end before after
+Accounts fresh ran before after awaiting Finished =
+    Follows before (λ p around start es. ran p start es)
+Accounts fresh ran before after awaiting NoMemory = Unit {0}
+
+-- The site is a child of the one around, and nobody registered or skipped it.
+pub record IsFreshChild (p : Plan) (around : ℕ) (es : List Entry) (s : ℕ) : Type 0 where
+  pub site : IsSite p s
+  pub parent : parent p s ≡ around
+  pub fresh : IsFresh p es s
+
+-- With a task that is a job, the site's account waits for it. There is no task to visit a site: no other hart opens one.
+abbrev pub HasServing : {J : Type 0} → Type 0 → (J → Type 0) → Task J → Type 0
+HasServing serving lent (Piece job) = lent job
+HasServing serving lent (Visit child) = ⊥
+HasServing serving lent Nothing = serving
+
+-- A site's account stays, and so do those that wait for a job.
+abbrev pub StaysServed : {J : Type 0} → Account → (J → Account) → Account → (J → Account) → Type 0
+StaysServed {J} serving lent serving' lent' =
+    Follows serving serving' × ((job : J) → Follows (lent job) (lent' job))
+
+-- Each site inside was unregistered, or it or a site around it was skipped.
+abbrev pub HaveEnded : Plan → ℕ → List Entry → Type 0
+HaveEnded p around es = (c : ℕ) → IsSite p c → parent p c ≡ around
+    → 1 ≤ unregisters c es + skips_over p c es
+
+-- Of a hart's view: where it is alone, this is so of its plan, its site and its entries.
+abbrev pub WhereAlone : PortView → (Plan → ℕ → List Entry → Type 0) → Type 0
+WhereAlone v told = v.alone ≡ true → told v.plan v.owner v.mine
