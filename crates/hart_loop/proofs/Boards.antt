@@ -38,6 +38,7 @@ new_hart name p h v is = record {
   };
   starts = record {
     plan = ap (λ (w : PortView). w.plan) is;
+    shared = ap (λ (w : PortView). w.alone) is;
     base = ap (λ (w : PortView). w.owner) is;
     inner = λ s inner. ap (λ (w : PortView). is_in w.homes s) is ∙ replicate_at (site_count p + 1) s false;
   };

@@ -2,4 +2,5 @@ pub mod Crossings
 pub mod Crews
 mod Boards
 mod Seats
+mod NoAccounts
 mod SameHarts

@@ -4,7 +4,7 @@ use Rattle.hart_port.specs.PortView.{PortView}
 use Rattle.site_steps.specs.Back.{IsBack, HasLooked}
 use Rattle.hart_loop.specs.Harts.{IsSameHart}
 
-pub same_back : (v after : PortView) → IsBack ⊥ v after → IsSameHart v after
+pub same_back : (v after : PortView) → IsBack v after → IsSameHart v after
 same_back v after back = record {
   plan = back.plan;
   hart = back.hart;
@@ -12,7 +12,7 @@ same_back v after back = record {
 }
 
 -- so is one that came back twice, and then looked at sites
-pub same_looked : (v w u after : PortView) → IsBack ⊥ v w → IsBack ⊥ w u → HasLooked u after → IsSameHart v after
+pub same_looked : (v w u after : PortView) → IsBack v w → IsBack w u → HasLooked u after → IsSameHart v after
 same_looked v w u after ran swept looked = record {
   plan = ap (λ (h : PortView). h.plan) looked.same ∙ swept.plan ∙ ran.plan;
   hart = ap (λ (h : PortView). h.hart) looked.same ∙ swept.hart ∙ ran.hart;

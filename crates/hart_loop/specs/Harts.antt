@@ -1,5 +1,5 @@
 -- How a hart of several begins and ends a run.
-use Rattle.std.specs.Prelude.{◌≡◌, ◌<◌, ℕ, true, List, length, slice_index_or, Option, Some, IfSome, All}
+use Rattle.std.specs.Prelude.{◌≡◌, ◌<◌, ℕ, true, false, List, length, slice_index_or, Option, Some, IfSome, All}
 use Rattle.std.specs.List.{AllZip}
 use Rattle.transfer_table.specs.Plan.{Plan, IsSite, parent}
 use Rattle.hart_port.specs.PortView.{PortView, is_in}
@@ -9,9 +9,10 @@ use Rattle.array_jobs.specs.PieceParts.{PieceParts}
 use Rattle.hart_tools.specs.Kins.{ToolKins}
 use Rattle.hart_loop.specs.declared.hart.Hart.{Hart}
 
--- the hart is in the base, and the home of no site
+-- the hart is in the base, and the home of no site; others may share the table
 pub record StartsIn (p : Plan) (v : PortView) : Type 0 where
   pub plan : v.plan ≡ p
+  pub shared : v.alone ≡ false
   pub base : v.owner ≡ 0
   pub inner : IsSettled v
 

@@ -1,3 +1,4 @@
 pub mod Openings
 pub mod Offers
 pub mod Harts
+pub mod NoAccounts

@@ -9,7 +9,7 @@ use array_jobs::{Job, Piece};
 use base_sched::{Base, BaseHand};
 use hart_tools::Tools;
 use hart_work::{run_piece, serve};
-use site_steps::{PatientPort, SiteTree, finish_base, sweep_failed};
+use site_steps::{PatientPort, SiteTree, finish_base, sweep_if};
 use std::alloc::{AllocError, Global};
 use std::sync::{Mutex, Wait};
 
@@ -108,7 +108,7 @@ fn run_body<'a, 'p, P: PatientPort, R: Wait, S: InDirectory<'p>, F: Fn(u8, u16, 
         &mut base,
         job,
     );
-    sweep_failed(tree, &mut hart.port, hold, piece.is_err());
+    sweep_if(tree, &mut hart.port, hold, piece.is_err());
     BaseHand::new(hart.base).shut(rt);
     finish_base(tree, &mut hart.port, hold);
     piece

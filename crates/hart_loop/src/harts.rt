@@ -1,12 +1,15 @@
 //! The schedulers of the sites, and the machines, as one of several harts has them.
-ghost use Rattle.std.specs.Prelude.{◌≡◌, ◌≢◌, ◌≤◌, ◌⊎◌, IfOk, OnOk, IsSome, Some, None, false};
-ghost use Rattle.transfer_table.specs.Plan.{IsSite, parent as parent_of};
+ghost use Rattle.std.specs.Prelude.{◌≡◌, ◌≢◌, ◌≤◌, ◌⊎◌, ℕ, List, IfOk, OnOk, IsSome, Some, None, false};
+ghost use Rattle.transfer_table.specs.Plan.{Plan, IsSite, parent as parent_of};
+ghost use Rattle.transfer_table.specs.declared.entry.Entry.{Entry};
 ghost use Rattle.hart_port.specs.Count.{Rose};
 ghost use Rattle.hart_port.specs.PortView.{IsPortView};
 ghost use Rattle.step_eval.specs.Nests.{NestedParts, nested_of, nested_writes};
 ghost use Rattle.step_eval.specs.Machines.{left_of, is_awaiting, IsFinished};
 ghost use Rattle.contexts.specs.declared.machine.Step.TheVariants.{Finished};
 ghost use Rattle.hart_work.specs.Tasks.{Goes, HasEntered};
+ghost use Rattle.hart_work.specs.Accounts.{Accounts};
+ghost use Rattle.hart_loop.specs.NoAccounts.{no_account, no_fresh, no_run_job, no_run};
 ghost use Rattle.lone_hart.specs.Sites.{IsAwaitingWrites};
 ghost use Rattle.hart_tools.specs.Places.{Fits, entrance_of};
 ghost use Rattle.hart_loop.specs.Offers.{opened_by, IsOpened, task_told};
@@ -148,6 +151,7 @@ impl<'a, 'p, S: InDirectory<'p>> Resources for HartSchedulers<'a, 'p, S> {
     ghost use Rattle.step_eval.specs.Machines.{left_of, is_awaiting, IsFinished};
     ghost use Rattle.lone_hart.specs.Sites.{IsAwaitingWrites};
     ghost use Rattle.hart_loop.specs.Offers.{opened_by, IsOpened};
+    ghost use Rattle.hart_loop.specs.NoAccounts.{no_account, no_fresh_job, no_fresh, no_run_job, no_run};
 
     type Job = Job<'p>;
 
@@ -188,14 +192,26 @@ impl<'a, 'p, S: InDirectory<'p>> Resources for HartSchedulers<'a, 'p, S> {
 
     ghost finished = { IsFinished };
 
-    // Under an `if` an accepted program has no construct.
-    ghost passes = { ⊥ };
-
     ghost construct = { λ site. opened_by site.keeper };
 
     // What stands behind a lock may have changed with every look. So a site owes nothing, and is settled as soon as the
     // scheduler was made for its construct.
     ghost settled = { λ site. IsOpened S.held site.keeper };
+
+    // Others share the table, so no account is kept of what this hart did with sites.
+    ghost fresh_job = { no_fresh_job };
+
+    ghost fresh = { no_fresh };
+
+    ghost ran_job = { no_run_job };
+
+    ghost ran = { no_run };
+
+    ghost going = { λ _. no_account };
+
+    ghost awaiting = { λ _ _. no_account };
+
+    ghost serving = { λ _. no_account };
 
     fn start(
         &mut self,
@@ -207,10 +223,12 @@ impl<'a, 'p, S: InDirectory<'p>> Resources for HartSchedulers<'a, 'p, S> {
 
     fn step(&mut self, running: &mut Running<StepMachine<'p>>) -> Step<Found<Nested<'p>>>
         requires { is_awaiting running.old.stage ≡ false }
-        ensures goes { Goes (λ (n : NestedParts). nested_writes (nested_of n)) ⊥ result
+        ensures goes { Goes (λ (n : NestedParts). nested_writes (nested_of n)) result
             (left_of running.old.stage running.old.rest)
             (left_of running.new.stage running.new.rest) (is_awaiting running.new.stage ≡ false)
             (IsAwaitingWrites running.new) (running.new.job ≡ running.old.job) }
+        ensures account { Accounts no_fresh (λ p start es. no_run_job p start es running.old.job)
+            no_account no_account (λ _. no_account) result }
         ensures finished { result ≡ Finished → IsFinished running.new }
         ensures tools { self.new.tools ≡ self.old.tools }
     {
@@ -228,6 +246,9 @@ impl<'a, 'p, S: InDirectory<'p>> Resources for HartSchedulers<'a, 'p, S> {
         ensures left { OnOk result
             (left_of running.new.stage running.new.rest
             ≡ left_of running.old.stage running.old.rest) }
+        ensures going { OnOk result ((nested : NestedParts) (p : Plan) (around : ℕ)
+            (start es es' : List Entry) → no_account p around start es → no_run p es es' nested
+            → no_account p around start es') }
         ensures tools { self.new.tools ≡ self.old.tools }
     {
         running.machine().supply(&written)
@@ -283,12 +304,17 @@ impl<'a, 'p, S: InDirectory<'p>> Resources for HartSchedulers<'a, 'p, S> {
 
 impl<'a, 'p, S: InDirectory<'p>, R: Wait> Schedulers<R> for HartSchedulers<'a, 'p, S> {
     ghost use Rattle.hart_loop.specs.Offers.{IsOpened};
+    ghost use Rattle.hart_loop.specs.NoAccounts.{no_account};
 
     ghost left = { λ site. site.turns };
 
     ghost owed = { λ site _. IsOpened S.held site.keeper };
 
     ghost over = { λ site. IsOpened S.held site.keeper };
+
+    ghost lent = { λ _ _. no_account };
+
+    ghost failed = { λ _. ⊥ };
 
     ghost hears = { λ _ _ _. Unit {0} };
 

@@ -3,7 +3,7 @@ use Rattle.std.proofs.Common.{◌≡◌, ◌≢◌, ℕ, zero, suc, ◌<◌, ◌
 use Rattle.std.proofs.lemmas.Bool.{cases_eq, cases_lt}
 use Rattle.std.specs.Option.{option_map}
 use Rattle.std.proofs.lemmas.Option.{slice_get_within, slice_get-map}
-use Rattle.array_jobs.specs.Jobs.{JobParts, job_of}
+use Rattle.array_jobs.specs.Jobs.{JobParts, JobTree, job_of}
 use Rattle.array_jobs.specs.Groups.{IsGroup}
 use Rattle.join_book.specs.Books.{BookParts, Mark, Open, IsMarked, IsPlaceOf, IsFull, open_book, marked_book}
 use Rattle.join_book.proofs.BookLemmas.{at_other, at_same, at_replicate}
@@ -51,28 +51,24 @@ replicate_size (suc n) x = ap suc (replicate_size n x)
 
 -- no job of an open book was handed out
 pub none_out : {C : Type 0} (begin : JobParts → C) (jobs : List JobParts) (agenda : AgendaParts C) → IsGroup (map job_of jobs) → agenda.ready ≡ [] → agenda.unbegun ≡ map begin jobs →
-    AllCameBack begin (open_book jobs) agenda
-none_out begin jobs agenda group none all = (
-  0,
-  record {
-    none_ready = none;
-    unbegun = all;
-    back = λ i less. absurd (omega arith);
-    away = λ i up within.
-        let at = there (replicate (length jobs) Open) i (subst (λ n. i < n) (sym (replicate_size (length jobs) Open)) within) in
-        at.1 ∙ ap Some (at_replicate (length jobs) i Open at.0 at.1);
-    each = replicate_size (length jobs) Open;
-    own = λ i job is. group.places i (job_of job) (slice_get-map job_of jobs i ∙ ap (option_map job_of) is);
-  },
-)
+    Stands begin (open_book jobs) agenda 0 0
+none_out begin jobs agenda group none all = record {
+  none_ready = none;
+  unbegun = all;
+  back = λ i less. absurd (omega arith);
+  away = λ i up within.
+      let at = there (replicate (length jobs) Open) i (subst (λ n. i < n) (sym (replicate_size (length jobs) Open)) within) in
+      at.1 ∙ ap Some (at_replicate (length jobs) i Open at.0 at.1);
+  each = replicate_size (length jobs) Open;
+  own = λ i job is. group.places i (job_of job) (slice_get-map job_of jobs i ∙ ap (option_map job_of) is);
+}
 
 -- the job that is handed out next is the first that isn't begun
-pub hand_out : {C : Type 0} (begin : JobParts → C) → IsOneToOne begin → (book : BookParts) (before after : AgendaParts C) (job : JobParts) → AllCameBack begin book before →
-    TakesNext before (Run (begin job)) after → AllButOneCameBack begin book after job
-hand_out begin one book before after job (k, stands) (inl taken) = absurd (no_first before.ready after.ready (begin job) stands.none_ready taken.first)
-hand_out begin one book before after job (k, stands) (inr taken) =
+pub handed : {C : Type 0} (begin : JobParts → C) → IsOneToOne begin → (book : BookParts) (before after : AgendaParts C) (job : JobParts) (k : ℕ) → Stands begin book before k k →
+    TakesNext before (Run (begin job)) after → (slice_get book.jobs k ≡ Some job) × Stands begin book after k (suc k)
+handed begin one book before after job k stands (inl taken) = absurd (no_first before.ready after.ready (begin job) stands.none_ready taken.first)
+handed begin one book before after job k stands (inr taken) =
     let found = drop_first begin one k book.jobs job after.unbegun (sym stands.unbegun ∙ taken.first) in (
-      k,
       found.0,
       record {
         none_ready = ap (λ (a : AgendaParts _). a.ready) taken.rest ∙ stands.none_ready;
@@ -83,6 +79,10 @@ hand_out begin one book before after job (k, stands) (inr taken) =
         own = stands.own;
       },
     )
+
+pub hand_out : {C : Type 0} (begin : JobParts → C) → IsOneToOne begin → (book : BookParts) (before after : AgendaParts C) (job : JobParts) → AllCameBack begin book before →
+    TakesNext before (Run (begin job)) after → AllButOneCameBack begin book after job
+hand_out begin one book before after job (k, stands) taken = let next = handed begin one book before after job k stands taken in (k, next.0, next.1)
 
 -- fewer jobs are left then
 pub hand_out_less : {C : Type 0} (c : C) (before after : AgendaParts C) → before.ready ≡ [] → TakesNext before (Run c) after → length after.unbegun < length before.unbegun
@@ -154,3 +154,20 @@ heard begin book agenda wishes done begun stands = record {
   each = stands.each;
   own = stands.own;
 }
+
+-- where the book is full, all its jobs came back
+pub all_back : {C : Type 0} (begin : JobParts → C) (book : BookParts) (agenda : AgendaParts C) (done begun : ℕ) → Stands begin book agenda done begun → IsFull book → length book.jobs ≤ done
+all_back begin book agenda done begun stands is_full = elim (cases_lt done (length book.jobs)) [
+  | inl less ↦ absurd (is_full done (stands.away done (omega arith) less))
+  | inr up ↦ up
+]
+
+-- the place that was open is marked
+pub marked_now : (places : List Mark) (i : ℕ) (mark other : Mark) → slice_get places i ≡ Some other → slice_get (slice_set places i mark) i ≡ Some mark
+marked_now [] i mark other is = cc
+marked_now (p ∷ ps) zero mark other is = refl
+marked_now (p ∷ ps) (suc i) mark other is = marked_now ps i mark other is
+
+-- which jobs of a phase there are, seen without where they lie
+pub seen_job : (jobs : List JobParts) (trees : List JobTree) (k : ℕ) (job : JobParts) → map job_of jobs ≡ trees → slice_get jobs k ≡ Some job → slice_get trees k ≡ Some (job_of job)
+seen_job jobs trees k job same is = ap (λ js. slice_get js k) (sym same) ∙ slice_get-map job_of jobs k ∙ ap (option_map job_of) is

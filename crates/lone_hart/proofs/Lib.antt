@@ -1,7 +1,8 @@
 pub mod Accounts
-pub mod Ends
 pub mod Hearings
+pub mod ServedPools
+pub mod ServedSites
+pub mod ServedTeams
 pub mod Steps
 pub mod Stores
 pub mod TeamAccounts
-pub mod Unpassed

@@ -28,7 +28,7 @@ not_full [] some is = omega arith
 not_full (job ∷ jobs) some is = is 0 refl
 
 -- the jobs of a phase are a group
-are_group : (nested : NestedParts) → IsFitNest (nested_of nested) → (phase : ℕ) (jobs : List JobParts) → AreJobsIn nested phase jobs → IsGroup (map job_of jobs)
+pub are_group : (nested : NestedParts) → IsFitNest (nested_of nested) → (phase : ℕ) (jobs : List JobParts) → AreJobsIn nested phase jobs → IsGroup (map job_of jobs)
 are_group nested fit phase jobs are =
     subst IsGroup (sym are.same) (jobs_are_groups (nested_of nested) fit phase (store_before (nested_of nested) phase) are.there)
 
@@ -39,7 +39,7 @@ begins nested fit phase jobs are t open_is none all =
     let group = are_group nested fit phase jobs are in
     record {
       waits = subst (λ (b : BookParts). ¬ IsFull b) (sym open_is) (not_full jobs (subst (λ n. 0 < n) (length-map jobs job_of) group.some));
-      account = subst (λ (b : BookParts). AllCameBack Begin b t.agenda) (sym open_is) (none_out Begin jobs t.agenda group none all);
+      account = subst (λ (b : BookParts). AllCameBack Begin b t.agenda) (sym open_is) (0, none_out Begin jobs t.agenda group none all);
     }
 
 plus_le : (n a b : ℕ) → a ≤ b → n + a ≤ n + b

@@ -2,7 +2,7 @@
 use Rattle.std.specs.Prelude.{◌≡◌, ◌⊎◌, ℕ, ℤ, suc, ◌+◌, ◌-◌, ◌*◌, List, length, map, Option, Some, None}
 use Rattle.array_tree.specs.Trees.{statement_of}
 use Rattle.array_jobs.specs.Jobs.{JobParts, job_of}
-use Rattle.join_book.specs.Books.{IsFull}
+use Rattle.join_book.specs.Books.{IsFull, HasFailed}
 use Rattle.step_eval.specs.Nests.{NestedParts, nested_of, phases_of, jobs_in, IsFitNest}
 use Rattle.step_eval.specs.Machines.{Progress, AreAwaited}
 use Rattle.step_eval.specs.declared.stage.Stage.TheVariants.{Awaiting}
@@ -61,7 +61,7 @@ IsOwed (Team t) job = AllButOneCameBack team.Begin t.barrier t.agenda job
 -- its work is over
 abbrev pub IsOverSite : LoneSite → Type 0
 IsOverSite (Base base) = Unit {0}
-IsOverSite (Pool nested p) = IsPoolOf nested p × IsFull p.book
+IsOverSite (Pool nested p) = IsPoolOf nested p × (IsFull p.book ⊎ HasFailed p.book)
 IsOverSite (Team t) = IsOver t
 
 -- what a callback of the site's scheduler did that told this

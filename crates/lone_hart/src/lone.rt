@@ -1,10 +1,14 @@
 //! The schedulers of the sites, and the machines, as the only hart has them.
-ghost use Rattle.std.specs.Prelude.{◌≡◌, ◌≤◌, IfOk, OnOk, IsSome, Some, false};
+ghost use Rattle.std.specs.Prelude.{◌≡◌, ◌≤◌, ℕ, List, IfOk, OnOk, IsSome, Some, false};
 ghost use Rattle.step_eval.specs.Nests.{NestedParts, nested_of, nested_writes};
 ghost use Rattle.step_eval.specs.Machines.{left_of, is_awaiting, IsFinished};
 ghost use Rattle.contexts.specs.declared.machine.Step.TheVariants.{Finished};
 ghost use Rattle.hart_work.specs.Tasks.{HasNext, HasAccount, Goes};
+ghost use Rattle.hart_work.specs.Accounts.{Accounts};
 ghost use Rattle.lone_hart.specs.Sites.{construct_in, jobs_left, IsSettledSite, IsOwed, IsOverSite, HearsAt, IsAwaitingWrites};
+ghost use Rattle.lone_hart.specs.Served.{is_fresh_job, is_fresh, is_run_job, is_run, is_going, is_waiting, is_serving, is_lent, is_failed};
+ghost use Rattle.transfer_table.specs.Plan.{Plan};
+ghost use Rattle.transfer_table.specs.declared.entry.Entry.{Entry};
 
 use crate::machines::{as_seen, started};
 use crate::pools::{deposit_in_pool, fail_in_pool, next_of_pool, open_pool, take_from_pool};
@@ -39,6 +43,7 @@ impl<'p> Resources for LoneSchedulers<'p> {
     ghost use Rattle.step_eval.specs.Nests.{nested_of, nested_writes};
     ghost use Rattle.step_eval.specs.Machines.{left_of, is_awaiting, IsFinished};
     ghost use Rattle.lone_hart.specs.Sites.{construct_in, IsSettledSite, IsAwaitingWrites};
+    ghost use Rattle.lone_hart.specs.Served.{is_fresh_job, is_fresh, is_run_job, is_run, is_going, is_waiting, is_serving};
 
     type Job = Job<'p>;
 
@@ -79,12 +84,23 @@ impl<'p> Resources for LoneSchedulers<'p> {
 
     ghost finished = { IsFinished };
 
-    // Under an `if` an accepted program has no construct.
-    ghost passes = { ⊥ };
-
     ghost construct = { construct_in };
 
     ghost settled = { IsSettledSite };
+
+    ghost fresh_job = { is_fresh_job };
+
+    ghost fresh = { is_fresh };
+
+    ghost ran_job = { is_run_job };
+
+    ghost ran = { is_run };
+
+    ghost going = { is_going };
+
+    ghost awaiting = { is_waiting };
+
+    ghost serving = { is_serving };
 
     fn start(
         &mut self,
@@ -96,10 +112,13 @@ impl<'p> Resources for LoneSchedulers<'p> {
 
     fn step(&mut self, running: &mut Running<StepMachine<'p>>) -> Step<Found<Nested<'p>>>
         requires { is_awaiting running.old.stage ≡ false }
-        ensures goes { Goes (λ (n : NestedParts). nested_writes (nested_of n)) ⊥ result
+        ensures goes { Goes (λ (n : NestedParts). nested_writes (nested_of n)) result
             (left_of running.old.stage running.old.rest)
             (left_of running.new.stage running.new.rest) (is_awaiting running.new.stage ≡ false)
             (IsAwaitingWrites running.new) (running.new.job ≡ running.old.job) }
+        ensures account { Accounts is_fresh (λ p start es. is_run_job p start es running.old.job)
+            (is_going running.old) (is_going running.new)
+            (λ nested. is_waiting nested running.new) result }
         ensures finished { result ≡ Finished → IsFinished running.new }
     {
         as_seen(running.machine().go())
@@ -116,6 +135,9 @@ impl<'p> Resources for LoneSchedulers<'p> {
         ensures left { OnOk result
             (left_of running.new.stage running.new.rest
             ≡ left_of running.old.stage running.old.rest) }
+        ensures going { OnOk result ((nested : NestedParts) (p : Plan) (around : ℕ)
+            (start es es' : List Entry) → is_waiting nested running.old p around start es
+            → is_run p es es' nested → is_going running.new p around start es') }
     {
         running.machine().supply(&written)
     }
@@ -159,12 +181,17 @@ impl<'p> Resources for LoneSchedulers<'p> {
 
 impl<'p, R> Schedulers<R> for LoneSchedulers<'p> {
     ghost use Rattle.lone_hart.specs.Sites.{jobs_left, IsOwed, IsOverSite, HearsAt};
+    ghost use Rattle.lone_hart.specs.Served.{is_lent, is_failed};
 
     ghost left = { jobs_left };
 
     ghost owed = { IsOwed };
 
     ghost over = { IsOverSite };
+
+    ghost lent = { is_lent };
+
+    ghost failed = { is_failed };
 
     ghost hears = { HearsAt };
 

@@ -1,6 +1,6 @@
 //! Machines in their contexts.
-ghost use Rattle.std.specs.Prelude.{◌≡◌, IfOk, false};
-ghost use Rattle.step_eval.specs.Machines.{is_awaiting};
+ghost use Rattle.std.specs.Prelude.{◌≡◌, IfOk};
+ghost use Rattle.step_eval.specs.Machines.{fresh_machine};
 ghost use Rattle.lone_hart.specs.Met.{as_seen};
 
 use array_jobs::Job;
@@ -11,8 +11,7 @@ use step_eval::{Found as Met, Nested, StepMachine};
 
 /// A context that runs a machine for the job.
 pub fn started<'p>(alloc: Global, job: Job<'p>) -> Result<Running<StepMachine<'p>>, AllocError>
-    ensures job { IfOk result (λ running. running.job ≡ job.entry) }
-    ensures ready { IfOk result (λ running. is_awaiting running.stage ≡ false) }
+    ensures { IfOk result (λ running. running ≡ fresh_machine job.entry) }
 {
     match ctx_init(alloc, StepMachine::new(alloc, job)?) {
         Ok(fresh) => Ok(ctx_run(fresh)),

@@ -1,12 +1,17 @@
 //! Pools, as the only hart has them.
-ghost use Rattle.std.specs.Prelude.{◌≡◌, ◌≤◌, IfOk, length, suc, map};
+ghost use Rattle.std.specs.Prelude.{◌≡◌, ◌≤◌, ◌⊎◌, ℕ, List, IfOk, IsErr, length, suc, map};
+ghost use Rattle.transfer_table.specs.Plan.{Plan};
+ghost use Rattle.transfer_table.specs.declared.entry.Entry.{Entry};
 ghost use Rattle.array_tree.specs.Trees.{statement_of};
 ghost use Rattle.array_jobs.specs.Jobs.{JobParts, job_of};
-ghost use Rattle.join_book.specs.Books.{IsFull};
-ghost use Rattle.step_eval.specs.Nests.{nested_of, nested_writes, phases_of, jobs_in};
+ghost use Rattle.join_book.specs.Books.{Filled, IsFull, HasFailed, marked_book};
+ghost use Rattle.step_eval.specs.Nests.{NestedParts, nested_of, nested_writes, phases_of, jobs_in};
+ghost use Rattle.machine_accounts.specs.Machines.{IsFreshJob};
 ghost use Rattle.forkjoin_sched.specs.declared.work.PoolWork.TheVariants.{Begin};
 ghost use Rattle.hart_work.specs.Tasks.{HasNext, HasAccount};
-ghost use Rattle.lone_hart.specs.Accounts.{AllCameBack, AllButOneCameBack};
+ghost use Rattle.hart_work.specs.Accounts.{HasServing};
+ghost use Rattle.lone_hart.specs.Accounts.{Stands, AllCameBack, AllButOneCameBack};
+ghost use Rattle.lone_hart.specs.Served.{serves_pool, LendsJob};
 ghost use Rattle.lone_hart.specs.Sites.{IsPoolOf};
 
 use array_eval::Overlay;
@@ -21,12 +26,12 @@ use step_eval::{Nested, jobs_of};
 pub fn open_pool<'p>(alloc: Global, nested: &Nested<'p>) -> Result<Pool<'p>, AllocError>
     requires { phases_of (statement_of nested.now.construct) ≡ 1 }
     ensures of { IfOk result (IsPoolOf nested.now) }
-    ensures account { IfOk result (λ pool. AllCameBack Begin pool.book pool.agenda) }
+    ensures none { IfOk result (λ pool. Stands Begin pool.book pool.agenda 0 0) }
 {
     Pool::new(alloc, jobs_of(alloc, nested, 0, &nested.store)?)
 }
 
-/// What the hart does next in the pool: the next job, or nothing where every job came back.
+/// What the hart does next in the pool: the next job, or nothing where every job came back or one failed.
 pub fn next_of_pool<'p>(pool: &mut Pool<'p>) -> Task<Job<'p>>
     requires { AllCameBack Begin pool.old.book pool.old.agenda }
     ensures book { pool.new.book ≡ pool.old.book }
@@ -34,9 +39,14 @@ pub fn next_of_pool<'p>(pool: &mut Pool<'p>) -> Task<Job<'p>>
         (length pool.new.agenda.unbegun) }
     ensures account { HasAccount (AllCameBack Begin pool.new.book pool.new.agenda)
         (AllButOneCameBack Begin pool.new.book pool.new.agenda) result }
-    ensures over { result ≡ Task.Nothing → IsFull pool.new.book }
+    ensures over { result ≡ Task.Nothing → IsFull pool.new.book ⊎ HasFailed pool.new.book }
+    ensures served { (nested : NestedParts) (p : Plan) (around : ℕ) (start es : List Entry)
+        → serves_pool nested pool.old p around start es
+        → HasServing (serves_pool nested pool.new p around start es) (λ job.
+        LendsJob p around start es nested pool.new job × IsFreshJob p around es (job_of job))
+        result }
 {
-    if pool.is_full() {
+    if pool.has_failed() || pool.is_full() {
         return Task::Nothing;
     }
     match sched_reenter(pool, ()) {
@@ -52,7 +62,8 @@ pub fn next_of_pool<'p>(pool: &mut Pool<'p>) -> Task<Job<'p>>
 /// A piece came back.
 pub fn deposit_in_pool<'p>(pool: &mut Pool<'p>, piece: Piece<'p>)
     requires { AllButOneCameBack Begin pool.old.book pool.old.agenda piece.job }
-    ensures jobs { pool.new.book.jobs ≡ pool.old.book.jobs }
+    ensures book { pool.new.book
+        ≡ marked_book pool.old.book piece.entry.job.place Filled }
     ensures agenda { pool.new.agenda ≡ pool.old.agenda }
     ensures account { AllCameBack Begin pool.new.book pool.new.agenda }
 {
@@ -66,15 +77,20 @@ pub fn fail_in_pool(pool: &mut Pool, place: u8)
     ensures jobs { pool.new.book.jobs ≡ pool.old.book.jobs }
     ensures agenda { pool.new.agenda ≡ pool.old.agenda }
     ensures account { AllCameBack Begin pool.new.book pool.new.agenda }
+    ensures failed { HasFailed pool.new.book }
 {
     pool.fail(place);
 }
 
-/// What the `par` of a full pool writes.
+/// What the `par` of a pool writes that is full, or of which a piece failed: then the answer is want of memory.
 pub fn take_from_pool<'p>(nested: &Nested<'p>, pool: Pool<'p>) -> Result<Overlay, AllocError>
     requires of { IsPoolOf nested.now pool }
-    requires full { IsFull pool.book }
-    ensures { IfOk result (λ written. written.pairs ≡ nested_writes (nested_of nested.now)) }
+    requires over { IsFull pool.book ⊎ HasFailed pool.book }
+    ensures failed { HasFailed pool.entry.book → IsErr result }
+    ensures written { IfOk result (λ written. written.pairs ≡ nested_writes (nested_of nested.now)) }
 {
+    if pool.has_failed() {
+        return Err(AllocError);
+    }
     pool.take_all()
 }

@@ -1,13 +1,15 @@
 //! Runs on one hart.
-ghost use Rattle.std.specs.Prelude.{◌≡◌, ◌≤◌, IfOk, length};
+ghost use Rattle.std.specs.Prelude.{◌≡◌, ◌≤◌, true, [], IfOk, OnOk, length};
 ghost use Rattle.array_tree.specs.Trees.{ProgramTree, program_of};
 ghost use Rattle.array_meaning.specs.Work.{final_store};
+ghost use Rattle.array_meaning.specs.Plans.{plan_of};
 ghost use Rattle.array_meaning.specs.Entered.{entered_of};
 ghost use Rattle.transfer_table.specs.Plan.{most_entries};
 ghost use Rattle.transfer_table.specs.Journal.{IsComplete};
 ghost use Rattle.array_jobs.specs.Jobs.{job_of};
 ghost use Rattle.array_jobs.specs.Bodies.{body_of};
 ghost use Rattle.array_jobs.specs.PieceParts.{piece_of_job};
+ghost use Rattle.machine_accounts.specs.Machines.{IsRunJob};
 ghost use Rattle.site_steps.specs.Back.{IsSettled, IsBack};
 ghost use Rattle.lone_hart.specs.Journals.{entries_in, IsListed};
 
@@ -20,7 +22,7 @@ use base_sched::Base;
 use disjoint_check::Accepted;
 use hart_port::PlainPort;
 use hart_work::run_piece;
-use site_steps::{SiteTree, sweep_children};
+use site_steps::SiteTree;
 use std::alloc::{AllocError, Global};
 
 /// Runs an accepted program on one hart, and returns. The plan must have one hart.
@@ -41,9 +43,8 @@ pub fn run_alone(alloc: Global, accepted: &Accepted<'_>) -> Result<Outcome, Allo
     let plan = accepted.plan();
     let tree = SiteTree::new(alloc, plan)?;
     let mut port = PlainPort::new(alloc, plan)?;
-    let piece = run_body(alloc, &tree, &mut port, accepted);
-    sweep_children(&tree, &mut port, ());
-    let store = store_after(piece?)?;
+    let piece = run_body(alloc, &tree, &mut port, accepted)?;
+    let store = store_after(piece)?;
     Ok(Outcome {
         store,
         journal: Journal::Listed(port.finish()),
@@ -59,7 +60,12 @@ fn run_body<'p>(
 ) -> Result<Piece<'p>, AllocError>
     requires plan { port.old.view.plan ≡ tree.now }
     requires inner { IsSettled port.old.view }
-    ensures back { IsBack ⊥ port.old.view port.new.view }
+    requires base { port.old.view.owner ≡ 0 }
+    requires none { port.old.view.mine ≡ [] }
+    requires parents { tree.now.parents ≡ plan_of (program_of accepted.now.program) }
+    ensures back { IsBack port.old.view port.new.view }
+    ensures ran { port.old.view.alone ≡ true → OnOk result (IsRunJob tree.now [] port.new.view.mine
+        (body_of (program_of accepted.now.program))) }
     ensures piece { IfOk result
         (λ piece. job_of piece.job ≡ body_of (program_of accepted.now.program)) }
 {

@@ -1,12 +1,18 @@
 //! Teams, as the only hart has them.
-ghost use Rattle.std.specs.Prelude.{◌≡◌, ◌≤◌, ◌⊎◌, IfOk, Some};
+ghost use Rattle.std.specs.Prelude.{◌≡◌, ◌≤◌, ◌⊎◌, ℕ, List, IfOk, Some, true};
+ghost use Rattle.transfer_table.specs.Plan.{Plan};
+ghost use Rattle.transfer_table.specs.declared.entry.Entry.{Entry};
 ghost use Rattle.array_tree.specs.Trees.{statement_of};
 ghost use Rattle.step_eval.specs.Shapes.{kind_of};
-ghost use Rattle.array_jobs.specs.Jobs.{JobParts};
-ghost use Rattle.loop_team.specs.Teams.{IsOver};
+ghost use Rattle.array_jobs.specs.Jobs.{JobParts, job_of};
+ghost use Rattle.step_eval.specs.Nests.{nested_of, IsFitNest};
+ghost use Rattle.machine_accounts.specs.Machines.{IsFreshJob, IsRunJob};
+ghost use Rattle.loop_team.specs.Teams.{IsOver, AreJobsIn};
 ghost use Rattle.loop_team.specs.declared.work.TeamWork.TheVariants.{Begin};
 ghost use Rattle.hart_work.specs.Tasks.{HasNext, HasAccount};
-ghost use Rattle.lone_hart.specs.Accounts.{AllButOneCameBack};
+ghost use Rattle.hart_work.specs.Accounts.{HasServing};
+ghost use Rattle.lone_hart.specs.Accounts.{Stands, AllButOneCameBack};
+ghost use Rattle.lone_hart.specs.Served.{serves_team, LendsMember};
 ghost use Rattle.lone_hart.specs.Sites.{IsRunning, team_jobs_left};
 
 use array_jobs::{Job, Piece};
@@ -21,6 +27,10 @@ pub fn open_team<'p>(alloc: Global, nested: Nested<'p>) -> Result<Team<'p>, Allo
     requires { kind_of (statement_of nested.construct) ≡ Some Kind.Team }
     ensures nested { IfOk result (λ team. team.nested ≡ nested.entry) }
     ensures account { IfOk result IsRunning }
+    ensures opened { IfOk result (λ team. team.opened ≡ 0) }
+    ensures jobs { IfOk result (λ team. AreJobsIn team.nested 0 team.barrier.jobs) }
+    ensures none { IfOk result (λ team. Stands Begin team.barrier team.agenda 0 0) }
+    ensures fit { IfOk result (λ team. IsFitNest (nested_of team.nested)) }
 {
     let team = Team::new(alloc, nested)?;
     // What is known of the construct.
@@ -36,6 +46,10 @@ pub fn next_of_team<'p>(team: &mut Team<'p>) -> Task<Job<'p>>
     ensures account { HasAccount (IsOver team.new ⊎ IsRunning team.new)
         (AllButOneCameBack Begin team.new.barrier team.new.agenda) result }
     ensures over { result ≡ Task.Nothing → IsOver team.new }
+    ensures served { (p : Plan) (around : ℕ) (start es : List Entry)
+        → serves_team team.old p around start es
+        → HasServing (serves_team team.new p around start es) (λ job.
+        LendsMember p around start es team.new job × IsFreshJob p around es (job_of job)) result }
 {
     if team.is_over() {
         return Task::Nothing;
@@ -56,6 +70,9 @@ pub fn arrive_in_team<'p>(team: &mut Team<'p>, piece: Piece<'p>)
     ensures nested { team.new.nested ≡ team.old.nested }
     ensures left { team_jobs_left team.new ≤ team_jobs_left team.old }
     ensures account { IsOver team.new ⊎ IsRunning team.new }
+    ensures served { (p : Plan) (around : ℕ) (start es es' : List Entry)
+        → LendsMember p around start es team.old piece.entry.job
+        → IsRunJob p es es' (job_of piece.entry.job) → serves_team team.new p around start es' }
 {
     // What is known of the construct.
     let _ = team.nested();
@@ -68,7 +85,7 @@ pub fn fail_in_team(team: &mut Team, place: u8)
         × (job.place ≡ place) }
     ensures nested { team.new.nested ≡ team.old.nested }
     ensures left { team_jobs_left team.new ≤ team_jobs_left team.old }
-    ensures over { IsOver team.new }
+    ensures failed { team.new.failed ≡ true }
 {
     team.fail(place);
 }

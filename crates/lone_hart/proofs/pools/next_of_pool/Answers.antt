@@ -1,20 +1,12 @@
-use Rattle.std.proofs.Common.{sym, ap, ◌∙◌, subst}
-use Rattle.array_jobs.specs.Jobs.{JobParts}
+use Rattle.std.proofs.Common.{sym, ap, ◌∙◌, subst, inl, inr}
 use Rattle.sched_api.specs.declared.scheduler.Next.TheVariants.{Run}
 use Rattle.join_book.specs.Books.{BookParts}
 use Rattle.work_agenda.specs.Agenda.{TakesNext}
-use Rattle.forkjoin_sched.specs.declared.work.PoolWork.{PoolWork}
-use Rattle.forkjoin_sched.specs.declared.work.PoolWork.TheVariants.{Begin, Ready}
+use Rattle.forkjoin_sched.specs.declared.work.PoolWork.TheVariants.{Begin}
 use Rattle.lone_hart.specs.Accounts.{AllButOneCameBack}
-use Rattle.lone_hart.proofs.Accounts.{IsOneToOne, hand_out, full, none_to_go_on}
+use Rattle.lone_hart.proofs.Accounts.{hand_out, full, none_to_go_on}
+use Rattle.lone_hart.proofs.ServedPools.{one_to_one, pool_lends}
 use Rattle.lone_hart.proofs.pools.next_of_pool.Goals as goal
-
-one_to_one : IsOneToOne Begin
-one_to_one a b e = ap (λ (w : PoolWork). job_or a w) e
-  where
-    job_or : JobParts → PoolWork → JobParts
-    job_or j (Begin job) = job
-    job_or j (Ready c) = j
 
 pub unreachable-requires : goal.unreachable-requires
 unreachable-requires c =
@@ -48,3 +40,14 @@ returns-clause-account c =
     let taken = subst (λ next. TakesNext before.agenda next after.agenda) (c.in-Run-Begin.is ∙ ap Run c.in-Run-Begin.field-0-is) does.handed in
     subst (λ (book : BookParts). AllButOneCameBack Begin book after.agenda c.in-Run-Begin.job) (sym does.book)
     (hand_out Begin one_to_one before.book before.agenda after.agenda c.in-Run-Begin.job c.requires taken)
+
+pub returns-clause-served : goal.returns-clause-served
+returns-clause-served c = λ nested p around start es serves.
+    let before = c.args.pool.now in
+    let after = c.sched_reenter.new.current in
+    let does = c.sched_reenter.ensures.does in
+    let taken = subst (λ next. TakesNext before.agenda next after.agenda) (c.in-Run-Begin.is ∙ ap Run c.in-Run-Begin.field-0-is) does.handed in
+    elim serves [
+      | inl failed ↦ absurd (let yes = c.has_failed.ensures.1 failed in let none = c.if-has_failed.false in cc)
+      | inr well ↦ pool_lends p around start es nested before after c.in-Run-Begin.job well taken does.book
+    ]

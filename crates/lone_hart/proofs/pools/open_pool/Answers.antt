@@ -2,13 +2,13 @@ use Rattle.std.proofs.Common.{refl, sym, subst}
 use Rattle.std.proofs.lemmas.Result.{IfOk-weaker}
 use Rattle.forkjoin_sched.specs.Pools.{PoolParts, new_pool}
 use Rattle.forkjoin_sched.specs.declared.work.PoolWork.TheVariants.{Begin}
-use Rattle.lone_hart.specs.Accounts.{AllCameBack}
+use Rattle.lone_hart.specs.Accounts.{Stands}
 use Rattle.lone_hart.proofs.Accounts.{none_out}
 use Rattle.lone_hart.proofs.pools.open_pool.Goals as goal
 
-pub returns-clause-account : goal.returns-clause-account
-returns-clause-account c =
+pub returns-clause-none : goal.returns-clause-none
+returns-clause-none c =
     let jobs = c.in_ok-jobs_of.field-0.items in
     IfOk-weaker c.new.result _ _
-    (λ pool is. subst (λ (p : PoolParts). AllCameBack Begin p.book p.agenda) (sym is) (none_out Begin jobs (new_pool jobs).agenda c.in_ok-jobs_of.ensures.group refl refl))
+    (λ pool is. subst (λ (p : PoolParts). Stands Begin p.book p.agenda 0 0) (sym is) (none_out Begin jobs (new_pool jobs).agenda c.in_ok-jobs_of.ensures.group refl refl))
     c.new.ensures

@@ -3,6 +3,7 @@ use Rattle.join_book.specs.Books.{Open, IsMarked, IsPlaceOf}
 use Rattle.loop_team.specs.declared.work.TeamWork.TheVariants.{Begin}
 use Rattle.lone_hart.proofs.Accounts.{out_place}
 use Rattle.lone_hart.proofs.TeamAccounts.{arrived}
+use Rattle.lone_hart.proofs.ServedTeams.{team_arrives}
 use Rattle.lone_hart.proofs.teams.arrive_in_team.Goals as goal
 
 pub keep-requires-clause-own : goal.keep-requires-clause-own
@@ -27,3 +28,6 @@ returns-clause-left c = (arrived c.args.team.now c.keep.new.self c.args.piece c.
 
 pub returns-clause-account : goal.returns-clause-account
 returns-clause-account c = (arrived c.args.team.now c.keep.new.self c.args.piece c.keep.result c.nested.ensures.fit c.requires c.keep.ensures).account
+
+pub returns-clause-served : goal.returns-clause-served
+returns-clause-served c = λ p around start es es' lends ran. team_arrives p around start es es' c.args.team.now c.keep.new.self c.args.piece c.keep.result c.keep.ensures lends ran

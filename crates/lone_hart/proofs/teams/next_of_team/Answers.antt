@@ -1,23 +1,15 @@
 use Rattle.std.proofs.Common.{◌≡◌, ◌⊎◌, false, sym, ap, ◌∙◌, subst, inl, inr}
 use Rattle.std.specs.Prelude.{IsTrue}
-use Rattle.array_jobs.specs.Jobs.{JobParts}
 use Rattle.sched_api.specs.declared.scheduler.Next.TheVariants.{Run}
 use Rattle.join_book.specs.Books.{BookParts}
 use Rattle.work_agenda.specs.Agenda.{TakesNext}
-use Rattle.loop_team.specs.declared.work.TeamWork.{TeamWork}
-use Rattle.loop_team.specs.declared.work.TeamWork.TheVariants.{Begin, Ready}
+use Rattle.loop_team.specs.declared.work.TeamWork.TheVariants.{Begin}
 use Rattle.loop_team.specs.Teams.{TeamParts, IsOver}
 use Rattle.lone_hart.specs.Accounts.{AllButOneCameBack}
 use Rattle.lone_hart.specs.Sites.{IsRunning}
-use Rattle.lone_hart.proofs.Accounts.{IsOneToOne, hand_out, full, none_to_go_on}
+use Rattle.lone_hart.proofs.Accounts.{hand_out, full, none_to_go_on}
+use Rattle.lone_hart.proofs.ServedTeams.{one_to_one, team_lends}
 use Rattle.lone_hart.proofs.teams.next_of_team.Goals as goal
-
-one_to_one : IsOneToOne Begin
-one_to_one a b e = ap (λ (w : TeamWork). job_or a w) e
-  where
-    job_or : JobParts → TeamWork → JobParts
-    job_or j (Begin job) = job
-    job_or j (Ready c) = j
 
 -- a team that isn't over is running
 running : (team : TeamParts) (over : _) → over ≡ false → (IsOver team → IsTrue over) → IsOver team ⊎ IsRunning team → IsRunning team
@@ -55,3 +47,18 @@ returns-clause-account c =
     let same = ap (λ (t : TeamParts). t.barrier) does.rest in
     subst (λ (book : BookParts). AllButOneCameBack Begin book after.agenda c.in-Run-Begin.job) (sym same)
     (hand_out Begin one_to_one before.barrier before.agenda after.agenda c.in-Run-Begin.job runs.account taken)
+
+pub returns-clause-served : goal.returns-clause-served
+returns-clause-served c = λ p around start es serves.
+    let before = c.args.team.now in
+    let after = c.sched_reenter.new.current in
+    let does = c.sched_reenter.ensures.does in
+    let taken = subst (λ next. TakesNext before.agenda next after.agenda) (c.in-Run-Begin.is ∙ ap Run c.in-Run-Begin.field-0-is) does.handed in
+    let never : IsOver before → ⊥ = λ over. let yes = c.is_over.ensures.1 over in let none = c.if-is_over.false in cc in
+    elim serves [
+      | inl failed ↦ absurd (never (inr failed))
+      | inr well ↦ elim well [
+        | inl served ↦ absurd (never (inl served.last))
+        | inr phase ↦ team_lends p around start es before after c.in-Run-Begin.job phase taken does.rest
+      ]
+    ]

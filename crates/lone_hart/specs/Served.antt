@@ -1,0 +1,107 @@
+-- The account of sites that the only hart keeps: what it did with those of the jobs that a scheduler gave it.
+use Rattle.std.specs.Prelude.{◌≡◌, ◌⊎◌, ℕ, suc, true, List, slice_get, Some}
+use Rattle.transfer_table.specs.Plan.{Plan, IsPlan}
+use Rattle.transfer_table.specs.declared.entry.Entry.{Entry}
+use Rattle.array_jobs.specs.Jobs.{JobParts, job_of}
+use Rattle.join_book.specs.Books.{HasFailed}
+use Rattle.step_eval.specs.Nests.{NestedParts, nested_of}
+use Rattle.step_eval.specs.Machines.{Progress}
+use Rattle.forkjoin_sched.specs.Pools.{PoolParts}
+use Rattle.forkjoin_sched.specs.declared.work.PoolWork.TheVariants as pool_work
+use Rattle.loop_team.specs.Teams.{TeamParts, AreJobsIn, phases_in}
+use Rattle.loop_team.specs.declared.work.TeamWork.TheVariants as team_work
+use Rattle.machine_accounts.specs.Machines.{IsFreshJob, IsRunJob, IsFreshConstruct, IsRunNested, IsGoing, IsWaiting}
+use Rattle.machine_accounts.specs.Orders.{HasServed}
+use Rattle.lone_hart.specs.Accounts.{Stands}
+use Rattle.lone_hart.specs.Sites.{IsPoolOf}
+use Rattle.lone_hart.specs.declared.site.LoneSite.{LoneSite}
+use Rattle.lone_hart.specs.declared.site.LoneSite.TheVariants.{Base, Pool, Team}
+
+-- nothing was done yet with the sites of a job, and of a construct
+abbrev pub is_fresh_job : Plan → ℕ → List Entry → JobParts → Type 0
+is_fresh_job p around es job = IsPlan p × IsFreshJob p around es (job_of job)
+
+abbrev pub is_fresh : Plan → ℕ → List Entry → NestedParts → Type 0
+is_fresh p around es nested = IsFreshConstruct p around es (nested_of nested)
+
+-- between these entries a job was run, and a construct
+abbrev pub is_run_job : Plan → List Entry → List Entry → JobParts → Type 0
+is_run_job p before after job = IsRunJob p before after (job_of job)
+
+abbrev pub is_run : Plan → List Entry → List Entry → NestedParts → Type 0
+is_run p before after nested = IsRunNested p before after (nested_of nested)
+
+-- a machine ran its job up to here, and up to the construct that it awaits
+abbrev pub is_going : Progress → Plan → ℕ → List Entry → List Entry → Type 0
+is_going machine p around start es = IsPlan p × IsGoing p around start es machine
+
+abbrev pub is_waiting : NestedParts → Progress → Plan → ℕ → List Entry → List Entry → Type 0
+is_waiting nested machine p around start es =
+    IsPlan p × IsWaiting p around start es (nested_of nested) machine
+
+-- The jobs that the pool handed out were run, one after another.
+pub record ServesPool (p : Plan) (around : ℕ) (start es : List Entry) (nested : NestedParts)
+    (pool : PoolParts) : Type 0 where
+  pub done : ℕ
+  pub of : IsPoolOf nested pool
+  pub stands : Stands pool_work.Begin pool.book pool.agenda done done
+  pub served : HasServed p around start es (nested_of nested) 0 done
+
+-- So were all but this one, which it handed out last.
+pub record LendsJob (p : Plan) (around : ℕ) (start es : List Entry) (nested : NestedParts)
+    (pool : PoolParts) (job : JobParts) : Type 0 where
+  pub done : ℕ
+  pub own : slice_get pool.book.jobs done ≡ Some job
+  pub of : IsPoolOf nested pool
+  pub stands : Stands pool_work.Begin pool.book pool.agenda done (suc done)
+  pub served : HasServed p around start es (nested_of nested) 0 done
+
+-- The jobs of the phases that have opened were run, and those of the next one that the team handed out.
+pub record ServesPhase (p : Plan) (around : ℕ) (start es : List Entry) (t : TeamParts) : Type 0 where
+  pub jobs : AreJobsIn t.nested t.opened t.barrier.jobs
+  pub done : ℕ
+  pub stands : Stands team_work.Begin t.barrier t.agenda done done
+  pub served : HasServed p around start es (nested_of t.nested) t.opened done
+
+-- All phases were run.
+pub record ServedPhases (p : Plan) (around : ℕ) (start es : List Entry) (t : TeamParts) : Type 0 where
+  pub last : t.opened ≡ phases_in t.nested
+  pub served : HasServed p around start es (nested_of t.nested) t.opened 0
+
+-- The jobs of the phases that have opened were run, and all but this one of the next one that the team handed out.
+pub record LendsMember (p : Plan) (around : ℕ) (start es : List Entry) (t : TeamParts)
+    (job : JobParts) : Type 0 where
+  pub jobs : AreJobsIn t.nested t.opened t.barrier.jobs
+  pub done : ℕ
+  pub own : slice_get t.barrier.jobs done ≡ Some job
+  pub stands : Stands team_work.Begin t.barrier t.agenda done (suc done)
+  pub served : HasServed p around start es (nested_of t.nested) t.opened done
+
+-- A pool of which no job failed was served so.
+abbrev pub serves_pool : NestedParts → PoolParts → Plan → ℕ → List Entry → List Entry → Type 0
+serves_pool nested pool p around start es =
+    HasFailed pool.book ⊎ ServesPool p around start es nested pool
+
+-- So was a team of which none did.
+abbrev pub serves_team : TeamParts → Plan → ℕ → List Entry → List Entry → Type 0
+serves_team t p around start es =
+    (t.failed ≡ true) ⊎ (ServedPhases p around start es t ⊎ ServesPhase p around start es t)
+
+-- Between these entries the jobs of the site that came back were run; nothing is said where one failed. The base gives none.
+abbrev pub is_serving : LoneSite → Plan → ℕ → List Entry → List Entry → Type 0
+is_serving (Base base) p around start es = ⊥
+is_serving (Pool nested pool) p around start es = IsPlan p × serves_pool nested pool p around start es
+is_serving (Team t) p around start es = IsPlan p × serves_team t p around start es
+
+-- And this one is out.
+abbrev pub is_lent : LoneSite → JobParts → Plan → ℕ → List Entry → List Entry → Type 0
+is_lent (Base base) job p around start es = ⊥
+is_lent (Pool nested pool) job p around start es =
+    IsPlan p × LendsJob p around start es nested pool job
+is_lent (Team t) job p around start es = IsPlan p × LendsMember p around start es t job
+
+-- a job of the site came back as a failure
+abbrev pub is_failed : LoneSite → Type 0
+is_failed (Base base) = ⊥
+is_failed (Pool nested pool) = HasFailed pool.book
+is_failed (Team t) = t.failed ≡ true
