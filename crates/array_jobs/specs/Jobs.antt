@@ -1,5 +1,5 @@
 -- Jobs, and which are fit to be run.
-use Rattle.std.specs.Prelude.{◌≡◌, ℕ, ◌+◌, ◌<◌, ◌≤◌, false, IsTrue, List, [], ◌++◌, length, map}
+use Rattle.std.specs.Prelude.{◌≡◌, ℕ, ◌+◌, ◌<◌, ◌≤◌, IsTrue, List, [], ◌++◌, length, map}
 use Rattle.array_tree.specs.declared.tree.Arrays.{Arrays}
 use Rattle.array_tree.specs.Trees.{Declaration, ProgramTree, declarations_of}
 use Rattle.array_meaning.specs.Bounds.{most_members, most_phases, most_sites}
@@ -7,7 +7,7 @@ use Rattle.array_meaning.specs.Stores.{Vars, Store, arrays_of, cells_of}
 use Rattle.array_meaning.specs.Touch.{walk}
 use Rattle.array_meaning.specs.Sites.{sequence_sites, AreSitesApart}
 use Rattle.array_meaning.specs.Names.{are_declared_once, has_new_variables, names_of, has_known_names}
-use Rattle.array_meaning.specs.Limits.{is_in_range, has_no_site_under_if}
+use Rattle.array_meaning.specs.Limits.{is_in_range}
 use Rattle.array_meaning.specs.Accepted.{are_inside}
 use Rattle.array_jobs.specs.declared.work.Work.{Work}
 use Rattle.array_jobs.specs.Works.{WorkTree, work_of, steps_of, statements_of, sites_of}
@@ -55,8 +55,7 @@ abbrev pub program_in : JobTree → ProgramTree
 program_in job = record { arrays = job.arrays; body = statements_of job.work }
 
 -- What a job must be to be run: with the loop variables around, no name of the work is used twice or unknown, all
--- is in its limits, no site stands under an `if`, each static index is inside its array, and the pieces of each
--- site are apart. The store has one value per cell, and the sites' numbers have room.
+-- is in its limits, each static index is inside its array, and the pieces of each site are apart. The store has one value per cell, and the sites' numbers have room.
 pub record IsFit (job : JobTree) : Type 0 where
   pub single_names : IsTrue (are_declared_once job.arrays [])
   pub new_variables : IsTrue
@@ -64,7 +63,6 @@ pub record IsFit (job : JobTree) : Type 0 where
   pub known_names : IsTrue
       (has_known_names (statements_of job.work) (names_of job.arrays) (names_around job.vars))
   pub ranges : IsTrue (is_in_range (program_in job))
-  pub no_site_under_if : IsTrue (has_no_site_under_if (statements_of job.work) false)
   pub indices : IsTrue (are_inside (arrays_of job.arrays)
       (walk (arrays_of job.arrays) (steps_of job.work job.vars)))
   pub apart : AreSitesApart (arrays_of job.arrays)

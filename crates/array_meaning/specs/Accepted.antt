@@ -1,5 +1,5 @@
--- What a program must be to be run: ten conditions, each a word of its own.
-use Rattle.std.specs.Prelude.{ℕ, ◌≤◌, Bool, true, false, ◌&&◌, List, [], ◌∷◌, Option, Some, None, IsTrue, ℤ, pos, int_le, int_lt}
+-- What a program must be to be run: nine conditions, each a word of its own.
+use Rattle.std.specs.Prelude.{ℕ, ◌≤◌, Bool, true, ◌&&◌, List, [], ◌∷◌, Option, Some, None, IsTrue, ℤ, pos, int_le, int_lt}
 use Rattle.array_tree.specs.Trees.{ProgramTree}
 use Rattle.array_meaning.specs.Bounds.{most_depth, most_units, most_sites, most_pieces}
 use Rattle.array_meaning.specs.Stores.{Arrays, arrays_of, length_of}
@@ -8,7 +8,7 @@ use Rattle.array_meaning.specs.Touch.{Visit, walk}
 use Rattle.array_meaning.specs.Sites.{sequence_sites, AreSitesApart}
 use Rattle.array_meaning.specs.Plans.{sites_in}
 use Rattle.array_meaning.specs.Names.{has_single_names, has_only_known_names}
-use Rattle.array_meaning.specs.Limits.{is_in_range, has_no_site_under_if, depth_of, units_of, pieces_in}
+use Rattle.array_meaning.specs.Limits.{is_in_range, depth_of, units_of, pieces_in}
 
 -- Whether an index is one of a cell of an array of this length. A dynamic index always is.
 abbrev pub is_inside : ℕ → Option ℤ → Bool
@@ -35,7 +35,6 @@ pub record IsAccepted (program : ProgramTree) : Type 0 where
   pub single_names : IsTrue (has_single_names program)
   pub known_names : IsTrue (has_only_known_names program)
   pub ranges : IsTrue (is_in_range program)
-  pub no_site_under_if : IsTrue (has_no_site_under_if program.body false)
   pub levels : depth_of program.body ≤ most_depth
   pub work : units_of program.body ≤ most_units
   pub sites : sites_in program.body ≤ most_sites

@@ -29,7 +29,7 @@ most_depth = 3
 abbrev pub most_units : ℕ
 most_units = 1048576
 
--- Sites that it enters. They are numbered from 1, and 0 stands for the base.
+-- Sites, on both sides of each `if`. They are numbered from 1, and 0 stands for the base.
 abbrev pub most_sites : ℕ
 most_sites = 4095
 

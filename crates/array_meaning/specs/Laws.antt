@@ -66,7 +66,7 @@ abbrev pub LeastClashIsTold : Type 0
 LeastClashIsTold = (arrays : Arrays) (cells : ℕ) (pieces : List Steps)
     → IsLeastClash arrays cells pieces (overlap arrays cells pieces)
 
--- In a plan the parent of a site comes before it, and there are as many sites as the program enters.
+-- In a plan the parent of a site comes before it, and there are as many as the program has sites.
 pub record IsPlanOf (program : ProgramTree) (plan : List ℕ) : Type 0 where
   pub earlier : AreEarlier 1 plan
   pub count : length plan ≡ sites_in program.body

@@ -48,7 +48,8 @@ is_in_range program =
     && nat_le (cells_of (arrays_of program.arrays)) most_cells))
     && has_right_ranges program.body
 
--- Whether no `par` or `team` stands inside a side of an `if`. Given is whether this part stands inside one.
+-- Whether no `par` or `team` stands inside a side of an `if`, so that every site is entered. Given is whether this part stands
+-- inside one.
 abbrev mutual
   pub has_no_site_under_if : Sequence → Bool → Bool
   has_no_site_under_if ended inside = true
@@ -123,7 +124,7 @@ abbrev mutual
   phases_units_of (beside first rest) members iterations =
       (members + iterations * (1 + units_of first)) + phases_units_of rest members iterations
 
--- The pieces of all sites that a part of a program enters.
+-- The pieces of all sites of a part of a program, on both sides of each `if`.
 abbrev mutual
   pub pieces_in : Sequence → ℕ
   pieces_in ended = 0

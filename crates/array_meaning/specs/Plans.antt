@@ -1,5 +1,5 @@
--- The plan of a program: the parent of each site, in the order in which the meaning enters them. Site s stands at
--- place s - 1; the parent is the innermost construct around, 0 for none. Bounds are literals, so no store is needed.
+-- The plan of a program: the parent of each site, in the order of the meaning, both sides of each `if` gone through. Site s
+-- stands at place s - 1; the parent is the innermost construct around, 0 for none. Bounds are literals, so no store is needed.
 use Rattle.std.specs.Prelude.{◌≡◌, ℕ, zero, suc, ◌+◌, ◌*◌, ◌<◌, ◌≤◌, ◌⊎◌, List, [], ◌∷◌, ◌++◌, length}
 use Rattle.array_tree.specs.Trees.{Statement, Assign, For, If, Par, Team, Sequence, ended, followed, Sequences, no_more, beside, ProgramTree}
 use Rattle.array_meaning.specs.Work.{span}
@@ -55,7 +55,7 @@ abbrev mutual
 abbrev pub plan_of : ProgramTree → List ℕ
 plan_of program = sequence_parents program.body 0 1
 
--- How many sites a part of a program enters.
+-- How many sites a part of a program has, on both sides of each `if`.
 abbrev mutual
   pub statement_sites_in : Statement → ℕ
   statement_sites_in (Assign line array index value) = 0

@@ -1,4 +1,4 @@
--- The sites of a program: each `par` and `team` that it enters, in order, with its pieces.
+-- The sites of a program: each `par` and `team`, in order, on both sides of each `if`, with its pieces.
 use Rattle.std.specs.Prelude.{ℕ, zero, suc, List, [], ◌∷◌, ◌++◌, ℤ, pos, ◌+ℤ◌, unsigned_abs}
 use Rattle.array_tree.specs.Trees.{Statement, Assign, For, If, Par, Team, Sequence, ended, followed, Sequences, no_more, beside}
 use Rattle.array_meaning.specs.Stores.{Arrays, Vars}

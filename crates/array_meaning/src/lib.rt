@@ -40,7 +40,7 @@ pub fn least_clash_is_told()
     ensures { LeastClashIsTold }
 {}
 
-/// In the plan of a program each parent comes before its site, and each site that the program enters has one.
+/// In the plan of a program each parent comes before its site, and each site of the program has one.
 pub fn plans_are_right()
     ensures { PlansAreRight }
 {}

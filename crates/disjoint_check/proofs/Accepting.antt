@@ -95,7 +95,6 @@ accepted_from program harts none walked =
         single_names = m.single_names;
         known_names = m.known_names;
         ranges = m.ranges;
-        no_site_under_if = m.no_site_under_if;
         levels = m.levels;
         work = m.work;
         sites = m.sites;

@@ -1,5 +1,5 @@
 -- There is no fault of names, ranges and size exactly where these conditions are met.
-use Rattle.std.proofs.Common.{◌≡◌, ◌<◌, ◌≤◌, ℕ, ℤ, pos, negsuc, Bool, true, false, ◌&&◌, List, [], ◌∷◌, length, Option, None, refl, sym, ◌∙◌, arith, nat_le, unsigned_abs}
+use Rattle.std.proofs.Common.{◌≡◌, ◌<◌, ◌≤◌, ℕ, ℤ, pos, negsuc, Bool, true, ◌&&◌, List, [], ◌∷◌, length, Option, None, refl, sym, ◌∙◌, arith, nat_le, unsigned_abs}
 use Rattle.std.specs.Option.{option_map}
 use Rattle.std.proofs.lemmas.Bool.{and_parts, and_from}
 use Rattle.std.proofs.lemmas.Bool.Decides.{nat_tests}
@@ -10,16 +10,15 @@ use Rattle.array_meaning.specs.Stores.{arrays_of, cells_of, HaveCells, AreSized}
 use Rattle.array_meaning.specs.Limits.{is_up_to, have_right_lengths, has_right_ranges, is_in_range, depth_of, units_of, pieces_in}
 use Rattle.array_meaning.specs.Plans.{sites_in}
 use Rattle.disjoint_check.specs.declared.fault.CheckFault.{CheckFault}
-use Rattle.disjoint_check.specs.declared.fault.CheckFault.TheVariants.{DuplicateName, UnknownName, SiteUnderIf, TooDeep, TooMuchWork, TooManySites, TooManyPieces}
+use Rattle.disjoint_check.specs.declared.fault.CheckFault.TheVariants.{DuplicateName, UnknownName, TooDeep, TooMuchWork, TooManySites, TooManyPieces}
 use Rattle.disjoint_check.specs.Faults.{unless, first_fault}
 use Rattle.disjoint_check.specs.FirstNames.{duplicate_name, unknown_name}
 use Rattle.disjoint_check.specs.FirstRanges.{range_fault}
-use Rattle.disjoint_check.specs.FirstNesting.{site_under_if_in}
 use Rattle.site_counts.specs.Capped.{capped}
 use Rattle.disjoint_check.specs.LimitFault.{told_depth, room_for, limit_fault_of, MeetsLimits}
 use Rattle.disjoint_check.proofs.Firsts.{is_none, none_from, to_none, none_cons, none_map, none_unless}
 use Rattle.disjoint_check.proofs.NameLaws.{single_names, only_known_names}
-use Rattle.disjoint_check.proofs.RangeLaws.{in_range, no_construct_under_if}
+use Rattle.disjoint_check.proofs.RangeLaws.{in_range}
 
 apart : {A : Type 0} (o : Option A) (more : List (Option A)) → is_none (first_fault (o ∷ more)) ≡ true →
     (is_none o ≡ true) × (is_none (first_fault more) ≡ true)
@@ -51,22 +50,20 @@ pub limits_from : (p : ProgramTree) (harts : ℕ) → limit_fault_of p harts ≡
 limits_from p harts h =
     let a = apart (option_map DuplicateName (duplicate_name p)) _ (to_none (limit_fault_of p harts) h) in
     let b = apart (option_map UnknownName (unknown_name p)) _ a.1 in
-    let c = apart (range_fault p) _ b.1 in
-    let d = apart (option_map SiteUnderIf (site_under_if_in p.body false)) (size_faults p harts) c.1 in
-    let e = apart (unless (nat_le (depth_of p.body) 3) _) _ d.1 in
-    let f = apart (unless (nat_le (units_of p.body) 1048576) _) _ e.1 in
-    let g = apart (unless (are_few p harts) _) _ f.1 in
-    let k = apart (unless (nat_le (pieces_in p.body) 16384) _) [] g.1 in
-    let few = and_parts (nat_le (sites_in p.body) 4095) (nat_le (room_for (sites_in p.body) harts) 65535) (sym (none_unless (are_few p harts) _) ∙ g.0) in
+    let c = apart (range_fault p) (size_faults p harts) b.1 in
+    let d = apart (unless (nat_le (depth_of p.body) 3) _) _ c.1 in
+    let e = apart (unless (nat_le (units_of p.body) 1048576) _) _ d.1 in
+    let f = apart (unless (are_few p harts) _) _ e.1 in
+    let g = apart (unless (nat_le (pieces_in p.body) 16384) _) [] f.1 in
+    let few = and_parts (nat_le (sites_in p.body) 4095) (nat_le (room_for (sites_in p.body) harts) 65535) (sym (none_unless (are_few p harts) _) ∙ f.0) in
     record {
       single_names = sym (none_map DuplicateName (duplicate_name p) ∙ single_names p) ∙ a.0;
       known_names = sym (none_map UnknownName (unknown_name p) ∙ only_known_names p) ∙ b.0;
       ranges = sym (in_range p) ∙ c.0;
-      no_site_under_if = sym (none_map SiteUnderIf (site_under_if_in p.body false) ∙ no_construct_under_if p) ∙ d.0;
-      levels = true_le _ _ (sym (none_unless (nat_le (depth_of p.body) 3) _) ∙ e.0);
-      work = true_le _ _ (sym (none_unless (nat_le (units_of p.body) 1048576) _) ∙ f.0);
+      levels = true_le _ _ (sym (none_unless (nat_le (depth_of p.body) 3) _) ∙ d.0);
+      work = true_le _ _ (sym (none_unless (nat_le (units_of p.body) 1048576) _) ∙ e.0);
       sites = true_le _ _ few.0;
-      pieces = true_le _ _ (sym (none_unless (nat_le (pieces_in p.body) 16384) _) ∙ k.0);
+      pieces = true_le _ _ (sym (none_unless (nat_le (pieces_in p.body) 16384) _) ∙ g.0);
       entries = true_le _ _ few.1;
     }
 
@@ -74,20 +71,17 @@ pub limits_to : (p : ProgramTree) (harts : ℕ) → MeetsLimits p harts → limi
 limits_to p harts m = none_from (limit_fault_of p harts)
     (along (option_map DuplicateName (duplicate_name p)) _ (none_map DuplicateName (duplicate_name p) ∙ single_names p ∙ m.single_names)
     (along (option_map UnknownName (unknown_name p)) _ (none_map UnknownName (unknown_name p) ∙ only_known_names p ∙ m.known_names)
-    (along (range_fault p) _ (in_range p ∙ m.ranges)
-    (along (option_map SiteUnderIf (site_under_if_in p.body false)) (size_faults p harts)
-    (none_map SiteUnderIf (site_under_if_in p.body false) ∙ no_construct_under_if p ∙ m.no_site_under_if)
+    (along (range_fault p) (size_faults p harts) (in_range p ∙ m.ranges)
     (along (unless (nat_le (depth_of p.body) 3) _) _ (none_unless (nat_le (depth_of p.body) 3) _ ∙ le_true _ _ m.levels)
     (along (unless (nat_le (units_of p.body) 1048576) _) _ (none_unless (nat_le (units_of p.body) 1048576) _ ∙ le_true _ _ m.work)
     (along (unless (are_few p harts) _) _ (none_unless (are_few p harts) _ ∙ and_from _ _ (le_true _ _ m.sites) (le_true _ _ m.entries))
-    (along (unless (nat_le (pieces_in p.body) 16384) _) [] (none_unless (nat_le (pieces_in p.body) 16384) _ ∙ le_true _ _ m.pieces) refl))))))))
+    (along (unless (nat_le (pieces_in p.body) 16384) _) [] (none_unless (nat_le (pieces_in p.body) 16384) _ ∙ le_true _ _ m.pieces) refl)))))))
 
 pub limits_of : {p : ProgramTree} {harts : ℕ} → IsAccepted p → room_for (sites_in p.body) harts ≤ 65535 → MeetsLimits p harts
 limits_of a room = record {
   single_names = a.single_names;
   known_names = a.known_names;
   ranges = a.ranges;
-  no_site_under_if = a.no_site_under_if;
   levels = a.levels;
   work = a.work;
   sites = a.sites;

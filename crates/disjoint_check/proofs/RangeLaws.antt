@@ -4,9 +4,8 @@ use Rattle.std.proofs.lemmas.Bool.{cases_lt}
 use Rattle.std.proofs.lemmas.Bool.Decides.{nat_tests}
 use Rattle.array_tree.specs.Trees.{Statement, Assign, For, If, Par, Team, Sequence, ended, followed, Sequences, no_more, beside, Declaration, ProgramTree}
 use Rattle.array_meaning.specs.Stores.{arrays_of, cells_of}
-use Rattle.array_meaning.specs.Limits.{is_up_to, count_of, have_right_lengths, has_right_ranges, statement_has_right_ranges, have_right_ranges, is_in_range, has_no_site_under_if, statement_has_no_site_under_if, have_no_site_under_if}
+use Rattle.array_meaning.specs.Limits.{is_up_to, count_of, have_right_lengths, has_right_ranges, statement_has_right_ranges, have_right_ranges, is_in_range}
 use Rattle.disjoint_check.specs.FirstRanges.{declarations_fault, range_fault_in, statement_range_fault, range_fault_among, range_fault}
-use Rattle.disjoint_check.specs.FirstNesting.{site_under_if_in, statement_site_under_if, site_under_if_among}
 use Rattle.disjoint_check.proofs.Firsts.{is_none, none_unless, both, three}
 
 regroup : (p q r s : Bool) → ((p && (q && r)) && s) ≡ ((p && q) && (r && s))
@@ -125,25 +124,3 @@ in_range program =
   where
     no_more_than : (n : ℕ) → 0 + n ≡ n
     no_more_than n = omega arith
-
-mutual
-  no_site_under_if : (p : Sequence) (inside : Bool) → is_none (site_under_if_in p inside) ≡ has_no_site_under_if p inside
-  no_site_under_if ended inside = refl
-  no_site_under_if (followed s p) inside = both _ _ _ _ (statement_no_site_under_if s inside) (no_site_under_if p inside)
-
-  statement_no_site_under_if : (s : Statement) (inside : Bool) → is_none (statement_site_under_if s inside) ≡ statement_has_no_site_under_if s inside
-  statement_no_site_under_if (Assign line array index value) inside = refl
-  statement_no_site_under_if (For line var low high body) inside = no_site_under_if body inside
-  statement_no_site_under_if (If line cond then_block else_block) inside =
-      both _ _ _ _ (no_site_under_if then_block true) (no_site_under_if else_block true)
-  statement_no_site_under_if (Par line branches) true = refl
-  statement_no_site_under_if (Par line branches) false = no_site_under_if_among branches false
-  statement_no_site_under_if (Team line var low high members phases) true = refl
-  statement_no_site_under_if (Team line var low high members phases) false = no_site_under_if_among phases false
-
-  no_site_under_if_among : (bs : Sequences) (inside : Bool) → is_none (site_under_if_among bs inside) ≡ have_no_site_under_if bs inside
-  no_site_under_if_among no_more inside = refl
-  no_site_under_if_among (beside p bs) inside = both _ _ _ _ (no_site_under_if p inside) (no_site_under_if_among bs inside)
-
-pub no_construct_under_if : (program : ProgramTree) → is_none (site_under_if_in program.body false) ≡ has_no_site_under_if program.body false
-no_construct_under_if program = no_site_under_if program.body false

@@ -1,4 +1,4 @@
--- The first of the ten conditions that a program fails, and what is told of it.
+-- The first of the nine conditions that a program fails, and what is told of it.
 use Rattle.std.specs.Prelude.{ℕ, [], ◌∷◌, Option}
 use Rattle.std.specs.Option.{option_map}
 use Rattle.array_tree.specs.Trees.{ProgramTree}

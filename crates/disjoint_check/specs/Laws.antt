@@ -1,11 +1,10 @@
 -- What it means that no fault is found.
-use Rattle.std.specs.Prelude.{◌≡◌, ◌↔◌, ℕ, false, None, IsTrue}
+use Rattle.std.specs.Prelude.{◌≡◌, ◌↔◌, ℕ, None, IsTrue}
 use Rattle.array_tree.specs.Trees.{ProgramTree}
 use Rattle.array_meaning.specs.Names.{has_single_names, has_only_known_names}
-use Rattle.array_meaning.specs.Limits.{is_in_range, has_no_site_under_if}
+use Rattle.array_meaning.specs.Limits.{is_in_range}
 use Rattle.disjoint_check.specs.FirstNames.{duplicate_name, unknown_name}
 use Rattle.disjoint_check.specs.FirstRanges.{range_fault}
-use Rattle.disjoint_check.specs.FirstNesting.{site_under_if_in}
 use Rattle.disjoint_check.specs.LimitFault.{limit_fault_of, MeetsLimits}
 use Rattle.disjoint_check.specs.FaultOf.{meaning_fault_of, check_fault_of}
 use Rattle.disjoint_check.specs.Meaning.{HasMeaningFor, IsAcceptedFor}
@@ -15,8 +14,6 @@ pub record IsTested (program : ProgramTree) : Type 0 where
   pub single_names : (duplicate_name program ≡ None) ↔ IsTrue (has_single_names program)
   pub known_names : (unknown_name program ≡ None) ↔ IsTrue (has_only_known_names program)
   pub ranges : (range_fault program ≡ None) ↔ IsTrue (is_in_range program)
-  pub no_site_under_if : (site_under_if_in program.body false ≡ None)
-      ↔ IsTrue (has_no_site_under_if program.body false)
   pub limits : (harts : ℕ) → (limit_fault_of program harts ≡ None) ↔ MeetsLimits program harts
 
 abbrev pub AreConditionsTested : Type 0

@@ -1,7 +1,6 @@
 pub mod Faults
 pub mod FirstNames
 pub mod FirstRanges
-pub mod FirstNesting
 pub mod LimitFault
 pub mod Shapes
 pub mod AcceptedProgram

@@ -1,19 +1,18 @@
 -- The first condition that a program fails, and what is told of it.
-use Rattle.std.specs.Prelude.{ℕ, ◌-◌, ◌*◌, ◌^◌, ◌≤◌, IsTrue, ◌&&◌, min, false, [], ◌∷◌, Option, nat_le}
+use Rattle.std.specs.Prelude.{ℕ, ◌-◌, ◌*◌, ◌^◌, ◌≤◌, IsTrue, ◌&&◌, min, [], ◌∷◌, Option, nat_le}
 use Rattle.std.specs.Option.{option_map}
 use Rattle.transfer_table.specs.Plan.{most_entries}
 use Rattle.array_tree.specs.Trees.{ProgramTree}
 use Rattle.array_meaning.specs.Bounds.{most_depth, most_units, most_sites, most_pieces}
 use Rattle.array_meaning.specs.Names.{has_single_names, has_only_known_names}
-use Rattle.array_meaning.specs.Limits.{is_in_range, has_no_site_under_if, depth_of, units_of, pieces_in}
+use Rattle.array_meaning.specs.Limits.{is_in_range, depth_of, units_of, pieces_in}
 use Rattle.array_meaning.specs.Plans.{sites_in}
 use Rattle.site_counts.specs.Capped.{capped}
 use Rattle.disjoint_check.specs.Faults.{unless, first_fault}
 use Rattle.disjoint_check.specs.FirstNames.{duplicate_name, unknown_name}
 use Rattle.disjoint_check.specs.FirstRanges.{range_fault}
-use Rattle.disjoint_check.specs.FirstNesting.{site_under_if_in}
 use Rattle.disjoint_check.specs.declared.fault.CheckFault.{CheckFault}
-use Rattle.disjoint_check.specs.declared.fault.CheckFault.TheVariants.{DuplicateName, UnknownName, SiteUnderIf, TooDeep, TooMuchWork, TooManySites, TooManyPieces}
+use Rattle.disjoint_check.specs.declared.fault.CheckFault.TheVariants.{DuplicateName, UnknownName, TooDeep, TooMuchWork, TooManySites, TooManyPieces}
 
 -- The greatest depth as it is told: the greatest number of 32 bits, where it is above that.
 abbrev pub told_depth : ℕ → ℕ
@@ -29,7 +28,6 @@ limit_fault_of program harts = first_fault
     (option_map DuplicateName (duplicate_name program)
     ∷ option_map UnknownName (unknown_name program)
     ∷ range_fault program
-    ∷ option_map SiteUnderIf (site_under_if_in program.body false)
     ∷ unless (nat_le (depth_of program.body) most_depth)
     (TooDeep (told_depth (depth_of program.body)))
     ∷ unless (nat_le (units_of program.body) most_units)
@@ -46,7 +44,6 @@ pub record MeetsLimits (program : ProgramTree) (harts : ℕ) : Type 0 where
   pub single_names : IsTrue (has_single_names program)
   pub known_names : IsTrue (has_only_known_names program)
   pub ranges : IsTrue (is_in_range program)
-  pub no_site_under_if : IsTrue (has_no_site_under_if program.body false)
   pub levels : depth_of program.body ≤ most_depth
   pub work : units_of program.body ≤ most_units
   pub sites : sites_in program.body ≤ most_sites

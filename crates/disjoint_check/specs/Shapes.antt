@@ -1,4 +1,4 @@
--- The shapes of the sites of a program, in the order in which the meaning enters them: the members and phases of a
+-- The shapes of the sites of a program, in the order of its plan: the members and phases of a
 -- `team`, and the number of branches and 0 of a `par`, so that the two kinds differ. Bounds are literals, so no store
 -- is needed.
 use Rattle.std.specs.Prelude.{ℕ, zero, suc, List, [], ◌∷◌, ◌++◌, unsigned_abs}

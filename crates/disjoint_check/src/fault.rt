@@ -32,8 +32,6 @@ pub enum CheckFault {
     UnknownName { line: u32 },
     /// A declaration, `for`, `par` or `team` is outside a limit.
     BadRange { line: u32, what: Limit, found: i64 },
-    /// A `par` or `team` stands inside a side of an `if`.
-    SiteUnderIf { line: u32 },
     /// Constructs nest more than 3 deep.
     TooDeep { level: u32 },
     /// There are more than 1,048,576 units of work.

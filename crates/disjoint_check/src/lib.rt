@@ -11,7 +11,6 @@ mod laws;
 mod limits;
 mod names;
 mod ranges;
-mod under_if;
 mod units;
 mod unroll;
 

@@ -8,7 +8,6 @@ use crate::depth::depth_of_block;
 use crate::fault::CheckFault;
 use crate::names::{duplicate_name, unknown_name};
 use crate::ranges::range_fault;
-use crate::under_if::site_under_if_in_block;
 use crate::units::units_of_block;
 use array_tree::Program;
 use site_counts::{pieces_in_block, sites_in_block};
@@ -43,9 +42,6 @@ pub(crate) fn limit_fault(program: &Program, harts: u8) -> Option<CheckFault>
     }
     if let Some(fault) = range_fault(program) {
         return Some(fault);
-    }
-    if let Some(line) = site_under_if_in_block(&program.body, false) {
-        return Some(CheckFault::SiteUnderIf { line });
     }
     let level = depth_of_block(&program.body);
     if level > MOST_LEVELS {

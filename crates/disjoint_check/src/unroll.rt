@@ -16,7 +16,7 @@ pub(crate) struct Site {
     pub(crate) phases: u8,
 }
 
-/// The sites of a program in the order in which it enters them.
+/// The sites of a program in the order of its plan.
 pub(crate) fn sites_of(alloc: Global, program: &Program) -> Result<Vec<Site>, AllocError>
     ensures { IfOk result (λ sites. sites.items
         ≡ with_sequence (program_of program.now).body 0 []) }

@@ -109,11 +109,11 @@ fn only_what_runs_writes(rt: HostRuntime) -> Result<(), Fail> {
 #[test]
 fn an_accepted_program_tells_its_sites(rt: HostRuntime) -> Result<(), Fail> {
     let alloc = rt.alloc();
-    let text =
-        "array a[4]; par { { team i in 0..2 by 2 { a[i] = i; } } { a[3] = 9; } } par { { } }";
+    let text = "array a[4]; par { { team i in 0..2 by 2 { a[i] = i; } } { a[3] = 9; } }
+        if a[0] { par { { } } } par { { } }";
     let program = parsed(alloc, text)?;
     let accepted = check(alloc, &program, 2)?;
     let told = entered_by(alloc, &accepted)?;
-    assert!(rt; told.as_slice() == [true, true, true].as_slice());
+    assert!(rt; told.as_slice() == [true, true, false, true].as_slice());
     Ok(())
 }

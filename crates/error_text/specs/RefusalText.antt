@@ -6,7 +6,7 @@ use Rattle.array_meaning.specs.Stores.{Arrays, arrays_of}
 use Rattle.disjoint_check.specs.declared.fault.Limit.{Limit}
 use Rattle.disjoint_check.specs.declared.fault.Limit.TheVariants as limit
 use Rattle.disjoint_check.specs.declared.fault.CheckFault.{CheckFault}
-use Rattle.disjoint_check.specs.declared.fault.CheckFault.TheVariants.{DuplicateName, UnknownName, BadRange, SiteUnderIf, TooDeep, TooMuchWork, TooManySites, TooManyPieces, OutOfRange, Overlap, Memory}
+use Rattle.disjoint_check.specs.declared.fault.CheckFault.TheVariants.{DuplicateName, UnknownName, BadRange, TooDeep, TooMuchWork, TooManySites, TooManyPieces, OutOfRange, Overlap, Memory}
 
 -- a cell as `name[index]`, where the arrays' cells are numbered one array after another
 abbrev pub cell_text : Arrays → ℕ → List ℕ
@@ -38,7 +38,6 @@ fault_text program (DuplicateName line) = codes "name used twice" ++ line_text l
 fault_text program (UnknownName line) = codes "unknown name" ++ line_text line
 fault_text program (BadRange line what found) =
     limit_text what ++ codes " " ++ signed_decimal found ++ line_text line
-fault_text program (SiteUnderIf line) = codes "parallel construct under if" ++ line_text line
 fault_text program (TooDeep level) = decimal level ++ ended (codes " levels")
 fault_text program (TooMuchWork units) = decimal units ++ ended (codes " units of work")
 fault_text program (TooManySites sites) = decimal sites ++ ended (codes " sites")

@@ -39,9 +39,6 @@ fn add_fault(
         CheckFault::DuplicateName { line } => add_at_line(alloc, text, "name used twice", line),
         CheckFault::UnknownName { line } => add_at_line(alloc, text, "unknown name", line),
         CheckFault::BadRange { line, what, found } => add_range(alloc, text, line, what, found),
-        CheckFault::SiteUnderIf { line } => {
-            add_at_line(alloc, text, "parallel construct under if", line)
-        }
         CheckFault::TooDeep { level } => add_count(alloc, text, u64::from(level), " levels\n"),
         CheckFault::TooMuchWork { units } => add_count(alloc, text, units, " units of work\n"),
         CheckFault::TooManySites { sites } => add_count(alloc, text, sites, " sites\n"),

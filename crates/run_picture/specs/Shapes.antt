@@ -1,4 +1,4 @@
--- The shapes of the sites of a program, in the order in which the meaning enters them: the kind of the scheduler, and the line of
+-- The shapes of the sites of a program, in the order of its plan: the kind of the scheduler, and the line of
 -- the construct. Bounds are literals, so no store is needed.
 use Rattle.std.specs.Prelude.{ℕ, zero, suc, List, [], ◌∷◌, ◌++◌}
 use Rattle.array_tree.specs.Trees.{Statement, Assign, For, If, Par, Team, Sequence, ended, followed, Sequences, no_more, beside, ProgramTree}

@@ -8,7 +8,7 @@ use array_tree::{Block, Blocks, Program, Stmt};
 use journal_picture::{Kind, Shape};
 use std::alloc::{AllocError, Global};
 
-/// The shapes of the sites of a program, in the order in which it enters them.
+/// The shapes of the sites of a program, in the order of its plan.
 pub(crate) fn shapes_of(alloc: Global, program: &Program) -> Result<Vec<Shape>, AllocError>
     ensures { IfOk result (λ shapes. shapes.items ≡ shapes_of (program_of program.now)) }
 {

@@ -1,4 +1,4 @@
-//! How many sites a block enters, and how many pieces they have.
+//! How many sites a block has, and how many pieces they have.
 ghost use Rattle.std.specs.Prelude.{◌≡◌, ℕ, ◌+◌, ◌*◌};
 ghost use Rattle.array_tree.specs.Trees.{statement_of, sequence_of, sequences_of};
 ghost use Rattle.array_meaning.specs.Work.{span};
@@ -9,7 +9,7 @@ ghost use Rattle.site_counts.specs.Capped.{capped};
 use array_eval::span;
 use array_tree::{Block, Blocks, Stmt};
 
-/// How many sites a block enters. Here and below the greatest number of 64 bits stands for all above it. What is
+/// How many sites a block has. Here and below the greatest number of 64 bits stands for all above it. What is
 /// never entered isn't looked into.
 #[cycle(sites)]
 pub fn sites_in_block(block: &Block) -> u64
@@ -22,7 +22,7 @@ pub fn sites_in_block(block: &Block) -> u64
     sites
 }
 
-/// How many sites a loop enters that runs a block for each number from `low` to before `high`.
+/// How many sites a loop has that runs a block for each number from `low` to before `high`.
 #[cycle(sites)]
 pub fn sites_in_turns(low: i64, high: i64, body: &Block) -> u64
     ensures { result ≡ capped (span low high * sites_in (sequence_of body.now)) }
@@ -35,7 +35,7 @@ pub fn sites_in_turns(low: i64, high: i64, body: &Block) -> u64
     }
 }
 
-/// How many sites a statement enters.
+/// How many sites a statement has.
 #[cycle(sites)]
 pub fn sites_in_statement(statement: &Stmt) -> u64
     ensures { result ≡ capped (statement_sites_in (statement_of statement.now)) }
@@ -82,7 +82,7 @@ fn sites_among(blocks: &Blocks) -> u64
     sites
 }
 
-/// How many pieces the sites have that a block enters.
+/// How many pieces the sites of a block have.
 #[cycle(pieces)]
 pub fn pieces_in_block(block: &Block) -> u64
     ensures { result ≡ capped (pieces_in (sequence_of block.now)) }

@@ -1,4 +1,4 @@
-//! How many sites a block enters, and how many pieces they have, without a store.
+//! How many sites a block has, and how many pieces they have, without a store.
 #![tactic(auto)]
 
 mod counts;

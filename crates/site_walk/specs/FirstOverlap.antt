@@ -28,7 +28,7 @@ first_overlap arrays [] = None
 first_overlap arrays (site ∷ more) =
     option_or (rounds_fault arrays site.line site.rounds) (first_overlap arrays more)
 
--- The first overlap of a program's sites, in the order in which it enters them: by the construct's line and, in a
+-- The first overlap of a program's sites, in the order of its plan: by the construct's line and, in a
 -- `team` in its first phase with one, the least cell.
 abbrev pub overlap_of : ProgramTree → Option WalkFault
 overlap_of program = first_overlap (arrays_of program.arrays) (sequence_sites program.body [])

@@ -105,8 +105,7 @@ fn keep_phase<'s>(
     }
 }
 
-/// Keeps the first overlap of the sites of a block, in the order in which it enters them, unless something was found
-/// before.
+/// Keeps the first overlap of the sites of a block, in the order of the plan, unless something was found before.
 #[cycle(seek)]
 pub(crate) fn seek_block<'s>(
     alloc: Global,

@@ -1,7 +1,7 @@
 use Rattle.std.proofs.Common.{◌≡◌, ◌↔◌, Bool, true, None, Option, sym, ◌∙◌}
 use Rattle.disjoint_check.proofs.Firsts.{is_none, none_from, to_none}
 use Rattle.disjoint_check.proofs.NameLaws.{single_names, only_known_names}
-use Rattle.disjoint_check.proofs.RangeLaws.{in_range, no_construct_under_if}
+use Rattle.disjoint_check.proofs.RangeLaws.{in_range}
 use Rattle.disjoint_check.proofs.Conditions.{limits_from, limits_to}
 use Rattle.disjoint_check.proofs.laws.conditions_are_tested.Goals as goal
 
@@ -13,6 +13,5 @@ returns c program = record {
   single_names = tested _ _ (single_names program);
   known_names = tested _ _ (only_known_names program);
   ranges = tested _ _ (in_range program);
-  no_site_under_if = tested _ _ (no_construct_under_if program);
   limits = λ harts. (limits_from program harts, limits_to program harts);
 }
