@@ -31,7 +31,11 @@ pub const TURNS: &[u8] = b"array c[3]; for k in 0..3 { par { { c[k] = k * k; } }
 pub const STENCIL: &[u8] =
     b"array g[64]; array h[64]; team i in 0..8 by 4 { for j in 0..8 { g[i * 8 + j] = i * 3 + j; } } for t in 0..2 { par { { team i in 0..4 by 2 { par { { for j in 0..4 { h[i * 8 + j] = g[i * 8 + j] + g[(i + 1) % 8 * 8 + j]; } } { for j in 4..8 { h[i * 8 + j] = g[i * 8 + j] + g[(i + 7) % 8 * 8 + j]; } } } } } { team i in 4..8 by 2 { for j in 0..8 { h[i * 8 + j] = g[i * 8 + j]; } } } } team i in 0..8 by 4 { for j in 0..8 { g[i * 8 + j] = h[i * 8 + j]; } } }";
 
-/// All of them.
+/// Choices by data, in members of a team and in turns of a loop, with sites on both sides.
+const CHOICES: &[u8] =
+    b"array a[8]; array b[8]; array c[32]; team i in 0..8 by 4 { a[i] = i % 3; } barrier { if a[i] { par { { b[i] = i; } { } } } else { par { { b[i] = 9; } { } { } } } } for i in 0..8 { if b[i] > 5 { par { { a[i] = 1; } { b[i] = 2; } } } else { team j in 0..4 by 4 { c[4 * i + j] = a[i]; } } }";
+
+/// All of them that enter each of their sites.
 pub const PROGRAMS: &[&[u8]] = &[b"", TWO_BRANCHES, NESTED, PHASES, TURNS, STENCIL];
 
 /// The words of a run on two, three and four harts.
@@ -118,6 +122,17 @@ fn all_programs_run_on_five_and_sixteen_harts(rt: HostRuntime) -> Result<(), Fai
         for program in PROGRAMS {
             assert!(rt; is_right(&rt, FIVE, program)? && is_right(&rt, SIXTEEN, program)?);
         }
+    }
+    Ok(())
+}
+
+#[test]
+fn choices_are_made_many_times(rt: HostRuntime) -> Result<(), Fail> {
+    for _ in 0..20 {
+        let right = is_right(&rt, TWO, CHOICES)?
+            && is_right(&rt, THREE, CHOICES)?
+            && is_right(&rt, FOUR, CHOICES)?;
+        assert!(rt; right && is_right(&rt, SIXTEEN, CHOICES)?);
     }
     Ok(())
 }

@@ -141,12 +141,6 @@ fn faults_of_the_text_are_told_with_their_place(rt: HostRuntime) -> Result<(), F
 #[test]
 fn faults_of_the_program_are_told_with_their_line(rt: HostRuntime) -> Result<(), Fail> {
     refused(&rt, b"a[0] = 1;", b"refused: unknown name at line 1\n")?;
-    let program = b"array a[1]; if 1 { par { { a[0] = 1; } } }";
-    refused(
-        &rt,
-        program,
-        b"refused: parallel construct under if at line 1\n",
-    )?;
     let program = b"par { { par { { par { { par { { } } } } } } } }";
     refused(&rt, program, b"refused: 4 levels\n")
 }

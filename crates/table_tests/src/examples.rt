@@ -70,6 +70,19 @@ a[at[0]] = 7;
 if a[3] == 7 { a[0] = 9223372036854775807 + 1; } else { a[0] = 1; }
 ";
 
+const CHOICE: &[u8] = b"array left[1];
+array turns[8];
+left[0] = 8;
+for turn in 0..3 {
+  if left[0] > 2 {
+    team i in 0..8 by 2 { if i < left[0] { turns[i] = turns[i] + 1; } }
+  } else {
+    for i in 0..8 { if i < left[0] { turns[i] = turns[i] + 1; } }
+  }
+  left[0] = left[0] / 2;
+}
+";
+
 // The numbers of harts with which the examples run.
 const HARTS: [&str; 7] = [
     "--harts=1",
@@ -81,8 +94,8 @@ const HARTS: [&str; 7] = [
     "--harts=16",
 ];
 
-// Runs the program on so many harts each, and audits what each run writes.
-fn runs_are_legal<R: AllocGlobal + Abort + Threads + Wait + Sync>(
+/// Runs the program on so many harts each, and audits what each run writes.
+pub fn runs_are_legal<R: AllocGlobal + Abort + Threads + Wait + Sync>(
     rt: &R,
     program: &[u8],
 ) -> Result<(), Fail> {
@@ -117,8 +130,8 @@ fn input_of_run<R: AllocGlobal + Threads + Wait + Sync>(
     Ok(input(rt.alloc(), program, served.out.bytes())?)
 }
 
-// The input of an audit.
-fn input(alloc: Global, program: &[u8], output: &[u8]) -> Result<Vec<u8>, AllocError> {
+/// The input of an audit.
+pub fn input(alloc: Global, program: &[u8], output: &[u8]) -> Result<Vec<u8>, AllocError> {
     let mut input = program.to_vec(alloc)?;
     input.extend_from_slice(b"%%\n")?;
     input.extend_from_slice(output)?;
@@ -132,5 +145,6 @@ fn runs_of_the_examples_are_legal(rt: HostRuntime) -> Result<(), Fail> {
     runs_are_legal(&rt, NESTED_TEAM)?;
     runs_are_legal(&rt, LOOP_OF_PARS)?;
     runs_are_legal(&rt, SHARED_READS)?;
-    runs_are_legal(&rt, DYNAMIC_INDEX)
+    runs_are_legal(&rt, DYNAMIC_INDEX)?;
+    runs_are_legal(&rt, CHOICE)
 }

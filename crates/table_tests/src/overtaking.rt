@@ -26,6 +26,10 @@ par { { team i in 0..4 by 2 { par { { a[2 * i] = i; } { a[2 * i + 1] = i + 1; } 
 const WAVE: &[u8] = b"array a[5]; array b[5]; array c[5];
 team i in 1..5 by 4 { a[i] = i; } barrier { b[i] = a[i - 1] + a[i]; } barrier { c[i] = b[i - 1] + b[i]; }";
 
+// In the second phase each member chooses by what lies below it.
+const CHOICE: &[u8] = b"array a[6]; array b[6];
+team i in 0..6 by 3 { a[i] = i % 2; } barrier { if a[i / 2] { par { { b[i] = 1; } { } } } }";
+
 #[test]
 fn a_member_goes_on_behind_those_below_it(rt: HostRuntime) -> Result<(), Fail> {
     let told = b"a = 1 2 3 4 5 6
@@ -73,6 +77,8 @@ fn overtaking_is_not_seen_in_the_arrays(rt: HostRuntime) -> Result<(), Fail> {
         writes(&rt, words, NESTED, nested)?;
         let wave = b"a = 0 1 2 3 4\nb = 0 1 3 5 7\nc = 0 1 4 8 12\ntransfers ";
         writes(&rt, words, WAVE, wave)?;
+        let choice = b"a = 0 1 0 1 0 1\nb = 0 0 1 1 0 0\ntransfers ";
+        writes(&rt, words, CHOICE, choice)?;
     }
     Ok(())
 }
