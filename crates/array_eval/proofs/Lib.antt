@@ -5,3 +5,5 @@ pub mod TraceLemmas
 pub mod StartLemmas
 pub mod LayoutLemmas
 mod MarkLemmas
+pub mod CopyLemmas
+pub mod OverLemmas

@@ -1,24 +1,16 @@
 -- Cells that are marked, page by page.
-use Rattle.std.proofs.Common.{inl, inr, ◌≡◌, ℕ, zero, suc, ◌+◌, ◌*◌, ◌<◌, ◌≤◌, Bool, true, false, cond, List, length, drop, get_or, ℤ, pos, sym, ap, subst, ◌∙◌, arith}
-use Rattle.std.specs.Prelude.{All, [], ◌∷◌}
-use Rattle.std.proofs.lemmas.List.{length-drop, drop_all}
+use Rattle.std.proofs.Common.{inl, inr, ◌≡◌, ℕ, zero, suc, ◌+◌, ◌<◌, ◌≤◌, Bool, true, false, cond, List, length, drop, get_or, ℤ, pos, sym, ap, subst, ◌∙◌, arith}
+use Rattle.std.specs.Prelude.{All}
+use Rattle.std.proofs.lemmas.List.{drop_all}
 use Rattle.std.proofs.lemmas.Bool.{cases_lt}
 use Rattle.array_meaning.specs.Stores.{Write}
 use Rattle.array_meaning.specs.Pieces.{lay, lays}
 use Rattle.array_eval.specs.Overlays.{Laid}
-use Rattle.array_eval.specs.Traces.{marked_from, marks_in, AreTouched, IsLaidTo}
-use Rattle.array_eval.proofs.TraceLemmas.{marked_next, marked_end, marks_next, marks_small, length_lay}
+use Rattle.array_eval.specs.Traces.{marked_from, marks_in, IsLaidTo}
+use Rattle.array_eval.proofs.TraceLemmas.{marked_next, marked_end, marks_next, length_lay}
 use Rattle.array_eval.proofs.OverlayLemmas.{below_next, below_laid}
 
--- ---- which pages are touched
-
--- a flag that is there
-pub no_flag : (flags : List Bool) (number : ℕ) → number < length flags → get_or flags number false ≡ false → get_or flags number true ≡ false
-no_flag [] number h e = absurd (omega (arith, h))
-no_flag (f ∷ flags) zero h e = e
-no_flag (f ∷ flags) (suc number) h e = no_flag flags number (omega (arith, h)) e
-
--- ---- pages with no mark are passed
+-- ---- cells with no mark are passed
 
 pass_cell : (cells : List ℤ) (marks : List Bool) (cell : ℕ) (o : Laid) → length cells ≡ length marks → get_or marks cell false ≡ false →
     IsLaidTo cells marks cell o → IsLaidTo cells marks (cell + 1) o
@@ -58,12 +50,6 @@ pass_cells (suc count) cells marks cell o same unmarked laid =
     (pass_cell cells marks (cell + count) o same (unmarked count (omega arith))
     (pass_cells count cells marks cell o same (λ k h. unmarked k (omega (arith, h))) laid))
 
--- a page that has no flag
-pub pass_page : (touched : List Bool) (cells : List ℤ) (marks : List Bool) (number : ℕ) (o : Laid) → length cells ≡ length marks → AreTouched touched marks →
-    get_or touched number true ≡ false → IsLaidTo cells marks (64 * number) o → IsLaidTo cells marks (64 * number + 64) o
-pass_page touched cells marks number o same all flag laid =
-    pass_cells 64 cells marks (64 * number) o same (λ k h. all.unmarked number k flag h) laid
-
 -- a cell that is marked is laid
 pub lay_cell : (cells : List ℤ) (marks : List Bool) (cell : ℕ) (o new : Laid) → length cells ≡ length marks → cell < length cells → get_or marks cell false ≡ true →
     new.pairs ≡ lay cell (get_or cells cell (pos 0)) o.pairs → new.room ≡ o.room → IsLaidTo cells marks cell o → IsLaidTo cells marks (cell + 1) new
@@ -91,38 +77,8 @@ pub leave_cell : (cells : List ℤ) (marks : List Bool) (cell : ℕ) (o new : La
 leave_cell cells marks cell o new same unmarked is laid =
     subst (λ x. IsLaidTo cells marks (cell + 1) x) (sym is) (pass_cell cells marks cell o same unmarked laid)
 
--- ---- the same of how many are marked
+-- ---- how many are marked
 
-pass_marks : (count : ℕ) (marks : List Bool) (cell : ℕ) → ((k : ℕ) → k < count → get_or marks (cell + k) false ≡ false) →
-    marks_in (drop (cell + count) marks) ≡ marks_in (drop cell marks)
-pass_marks zero marks cell unmarked =
-    let end : cell + 0 ≡ cell = omega arith in
-    ap (λ n. marks_in (drop n marks)) end
-pass_marks (suc count) marks cell unmarked =
-    let end : cell + suc count ≡ cell + count + 1 = omega arith in
-    ap (λ n. marks_in (drop n marks)) end
-    ∙ pass_mark (cell + count) (unmarked count (omega arith))
-    ∙ pass_marks count marks cell (λ k h. unmarked k (omega (arith, h)))
-  where
-    pass_mark : (i : ℕ) → get_or marks i false ≡ false → marks_in (drop (i + 1) marks) ≡ marks_in (drop i marks)
-    pass_mark i here = elim (cases_lt i (length marks)) [
-      | inl inside ↦
-          (let next : marks_in (drop i marks) ≡ 0 + marks_in (drop (i + 1) marks)
-          = marks_next i marks false inside ∙ ap (λ b. cond b 1 0 + marks_in (drop (i + 1) marks)) here in
-          omega (arith, next))
-      | inr outside ↦ ap marks_in (drop_all (i + 1) marks (omega (arith, outside)) ∙ sym (drop_all i marks outside))
-    ]
-
-pub pass_counted : (touched marks : List Bool) (number : ℕ) → AreTouched touched marks → get_or touched number true ≡ false →
-    marks_in (drop (64 * number + 64) marks) ≡ marks_in (drop (64 * number) marks)
-pass_counted touched marks number all flag = pass_marks 64 marks (64 * number) (λ k h. all.unmarked number k flag h)
-
--- the marks of a page and all behind it
+-- the marks of a cell and all behind it
 pub count_next : (marks : List Bool) (i : ℕ) → i < length marks → get_or marks i false ≡ true → marks_in (drop i marks) ≡ 1 + marks_in (drop (i + 1) marks)
 count_next marks i inside here = marks_next i marks false inside ∙ ap (λ b. cond b 1 0 + marks_in (drop (i + 1) marks)) here
-
-pub few_behind : (marks : List Bool) (i : ℕ) → marks_in (drop i marks) ≤ length marks
-few_behind marks i =
-    let small = marks_small (drop i marks) in
-    let long = length-drop i marks in
-    omega (arith, small, long)

@@ -8,7 +8,7 @@ use Rattle.std.proofs.lemmas.List.{length-append, length-replicate, length-take,
 use Rattle.std.proofs.lemmas.Bool.{cases_lt, false≢true}
 use Rattle.std.proofs.lemmas.Grind.{div_ceil_times}
 use Rattle.array_eval.specs.Equal.{store_eq}
-use Rattle.array_eval.specs.Pages.{padded, cells_on, pages_for, ArePages, page_at, AreChanged, AreChangedPages}
+use Rattle.array_eval.specs.Pages.{padded, cells_on, pages_for, ArePages, page_at, AreChanged}
 
 -- Each page has 64 cells.
 abbrev pub AreWhole : List (List ℤ) → Type 0
@@ -33,7 +33,7 @@ length_on (p ∷ ps) whole =
     omega (arith, front, rest, both)
 
 -- the cell at a place of a page
-get_at : (pages : List (List ℤ)) (q r : ℕ) (page : List ℤ) (d : ℤ) → AreWhole pages → q < length pages → r < 64 →
+pub get_at : (pages : List (List ℤ)) (q r : ℕ) (page : List ℤ) (d : ℤ) → AreWhole pages → q < length pages → r < 64 →
     get_or (cells_on pages) (64 * q + r) d ≡ get_or (get_or pages q page) r d
 get_at [] q r page d whole in_q in_r = absurd (omega (arith, in_q))
 get_at (p ∷ ps) zero r page d whole in_q in_r =
@@ -307,7 +307,7 @@ page_in (p ∷ ps) (suc number) d whole h =
     ∙ page_in ps number d (others_whole p ps whole) (omega (arith, h))
 
 -- so has the page of what is seen, with zeros behind them
-page_seen : (count number : ℕ) (pages : List (List ℤ)) (d : List ℤ) → ArePages count pages → number < length pages →
+pub page_seen : (count number : ℕ) (pages : List (List ℤ)) (d : List ℤ) → ArePages count pages → number < length pages →
     get_or pages number d ≡ padded (page_at number (take count (cells_on pages)))
 page_seen count number pages d right h =
     let view = take count (cells_on pages) in
@@ -322,17 +322,11 @@ page_seen count number pages d right h =
     ∙ ap (take 64) (drop-append-le (64 * number) view (replicate behind (pos 0)) (omega (arith, start, seen)))
     ∙ take_filled 64 behind (drop (64 * number) view) (omega (arith, start, seen, long, room, h, many))
 
--- pages that are shared have the cells that are to be on them
-pub changed_pages : (count : ℕ) (pages : List (List ℤ)) (changed : List Bool) (view after : List ℤ) → ArePages count pages → take count (cells_on pages) ≡ view →
-    AreChanged changed view after → AreChangedPages changed pages after
-changed_pages count pages changed view after right e all =
-    let seen = length_seen count pages right in
-    let same : count ≡ length after = sym seen ∙ ap length e ∙ all.as_many in
-    record {
-      as_many = right.fewest ∙ ap pages_for same;
-      marks = all.marks;
-      kept = λ number h mark. page_seen count number pages [] right h ∙ ap (λ cells. padded (page_at number cells)) e ∙ ap padded (all.kept number mark);
-    }
+-- a flag that is there
+pub no_flag : (flags : List Bool) (number : ℕ) → number < length flags → get_or flags number false ≡ false → get_or flags number true ≡ false
+no_flag [] number h e = absurd (omega (arith, h))
+no_flag (f ∷ flags) zero h e = e
+no_flag (f ∷ flags) (suc number) h e = no_flag flags number (omega (arith, h)) e
 
 -- no page is changed yet
 pub none_changed : (cells : List ℤ) → AreChanged (replicate (pages_for (length cells)) false) cells cells

@@ -8,3 +8,4 @@ pub mod Traces
 pub mod Equal
 pub mod EqualLaws
 pub mod Laws
+pub mod Copies

@@ -1,6 +1,6 @@
 -- Cells on pages.
 use Rattle.std.specs.Int.{div_ceil}
-use Rattle.std.specs.Prelude.{◌≡◌, ℕ, ◌-◌, ◌*◌, ◌<◌, List, [], ◌∷◌, ◌++◌, ℤ, pos, All, length, replicate, take, drop, Bool, true, false, slice_index_or}
+use Rattle.std.specs.Prelude.{◌≡◌, ℕ, ◌+◌, ◌-◌, ◌*◌, ◌<◌, List, [], ◌∷◌, ◌++◌, ℤ, pos, All, length, replicate, take, drop, Bool, true, false, slice_index_or}
 
 -- How many cells a page has.
 abbrev pub cells_on_page : ℕ
@@ -29,17 +29,15 @@ pub record ArePages (count : ℕ) (pages : List (List ℤ)) : Type 0 where
 abbrev pub page_at : ℕ → List ℤ → List ℤ
 page_at number cells = take cells_on_page (drop (cells_on_page * number) cells)
 
+-- These cells of a page are those of a store, as far as the store goes.
+abbrev pub IsPageOf : List ℤ → ℕ → List ℤ → Type 0
+IsPageOf cells number page = (place : ℕ) → place < cells_on_page
+    → cells_on_page * number + place < length cells
+    → slice_index_or page place (pos 0) ≡ slice_index_or cells (cells_on_page * number + place) (pos 0)
+
 -- Cells that were changed, and for each page whether one of its cells may have been: those of the other pages are as before.
 pub record AreChanged (changed : List Bool) (before after : List ℤ) : Type 0 where
   pub as_many : length before ≡ length after
   pub marks : length changed ≡ pages_for (length after)
   pub kept : (number : ℕ) → slice_index_or changed number true ≡ false
       → page_at number before ≡ page_at number after
-
--- The same of pages and the cells that are to lie on them.
-pub record AreChangedPages (changed : List Bool) (pages : List (List ℤ))
-    (after : List ℤ) : Type 0 where
-  pub as_many : length pages ≡ pages_for (length after)
-  pub marks : length changed ≡ pages_for (length after)
-  pub kept : (number : ℕ) → number < length pages → slice_index_or changed number true ≡ false
-      → slice_index_or pages number [] ≡ padded (page_at number after)

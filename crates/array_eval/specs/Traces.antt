@@ -1,10 +1,9 @@
 -- A store that is written, and which of its cells were.
-use Rattle.std.specs.Prelude.{◌≡◌, ℕ, suc, ◌+◌, ◌*◌, ◌<◌, ◌≤◌, Bool, true, false, List, [], ◌∷◌, All, replicate, length, drop, ℤ, slice_set, slice_index_or}
+use Rattle.std.specs.Prelude.{◌≡◌, ℕ, suc, ◌+◌, ◌<◌, ◌≤◌, Bool, true, false, List, [], ◌∷◌, All, replicate, length, drop, ℤ, slice_set}
 use Rattle.array_meaning.specs.Stores.{Arrays, Store, Write, written}
 use Rattle.array_meaning.specs.Steps.{Steps, writes_of}
 use Rattle.array_meaning.specs.Pieces.{lays, last_writes}
 use Rattle.array_eval.specs.Overlays.{Laid}
-use Rattle.array_eval.specs.Pages.{cells_on_page, pages_for}
 
 -- The cells, and for each whether it was written.
 pub record Trace : Type 0 where
@@ -47,12 +46,6 @@ abbrev pub marks_in : List Bool → ℕ
 marks_in [] = 0
 marks_in (true ∷ marks) = suc (marks_in marks)
 marks_in (false ∷ marks) = marks_in marks
-
--- For each page whether one of its cells may be marked: no cell of the other pages is.
-pub record AreTouched (touched marks : List Bool) : Type 0 where
-  pub as_many : length touched ≡ pages_for (length marks)
-  pub unmarked : (number cell : ℕ) → slice_index_or touched number true ≡ false → cell < cells_on_page
-      → slice_index_or marks (cells_on_page * number + cell) false ≡ false
 
 -- The cells before one that are marked are laid into an overlay, which has room for the rest.
 pub record IsLaidTo (cells : List ℤ) (marks : List Bool) (cell : ℕ) (overlay : Laid) : Type 0 where

@@ -1,5 +1,5 @@
 //! Where arrays and indexes lead.
-ghost use Rattle.std.specs.Prelude.{◌≡◌};
+ghost use Rattle.std.specs.Prelude.{◌≡◌, List, [], ℤ};
 ghost use Rattle.array_tree.specs.Trees.{declarations_of};
 ghost use Rattle.array_meaning.specs.Stores.{arrays_of, AreSized, cell_of, cells_of, at_cell};
 
@@ -30,9 +30,25 @@ pub fn count_cells(arrays: &Arrays) -> usize
     count
 }
 
-/// What a cell has, 0 behind the last.
-pub(crate) fn read(cells: &[i64], cell: usize) -> i64
-    ensures { result ≡ at_cell cells.now cell }
-{
-    if cell < cells.len() { cells[cell] } else { 0 }
+/// Cells that an expression can read.
+pub trait Cells {
+    /// Their values.
+    ghost values: { Self → List ℤ };
+
+    /// What a cell has, 0 behind the last.
+    fn read(&self, cell: usize) -> i64
+        ensures { result ≡ at_cell (values self.now) cell };
+}
+
+/// No cell, for expressions that read none: each would be 0.
+#[derive(Clone, Copy, Debug, Drop)]
+pub struct NoCells;
+
+impl Cells for NoCells {
+    ghost values = { λ none. [] };
+
+    #[inline]
+    fn read(&self, _cell: usize) -> i64 {
+        0
+    }
 }

@@ -3,6 +3,7 @@
 
 mod array_text;
 mod cells;
+mod copies;
 mod laws;
 mod layout;
 mod marked_store;
@@ -17,7 +18,7 @@ mod value;
 mod vars;
 
 pub use array_text::write_arrays;
-pub use cells::count_cells;
+pub use cells::{Cells, NoCells, count_cells};
 pub use laws::rising_lists_are_short;
 pub use layout::{Layout, Place};
 pub use marked_store::MarkedStore;

@@ -1,10 +1,14 @@
 //! Stores that know which of their cells were written.
-ghost use Rattle.std.specs.Prelude.{◌≡◌, ◌+◌, ◌*◌, ◌<◌, ◌≤◌, All, IfOk, [], true, false, length, drop, replicate, slice_set};
+ghost use Rattle.std.specs.Prelude.{◌≡◌, ◌+◌, ◌*◌, ◌<◌, ◌≤◌, All, IfOk, IsSome, None, [], true, length, slice_index_or, slice_set};
 ghost use Rattle.array_meaning.specs.Pieces.{lays, last_writes};
+ghost use Rattle.array_meaning.specs.Stores.{at_cell};
+ghost use Rattle.array_eval.specs.Copies.{over_store};
 ghost use Rattle.array_eval.specs.Overlays.{cell_numbers};
 ghost use Rattle.array_eval.specs.Pages.{cells_on_page, pages_for};
-ghost use Rattle.array_eval.specs.Traces.{fresh, noted, noted_all, marked, marked_from, marks_in, AreTouched, IsLaidTo};
+ghost use Rattle.array_eval.specs.Traces.{fresh, noted, noted_all, marked, marks_in, IsLaidTo};
 
+use crate::cells::Cells;
+use crate::copies::Copies;
 use crate::overlay::Overlay;
 use crate::page::CELLS;
 use crate::store::Store;
@@ -13,13 +17,14 @@ use std::marker::Model;
 
 /// The value of each cell, and which of the cells were written since it was made.
 ///
+/// It reads the pages of the store that it was made from, and copies a page at the first write to it, into room that it has.
 /// Contracts see it as the list of values and the list of marks.
 #[derive(Debug, Drop)]
 pub struct MarkedStore {
-    cells: Vec<i64>,
-    marks: Vec<bool>,
-    // On which pages there may be marks: the others needn't be looked at.
-    touched: Vec<bool>,
+    count: usize,
+    copies: Copies,
+    // How many cells are marked.
+    marked: usize,
     // The store that was taken last, at first what it was made from, and which of its pages were written since: the next
     // store that is taken shares the others.
     start: Store,
@@ -28,53 +33,71 @@ pub struct MarkedStore {
 
 impl Model for MarkedStore {
     ghost use Rattle.std.specs.Prelude.{◌≡◌, length};
-    ghost use Rattle.array_eval.specs.Traces.{Trace, AreTouched};
-    ghost use Rattle.array_eval.specs.Pages.{AreChanged};
+    ghost use Rattle.array_eval.specs.Copies.{over_store};
+    ghost use Rattle.array_eval.specs.Traces.{Trace, marks_in};
+    ghost use Rattle.array_eval.specs.Pages.{pages_for, AreChanged};
 
     ghost Value = { Trace };
 
-    ghost view = { λ store. record { cells = store.cells.items; marks = store.marks.items } };
+    ghost view = { λ store. over_store store.start store.copies };
 
-    ghost invariant = { λ store. (length store.cells.items ≡ length store.marks.items)
-        × AreTouched store.touched.items store.marks.items
-        × AreChanged store.changed.items store.start store.cells.items };
+    ghost invariant = { λ store. (store.count ≡ length store.start)
+        × (length store.copies ≡ pages_for store.count)
+        × (store.marked ≡ marks_in (over_store store.start store.copies).marks)
+        × AreChanged store.changed.items store.start (over_store store.start store.copies).cells };
 }
 
 impl MarkedStore {
-    /// A copy of a store, of which no cell is written yet.
+    /// What a store has, of which no cell is written yet. No cell is copied.
     pub fn new(alloc: Global, store: &Store) -> Result<MarkedStore, AllocError>
         ensures { IfOk result (λ marked. marked ≡ fresh store.now) }
     {
-        let cells = store.to_cells(alloc)?;
-        let marks = vec![in alloc; false; cells.len()]?;
-        let pages = cells.len().div_ceil(CELLS);
-        let touched = vec![in alloc; false; pages]?;
-        let start = store.copy()?;
+        let count = store.count();
+        let pages = count.div_ceil(CELLS);
+        let copies = Copies::none(alloc, pages)?;
         let changed = vec![in alloc; false; pages]?;
         Ok(MarkedStore {
-            cells,
-            marks,
-            touched,
-            start,
+            count,
+            copies,
+            marked: 0,
+            start: store.copy()?,
             changed,
         })
     }
 
-    /// The value of each cell.
-    pub fn cells(&self) -> &[i64]
-        ensures { result.now ≡ self.now.cells }
+    /// How many cells there are.
+    pub fn count(&self) -> usize
+        ensures { result ≡ length self.now.cells }
     {
-        &self.cells
+        self.count
     }
 
-    /// Writes a cell, if it is there.
+    /// What a cell has, 0 behind the last.
+    #[inline]
+    pub fn read(&self, cell: usize) -> i64
+        ensures { result ≡ at_cell self.now.cells cell }
+    {
+        if cell < self.count {
+            match self.copies.get(cell / CELLS) {
+                Some(page) => page.get(cell % CELLS),
+                None => self.start.read(cell),
+            }
+        } else {
+            0
+        }
+    }
+
+    /// Writes a cell, if it is there. It takes no memory.
+    #[inline]
     pub(crate) fn write(&mut self, cell: usize, value: i64)
         ensures { self.new ≡ noted cell value self.old }
     {
-        if cell < self.cells.len() {
-            self.cells[cell] = value;
-            mark(&mut self.marks, &mut self.touched, cell);
-            flag(&mut self.changed, cell / CELLS);
+        if cell < self.count {
+            let number = cell / CELLS;
+            copy_page(&self.start, number, &mut self.copies);
+            let before = self.copies.write(number, cell % CELLS, value);
+            self.marked += usize::from(!before);
+            flag(&mut self.changed, number);
         }
     }
 
@@ -87,7 +110,7 @@ impl MarkedStore {
             → marked self.new ≡ lays written.now.pairs (marked self.old) }
     {
         // What the type keeps of a store is known where a field of it is seen.
-        let _ = &self.marks;
+        let _ = &self.count;
         for (cell, value) in written.pairs() {
             self.write(usize::from(*cell), *value);
         }
@@ -99,7 +122,7 @@ impl MarkedStore {
         ensures values { IfOk result (λ store. store ≡ self.old.cells) }
         ensures same { self.new ≡ self.old }
     {
-        let store = self.start.changed_to(alloc, &self.cells, &self.changed)?;
+        let store = self.start.changed_to(alloc, &self.copies, &self.changed)?;
         self.start = store.copy()?;
         self.changed.fill(false);
         Ok(store)
@@ -110,8 +133,8 @@ impl MarkedStore {
         requires { length self.now.cells < cell_numbers }
         ensures { IfOk result (λ overlay. overlay.pairs ≡ last_writes (marked self.now)) }
     {
-        let mut overlay = Overlay::roomy(alloc, count_marks(&self.marks, &self.touched))?;
-        lay_marked(&self.cells, &self.marks, &self.touched, &mut overlay);
+        let mut overlay = Overlay::roomy(alloc, self.marked as u16)?;
+        self.lay_marked(&mut overlay);
         Ok(overlay)
     }
 
@@ -125,93 +148,72 @@ impl MarkedStore {
         requires room { length self.now.cells ≤ overlay.old.room }
         ensures { overlay.new.pairs ≡ last_writes (marked self.now) }
     {
-        lay_marked(&self.cells, &self.marks, &self.touched, overlay);
+        // As in `merge`.
+        let _ = &self.count;
+        self.lay_marked(overlay);
+    }
+
+    // Lays the cells that are marked, each with its value.
+    fn lay_marked(&self, overlay: &mut Overlay)
+        requires small { length self.now.cells < cell_numbers }
+        requires none { overlay.old.pairs ≡ [] }
+        requires room { marks_in self.now.marks ≤ overlay.old.room }
+        ensures { overlay.new.pairs ≡ last_writes (marked self.now) }
+    {
+        for number in 0..self.changed.len() {
+            self.lay_page(number, overlay);
+        }
+    }
+
+    // Lays the cells of a page that are marked, where those before it are laid. A page with no copy has none.
+    fn lay_page(&self, number: usize, overlay: &mut Overlay)
+        requires small { length self.now.cells < cell_numbers }
+        requires there { number < pages_for (length self.now.cells) }
+        requires laid { IsLaidTo self.now.cells self.now.marks (cells_on_page * number) overlay.old }
+        ensures { IsLaidTo self.now.cells self.now.marks (cells_on_page * number + cells_on_page)
+            overlay.new }
+    {
+        if let Some(page) = self.copies.get(number) {
+            let first = CELLS * number;
+            for cell in first..self.count.min(first + CELLS) {
+                if page.is_marked(cell - first) {
+                    overlay.append(cell as u16, page.get(cell - first));
+                }
+            }
+        }
+    }
+}
+
+impl Cells for MarkedStore {
+    ghost values = { λ store. store.cells };
+
+    #[inline]
+    fn read(&self, cell: usize) -> i64 {
+        self.read(cell)
+    }
+}
+
+// Copies a page of a store, if it isn't copied yet.
+#[inline]
+fn copy_page(start: &Store, number: usize, copies: &mut Copies)
+    requires whole { length copies.old ≡ pages_for (length start.now) }
+    requires there { number < length copies.old }
+    ensures some { IsSome (slice_index_or copies.new number None) }
+    ensures same { over_store start.now copies.new ≡ over_store start.now copies.old }
+    ensures whole { length copies.new ≡ length copies.old }
+{
+    if copies.get(number).is_none() {
+        copies.add(number, start.page(number));
     }
 }
 
 // Sets a flag. One that is set isn't written again, since what lies beside it may be another thread's.
+#[inline]
 fn flag(flags: &mut Vec<bool>, number: usize)
     requires { number < length flags.old.items }
     ensures { flags.new.items ≡ slice_set flags.old.items number true }
 {
     if !flags[number] {
         flags[number] = true;
-    }
-}
-
-// Marks a cell, and its page as touched.
-fn mark(marks: &mut Vec<bool>, touched: &mut Vec<bool>, cell: usize)
-    requires inside { cell < length marks.old.items }
-    requires touched { AreTouched touched.old.items marks.old.items }
-    ensures marks { marks.new.items ≡ slice_set marks.old.items cell true }
-    ensures touched { AreTouched touched.new.items marks.new.items }
-{
-    if !marks[cell] {
-        marks[cell] = true;
-        flag(touched, cell / CELLS);
-    }
-}
-
-// How many cells are marked.
-fn count_marks(marks: &[bool], touched: &[bool]) -> u16
-    requires small { length marks.now < cell_numbers }
-    requires touched { AreTouched touched.now marks.now }
-    ensures { result ≡ marks_in marks.now }
-{
-    let mut count = 0;
-    for number in 0..touched.len() {
-        if touched[number] {
-            count += count_page(marks, number);
-        }
-    }
-    count
-}
-
-// How many cells of a page are marked.
-fn count_page(marks: &[bool], number: usize) -> u16
-    requires small { length marks.now < cell_numbers }
-    requires there { cells_on_page * number < length marks.now }
-    ensures { result + marks_in (drop (cells_on_page * number + cells_on_page) marks.now)
-        ≡ marks_in (drop (cells_on_page * number) marks.now) }
-{
-    let first = CELLS * number;
-    let mut count = 0;
-    for cell in first..marks.len().min(first + CELLS) {
-        if marks[cell] {
-            count += 1;
-        }
-    }
-    count
-}
-
-// Lays the cells that are marked, each with its value.
-fn lay_marked(cells: &[i64], marks: &[bool], touched: &[bool], overlay: &mut Overlay)
-    requires same { length cells.now ≡ length marks.now }
-    requires small { length cells.now < cell_numbers }
-    requires touched { AreTouched touched.now marks.now }
-    requires none { overlay.old.pairs ≡ [] }
-    requires room { marks_in marks.now ≤ overlay.old.room }
-    ensures { overlay.new.pairs ≡ last_writes (marked_from 0 cells.now marks.now) }
-{
-    for number in 0..touched.len() {
-        if touched[number] {
-            lay_page(cells, marks, number, overlay);
-        }
-    }
-}
-
-// Lays the cells of a page that are marked, where those before it are laid.
-fn lay_page(cells: &[i64], marks: &[bool], number: usize, overlay: &mut Overlay)
-    requires same { length cells.now ≡ length marks.now }
-    requires small { length cells.now < cell_numbers }
-    requires there { cells_on_page * number < length marks.now }
-    requires laid { IsLaidTo cells.now marks.now (cells_on_page * number) overlay.old }
-    ensures { IsLaidTo cells.now marks.now (cells_on_page * number + cells_on_page) overlay.new }
-{
-    let first = CELLS * number;
-    for cell in first..cells.len().min(first + CELLS) {
-        if marks[cell] {
-            overlay.append(cell as u16, cells[cell]);
-        }
     }
 }

@@ -2,8 +2,10 @@
 ghost use Rattle.std.specs.Prelude.{◌≡◌, ◌↔◌, ◌*◌, ◌<◌, ◌≤◌, IsTrue, false, IfOk, OnOk, OnErr, length, replicate, take, drop, pos};
 ghost use Rattle.array_meaning.specs.Stores.{at_cell, written};
 ghost use Rattle.array_eval.specs.Equal.{store_eq};
-ghost use Rattle.array_eval.specs.Pages.{cells_on_page, cells_on, page_at, padded, pages_for, ArePages, AreChanged, AreChangedPages};
+ghost use Rattle.array_eval.specs.Copies.{over_store};
+ghost use Rattle.array_eval.specs.Pages.{cells_on_page, cells_on, page_at, padded, pages_for, ArePages, AreChanged, IsPageOf};
 
+use crate::copies::Copies;
 use crate::page::{CELLS, Page};
 use std::alloc::{AllocError, Global};
 use std::marker::Model;
@@ -42,12 +44,28 @@ impl Paged {
     }
 
     /// What a cell has.
-    pub(crate) fn get(&self, cell: u16) -> i64
+    #[inline]
+    pub(crate) fn get(&self, cell: usize) -> i64
         requires { cell < length self.now }
         ensures { result ≡ at_cell self.now cell }
     {
-        let cell = usize::from(cell);
         self.pages[cell / CELLS].get(cell % CELLS)
+    }
+
+    /// How many cells it has.
+    pub(crate) fn count(&self) -> usize
+        ensures { result ≡ length self.now }
+    {
+        self.count
+    }
+
+    /// The cells of a page, with any behind the last cell.
+    pub(crate) fn page(&self, number: usize) -> &[i64]
+        requires { number < pages_for (length self.now) }
+        ensures whole { length result.now ≡ cells_on_page }
+        ensures same { IsPageOf self.now number result.now }
+    {
+        self.pages[number].cells()
     }
 
     /// Writes a cell. Where memory is wanting, nothing changes.
@@ -70,20 +88,64 @@ impl Paged {
         })
     }
 
-    /// These cells, on the pages of this where they aren't marked as changed.
+    /// What is seen over this, on the pages of this where they aren't marked as changed.
     pub(crate) fn changed_to(
         &self,
         alloc: Global,
-        cells: &[i64],
+        copies: &Copies,
         changed: &[bool],
     ) -> Result<Paged, AllocError>
-        requires { AreChanged changed.now self.now cells.now }
-        ensures { IfOk result (λ paged. paged ≡ cells.now) }
+        requires copies { length copies.now ≡ pages_for (length self.now) }
+        requires changed { AreChanged changed.now self.now (over_store self.now copies.now).cells }
+        ensures { IfOk result (λ paged. paged ≡ (over_store self.now copies.now).cells) }
     {
         Ok(Paged {
-            count: cells.len(),
-            pages: lay_out(alloc, cells, &self.pages, changed)?,
+            count: self.count,
+            pages: self.lay_out(alloc, copies, changed)?,
         })
+    }
+
+    // The pages of what is seen over this, of which those that aren't marked as changed are the same.
+    fn lay_out(
+        &self,
+        alloc: Global,
+        copies: &Copies,
+        changed: &[bool],
+    ) -> Result<Vec<Page>, AllocError>
+        requires copies { length copies.now ≡ pages_for (length self.now) }
+        requires changed { AreChanged changed.now self.now (over_store self.now copies.now).cells }
+        ensures pages { IfOk result (λ pages. ArePages (length self.now) pages.items) }
+        ensures same { IfOk result (λ pages. take (length self.now) (cells_on pages.items)
+            ≡ (over_store self.now copies.now).cells) }
+    {
+        let mut pages = Vec::with_capacity(alloc, self.pages.len())?;
+        for number in 0..self.pages.len() {
+            pages.push(self.page_over(alloc, copies, changed, number)?)?;
+        }
+        Ok(pages)
+    }
+
+    // A page of what is seen over this.
+    fn page_over(
+        &self,
+        alloc: Global,
+        copies: &Copies,
+        changed: &[bool],
+        number: usize,
+    ) -> Result<Page, AllocError>
+        requires copies { length copies.now ≡ pages_for (length self.now) }
+        requires changed { AreChanged changed.now self.now (over_store self.now copies.now).cells }
+        requires number { number < pages_for (length self.now) }
+        ensures { IfOk result
+            (λ page. page ≡ padded (page_at number (over_store self.now copies.now).cells)) }
+    {
+        match copies.get(number) {
+            Some(own) if changed[number] => {
+                let few = (self.count - CELLS * number).min(CELLS);
+                Page::new(alloc, &own.cells()[..few])
+            }
+            _ => self.pages[number].copy(),
+        }
     }
 
     /// The cells, one after another.
@@ -144,49 +206,4 @@ fn share(alloc: Global, pages: &[Page]) -> Result<Vec<Page>, AllocError>
         shared.push(page.copy()?)?;
     }
     Ok(shared)
-}
-
-// Cells on pages, of which those that aren't marked as changed are the earlier ones.
-fn lay_out(
-    alloc: Global,
-    cells: &[i64],
-    earlier: &[Page],
-    changed: &[bool],
-) -> Result<Vec<Page>, AllocError>
-    requires { AreChangedPages changed.now earlier.now cells.now }
-    ensures pages { IfOk result (λ pages. ArePages (length cells.now) pages.items) }
-    ensures same { IfOk result
-        (λ pages. take (length cells.now) (cells_on pages.items) ≡ cells.now) }
-{
-    let count = cells.len().div_ceil(CELLS);
-    let mut pages = Vec::with_capacity(alloc, count)?;
-    for number in 0..count {
-        let own = cells_of_page(cells, number);
-        pages.push(page_of(alloc, own, &earlier[number], changed[number])?)?;
-    }
-    Ok(pages)
-}
-
-// The cells of the page with this number, of which the last may be short.
-fn cells_of_page(cells: &[i64], number: usize) -> &[i64]
-    requires { cells_on_page * number ≤ length cells.now }
-    ensures same { result.now ≡ page_at number cells.now }
-    ensures few { length result.now ≤ cells_on_page }
-{
-    let (_, rest) = cells.split_at(CELLS * number);
-    let (own, _) = rest.split_at(CELLS.min(rest.len()));
-    own
-}
-
-// A page of these cells: the earlier one, where it isn't marked as changed.
-fn page_of(alloc: Global, cells: &[i64], earlier: &Page, changed: bool) -> Result<Page, AllocError>
-    requires few { length cells.now ≤ cells_on_page }
-    requires kept { changed ≡ false → earlier.now ≡ padded cells.now }
-    ensures { IfOk result (λ page. page ≡ padded cells.now) }
-{
-    if changed {
-        Page::new(alloc, cells)
-    } else {
-        earlier.copy()
-    }
 }

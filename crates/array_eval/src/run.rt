@@ -63,8 +63,8 @@ pub fn run_assign(
         (value_of layout.now (vars_of scope.now)
         (expression_of right.now) store.old.cells) store.old }
 {
-    let place = evaluate(layout, index, scope, store.cells());
-    let number = evaluate(layout, right, scope, store.cells());
+    let place = evaluate(layout, index, scope, store);
+    let number = evaluate(layout, right, scope, store);
     store.write(cell(layout, array, is_dynamic(index), place), number);
 }
 
@@ -99,7 +99,7 @@ fn run_statement<'s>(
             else_block,
             ..
         } => {
-            if evaluate(layout, cond, scope, store.cells()) != 0 {
+            if evaluate(layout, cond, scope, store) != 0 {
                 run_block(layout, then_block, scope, store);
             } else {
                 run_block(layout, else_block, scope, store);

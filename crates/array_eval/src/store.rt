@@ -2,8 +2,10 @@
 ghost use Rattle.std.specs.Prelude.{◌≡◌, ◌↔◌, ◌<◌, IsTrue, All, IfOk, OnOk, OnErr, length, replicate, pos};
 ghost use Rattle.array_meaning.specs.Stores.{after, at_cell, written};
 ghost use Rattle.array_eval.specs.Equal.{store_eq};
-ghost use Rattle.array_eval.specs.Pages.{AreChanged};
+ghost use Rattle.array_eval.specs.Copies.{over_store};
+ghost use Rattle.array_eval.specs.Pages.{cells_on_page, pages_for, AreChanged, IsPageOf};
 
+use crate::copies::Copies;
 use crate::overlay::Overlay;
 use crate::paged::Paged;
 use std::alloc::{AllocError, Global};
@@ -45,7 +47,32 @@ impl Store {
         requires { cell < length self.now }
         ensures { result ≡ at_cell self.now cell }
     {
+        self.read(usize::from(cell))
+    }
+
+    /// The same.
+    #[inline]
+    pub(crate) fn read(&self, cell: usize) -> i64
+        requires { cell < length self.now }
+        ensures { result ≡ at_cell self.now cell }
+    {
         self.paged.get(cell)
+    }
+
+    /// How many cells it has.
+    pub(crate) fn count(&self) -> usize
+        ensures { result ≡ length self.now }
+    {
+        self.paged.count()
+    }
+
+    /// The cells of a page, with any behind the last cell.
+    pub(crate) fn page(&self, number: usize) -> &[i64]
+        requires { number < pages_for (length self.now) }
+        ensures whole { length result.now ≡ cells_on_page }
+        ensures same { IsPageOf self.now number result.now }
+    {
+        self.paged.page(number)
     }
 
     /// Writes a cell. Where memory is wanting, nothing changes.
@@ -98,19 +125,20 @@ impl Store {
         Ok(())
     }
 
-    /// A store of these cells. It shares each page of this one that isn't marked as changed.
+    /// A store of what is seen over this one. It shares each page of this one that isn't marked as changed.
     pub(crate) fn changed_to(
         &self,
         alloc: Global,
-        cells: &[i64],
+        copies: &Copies,
         changed: &[bool],
     ) -> Result<Store, AllocError>
-        requires { AreChanged changed.now self.now cells.now }
-        ensures { IfOk result (λ store. store ≡ cells.now) }
+        requires copies { length copies.now ≡ pages_for (length self.now) }
+        requires changed { AreChanged changed.now self.now (over_store self.now copies.now).cells }
+        ensures { IfOk result (λ store. store ≡ (over_store self.now copies.now).cells) }
     {
         Ok(Store {
             alloc,
-            paged: Arc::new(alloc, self.paged.changed_to(alloc, cells, changed)?)?,
+            paged: Arc::new(alloc, self.paged.changed_to(alloc, copies, changed)?)?,
         })
     }
 

@@ -5,21 +5,22 @@ ghost use Rattle.array_meaning.specs.Stores.{is_dynamic, value_of};
 ghost use Rattle.array_meaning.specs.Values.{applied, wrapping_minus};
 ghost use Rattle.array_eval.specs.Views.{vars_of};
 
-use crate::cells::{cell, read};
+use crate::cells::{Cells, cell};
 use crate::layout::Layout;
 use crate::scope::Scope;
 use array_tree::{Expr, Op};
 
 /// The value of an expression.
-pub fn evaluate(layout: &Layout, expr: &Expr, scope: &Scope, cells: &[i64]) -> i64
-    ensures { result ≡ value_of layout.now (vars_of scope.now) (expression_of expr.now) cells.now }
+pub fn evaluate<C: Cells>(layout: &Layout, expr: &Expr, scope: &Scope, cells: &C) -> i64
+    ensures { result ≡ value_of layout.now (vars_of scope.now) (expression_of expr.now)
+        (C.values cells.now) }
 {
     match expr {
         Expr::Number(number) => *number,
         Expr::Var(name) => scope.get(name),
         Expr::Read(array, index) => {
             let place = evaluate(layout, index, scope, cells);
-            read(cells, cell(layout, array, is_dynamic(index), place))
+            cells.read(cell(layout, array, is_dynamic(index), place))
         }
         Expr::Neg(operand) => negate(evaluate(layout, operand, scope, cells)),
         Expr::Binary(op, left, right) => {

@@ -44,7 +44,7 @@ impl Walker {
         ensures { result ≡ value_of layout.now (vars_of scope.now) (expression_of expr.now)
             self.now.trace.cells }
     {
-        evaluate(layout, expr, scope, self.store.cells())
+        evaluate(layout, expr, scope, &self.store)
     }
 
     /// Runs an assignment.

@@ -91,7 +91,7 @@ fn merge_to(
             merge(alloc, &mut marked, job)?;
         }
     }
-    if marked.cells().len() >= 65_536 {
+    if marked.count() >= 65_536 {
         return Err(Fail::new("more cells than any program has"));
     }
     let written = marked.written(alloc)?;

@@ -3,9 +3,10 @@ ghost use Rattle.std.specs.Prelude.{◌≡◌, IfOk, length};
 
 use crate::programs::{are_sized, parsed};
 use array_eval::{
-    Layout, LoopVar, MarkedStore, Overlay, Scope, Store, Vars, run_assign, start_of_member,
+    Layout, LoopVar, MarkedStore, NoCells, Overlay, Scope, Store, Vars, evaluate, run_assign,
+    start_of_member,
 };
-use array_tree::{Arrays, Expr, Name};
+use array_tree::{Arrays, Expr, Name, Op};
 use std::alloc::{AllocError, Global};
 use std::test::Fail;
 
@@ -227,7 +228,7 @@ fn has_written(
 
 // Whether a store of four cells knows that 0, 5 and 5 were written into all cells but cell 1.
 fn knows_what_was_written(alloc: Global, marked: &mut MarkedStore) -> Result<bool, AllocError> {
-    if marked.cells().len() != 4 {
+    if marked.count() != 4 {
         return Ok(false);
     }
     let has_five = ends_with_five(alloc, marked)?;
@@ -252,7 +253,7 @@ fn written_at(alloc: Global, start: &Store, cell: u16) -> Result<Store, Fail>
 {
     let mut marked = MarkedStore::new(alloc, start)?;
     put_nine(alloc, &mut marked, cell)?;
-    if marked.cells().len() != 130 {
+    if marked.count() != 130 {
         return Err(Fail::new("another number of cells"));
     }
     Ok(marked.to_store(alloc)?)
@@ -284,6 +285,48 @@ fn a_store_that_is_taken_has_both_pages(rt: HostRuntime) -> Result<(), Fail> {
     let second = written_at(alloc, &start, 65)?;
     let third = written_at(alloc, &second, 128)?;
     assert!(rt; have_both_pages(&start, &second, &third));
+    Ok(())
+}
+
+// Whether a store of 130 cells, made from that of three pages, of which cell 65 was written, is read right: on the page that
+// was written, on one that wasn't, and behind the last cell.
+fn is_read_over_its_store(marked: &MarkedStore) -> bool {
+    let is_written = marked.read(63) == 7 && marked.read(64) == 7 && marked.read(65) == 9;
+    is_written && marked.read(129) == 7 && marked.read(130) == 0 && marked.count() == 130
+}
+
+#[test]
+fn a_marked_store_is_read_over_its_store(rt: HostRuntime) -> Result<(), Fail> {
+    let alloc = rt.alloc();
+    let mut marked = MarkedStore::new(alloc, &store_of_three_pages(alloc)?)?;
+    put_nine(alloc, &mut marked, 65)?;
+    assert!(rt; is_read_over_its_store(&marked));
+    Ok(())
+}
+
+// The sum of 2 and a cell of `a`, where no cell is there to be read, and where the cells are those of a store.
+fn sums(alloc: Global, arrays: &Arrays, store: &MarkedStore) -> Result<(i64, i64), Fail> {
+    if !are_sized(arrays) {
+        return Err(Fail::new("arrays of no size that a program may have"));
+    }
+    let cell = Expr::Read(Name::new(alloc, b"a")?, Box::new(alloc, Expr::Number(3))?);
+    let two = Box::new(alloc, Expr::Number(2))?;
+    let sum = Expr::Binary(Op::Add, two, Box::new(alloc, cell)?);
+    let layout = Layout::new(alloc, arrays)?;
+    Ok((
+        evaluate(&layout, &sum, &Scope::Outermost, &NoCells),
+        evaluate(&layout, &sum, &Scope::Outermost, store),
+    ))
+}
+
+#[test]
+fn an_expression_is_evaluated_without_cells(rt: HostRuntime) -> Result<(), Fail> {
+    let alloc = rt.alloc();
+    let program = parsed(alloc, "array a[4];")?;
+    let mut marked = MarkedStore::new(alloc, &Store::zero(alloc, 4)?)?;
+    put_nine(alloc, &mut marked, 3)?;
+    let (without, with) = sums(alloc, &program.arrays, &marked)?;
+    assert_eq!(rt; (without, with), (2, 11));
     Ok(())
 }
 

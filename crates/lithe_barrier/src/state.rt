@@ -1,5 +1,5 @@
 //! The barrier as one owner has it.
-ghost use Rattle.std.specs.Prelude.{◌≡◌, ◌↔◌, IsTrue, IfOk, map};
+ghost use Rattle.std.specs.Prelude.{◌≡◌, ◌↔◌, ◌<◌, IsTrue, IfOk, length, map};
 ghost use Rattle.array_jobs.specs.Jobs.{job_of};
 ghost use Rattle.array_jobs.specs.Groups.{IsGroup};
 ghost use Rattle.join_book.specs.Books.{Open, open_book, IsMarked, IsPlaceOf, IsFull, HasFailed, all_writes};
@@ -69,6 +69,14 @@ impl<'p> BarrierState<'p> {
         })
     }
 
+    /// The jobs, in the order of their places. There is one or more.
+    pub fn jobs(&self) -> &[Job<'p>]
+        ensures same { result.now ≡ self.now.jobs }
+        ensures some { 0 < length self.now.jobs }
+    {
+        self.book.jobs()
+    }
+
     /// Whether the place is there and its piece is still to come.
     pub fn is_free(&self, place: u8) -> bool
         ensures { IsTrue result ↔ IsMarked self.now place Open }
@@ -118,7 +126,7 @@ fn room_for(alloc: Global, book: &Book) -> Result<Room, AllocError>
     ensures { IfOk result (λ room. IsRoomFor book.now room) }
 {
     let store = book.blank_store()?;
-    let overlay = Overlay::roomy(alloc, store.cells().len() as u16)?;
+    let overlay = Overlay::roomy(alloc, store.count() as u16)?;
     Ok(Room { store, overlay })
 }
 

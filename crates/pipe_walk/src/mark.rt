@@ -8,7 +8,7 @@ ghost use Rattle.pipe_walk.specs.Inside.Marks.{with_touch, with_visits, with_pie
 
 use crate::table::Table;
 use crate::touch::Touch;
-use array_eval::{Layout, Scope, evaluate, is_dynamic};
+use array_eval::{Layout, NoCells, Scope, evaluate, is_dynamic};
 use array_tree::{Block, Blocks, Expr, Name, Stmt};
 
 // Marks what a member does by an index of an array.
@@ -30,7 +30,7 @@ fn mark_index(
     if is_dynamic(index) {
         table.touch_array(place.number, more);
     } else {
-        let number = evaluate(layout, index, scope, &[]);
+        let number = evaluate(layout, index, scope, &NoCells);
         table.touch_cell(place.base + number.unsigned_abs() as usize, more);
     }
 }

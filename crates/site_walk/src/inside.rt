@@ -11,7 +11,7 @@ ghost use Rattle.site_walk.specs.Outside.{index_fault, first_outside};
 ghost use Rattle.site_walk.specs.Inside.Kept.{or_outside};
 
 use crate::fault::WalkFault;
-use array_eval::{Layout, Scope, evaluate, is_dynamic};
+use array_eval::{Layout, NoCells, Scope, evaluate, is_dynamic};
 use array_tree::{Block, Blocks, Expr, Name, Stmt};
 use std::alloc::Global;
 use touch_bounds::{indices_are_inside, statement_pays};
@@ -31,7 +31,7 @@ fn index_outside(
     if is_dynamic(index) {
         return None;
     }
-    let number = evaluate(layout, index, scope, &[]);
+    let number = evaluate(layout, index, scope, &NoCells);
     let length = layout.place_of(array).length;
     if 0 <= number && number < length as i64 {
         None

@@ -8,7 +8,7 @@ ghost use Rattle.site_walk.specs.Inside.Marks.{with_touch, with_visits, with_pie
 
 use crate::table::Table;
 use crate::touched::{Pieces, Touched};
-use array_eval::{Layout, Scope, evaluate, is_dynamic};
+use array_eval::{Layout, NoCells, Scope, evaluate, is_dynamic};
 use array_tree::{Block, Blocks, Expr, Name, Stmt};
 
 // Marks what a piece does by an index of an array.
@@ -33,7 +33,7 @@ fn mark_index(
     if is_dynamic(index) {
         table.touch_array(place.number, touch);
     } else {
-        let number = evaluate(layout, index, scope, &[]);
+        let number = evaluate(layout, index, scope, &NoCells);
         let inside = 0 <= number && number < place.length as i64;
         let cell = place.base + number.unsigned_abs() as usize;
         table.touch_cell(place.number, cell, inside, touch);

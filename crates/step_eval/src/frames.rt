@@ -349,7 +349,7 @@ impl<'p> Frames<'p> {
                 else_block,
                 ..
             } => {
-                if evaluate(layout, cond, &scope, store.cells()) != 0 {
+                if evaluate(layout, cond, &scope, store) != 0 {
                     self.begin_then(*next, then_block, else_block, rest)
                 } else {
                     self.begin_else(next, then_block, else_block, rest)

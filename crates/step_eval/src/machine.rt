@@ -70,7 +70,7 @@ impl<'p> StepMachine<'p> {
         let layout = Layout::new(alloc, job.arrays)?;
         let frames = Frames::new(alloc, job.work)?;
         let store = MarkedStore::new(alloc, &job.store)?;
-        let room = Overlay::roomy(alloc, store.cells().len() as u16)?;
+        let room = Overlay::roomy(alloc, store.count() as u16)?;
         let next = job.first;
         Ok(StepMachine {
             alloc,

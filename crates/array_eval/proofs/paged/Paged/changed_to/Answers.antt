@@ -1,11 +1,14 @@
-use Rattle.std.proofs.Common.{List, ℤ, sym, subst}
-use Rattle.array_eval.specs.Pages.{AreChangedPages}
-use Rattle.array_eval.proofs.PageLemmas.{changed_pages}
+use Rattle.std.proofs.Common.{◌≡◌, length, take, sym, ap, ◌∙◌, subst}
+use Rattle.array_eval.specs.Pages.{cells_on, ArePages}
+use Rattle.array_eval.proofs.PageLemmas.{length_seen}
 use Rattle.array_eval.proofs.paged.Paged.changed_to.Goals as goal
 
-pub lay_out-requires : goal.lay_out-requires
-lay_out-requires c =
-    let inside = c.self.inside in
-    let P : List (List ℤ) → Type 0 = λ pages. AreChangedPages c.args.changed.now pages c.args.cells.now in
-    subst P (sym c.deref.ensures.value)
-    (changed_pages inside.count inside.pages.items c.args.changed.now c.args.self.now c.args.cells.now c.self.invariant c.self.view_is c.requires)
+pub invariant_of-result : goal.invariant_of-result
+invariant_of-result c =
+    let seen : c.self.inside.count ≡ length c.args.self.now = sym (length_seen c.self.inside.count c.self.inside.pages.items c.self.invariant) ∙ ap length c.self.view_is in
+    subst (λ n. ArePages n c.in_ok-lay_out.field-0.items) (sym seen) c.in_ok-lay_out.ensures.pages
+
+pub returns : goal.returns
+returns c =
+    let seen : c.self.inside.count ≡ length c.args.self.now = sym (length_seen c.self.inside.count c.self.inside.pages.items c.self.invariant) ∙ ap length c.self.view_is in
+    ap (λ n. take n (cells_on c.in_ok-lay_out.field-0.items)) seen ∙ c.in_ok-lay_out.ensures.same
