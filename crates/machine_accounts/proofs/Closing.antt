@@ -1,5 +1,5 @@
 -- How a construct is opened, and how it ends.
-use Rattle.std.proofs.Common.{◌≡◌, ℕ, ◌+◌, ◌-◌, ◌<◌, ◌≤◌, inr, true, List, [], ◌∷◌, ◌++◌, length, refl, arith}
+use Rattle.std.proofs.Common.{◌≡◌, ◌+◌, ◌-◌, ◌<◌, ◌≤◌, inr, true, [], ◌∷◌, ◌++◌, refl, arith}
 use Rattle.std.proofs.lemmas.Bool.{false≢true}
 use Rattle.transfer_table.specs.Entry.{unregisters}
 use Rattle.transfer_table.specs.declared.entry.Entry.TheVariants.{Register, Unregister}
@@ -12,11 +12,9 @@ use Rattle.array_meaning.specs.Stores.{HaveCells, arrays_of}
 use Rattle.array_meaning.specs.Plans.{statement_sites_in}
 use Rattle.array_meaning.specs.Entered.{statement_entered}
 use Rattle.array_meaning.proofs.EnteredLemmas.{statement_length}
-use Rattle.array_jobs.specs.Works.{WorkTree}
-use Rattle.array_jobs.proofs.FitLemmas.{sized}
-use Rattle.step_eval.specs.Nests.{NestedTree, is_construct, piece_trees, earlier_sites, numbered, AreFitJobs, IsFitNest}
+use Rattle.step_eval.specs.Nests.{NestedTree, is_construct, IsFitNest}
 use Rattle.step_eval.proofs.ShapeLemmas.{some_phases}
-use Rattle.step_eval.proofs.PieceLemmas.{some_piece}
+use Rattle.step_eval.proofs.PhaseLemmas.{arrays_have_cells}
 use Rattle.site_passes.specs.Entering.{work_entered}
 use Rattle.piece_accounts.proofs.Each.{constructs_are_over}
 use Rattle.piece_accounts.proofs.Serving.{serving_begins, served_constructs_are_run}
@@ -33,13 +31,7 @@ constructs_open p around es hart nested plan is =
 
 -- the arrays of a construct have cells
 have_cells : (nested : NestedTree) → IsFitNest nested → HaveCells (arrays_of nested.arrays)
-have_cells nested fit =
-    let some = some_phases nested.construct fit.construct fit.limits in
-    first_fits 0 (nested.site + 1 + earlier_sites nested.construct 0) (piece_trees nested.construct 0) (some_piece nested.construct 0 fit.limits some) (fit.jobs 0 some)
-  where
-    first_fits : (place first : ℕ) (works : List WorkTree) → 0 < length works → AreFitJobs (numbered nested 0 nested.store place first works) → HaveCells (arrays_of nested.arrays)
-    first_fits place first [] there fits = absurd (omega arith)
-    first_fits place first (work ∷ works) there fits = (sized _ fits.0).each
+have_cells nested fit = arrays_have_cells nested fit (some_phases nested.construct fit.construct fit.limits)
 
 -- a construct has its own site
 some_sites : (construct : Statement) → is_construct construct ≡ true → 1 ≤ statement_sites_in construct

@@ -2,12 +2,11 @@
 use Rattle.std.proofs.Common.{◌≡◌, ℕ, zero, suc, ◌+◌, ◌<◌, ◌≤◌, ◌⊎◌, inl, inr, List, [], ◌∷◌, length, Option, None, Some, slice_get, refl, sym, ap, subst, ◌∙◌, arith}
 use Rattle.std.proofs.Math.Nat.{eq-or-lt_of_le}
 use Rattle.std.proofs.lemmas.Option.{slice_get_past, slice_get_within, same_Some}
-use Rattle.array_meaning.specs.Stores.{Store}
 use Rattle.array_meaning.specs.Pieces.{IsMember}
-use Rattle.array_jobs.specs.Works.{WorkTree, sites_of}
 use Rattle.array_jobs.specs.Jobs.{JobTree}
-use Rattle.step_eval.specs.Nests.{NestedTree, phases_of, earlier_sites, numbered, piece_trees}
+use Rattle.step_eval.specs.Nests.{NestedTree, phases_of}
 use Rattle.step_eval.specs.Phases.{store_before}
+use Rattle.step_eval.proofs.PhaseLemmas.{IsNumbered, job_parts}
 use Rattle.piece_accounts.specs.Constructs.{IsJobOf}
 use Rattle.machine_accounts.specs.Machines.{IsFreshJob}
 use Rattle.machine_accounts.specs.Serving.{IsServing, AreJobsOf, HaveAllJobs}
@@ -81,25 +80,9 @@ upto_past before jobs (suc k) less = of (eq-or-lt_of_le less) (upto_past before 
 
 -- ---- jobs name their phase and their place
 
-record IsNumbered (phase place : ℕ) (job : JobTree) : Type 0 where
-  its_phase : job.phase ≡ phase
-  its_place : job.place ≡ place
-
-numbered_at : (nested : NestedTree) (phase : ℕ) (store : Store) (place first : ℕ) (works : List WorkTree) (i : ℕ) (job : JobTree) →
-    slice_get (numbered nested phase store place first works) i ≡ Some job → IsNumbered phase (place + i) job
-numbered_at nested phase store place first [] i job e = absurd (cc)
-numbered_at nested phase store place first (work ∷ works) zero job e =
-    let same = same_Some _ job e in
-    let here : place ≡ place + 0 = omega arith in
-    record { its_phase = ap (λ (j : JobTree). j.phase) (sym same); its_place = ap (λ (j : JobTree). j.place) (sym same) ∙ here }
-numbered_at nested phase store place first (work ∷ works) (suc i) job e =
-    let rest = numbered_at nested phase store (place + 1) (first + sites_of work) works i job e in
-    let next : place + 1 + i ≡ place + suc i = omega arith in
-    record { its_phase = rest.its_phase; its_place = rest.its_place ∙ next }
-
-phase_numbers : (nested : NestedTree) (phase k : ℕ) (job : JobTree) → slice_get (phase_jobs nested phase) k ≡ Some job → IsNumbered phase (0 + k) job
-phase_numbers nested phase k job e =
-    numbered_at nested phase (store_before nested phase) 0 (nested.site + 1 + earlier_sites nested.construct phase) (piece_trees nested.construct phase) k job e
+phase_numbers : (nested : NestedTree) (phase k : ℕ) (job : JobTree) → slice_get (phase_jobs nested phase) k ≡ Some job →
+    IsNumbered nested phase (store_before nested phase) k job
+phase_numbers nested phase k job e = job_parts nested phase (store_before nested phase) k job e
 
 -- ---- what was done by a place
 
@@ -153,7 +136,7 @@ done_are_jobs nested phase k small job is = of (from_upto (jobs_before nested ph
 next_is_new : (nested : NestedTree) (phase k : ℕ) (job : JobTree) → slice_get (phase_jobs nested phase) k ≡ Some job → IsMember job (done_at nested phase k) → ⊥
 next_is_new nested phase k job e is = of (from_upto (jobs_before nested phase) (phase_jobs nested phase) k job is)
   where
-    own : IsNumbered phase (0 + k) job
+    own : IsNumbered nested phase (store_before nested phase) k job
     own = phase_numbers nested phase k job e
 
     of : IsMember job (jobs_before nested phase) ⊎ IsEarlier (phase_jobs nested phase) k job → ⊥
@@ -165,7 +148,7 @@ next_is_new nested phase k job e is = of (from_upto (jobs_before nested phase) (
         )
     of (inr here) = (
         let low = here.low in
-        let same : 0 + here.at.place ≡ 0 + k = sym (phase_numbers nested phase here.at.place job here.at.found).its_place ∙ own.its_place in
+        let same : here.at.place ≡ k = sym (phase_numbers nested phase here.at.place job here.at.found).its_place ∙ own.its_place in
         omega (arith, low, same)
         )
 

@@ -18,17 +18,15 @@ use Rattle.array_meaning.proofs.LastLemmas.{lays_append, same_last, last_value_l
 use Rattle.array_meaning.proofs.StepLemmas.{length_after}
 use Rattle.array_eval.specs.Traces.{Trace, fresh, noted_all, marked}
 use Rattle.array_eval.proofs.TraceLemmas.{cells_after, marked_after, none_marked}
-use Rattle.array_jobs.specs.Works.{WorkTree}
 use Rattle.array_jobs.specs.Jobs.{JobTree, IsFit, job_of}
 use Rattle.array_jobs.specs.PieceParts.{piece_of_job}
-use Rattle.array_jobs.proofs.FitLemmas.{sized}
 use Rattle.join_book.proofs.BookLemmas.{piece_below}
 use Rattle.step_eval.specs.declared.shape.Kind.TheVariants as kind
-use Rattle.step_eval.specs.Nests.{NestedParts, NestedTree, nested_of, phases_of, rounds_of, piece_trees, earlier_sites, numbered, jobs_in, AreFitJobs, IsFitNest, nested_writes}
+use Rattle.step_eval.specs.Nests.{NestedParts, NestedTree, nested_of, phases_of, rounds_of, jobs_in, AreFitJobs, IsFitNest, nested_writes}
 use Rattle.step_eval.specs.Phases.{steps_of_job}
 use Rattle.step_eval.specs.Shapes.{kind_of, members_of}
-use Rattle.step_eval.proofs.PhaseLemmas.{jobs_are_rounds, jobs_are_counted}
-use Rattle.step_eval.proofs.PieceLemmas.{fit_other_store, some_members, some_piece}
+use Rattle.step_eval.proofs.PhaseLemmas.{jobs_are_rounds, jobs_are_counted, job_parts, arrays_have_cells}
+use Rattle.step_eval.proofs.PieceLemmas.{fit_other_store, some_members}
 use Rattle.step_eval.proofs.ShapeLemmas.{some_phases, some_pieces}
 use Rattle.phase_order.specs.Crossings.{HasNoCrossing}
 use Rattle.phase_order.specs.Pipes.{concat, written_before, piped}
@@ -42,7 +40,7 @@ use Rattle.pipe_sched.specs.Pipes.{piped_writes, piped_store, IsJobAt, IsUncross
 use Rattle.pipe_sched.specs.Inside.{mark_of, IsRight, IsKept, written_in, column, columns}
 use Rattle.pipe_sched.proofs.Kept.{told_pipe}
 use Rattle.pipe_sched.proofs.Merges.{concat_one_more}
-use Rattle.pipe_sched.proofs.Writes.{round_is, job_parts, columns_are}
+use Rattle.pipe_sched.proofs.Writes.{round_is, columns_are}
 
 -- ---- the shape of a construct
 
@@ -169,15 +167,6 @@ columns_below nested slots m (suc k) kept phases members =
 writes_merged : (pieces : List (List Write)) (laid : List Write) → merged pieces laid ≡ lays (concat pieces) laid
 writes_merged [] laid = refl
 writes_merged (piece ∷ pieces) laid = writes_merged pieces (lays piece laid) ∙ sym (lays_append piece (concat pieces) laid)
-
--- the arrays of a construct have cells
-arrays_have_cells : (nested : NestedTree) → IsFitNest nested → 0 < phases_of nested.construct → HaveCells (arrays_of nested.arrays)
-arrays_have_cells nested fit some =
-    first_fits 0 (nested.site + 1 + earlier_sites nested.construct 0) (piece_trees nested.construct 0) (some_piece nested.construct 0 fit.limits some) (fit.jobs 0 some)
-  where
-    first_fits : (place first : ℕ) (works : List WorkTree) → 0 < length works → AreFitJobs (numbered nested 0 nested.store place first works) → HaveCells (arrays_of nested.arrays)
-    first_fits place first [] there fits = absurd (omega arith)
-    first_fits place first (work ∷ works) there fits = (sized _ fits.0).each
 
 team_writes : (construct : Statement) (arrays : Arrays) (vars : Vars) (store : Store) → HaveCells arrays → kind_of construct ≡ Some kind.Team →
     statement_has_right_ranges construct ≡ true → HasNoCrossing arrays (rounds_of construct vars) →

@@ -10,12 +10,11 @@ use Rattle.array_meaning.specs.Pieces.{piece_of}
 use Rattle.array_meaning.proofs.StepLemmas.{after_append}
 use Rattle.array_eval.specs.Traces.{Trace, fresh, noted_all}
 use Rattle.array_eval.proofs.TraceLemmas.{cells_after}
-use Rattle.array_jobs.specs.Works.{WorkTree, sites_of}
 use Rattle.array_jobs.specs.Jobs.{JobParts, JobTree, job_of}
 use Rattle.array_jobs.specs.PieceParts.{piece_of_job}
-use Rattle.step_eval.specs.Nests.{NestedParts, NestedTree, nested_of, phases_of, rounds_of, piece_trees, earlier_sites, numbered, jobs_in}
+use Rattle.step_eval.specs.Nests.{NestedParts, NestedTree, nested_of, phases_of, rounds_of, jobs_in}
 use Rattle.step_eval.specs.Phases.{round_at, steps_of_job}
-use Rattle.step_eval.proofs.PhaseLemmas.{jobs_are_rounds}
+use Rattle.step_eval.proofs.PhaseLemmas.{jobs_are_rounds, job_parts}
 use Rattle.phase_order.specs.Crossings.{entry_at, IsPiece}
 use Rattle.phase_order.specs.Pipes.{concat, written_before}
 use Rattle.phase_order.proofs.Rows.{entry_within}
@@ -26,39 +25,6 @@ use Rattle.pipe_sched.specs.Slots.{Filled, PipeParts, phases_in, IsAt, IsClear}
 use Rattle.pipe_sched.specs.Pipes.{piped_writes, piped_store, IsJobAt}
 use Rattle.pipe_sched.specs.Inside.{mark_of, IsRight, IsKept, written_in, column, columns}
 use Rattle.pipe_sched.proofs.Kept.{told_pipe, held_at}
-
--- ---- the jobs of a phase
-
--- a job of a phase names its phase and its place, and starts from the phase's store
-pub record IsNumbered (nested : NestedTree) (phase : ℕ) (store : Store) (place : ℕ) (job : JobTree) : Type 0 where
-  pub its_arrays : job.arrays ≡ nested.arrays
-  pub its_store : job.store ≡ store
-  pub its_phase : job.phase ≡ phase
-  pub its_place : job.place ≡ place
-
-numbered_at : (nested : NestedTree) (phase : ℕ) (store : Store) (place first : ℕ) (works : List WorkTree) (i : ℕ) (job : JobTree) →
-    slice_get (numbered nested phase store place first works) i ≡ Some job → IsNumbered nested phase store (place + i) job
-numbered_at nested phase store place first [] i job e = absurd (cc)
-numbered_at nested phase store place first (work ∷ works) zero job e =
-    let same = same_Some _ job e in
-    let here : place ≡ place + 0 = omega arith in
-    record {
-      its_arrays = ap (λ (j : JobTree). j.arrays) (sym same);
-      its_store = ap (λ (j : JobTree). j.store) (sym same);
-      its_phase = ap (λ (j : JobTree). j.phase) (sym same);
-      its_place = ap (λ (j : JobTree). j.place) (sym same) ∙ here;
-    }
-numbered_at nested phase store place first (work ∷ works) (suc i) job e =
-    let rest = numbered_at nested phase store (place + 1) (first + sites_of work) works i job e in
-    let next : place + 1 + i ≡ place + suc i = omega arith in
-    record { its_arrays = rest.its_arrays; its_store = rest.its_store; its_phase = rest.its_phase; its_place = rest.its_place ∙ next }
-
-pub job_parts : (nested : NestedTree) (phase : ℕ) (store : Store) (j : ℕ) (job : JobTree) → slice_get (jobs_in nested phase store) j ≡ Some job →
-    IsNumbered nested phase store j job
-job_parts nested phase store j job e =
-    let found = numbered_at nested phase store 0 (nested.site + 1 + earlier_sites nested.construct phase) (piece_trees nested.construct phase) j job e in
-    let here : 0 + j ≡ j = omega arith in
-    record { its_arrays = found.its_arrays; its_store = found.its_store; its_phase = found.its_phase; its_place = found.its_place ∙ here }
 
 -- ---- what a piece writes in a pipeline
 

@@ -2,6 +2,7 @@
 use Rattle.std.proofs.Common.{◌≡◌, ℕ, zero, suc, ◌+◌, ◌<◌, ◌≤◌, List, [], ◌∷◌, ◌++◌, map, length, Option, Some, ℤ, pos, true, refl, sym, ap, ◌∙◌, subst, inl, inr, arith}
 use Rattle.std.specs.Prelude.{◌&&◌, slice_get, unwrap_or, unsigned_abs, int_le}
 use Rattle.std.proofs.lemmas.Bool.{and_parts}
+use Rattle.std.proofs.lemmas.Option.{same_Some}
 use Rattle.array_tree.specs.Trees.{Statement, Assign, For, If, Par, Team, Sequence, Sequences, no_more, beside, Declaration}
 use Rattle.array_meaning.specs.Stores.{Arrays, Vars, Store, HaveCells, arrays_of, after}
 use Rattle.array_meaning.specs.Steps.{Steps, Done, followed_by, join, writes_of}
@@ -27,6 +28,38 @@ use Rattle.step_eval.specs.Phases.{round_at, round_of, phase_writes, store_befor
 use Rattle.step_eval.specs.Shapes.{members_of}
 use Rattle.step_eval.proofs.ShapeLemmas.{some_phases}
 use Rattle.step_eval.proofs.PieceLemmas.{count_trees, some_members, some_piece}
+
+-- ---- a job of a phase names its phase and its place, and starts from the phase's store
+
+pub record IsNumbered (nested : NestedTree) (phase : ℕ) (store : Store) (place : ℕ) (job : JobTree) : Type 0 where
+  pub its_arrays : job.arrays ≡ nested.arrays
+  pub its_store : job.store ≡ store
+  pub its_phase : job.phase ≡ phase
+  pub its_place : job.place ≡ place
+
+numbered_at : (nested : NestedTree) (phase : ℕ) (store : Store) (place first : ℕ) (works : List WorkTree) (i : ℕ) (job : JobTree) →
+    slice_get (numbered nested phase store place first works) i ≡ Some job → IsNumbered nested phase store (place + i) job
+numbered_at nested phase store place first [] i job e = absurd (cc)
+numbered_at nested phase store place first (work ∷ works) zero job e =
+    let same = same_Some _ job e in
+    let here : place ≡ place + 0 = omega arith in
+    record {
+      its_arrays = ap (λ (j : JobTree). j.arrays) (sym same);
+      its_store = ap (λ (j : JobTree). j.store) (sym same);
+      its_phase = ap (λ (j : JobTree). j.phase) (sym same);
+      its_place = ap (λ (j : JobTree). j.place) (sym same) ∙ here;
+    }
+numbered_at nested phase store place first (work ∷ works) (suc i) job e =
+    let rest = numbered_at nested phase store (place + 1) (first + sites_of work) works i job e in
+    let next : place + 1 + i ≡ place + suc i = omega arith in
+    record { its_arrays = rest.its_arrays; its_store = rest.its_store; its_phase = rest.its_phase; its_place = rest.its_place ∙ next }
+
+pub job_parts : (nested : NestedTree) (phase : ℕ) (store : Store) (j : ℕ) (job : JobTree) → slice_get (jobs_in nested phase store) j ≡ Some job →
+    IsNumbered nested phase store j job
+job_parts nested phase store j job e =
+    let found = numbered_at nested phase store 0 (nested.site + 1 + earlier_sites nested.construct phase) (piece_trees nested.construct phase) j job e in
+    let here : 0 + j ≡ j = omega arith in
+    record { its_arrays = found.its_arrays; its_store = found.its_store; its_phase = found.its_phase; its_place = found.its_place ∙ here }
 
 -- ---- the jobs of a phase do what its pieces do
 
@@ -182,6 +215,11 @@ first_fits : (nested : NestedTree) (phase : ℕ) (store : Store) (place first : 
     AreFitJobs (numbered nested phase store place first works) → HaveCells (arrays_of nested.arrays)
 first_fits nested phase store place first [] some fit = absurd (omega arith)
 first_fits nested phase store place first (work ∷ works) some fit = (sized _ fit.0).each
+
+-- the arrays of a construct have cells
+pub arrays_have_cells : (nested : NestedTree) → IsFitNest nested → 0 < phases_of nested.construct → HaveCells (arrays_of nested.arrays)
+arrays_have_cells nested fit some =
+    first_fits nested 0 nested.store 0 (nested.site + 1 + earlier_sites nested.construct 0) (piece_trees nested.construct 0) (some_piece nested.construct 0 fit.limits some) (fit.jobs 0 some)
 
 -- The pieces of the jobs of a phase, merged in any order, are what the phase writes.
 pub phases_are_merged : (nested : NestedTree) → IsFitNest nested → (phase : ℕ) (store : Store) → phase < phases_of nested.construct →

@@ -7,7 +7,8 @@ use Rattle.pipe_sched.specs.Slots.{PipeParts}
 use Rattle.phase_order.specs.Pipes.{written_before}
 use Rattle.pipe_sched.specs.Pipes.{piped_writes}
 use Rattle.pipe_sched.proofs.Told.{room_for}
-use Rattle.pipe_sched.proofs.Writes.{job_parts, job_is_told}
+use Rattle.step_eval.proofs.PhaseLemmas.{job_parts}
+use Rattle.pipe_sched.proofs.Writes.{job_is_told}
 use Rattle.pipe_sched.proofs.state.PipeState.job_at.Goals as goal
 
 pub one_job-requires-clause-member : goal.one_job-requires-clause-member
