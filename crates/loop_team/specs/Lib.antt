@@ -1,4 +1,5 @@
 pub mod Hands
 pub mod Looks
 pub mod Rows
+pub mod Stripes
 pub mod Teams

@@ -1,5 +1,5 @@
 -- The scheduler of one `team`.
-use Rattle.std.specs.Prelude.{◌≡◌, ◌⊎◌, ℕ, suc, ◌*◌, ◌<◌, [], map, drop, true, false, Bool, Option, Some, None, Result, Ok, Err, List}
+use Rattle.std.specs.Prelude.{◌≡◌, ◌⊎◌, ℕ, suc, ◌<◌, [], map, drop, true, false, Bool, Option, Some, None, Result, Ok, Err, List}
 use Rattle.array_tree.specs.Trees.{statement_of}
 use Rattle.array_meaning.specs.Stores.{Write}
 use Rattle.array_eval.specs.Overlays.{Laid}

@@ -88,11 +88,7 @@ impl<'a, 'r, 'p, R: Wait + 'a> TeamHand<'a, 'r, 'p, R> {
     pub fn arrive(&self, rt: &R, piece: Piece<'p>) -> Result<Arrival<'p>, AllocError>
         ensures { IfOk result (λ arrival. GivesBack piece.entry arrival) }
     {
-        let shared = self.shared;
-        match shared.lock.lock(rt).as_mut() {
-            Some(team) => shared.arrive(rt, team, piece),
-            None => Ok(Arrival::Stranger(piece)),
-        }
+        self.shared.arrive(rt, piece)
     }
 
     /// What `fail` of the team does. Where the place isn't there in the phase that runs, or its piece has come, it does
@@ -100,9 +96,8 @@ impl<'a, 'r, 'p, R: Wait + 'a> TeamHand<'a, 'r, 'p, R> {
     pub fn fail(&self, rt: &R, place: u8) {
         let shared = self.shared;
         if let Some(team) = shared.lock.lock(rt).as_mut() {
-            if team.is_open(place) {
-                team.fail(place);
-                shared.show_over(team);
+            if shared.is_open(rt, place) {
+                shared.fail(team, place);
             }
         }
     }

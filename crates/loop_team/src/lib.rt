@@ -8,6 +8,7 @@ mod hand;
 pub mod laws;
 mod rows;
 mod shared;
+mod stripes;
 mod team;
 mod work;
 

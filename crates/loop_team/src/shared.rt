@@ -5,8 +5,10 @@ ghost use Rattle.loop_team.specs.Looks.{TellsReady, TellsRest};
 ghost use Rattle.loop_team.specs.Teams.{phases_in};
 
 use crate::found::Found;
+use crate::stripes::{STRIPES, Stripe, hand_on};
 use crate::team::Team;
 use crate::work::TeamWork;
+use array_eval::Overlay;
 use array_jobs::{Job, Piece};
 use lithe_barrier::Arrival;
 use sched_api::{Next, Scheduler};
@@ -24,6 +26,10 @@ pub struct SharedTeam<'p> {
     pub(crate) nested: Nested<'p>,
     // The member of each place, until it begins.
     slots: Vec<Mutex<Option<Job<'p>>>>,
+    // What came of the phase that runs, where the team has many members. Who has one of these locks takes no other.
+    stripes: Vec<Mutex<Stripe<'p>>>,
+    // How many pieces of that phase are still to come. It is set under the team's lock, before they can come.
+    left: AtomicU64,
     // The phase that runs, or that ran last; the number of phases once the team is handed out. It changes under the lock.
     phase: AtomicU64,
     // How many contexts are ready. It changes under the lock.
@@ -54,11 +60,16 @@ impl<'p> SharedTeam<'p> {
         let phase = u64::from(running(&nested, team.opened()));
         let ready = team.ready_count() as u64;
         let over = team.is_over();
-        let slots = members(alloc, &mut team, nested.members())?;
+        let members = nested.members();
+        let stripes = stripes_of(alloc, &team, members)?;
+        let left = count_open(&team, members);
+        let slots = members_of(alloc, &mut team, members)?;
         Ok(SharedTeam {
             lock: Mutex::new(Some(team)),
             nested,
             slots,
+            stripes,
+            left: AtomicU64::new(left),
             phase: AtomicU64::new(phase),
             ready: AtomicU64::new(ready),
             over: AtomicBool::new(over),
@@ -89,31 +100,131 @@ impl<'p> SharedTeam<'p> {
         self.ready.load(Ordering::SeqCst) > 0
     }
 
-    // Takes a piece to the team, which is that of the lock. Where a phase begins, its members are laid out.
+    // Takes a piece to the team. Where it is the last one of its phase, the next one is laid out.
     pub(crate) fn arrive<R: Wait>(
         &self,
         rt: &R,
-        team: &mut Team<'p>,
         piece: Piece<'p>,
     ) -> Result<Arrival<'p>, AllocError>
         ensures { IfOk result (λ arrival. GivesBack piece.entry arrival) }
     {
+        if self.stripes.is_empty() {
+            return self.arrive_alone(rt, piece);
+        }
+        if let Err(piece) = self.bring(rt, piece) {
+            return Ok(Arrival::Stranger(piece));
+        }
+        if self.left.fetch_sub(1, Ordering::SeqCst) != 1 {
+            return Ok(Arrival::Kept);
+        }
+        match self.open_phase(rt)? {
+            Some(written) => Ok(Arrival::Opened(written)),
+            None => Ok(Arrival::Kept),
+        }
+    }
+
+    // Takes a piece to a team that has no stripes.
+    fn arrive_alone<R: Wait>(&self, rt: &R, piece: Piece<'p>) -> Result<Arrival<'p>, AllocError>
+        ensures { IfOk result (λ arrival. GivesBack piece.entry arrival) }
+    {
+        let mut kept = self.lock.lock(rt);
+        let Some(team) = kept.as_mut() else {
+            return Ok(Arrival::Stranger(piece));
+        };
         let moved = team.arrive(piece);
         self.show_over(team);
         let arrival = moved?;
-        if matches!(&arrival, Arrival::Opened(_)) && !team.is_over() {
-            self.lay_out(rt, team);
+        if matches!(&arrival, Arrival::Opened(_)) {
+            self.go_on(rt, team)?;
         }
         Ok(arrival)
     }
 
-    // Lays out the members of the phase that begins, and then shows its number.
-    fn lay_out<R: Wait>(&self, rt: &R, team: &mut Team<'p>) {
+    // Brings a piece to its stripe. It is given back where it isn't that of a place that waits for it.
+    fn bring<R: Wait>(&self, rt: &R, piece: Piece<'p>) -> Result<(), Piece<'p>>
+        ensures { IfErr result (λ back. back ≡ piece.entry) }
+    {
+        let place = piece.job.place;
+        match self.stripes.get(usize::from(place % STRIPES)) {
+            Some(stripe) if self.phase().is_some() => {
+                stripe.lock(rt).arrive(place / STRIPES, piece)
+            }
+            _ => Err(piece),
+        }
+    }
+
+    // Whether a stripe waits for the piece of a place, or the team has none. Who asks has the team's lock.
+    pub(crate) fn is_open<R: Wait>(&self, rt: &R, place: u8) -> bool {
+        match self.stripes.get(usize::from(place % STRIPES)) {
+            Some(stripe) => stripe.lock(rt).is_open(place / STRIPES),
+            None => true,
+        }
+    }
+
+    // Hands all pieces of a phase on to the team, now that each has come, and lays out the next phase. What this one wrote.
+    fn open_phase<R: Wait>(&self, rt: &R) -> Result<Option<Overlay>, AllocError> {
+        let mut kept = self.lock.lock(rt);
+        let Some(team) = kept.as_mut() else {
+            return Ok(None);
+        };
+        let written = self.hand_on(rt, team);
+        self.show_over(team);
+        let written = written?;
+        if written.is_some() {
+            self.go_on(rt, team)?;
+        }
+        Ok(written)
+    }
+
+    // Lays out the phase that begins, if one does, where another has opened.
+    fn go_on<R: Wait>(&self, rt: &R, team: &mut Team<'p>) -> Result<(), AllocError> {
+        if team.is_over() {
+            return Ok(());
+        }
+        self.lay_out(rt, team)
+    }
+
+    // Hands all that has come on to the team, which is that of the lock. What the phase wrote, where it opens.
+    fn hand_on<R: Wait>(&self, rt: &R, team: &mut Team<'p>) -> Result<Option<Overlay>, AllocError> {
+        for stripe in &self.stripes {
+            let written = hand_on(team, &mut *stripe.lock(rt))?;
+            if written.is_some() {
+                return Ok(written);
+            }
+        }
+        Ok(None)
+    }
+
+    // Lays out the members of the phase that begins, and then shows its number. Where memory is wanting, the team is failed.
+    fn lay_out<R: Wait>(&self, rt: &R, team: &mut Team<'p>) -> Result<(), AllocError> {
         for slot in &self.slots {
             *slot.lock(rt) = team.take_member();
         }
+        self.left.store(self.slots.len() as u64, Ordering::SeqCst);
+        let begun = self.begin_stripes(rt, team);
+        if begun.is_err() {
+            self.fail(team, 0);
+            return begun;
+        }
         let phase = running(&self.nested, team.opened());
         self.phase.store(u64::from(phase), Ordering::SeqCst);
+        Ok(())
+    }
+
+    // Has all stripes wait for the pieces of the phase that begins.
+    fn begin_stripes<R: Wait>(&self, rt: &R, team: &Team<'p>) -> Result<(), AllocError> {
+        for stripe in &self.stripes {
+            stripe.lock(rt).begin(team)?;
+        }
+        Ok(())
+    }
+
+    // Fails the team, which is that of the lock, by a place that is open there.
+    pub(crate) fn fail(&self, team: &mut Team<'p>, place: u8) {
+        if team.is_open(place) {
+            team.fail(place);
+            self.show_over(team);
+        }
     }
 
     // Puts a context last on the ready list of the team, which is that of the lock.
@@ -137,7 +248,7 @@ impl<'p> SharedTeam<'p> {
     }
 
     // Shows whether the team, which is that of the lock, is over.
-    pub(crate) fn show_over(&self, team: &Team) {
+    fn show_over(&self, team: &Team) {
         self.over.store(team.is_over(), Ordering::SeqCst);
     }
 
@@ -202,6 +313,30 @@ fn running(nested: &Nested, opened: u8) -> u8 {
     opened.min(nested.phases() - 1)
 }
 
+// The stripes of a team with so many members. Few members have none: what lies in a stripe is compared once more when all
+// have come, and that would be as dear as what the stripes spare.
+fn stripes_of<'p>(
+    alloc: Global,
+    team: &Team<'p>,
+    members: u8,
+) -> Result<Vec<Mutex<Stripe<'p>>>, AllocError> {
+    let count = if members < 2 * STRIPES { 0 } else { STRIPES };
+    let mut stripes = Vec::with_capacity(alloc, usize::from(count))?;
+    for number in 0..count {
+        stripes.push(Mutex::new(Stripe::new(alloc, team, number)?))?;
+    }
+    Ok(stripes)
+}
+
+// How many of so many places wait for their pieces.
+fn count_open(team: &Team, members: u8) -> u64 {
+    let mut left = 0u64;
+    for place in 0..members {
+        left = left.saturating_add(u64::from(team.is_open(place)));
+    }
+    left
+}
+
 // Takes the job if it is of this place.
 fn taken_at<'p>(kept: &mut Option<Job<'p>>, place: u8) -> Option<Job<'p>>
     ensures { IfSome result (λ job. job.place ≡ place) }
@@ -226,7 +361,7 @@ fn taken_of<'p>(kept: &mut Option<Job<'p>>, site: u16, phase: u8, place: u8) -> 
 }
 
 // The members that haven't begun, each in the slot of its place.
-fn members<'p>(
+fn members_of<'p>(
     alloc: Global,
     team: &mut Team<'p>,
     count: u8,

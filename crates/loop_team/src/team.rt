@@ -1,5 +1,5 @@
 //! Teams.
-ghost use Rattle.std.specs.Prelude.{◌≡◌, ◌↔◌, ◌+◌, ◌<◌, IsTrue, IfOk, IsErr, OnOk, OnErr, Some, true, length, map};
+ghost use Rattle.std.specs.Prelude.{◌≡◌, ◌↔◌, ◌+◌, ◌<◌, IsTrue, IfOk, IsErr, MatchOption, OnOk, OnErr, Some, true, length, map};
 ghost use Rattle.sched_api.specs.declared.hearing.Told.{Told};
 ghost use Rattle.sched_api.specs.Calls.{registered_told, unregistered_told, requested_told, yielded_told, blocked_told};
 ghost use Rattle.sched_api.specs.Wishes.{with_wishes, without_child};
@@ -10,10 +10,12 @@ ghost use Rattle.step_eval.specs.Inside.Computed.{HasReached};
 ghost use Rattle.step_eval.specs.Nests.{nested_of, phases_of, nested_writes, IsFitNest};
 ghost use Rattle.step_eval.specs.Shapes.{kind_of};
 ghost use Rattle.loop_team.specs.declared.work.TeamWork.TheVariants.{Begin};
+ghost use Rattle.array_jobs.specs.Jobs.{job_of};
+ghost use Rattle.loop_team.specs.Stripes.{StartsFrom, IsAwaited, IsNotAwaited};
 ghost use Rattle.loop_team.specs.Teams.{IsNew, IsOver, MovesOn, GoesOn, Answers, Hears, Takes, TakesReady, TakesMember, IsPhase, phases_in, writes_in, opened_team, failed_team};
 
 use crate::work::TeamWork;
-use array_eval::{MarkedStore, Overlay};
+use array_eval::{MarkedStore, Overlay, Store};
 use array_jobs::{Job, Piece};
 use lithe_barrier::{Arrival, BarrierState};
 use sched_api::{Call, Hearing, Next, Scheduler, Told};
@@ -131,6 +133,34 @@ impl<'p> Team<'p> {
         self.opened
     }
 
+    // The jobs of the phase that runs, or that ran last.
+    pub(crate) fn jobs(&self) -> &[Job<'p>]
+        ensures { result.now ≡ self.now.barrier.jobs }
+    {
+        self.barrier.jobs()
+    }
+
+    // The store from which they start.
+    pub(crate) fn start(&self) -> &Store
+        ensures { StartsFrom self.now result.now }
+    {
+        let jobs = self.barrier.jobs();
+        let first = &jobs[0];
+        &first.store
+    }
+
+    // The job of a place whose piece is still to come.
+    pub(crate) fn open_job(&self, place: u8) -> Option<&Job<'p>>
+        ensures { MatchOption result (IsNotAwaited self.now place)
+            (λ job. IsAwaited self.now place job.now) }
+    {
+        if self.is_open(place) {
+            self.barrier.jobs().get(usize::from(place))
+        } else {
+            None
+        }
+    }
+
     // How many contexts are ready to go on.
     pub(crate) fn ready_count(&self) -> usize
         ensures { result ≡ length self.now.agenda.ready }
@@ -186,6 +216,34 @@ impl<'p> Team<'p> {
                 self.go_on(&written)?;
                 Ok(Arrival::Opened(written))
             }
+        }
+    }
+
+    // What `arrive` does with a piece. Where it is known that the phase's jobs start from the store of the piece's job, that isn't
+    // compared.
+    pub(crate) fn take_in(
+        &mut self,
+        piece: Piece<'p>,
+        known: bool,
+    ) -> Result<Arrival<'p>, AllocError>
+        requires { IsTrue known → StartsFrom self.old piece.job.store }
+        ensures { MovesOn self.old piece.entry result self.new }
+    {
+        if known && self.waits_for(&piece.job) {
+            self.keep(piece)
+        } else {
+            self.arrive(piece)
+        }
+    }
+
+    // Whether the piece of the job is still to come, where the phase's jobs start from its store.
+    fn waits_for(&self, job: &Job) -> bool
+        requires { StartsFrom self.now job.now.store }
+        ensures { IsTrue result → IsPlaceOf self.now.barrier job.now.place job.now × IsMarked self.now.barrier job.now.place Open }
+    {
+        match self.open_job(job.place) {
+            Some(own) => are_same_work(own, job),
+            None => false,
         }
     }
 
@@ -307,6 +365,20 @@ fn unbegun_work<'p>(alloc: Global, jobs: &[Job<'p>]) -> Result<VecDeque<TeamWork
         unbegun.push_back(TeamWork::Begin(job.copy()?))?;
     }
     Ok(unbegun)
+}
+
+// Whether two jobs that start from one store are equal.
+fn are_same_work(a: &Job, b: &Job) -> bool
+    requires { a.now.store ≡ b.now.store }
+    ensures { IsTrue result ↔ (job_of a.now ≡ job_of b.now) }
+{
+    a.site == b.site
+        && a.phase == b.phase
+        && a.place == b.place
+        && a.first == b.first
+        && a.work == b.work
+        && a.vars == b.vars
+        && *a.arrays == *b.arrays
 }
 
 impl<'p> Scheduler for Team<'p> {

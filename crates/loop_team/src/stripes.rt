@@ -1,0 +1,245 @@
+//! What comes of a phase, a few places behind one lock.
+ghost use Rattle.std.specs.Prelude.{◌≡◌, ◌↔◌, ◌<◌, IsTrue, IfOk, OnOk, MatchOption, []};
+ghost use Rattle.lithe_barrier.specs.declared.state.Arrival.TheVariants.{Opened};
+ghost use Rattle.loop_team.specs.Stripes.{IsVacant, HasCome, IsOf, IsOpen, HasPiece, WaitsFor, Receives, Gives, IsSeatOf, AreSeatsOf, AreAllSeatsOf, IsNotOpened, StartsFrom, IsRid, HasNone, IsStillIn};
+ghost use Rattle.loop_team.specs.Teams.{writes_in};
+
+use crate::team::Team;
+use array_eval::{Overlay, Store};
+use array_jobs::{Job, Piece};
+use lithe_barrier::Arrival;
+use std::alloc::{AllocError, Global};
+use std::marker::Model;
+use std::mem;
+
+/// How many stripes a team has that has any. The place of a member, divided by it, leaves the number of its stripe.
+pub(crate) const STRIPES: u8 = 8;
+
+// How many places a stripe has at most.
+const ROWS: u8 = 8;
+
+// What a stripe knows of one of its places.
+#[derive(Drop)]
+pub(crate) enum Seat<'p> {
+    // Its piece is still to come, that of this job.
+    Open(Job<'p>),
+    // Its piece has come.
+    Came(Piece<'p>),
+    // Nobody waits for a piece of it.
+    Gone,
+}
+
+impl<'p> Seat<'p> {
+    fn is_open(&self) -> bool
+        ensures { IsTrue result ↔ IsVacant self.now }
+    {
+        matches!(self, Seat::Open(_))
+    }
+
+    fn has_come(&self) -> bool
+        ensures { IsTrue result ↔ HasCome self.now }
+    {
+        matches!(self, Seat::Came(_))
+    }
+
+    // Whether its piece is still to come, that of this job.
+    fn is_of(&self, job: &Job) -> bool
+        ensures { IsTrue result ↔ IsOf self.now job.now }
+    {
+        match self {
+            Seat::Open(own) => *own == *job,
+            Seat::Came(_) | Seat::Gone => false,
+        }
+    }
+}
+
+/// Some of the places of the phase that runs: in row `n` the place `n * STRIPES` above the stripe's number.
+///
+/// Contracts see its number, the store from which all its jobs start, and its rows.
+#[derive(Drop)]
+pub(crate) struct Stripe<'p> {
+    number: u8,
+    start: Store,
+    seats: Vec<Seat<'p>>,
+}
+
+impl<'p> Model for Stripe<'p> {
+    ghost use Rattle.std.specs.Coded.{codes};
+    ghost use Rattle.array_tree.specs.contracts.tree.Arrays as arrays_type;
+    ghost use Rattle.array_tree.specs.contracts.tree.Block as block_type;
+    ghost use Rattle.lithe_barrier.specs.declared.state.Arrival.TheVariants.{Opened};
+    ghost use Rattle.loop_team.specs.Stripes.{StripeParts, IsKeptStripe};
+
+    ghost Value = { StripeParts };
+
+    ghost coded = { Prim.hlevel (codes, arrays_type.the_row.coded, block_type.the_row.coded) };
+
+    ghost view = { λ stripe. record { number = stripe.number; start = stripe.start; seats = stripe.seats.items } };
+
+    ghost invariant = { λ stripe. IsKeptStripe record { number = stripe.number; start = stripe.start; seats = stripe.seats.items } };
+}
+
+impl<'p> Stripe<'p> {
+    /// The stripe of this number, for the phase that runs. It makes all room.
+    pub(crate) fn new(alloc: Global, team: &Team<'p>, number: u8) -> Result<Stripe<'p>, AllocError>
+        requires { number < STRIPES }
+        ensures number { IfOk result (λ stripe. stripe.number ≡ number) }
+        ensures seats { IfOk result (λ stripe. AreSeatsOf team.now number stripe.seats) }
+        ensures all { IfOk result (λ stripe. AreAllSeatsOf team.now number stripe.seats) }
+    {
+        let mut stripe = Stripe {
+            number,
+            start: team.start().copy()?,
+            seats: Vec::with_capacity(alloc, team.jobs().len() / usize::from(STRIPES) + 1)?,
+        };
+        stripe.begin(team)?;
+        Ok(stripe)
+    }
+
+    /// Waits for the pieces of the phase that runs.
+    pub(crate) fn begin(&mut self, team: &Team<'p>) -> Result<(), AllocError>
+        ensures number { self.new.number ≡ self.old.number }
+        ensures seats { AreSeatsOf team.now self.old.number self.new.seats }
+        ensures all { OnOk result (AreAllSeatsOf team.now self.old.number self.new.seats) }
+    {
+        self.seats.clear();
+        self.start = team.start().copy()?;
+        fill(&mut self.seats, team, self.number)
+    }
+
+    /// Whether the piece of a row is still to come.
+    pub(crate) fn is_open(&self, row: u8) -> bool
+        ensures { IsTrue result ↔ IsOpen self.now row }
+    {
+        match self.seats.get(usize::from(row)) {
+            Some(seat) => seat.is_open(),
+            None => false,
+        }
+    }
+
+    /// Takes the piece of a row. It is given back where the row doesn't wait for it.
+    pub(crate) fn arrive(&mut self, row: u8, piece: Piece<'p>) -> Result<(), Piece<'p>>
+        ensures { Receives self.old row piece.entry result self.new }
+    {
+        if !self.waits_for(row, &piece.job) {
+            return Err(piece);
+        }
+        self.seats[usize::from(row)] = Seat::Came(piece);
+        Ok(())
+    }
+
+    // Whether the row waits for the piece of this job.
+    fn waits_for(&self, row: u8, job: &Job) -> bool
+        ensures { IsTrue result ↔ WaitsFor self.now row job.now }
+    {
+        match self.seats.get(usize::from(row)) {
+            Some(seat) => seat.is_of(job),
+            None => false,
+        }
+    }
+
+    /// Hands the piece of a row on, if it has come.
+    pub(crate) fn take(&mut self, row: u8) -> Option<Piece<'p>>
+        ensures { Gives self.old row result self.new }
+    {
+        if !self.has_piece(row) {
+            return None;
+        }
+        match mem::replace(&mut self.seats[usize::from(row)], Seat::Gone) {
+            Seat::Came(piece) => Some(piece),
+            Seat::Open(_) | Seat::Gone => unreachable!(),
+        }
+    }
+
+    // Whether the piece of a row has come.
+    fn has_piece(&self, row: u8) -> bool
+        ensures { IsTrue result ↔ HasPiece self.now row }
+    {
+        match self.seats.get(usize::from(row)) {
+            Some(seat) => seat.has_come(),
+            None => false,
+        }
+    }
+
+    // Whether its jobs start from this store.
+    fn starts_from(&self, store: &Store) -> bool
+        ensures { IsTrue result ↔ (self.now.start ≡ store.now) }
+    {
+        self.start == *store
+    }
+}
+
+// Appends what a stripe of this number waits for.
+fn fill<'p>(seats: &mut Vec<Seat<'p>>, team: &Team<'p>, number: u8) -> Result<(), AllocError>
+    requires none { seats.old.items ≡ [] }
+    requires few { number < STRIPES }
+    ensures seats { AreSeatsOf team.now number seats.new.items }
+    ensures all { OnOk result (AreAllSeatsOf team.now number seats.new.items) }
+{
+    for row in 0..ROWS {
+        let place = number + row * STRIPES;
+        if usize::from(place) >= team.jobs().len() {
+            break;
+        }
+        seats.push(seat_of(team, place)?)?;
+    }
+    Ok(())
+}
+
+// What a place waits for.
+fn seat_of<'p>(team: &Team<'p>, place: u8) -> Result<Seat<'p>, AllocError>
+    ensures { IfOk result (λ s. IsSeatOf team.now place s) }
+{
+    match team.open_job(place) {
+        Some(job) => Ok(Seat::Open(job.copy()?)),
+        None => Ok(Seat::Gone),
+    }
+}
+
+/// Hands all that came to a stripe on to its team. What the phase wrote, where that opens.
+pub(crate) fn hand_on<'p>(
+    team: &mut Team<'p>,
+    stripe: &mut Stripe<'p>,
+) -> Result<Option<Overlay>, AllocError>
+    ensures { IfOk result (λ found. MatchOption found (HasNone stripe.new)
+        (λ written. written.pairs ≡ writes_in team.old.nested team.old.opened)) }
+{
+    let known = stripe.starts_from(team.start());
+    for row in 0..ROWS {
+        let found = hand_row(team, stripe, row, known)?;
+        if found.is_some() {
+            return Ok(found);
+        }
+    }
+    Ok(None)
+}
+
+// Hands the piece of a row on, if it has come. Where it is known that the team's phase starts from the stripe's store, stores
+// aren't compared.
+fn hand_row<'p>(
+    team: &mut Team<'p>,
+    stripe: &mut Stripe<'p>,
+    row: u8,
+    known: bool,
+) -> Result<Option<Overlay>, AllocError>
+    requires { IsTrue known → StartsFrom team.old stripe.old.start }
+    ensures hands { IfOk result (λ found. MatchOption found (IsStillIn team.old team.new)
+        (λ written. written.pairs ≡ writes_in team.old.nested team.old.opened)) }
+    ensures rid { IsRid stripe.old row stripe.new }
+{
+    let Some(piece) = stripe.take(row) else {
+        return Ok(None);
+    };
+    Ok(opened_by(team.take_in(piece, known)?))
+}
+
+// What a phase wrote, where a piece opened it.
+fn opened_by(arrival: Arrival) -> Option<Overlay>
+    ensures { MatchOption result (IsNotOpened arrival.entry)
+        (λ written. arrival.entry ≡ Opened written) }
+{
+    match arrival {
+        Arrival::Opened(written) => Some(written),
+        Arrival::Kept | Arrival::Stranger(_) => None,
+    }
+}
