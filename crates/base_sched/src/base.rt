@@ -34,8 +34,8 @@ impl Hearing for BaseHeard {
     }
 }
 
-// Only the callbacks below call it.
-fn heard(call: Call, child: u16, count: u8) -> BaseHeard
+// Only callbacks call it.
+pub(crate) fn heard(call: Call, child: u16, count: u8) -> BaseHeard
     ensures { result ≡ record { call = call; child = child; count = count } }
 {
     BaseHeard {

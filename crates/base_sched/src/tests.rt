@@ -64,6 +64,37 @@ fn a_base_behind_a_lock(rt: HostRuntime) -> Result<(), Fail> {
 }
 
 #[test]
+fn a_base_that_harts_share(rt: HostRuntime) -> Result<(), Fail> {
+    let shared = SharedBase::new(Base::new(rt.alloc(), 3)?);
+    let mut hand = SharedBaseHand::<HostRuntime>::new(&shared);
+    assert_eq!(rt; hand.enter(&rt), Next::Nothing);
+    hand.request(&rt, 3, 2);
+    hand.request(&rt, 1, 1);
+    assert_eq!(rt; hand.enter(&rt), Next::Lend(3));
+    assert_eq!(rt; hand.enter(&rt), Next::Lend(3));
+    hand.unregister(&rt, 1);
+    assert_eq!(rt; hand.enter(&rt), Next::Nothing);
+    assert_eq!(rt; hand.enter(&rt), Next::Nothing);
+    Ok(())
+}
+
+#[test]
+fn a_base_that_harts_share_is_shut(rt: HostRuntime) -> Result<(), Fail> {
+    let shared = SharedBase::new(Base::new(rt.alloc(), 3)?);
+    let mut hand = SharedBaseHand::<HostRuntime>::new(&shared);
+    assert!(rt; !shared.is_shut());
+    hand.request(&rt, 2, 1);
+    shared.shut(&rt);
+    assert!(rt; shared.is_shut());
+    assert_eq!(rt; hand.enter(&rt), Next::Nothing);
+    hand.request(&rt, 2, 1);
+    assert_eq!(rt; hand.enter(&rt), Next::Nothing);
+    assert_eq!(rt; hand.register(&rt, 2).told().call, Call::Registered);
+    assert_eq!(rt; hand.yielded(&rt, 2).told().child, 2);
+    Ok(())
+}
+
+#[test]
 fn a_hart_registers_under_the_base(rt: HostRuntime) -> Result<(), Fail> {
     let plan = Plan::new(rt.alloc(), 1, &[0])?;
     assert!(rt; plan.harts() == 1 && plan.sites() == 1 && plan.parent(1) == 0);
