@@ -1,17 +1,17 @@
 //! What a hart does at the sites of a program: one procedure for every port and for all who keep schedulers.
 //!
-//! `Resources` is what one hart has to work with, and `Schedulers` how it deals with the schedulers of sites. The procedure runs
+//! `Machines` is what runs jobs, and `Schedulers` how a hart deals with the schedulers of sites. The procedure runs
 //! a job's steps, runs each construct that they hand out as a site of its own, skips the sites that they tell of, and
 //! brings the hart back to where it was.
 //! Over a port and schedulers that wait for nothing it returns.
 #![tactic(auto)]
 
 mod found;
-mod resources;
+mod machines;
 mod schedulers;
 mod serving;
 
 pub use found::Found;
-pub use resources::Resources;
+pub use machines::Machines;
 pub use schedulers::{Schedulers, Task};
 pub use serving::{run_construct, run_piece, serve};

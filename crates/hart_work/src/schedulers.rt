@@ -10,7 +10,7 @@ ghost use Rattle.sched_api.specs.Calls.{registered_told, requested_told, unregis
 ghost use Rattle.hart_work.specs.Tasks.{HasNext, HasEntered, HasAccount, StaysSettled};
 ghost use Rattle.hart_work.specs.Accounts.{Account, Follows, HasServing, HaveEnded, StaysServed};
 
-use crate::resources::Resources;
+use crate::machines::Machines;
 use hart_port::{Port, Taken};
 use std::alloc::{AllocError, Global};
 
@@ -29,17 +29,38 @@ pub enum Task<J> {
 ///
 /// A site is owed a job where each other job that it gave this hart came back as a piece or as a failure. What is shared with
 /// other harts may be settled always, and is then over always.
-pub trait Schedulers<R>: Resources {
+pub trait Schedulers<R, M: Machines> {
+    /// One site's scheduler; the base's is one too.
+    type Site: Drop;
+
+    /// What is known of the tools that the hart was lent for all sites.
+    type Tools;
+
+    /// Its tools. No call changes them.
+    ghost tools: { Self → Self.Tools };
+
+    /// Whether an account is kept of what the hart did with each site. A hart that shares the table keeps none.
+    ghost keeps: { Type 0 };
+
+    /// The construct that the site runs; the base runs none.
+    ghost construct: { Self.Site → Option M.Nested };
+
+    /// Whether each job that the site gave this hart came back to it, as a piece or as a failure.
+    ghost settled: { Self.Site → Type 0 };
+
+    /// Between these entries the jobs of the site that came back were run; nothing is said where one of them failed.
+    ghost serving: { Self.Site → Account };
+
     /// How many tasks it gives at most.
     ghost left: { Self.Site → ℕ };
 
     /// Whether it is owed a job, and whether its work is over.
-    ghost owed: { Self.Site → Self.Job → Type 0 };
+    ghost owed: { Self.Site → M.Job → Type 0 };
 
     ghost over: { Self.Site → Type 0 };
 
     /// Between these entries the jobs of the site that came back were run, and this one is out.
-    ghost lent: { Self.Site → Self.Job → Account };
+    ghost lent: { Self.Site → M.Job → Account };
 
     /// Whether a job of the site came back as a failure.
     ghost failed: { Self.Site → Type 0 };
@@ -47,10 +68,23 @@ pub trait Schedulers<R>: Resources {
     /// What a callback of the site's scheduler did that told this.
     ghost hears: { Self.Site → Told → Self.Site → Type 0 };
 
+    /// A scheduler for a construct, for all who enter its site.
+    fn open(&mut self, alloc: Global, nested: &M::Nested) -> Result<Self::Site, AllocError>
+        ensures construct { IfOk result (λ site. construct site ≡ Some nested.now) }
+        ensures settled { IfOk result (λ site. settled site) }
+        ensures serving { IfOk result (λ site. keeps → (p : Plan) (around : ℕ) (es : List Entry) (hart : ℕ)
+            → IsPlan p → M.fresh p around es nested.now → serving site p (M.number_of nested.now)
+            (es ++ Register hart (M.number_of nested.now) ∷ [])
+            (es ++ Register hart (M.number_of nested.now) ∷ [])) }
+        ensures tools { tools self.new ≡ tools self.old };
+
+    /// How many harts more than its home the site has work for.
+    fn wishes(&self, site: &Self::Site) -> u8;
+
     /// The scheduler of a site that another hart opened.
     fn find(&mut self, rt: &R, site: u16) -> Option<Self::Site>
-        ensures settled { ForSome result (λ site. Self.settled site) }
-        ensures tools { Self.tools self.new ≡ Self.tools self.old };
+        ensures settled { ForSome result (λ site. settled site) }
+        ensures tools { tools self.new ≡ tools self.old };
 
     /// Registers the child, and tells the scheduler around it.
     fn register<P: Port>(
@@ -66,17 +100,17 @@ pub trait Schedulers<R>: Resources {
         ensures does { Registers (P.seen port.old) child result (P.seen port.new) }
         ensures kept { IsPortView (P.seen port.new) }
         ensures hears { OnOk result (hears around.old (registered_told child) around.new) }
-        ensures construct { Self.construct around.new ≡ Self.construct around.old }
-        ensures stays { StaysSettled (Self.settled around.old) (owed around.old)
-            (Self.settled around.new) (owed around.new) }
-        ensures served { StaysServed (Self.serving around.old) (lent around.old)
-            (Self.serving around.new) (lent around.new) }
+        ensures construct { construct around.new ≡ construct around.old }
+        ensures stays { StaysSettled (settled around.old) (owed around.old)
+            (settled around.new) (owed around.new) }
+        ensures served { StaysServed (serving around.old) (lent around.old)
+            (serving around.new) (lent around.new) }
         ensures left { left around.new ≤ left around.old }
-        ensures tools { Self.tools self.new ≡ Self.tools self.old };
+        ensures tools { tools self.new ≡ tools self.old };
 
     /// Lays the pieces of a site that the hart opened and has registered out for the harts that it is going to ask for.
     fn offer(&mut self, rt: &R, site: &Self::Site)
-        ensures { Self.tools self.new ≡ Self.tools self.old };
+        ensures { tools self.new ≡ tools self.old };
 
     /// Asks for `count` harts for the child, and tells the scheduler around it.
     fn request<P: Port>(
@@ -93,13 +127,13 @@ pub trait Schedulers<R>: Resources {
         ensures does { P.seen port.new ≡ requested_by (P.seen port.old) child count }
         ensures kept { IsPortView (P.seen port.new) }
         ensures hears { hears around.old (requested_told child count) around.new }
-        ensures construct { Self.construct around.new ≡ Self.construct around.old }
-        ensures stays { StaysSettled (Self.settled around.old) (owed around.old)
-            (Self.settled around.new) (owed around.new) }
-        ensures served { StaysServed (Self.serving around.old) (lent around.old)
-            (Self.serving around.new) (lent around.new) }
+        ensures construct { construct around.new ≡ construct around.old }
+        ensures stays { StaysSettled (settled around.old) (owed around.old)
+            (settled around.new) (owed around.new) }
+        ensures served { StaysServed (serving around.old) (lent around.old)
+            (serving around.new) (lent around.new) }
         ensures left { left around.new ≤ left around.old }
-        ensures tools { Self.tools self.new ≡ Self.tools self.old };
+        ensures tools { tools self.new ≡ tools self.old };
 
     /// Unregisters the port's owner, and tells the scheduler around it.
     fn unregister<P: Port>(&mut self, rt: &R, port: &mut P, hold: P::Hold, around: &mut Self::Site)
@@ -107,13 +141,13 @@ pub trait Schedulers<R>: Resources {
         ensures does { P.seen port.new ≡ unregistered (P.seen port.old) }
         ensures kept { IsPortView (P.seen port.new) }
         ensures hears { hears around.old (unregistered_told (P.seen port.old).owner) around.new }
-        ensures construct { Self.construct around.new ≡ Self.construct around.old }
-        ensures stays { StaysSettled (Self.settled around.old) (owed around.old)
-            (Self.settled around.new) (owed around.new) }
-        ensures served { StaysServed (Self.serving around.old) (lent around.old)
-            (Self.serving around.new) (lent around.new) }
+        ensures construct { construct around.new ≡ construct around.old }
+        ensures stays { StaysSettled (settled around.old) (owed around.old)
+            (settled around.new) (owed around.new) }
+        ensures served { StaysServed (serving around.old) (lent around.old)
+            (serving around.new) (lent around.new) }
         ensures left { left around.new ≤ left around.old }
-        ensures tools { Self.tools self.new ≡ Self.tools self.old };
+        ensures tools { tools self.new ≡ tools self.old };
 
     /// Tries to enter the child. Inside, the child's scheduler says what to do.
     fn enter<P: Port>(
@@ -123,14 +157,14 @@ pub trait Schedulers<R>: Resources {
         hold: P::Hold,
         site: &mut Self::Site,
         child: u16,
-    ) -> Option<Task<Self::Job>>
+    ) -> Option<Task<M::Job>>
         requires known { IsSite (P.seen port.old).plan child }
         requires child { (P.seen port.old).owner ≡ parent_of (P.seen port.old).plan child }
-        requires settled { Self.settled site.old }
+        requires settled { settled site.old }
         ensures does { HasEntered (P.seen port.old) child result (P.seen port.new) }
         ensures kept { IsPortView (P.seen port.new) }
-        ensures account { ForSome result (HasAccount (Self.settled site.new) (owed site.new)) }
-        ensures tools { Self.tools self.new ≡ Self.tools self.old };
+        ensures account { ForSome result (HasAccount (settled site.new) (owed site.new)) }
+        ensures tools { tools self.new ≡ tools self.old };
 
     /// Gives the hart back from the port's owner, and tells the scheduler around it.
     fn give_back<P: Port>(&mut self, rt: &R, port: &mut P, hold: P::Hold, around: &mut Self::Site)
@@ -139,70 +173,70 @@ pub trait Schedulers<R>: Resources {
         ensures does { P.seen port.new ≡ yielded (P.seen port.old) }
         ensures kept { IsPortView (P.seen port.new) }
         ensures hears { hears around.old (yielded_told (P.seen port.old).owner) around.new }
-        ensures construct { Self.construct around.new ≡ Self.construct around.old }
-        ensures stays { StaysSettled (Self.settled around.old) (owed around.old)
-            (Self.settled around.new) (owed around.new) }
-        ensures served { StaysServed (Self.serving around.old) (lent around.old)
-            (Self.serving around.new) (lent around.new) }
+        ensures construct { construct around.new ≡ construct around.old }
+        ensures stays { StaysSettled (settled around.old) (owed around.old)
+            (settled around.new) (owed around.new) }
+        ensures served { StaysServed (serving around.old) (lent around.old)
+            (serving around.new) (lent around.new) }
         ensures left { left around.new ≤ left around.old }
-        ensures tools { Self.tools self.new ≡ Self.tools self.old };
+        ensures tools { tools self.new ≡ tools self.old };
 
     /// What the hart does next. A home is told that there is nothing only where the site's work is over.
-    fn next(&mut self, rt: &R, site: &mut Self::Site, is_home: bool) -> Task<Self::Job>
-        requires { Self.settled site.old }
+    fn next(&mut self, rt: &R, site: &mut Self::Site, is_home: bool) -> Task<M::Job>
+        requires { settled site.old }
         ensures left { HasNext (left site.old) result (left site.new) }
-        ensures construct { Self.construct site.new ≡ Self.construct site.old }
-        ensures account { HasAccount (Self.settled site.new) (owed site.new) result }
+        ensures construct { construct site.new ≡ construct site.old }
+        ensures account { HasAccount (settled site.new) (owed site.new) result }
         ensures over { result ≡ Task.Nothing → is_home ≡ true → over site.new }
-        ensures served { Follows (Self.serving site.old) (λ p around start es.
-            HasServing (Self.serving site.new p around start es) (λ job.
-            lent site.new job p around start es × Self.fresh_job p around es job) result) }
-        ensures tools { Self.tools self.new ≡ Self.tools self.old };
+        ensures served { Follows (serving site.old) (λ p around start es.
+            HasServing (serving site.new p around start es) (λ job.
+            lent site.new job p around start es × M.fresh_job p around es job) result) }
+        ensures tools { tools self.new ≡ tools self.old };
 
     /// A piece is done.
-    fn deposit(&mut self, rt: &R, alloc: Global, site: &mut Self::Site, piece: Self::Piece)
-        requires { owed site.old (Self.job_in piece) }
-        ensures construct { Self.construct site.new ≡ Self.construct site.old }
-        ensures settled { Self.settled site.new }
+    fn deposit(&mut self, rt: &R, alloc: Global, site: &mut Self::Site, piece: M::Piece)
+        requires { owed site.old (M.job_in piece) }
+        ensures construct { construct site.new ≡ construct site.old }
+        ensures settled { settled site.new }
         ensures served { (p : Plan) (around : ℕ) (start es es' : List Entry)
-            → lent site.old (Self.job_in piece) p around start es
-            → Self.ran_job p es es' (Self.job_in piece)
-            → Self.serving site.new p around start es' }
+            → lent site.old (M.job_in piece) p around start es
+            → M.ran_job p es es' (M.job_in piece)
+            → serving site.new p around start es' }
         ensures left { left site.new ≤ left site.old }
-        ensures tools { Self.tools self.new ≡ Self.tools self.old };
+        ensures tools { tools self.new ≡ tools self.old };
 
     /// The piece of this phase at this place found no memory.
     fn fail(&mut self, rt: &R, site: &mut Self::Site, phase: u8, place: u8)
-        requires { (job : Self.Job) × owed site.old job
-            × (Self.phase_of job ≡ phase) × (Self.place_of job ≡ place) }
-        ensures construct { Self.construct site.new ≡ Self.construct site.old }
-        ensures settled { Self.settled site.new }
-        ensures served { (job : Self.Job) (p : Plan) (around : ℕ) (start es es' : List Entry)
-            → lent site.old job p around start es → Self.serving site.new p around start es' }
+        requires { (job : M.Job) × owed site.old job
+            × (M.phase_of job ≡ phase) × (M.place_of job ≡ place) }
+        ensures construct { construct site.new ≡ construct site.old }
+        ensures settled { settled site.new }
+        ensures served { (job : M.Job) (p : Plan) (around : ℕ) (start es es' : List Entry)
+            → lent site.old job p around start es → serving site.new p around start es' }
         ensures left { left site.new ≤ left site.old }
-        ensures tools { Self.tools self.new ≡ Self.tools self.old };
+        ensures tools { tools self.new ≡ tools self.old };
 
     /// Whether a piece of the site has failed.
     fn has_failed(&mut self, rt: &R, site: &Self::Site) -> bool
         ensures ended { result ≡ false → over site.now → (p : Plan) (around : ℕ)
-            (start es : List Entry) → IsPlan p → Self.serving site.now p around start es
+            (start es : List Entry) → IsPlan p → serving site.now p around start es
             → HaveEnded p around es }
         ensures failed { result ≡ true → (p : Plan) (around : ℕ) (start es : List Entry)
-            → Self.serving site.now p around start es → failed site.now }
-        ensures tools { Self.tools self.new ≡ Self.tools self.old };
+            → serving site.now p around start es → failed site.now }
+        ensures tools { tools self.new ≡ tools self.old };
 
     /// What all pieces of a site wrote whose work is over. Where the scheduler can't tell, the hart computes the construct
     /// itself.
-    fn take(&mut self, rt: &R, alloc: Global, site: Self::Site) -> Result<Self::Written, AllocError>
-        requires construct { IsSome (Self.construct site) }
+    fn take(&mut self, rt: &R, alloc: Global, site: Self::Site) -> Result<M::Written, AllocError>
+        requires construct { IsSome (construct site) }
         requires over { over site }
-        ensures written { (nested : Self.Nested) → Self.construct site ≡ Some nested → IfOk result
-            (λ written. Self.written_in written ≡ Self.writes_of nested) }
+        ensures written { (nested : M.Nested) → construct site ≡ Some nested → IfOk result
+            (λ written. M.written_in written ≡ M.writes_of nested) }
         ensures failed { failed site → IsErr result }
-        ensures ran { (nested : Self.Nested) → Self.construct site ≡ Some nested → IfOk result (λ _.
+        ensures ran { (nested : M.Nested) → construct site ≡ Some nested → IfOk result (λ _.
             (p : Plan) (before es : List Entry) (hart : ℕ) → IsPlan p
-            → Self.serving site p (Self.number_of nested)
-            (before ++ Register hart (Self.number_of nested) ∷ []) es
-            → Self.ran p before (es ++ Unregister hart (Self.number_of nested) ∷ []) nested) }
-        ensures tools { Self.tools self.new ≡ Self.tools self.old };
+            → serving site p (M.number_of nested)
+            (before ++ Register hart (M.number_of nested) ∷ []) es
+            → M.ran p before (es ++ Unregister hart (M.number_of nested) ∷ []) nested) }
+        ensures tools { tools self.new ≡ tools self.old };
 }

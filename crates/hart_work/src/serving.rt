@@ -11,7 +11,7 @@ ghost use Rattle.hart_work.specs.Tasks.{StaysSettled, HasAccount};
 ghost use Rattle.hart_work.specs.Accounts.{WhereAlone, StaysServed};
 
 use crate::found::Found;
-use crate::resources::Resources;
+use crate::machines::Machines;
 use crate::schedulers::{Schedulers, Task};
 use contexts::{Running, Step, ctx_fini, ctx_pause, ctx_resume};
 use hart_port::Port;
@@ -20,7 +20,7 @@ use std::alloc::{AllocError, Global};
 
 /// Runs a job of the site that the hart is in, and brings the hart back to it.
 #[cycle(serve)]
-pub fn run_piece<P: PatientPort, R, H: Schedulers<R>, F: Fn(u8, &H::Job)>(
+pub fn run_piece<P: PatientPort, R, M: Machines, H: Schedulers<R, M>, F: Fn(u8, &M::Job)>(
     rt: &R,
     alloc: Global,
     tree: &SiteTree,
@@ -29,16 +29,16 @@ pub fn run_piece<P: PatientPort, R, H: Schedulers<R>, F: Fn(u8, &H::Job)>(
     hold: P::Hold,
     schedulers: &mut H,
     around: &mut H::Site,
-    job: H::Job,
-) -> Result<H::Piece, AllocError>
+    job: M::Job,
+) -> Result<M::Piece, AllocError>
     requires plan { (P.seen port.old).plan ≡ tree.now }
     requires callable { F.IsAlwaysCallable pass.now }
     requires inner { IsSettled (P.seen port.old) }
-    requires fresh { WhereAlone (P.seen port.old) (λ p around es. H.fresh_job p around es job) }
+    requires fresh { WhereAlone (P.seen port.old) (λ p around es. H.keeps × M.fresh_job p around es job) }
     ensures back { IsBack (P.seen port.old) (P.seen port.new) }
-    ensures piece { IfOk result (λ piece. H.job_in piece ≡ job) }
+    ensures piece { IfOk result (λ piece. M.job_in piece ≡ job) }
     ensures ran { WhereAlone (P.seen port.old)
-        (λ p around es. OnOk result (H.ran_job p es (P.seen port.new).mine job)) }
+        (λ p around es. OnOk result (M.ran_job p es (P.seen port.new).mine job)) }
     ensures stays { StaysSettled (H.settled around.old) (H.owed around.old) (H.settled around.new)
         (H.owed around.new) }
     ensures served { StaysServed (H.serving around.old) (H.lent around.old) (H.serving around.new)
@@ -47,9 +47,9 @@ pub fn run_piece<P: PatientPort, R, H: Schedulers<R>, F: Fn(u8, &H::Job)>(
     ensures left { H.left around.new ≤ H.left around.old }
     ensures tools { H.tools schedulers.new ≡ H.tools schedulers.old }
 {
-    let mut running = schedulers.start(alloc, job)?;
+    let mut running = M::start(alloc, job)?;
     'steps: loop {
-        match schedulers.step(&mut running) {
+        match M::step(&mut running) {
             Step::More => {}
             Step::Nest(Found::Nest(nested)) => {
                 let paused = ctx_pause(running);
@@ -57,13 +57,13 @@ pub fn run_piece<P: PatientPort, R, H: Schedulers<R>, F: Fn(u8, &H::Job)>(
                     rt, alloc, tree, pass, port, hold, schedulers, around, nested,
                 );
                 running = ctx_resume(paused);
-                if supply(schedulers, &mut running, written).is_err() {
+                if supply::<M>(&mut running, written).is_err() {
                     let _ = running.abandon();
                     return Err(AllocError);
                 }
             }
             Step::Nest(Found::Pass { first, end }) => skip_span(tree, port, hold, first, end),
-            Step::Finished => return Ok(schedulers.end(ctx_fini(running).into_machine())),
+            Step::Finished => return Ok(M::end(ctx_fini(running).into_machine())),
             Step::NoMemory => {
                 let _ = running.abandon();
                 return Err(AllocError);
@@ -74,7 +74,7 @@ pub fn run_piece<P: PatientPort, R, H: Schedulers<R>, F: Fn(u8, &H::Job)>(
 
 /// Runs a construct as a site inside the one that the hart is in, and brings the hart back.
 #[cycle(serve)]
-pub fn run_construct<P: PatientPort, R, H: Schedulers<R>, F: Fn(u8, &H::Job)>(
+pub fn run_construct<P: PatientPort, R, M: Machines, H: Schedulers<R, M>, F: Fn(u8, &M::Job)>(
     rt: &R,
     alloc: Global,
     tree: &SiteTree,
@@ -83,16 +83,16 @@ pub fn run_construct<P: PatientPort, R, H: Schedulers<R>, F: Fn(u8, &H::Job)>(
     hold: P::Hold,
     schedulers: &mut H,
     around: &mut H::Site,
-    nested: H::Nested,
-) -> Result<H::Written, AllocError>
+    nested: M::Nested,
+) -> Result<M::Written, AllocError>
     requires plan { (P.seen port.old).plan ≡ tree.now }
     requires callable { F.IsAlwaysCallable pass.now }
     requires inner { IsSettled (P.seen port.old) }
-    requires fresh { WhereAlone (P.seen port.old) (λ p around es. H.fresh p around es nested) }
+    requires fresh { WhereAlone (P.seen port.old) (λ p around es. H.keeps × M.fresh p around es nested) }
     ensures back { IsBack (P.seen port.old) (P.seen port.new) }
-    ensures written { IfOk result (λ written. H.written_in written ≡ H.writes_of nested) }
+    ensures written { IfOk result (λ written. M.written_in written ≡ M.writes_of nested) }
     ensures ran { WhereAlone (P.seen port.old)
-        (λ p around es. OnOk result (H.ran p es (P.seen port.new).mine nested)) }
+        (λ p around es. OnOk result (M.ran p es (P.seen port.new).mine nested)) }
     ensures stays { StaysSettled (H.settled around.old) (H.owed around.old) (H.settled around.new)
         (H.owed around.new) }
     ensures served { StaysServed (H.serving around.old) (H.lent around.old) (H.serving around.new)
@@ -101,9 +101,9 @@ pub fn run_construct<P: PatientPort, R, H: Schedulers<R>, F: Fn(u8, &H::Job)>(
     ensures left { H.left around.new ≤ H.left around.old }
     ensures tools { H.tools schedulers.new ≡ H.tools schedulers.old }
 {
-    let number = schedulers.number(&nested);
+    let number = M::number(&nested);
     if !tree.is_child(port.owner(), number) {
-        return schedulers.compute(alloc, nested);
+        return M::compute(alloc, nested);
     }
     let mut site = schedulers.open(alloc, &nested)?;
     match schedulers.register(rt, port, hold, around, number) {
@@ -129,7 +129,7 @@ pub fn run_construct<P: PatientPort, R, H: Schedulers<R>, F: Fn(u8, &H::Job)>(
         }
         Err(_) => {
             port.until_gone(hold, number);
-            schedulers.compute(alloc, nested)
+            M::compute(alloc, nested)
         }
     }
 }
@@ -137,7 +137,7 @@ pub fn run_construct<P: PatientPort, R, H: Schedulers<R>, F: Fn(u8, &H::Job)>(
 /// Does what the site that the hart is in has to do, as its home until its work is over, as a guest until there is
 /// nothing to do.
 #[cycle(serve)]
-pub fn serve<P: PatientPort, R, H: Schedulers<R>, F: Fn(u8, &H::Job)>(
+pub fn serve<P: PatientPort, R, M: Machines, H: Schedulers<R, M>, F: Fn(u8, &M::Job)>(
     rt: &R,
     alloc: Global,
     tree: &SiteTree,
@@ -153,7 +153,7 @@ pub fn serve<P: PatientPort, R, H: Schedulers<R>, F: Fn(u8, &H::Job)>(
     requires inner { IsSettled (P.seen port.old) }
     requires settled { H.settled site.old }
     requires serving { WhereAlone (P.seen port.old)
-        (λ p around es. (start : List Entry) × H.serving site.old p around start es) }
+        (λ p around es. H.keeps × (start : List Entry) × H.serving site.old p around start es) }
     ensures back { IsBack (P.seen port.old) (P.seen port.new) }
     ensures settled { H.settled site.new }
     ensures over { is_home ≡ true → H.over site.new }
@@ -175,7 +175,7 @@ pub fn serve<P: PatientPort, R, H: Schedulers<R>, F: Fn(u8, &H::Job)>(
 
 // Runs a job, and puts its piece into the site's book.
 #[cycle(serve)]
-fn run_job<P: PatientPort, R, H: Schedulers<R>, F: Fn(u8, &H::Job)>(
+fn run_job<P: PatientPort, R, M: Machines, H: Schedulers<R, M>, F: Fn(u8, &M::Job)>(
     rt: &R,
     alloc: Global,
     tree: &SiteTree,
@@ -184,13 +184,13 @@ fn run_job<P: PatientPort, R, H: Schedulers<R>, F: Fn(u8, &H::Job)>(
     hold: P::Hold,
     schedulers: &mut H,
     site: &mut H::Site,
-    job: H::Job,
+    job: M::Job,
 )
     requires plan { (P.seen port.old).plan ≡ tree.now }
     requires callable { F.IsAlwaysCallable pass.now }
     requires inner { IsSettled (P.seen port.old) }
     requires owed { H.owed site.old job }
-    requires fresh { WhereAlone (P.seen port.old) (λ p around es. H.fresh_job p around es job) }
+    requires fresh { WhereAlone (P.seen port.old) (λ p around es. H.keeps × M.fresh_job p around es job) }
     ensures back { IsBack (P.seen port.old) (P.seen port.new) }
     ensures settled { H.settled site.new }
     ensures served { WhereAlone (P.seen port.old) (λ p around es. (start : List Entry)
@@ -200,7 +200,7 @@ fn run_job<P: PatientPort, R, H: Schedulers<R>, F: Fn(u8, &H::Job)>(
     ensures left { H.left site.new ≤ H.left site.old }
     ensures tools { H.tools schedulers.new ≡ H.tools schedulers.old }
 {
-    let (phase, place) = (schedulers.phase(&job), schedulers.place(&job));
+    let (phase, place) = (M::phase(&job), M::place(&job));
     pass(port.hart(), &job);
     match run_piece(rt, alloc, tree, pass, port, hold, schedulers, site, job) {
         Ok(piece) => schedulers.deposit(rt, alloc, site, piece),
@@ -210,7 +210,7 @@ fn run_job<P: PatientPort, R, H: Schedulers<R>, F: Fn(u8, &H::Job)>(
 
 // Enters a child that wants a hart and that another hart opened, does what it has to do, and comes back.
 #[cycle(serve)]
-fn visit<P: PatientPort, R, H: Schedulers<R>, F: Fn(u8, &H::Job)>(
+fn visit<P: PatientPort, R, M: Machines, H: Schedulers<R, M>, F: Fn(u8, &M::Job)>(
     rt: &R,
     alloc: Global,
     tree: &SiteTree,
@@ -253,7 +253,7 @@ fn visit<P: PatientPort, R, H: Schedulers<R>, F: Fn(u8, &H::Job)>(
 
 // Does the task that the site gave to the hart as it entered, and then what else the site has to do.
 #[cycle(serve)]
-fn be_guest<P: PatientPort, R, H: Schedulers<R>, F: Fn(u8, &H::Job)>(
+fn be_guest<P: PatientPort, R, M: Machines, H: Schedulers<R, M>, F: Fn(u8, &M::Job)>(
     rt: &R,
     alloc: Global,
     tree: &SiteTree,
@@ -262,7 +262,7 @@ fn be_guest<P: PatientPort, R, H: Schedulers<R>, F: Fn(u8, &H::Job)>(
     hold: P::Hold,
     schedulers: &mut H,
     site: &mut H::Site,
-    task: Task<H::Job>,
+    task: Task<M::Job>,
 )
     requires plan { (P.seen port.old).plan ≡ tree.now }
     requires callable { F.IsAlwaysCallable pass.now }
@@ -296,7 +296,7 @@ fn skip_span<P: PatientPort>(tree: &SiteTree, port: &mut P, hold: P::Hold, first
 }
 
 // Asks for as many harts as the site has work for and the plan has besides this one.
-fn ask<P: PatientPort, R, H: Schedulers<R>>(
+fn ask<P: PatientPort, R, M: Machines, H: Schedulers<R, M>>(
     rt: &R,
     tree: &SiteTree,
     port: &mut P,
@@ -331,19 +331,17 @@ fn ask<P: PatientPort, R, H: Schedulers<R>>(
 }
 
 // Hands a machine what its construct wrote.
-fn supply<H: Resources>(
-    schedulers: &mut H,
-    running: &mut Running<H::Machine>,
-    written: Result<H::Written, AllocError>,
+fn supply<M: Machines>(
+    running: &mut Running<M::Machine>,
+    written: Result<M::Written, AllocError>,
 ) -> Result<(), AllocError>
-    requires { IfOk written (λ written. H.awaits running.old (H.written_in written)) }
-    ensures job { OnOk result (H.job_of running.new ≡ H.job_of running.old) }
-    ensures ready { OnOk result (H.ready running.new) }
-    ensures left { OnOk result (H.steps_left running.new ≡ H.steps_left running.old) }
-    ensures going { OnOk result ((nested : H.Nested) (p : Plan) (around : ℕ)
-        (start es es' : List Entry) → H.awaiting nested running.old p around start es
-        → OnOk written (H.ran p es es' nested) → H.going running.new p around start es') }
-    ensures tools { H.tools schedulers.new ≡ H.tools schedulers.old }
+    requires { IfOk written (λ written. M.awaits running.old (M.written_in written)) }
+    ensures job { OnOk result (M.job_of running.new ≡ M.job_of running.old) }
+    ensures ready { OnOk result (M.ready running.new) }
+    ensures left { OnOk result (M.steps_left running.new ≡ M.steps_left running.old) }
+    ensures going { OnOk result ((nested : M.Nested) (p : Plan) (around : ℕ)
+        (start es es' : List Entry) → M.awaiting nested running.old p around start es
+        → OnOk written (M.ran p es es' nested) → M.going running.new p around start es') }
 {
-    schedulers.supply(running, written?)
+    M::supply(running, written?)
 }

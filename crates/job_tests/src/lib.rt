@@ -4,6 +4,8 @@
 #[cfg(test)]
 mod bodies;
 #[cfg(test)]
+mod by_bound;
+#[cfg(test)]
 mod constructs;
 #[cfg(test)]
 mod driving;

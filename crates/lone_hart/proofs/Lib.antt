@@ -3,6 +3,5 @@ pub mod Hearings
 pub mod ServedPools
 pub mod ServedSites
 pub mod ServedTeams
-pub mod Steps
 pub mod Stores
 pub mod TeamAccounts

@@ -14,7 +14,8 @@ use Rattle.hart_work.specs.declared.schedulers.Task.{Task}
 use Rattle.hart_work.specs.declared.schedulers.Task.TheVariants.{Piece, Visit, Nothing}
 use Rattle.hart_work.specs.Accounts.{StaysServed, HaveEnded, HasServing}
 use Rattle.machine_accounts.proofs.Orders.{served_have_ended, served_are_run}
-use Rattle.lone_hart.specs.Served.{is_serving, is_lent, is_run, serves_pool, serves_team}
+use Rattle.job_machines.specs.Accounts.{is_run}
+use Rattle.lone_hart.specs.Served.{is_serving, is_lent, serves_pool, serves_team}
 use Rattle.lone_hart.specs.declared.site.LoneSite.{LoneSite}
 use Rattle.lone_hart.specs.declared.site.LoneSite.TheVariants.{Pool, Team}
 use Rattle.lone_hart.proofs.ServedPools.{pool_ends, pool_heard_serving, pool_heard_lent}

@@ -1,5 +1,4 @@
 pub mod Accounts
 pub mod Sites
 pub mod Journals
-pub mod Met
 pub mod Served

@@ -2,42 +2,18 @@
 use Rattle.std.specs.Prelude.{◌≡◌, ◌⊎◌, ℕ, suc, true, List, slice_get, Some}
 use Rattle.transfer_table.specs.Plan.{Plan, IsPlan}
 use Rattle.transfer_table.specs.declared.entry.Entry.{Entry}
-use Rattle.array_jobs.specs.Jobs.{JobParts, job_of}
+use Rattle.array_jobs.specs.Jobs.{JobParts}
 use Rattle.join_book.specs.Books.{HasFailed}
 use Rattle.step_eval.specs.Nests.{NestedParts, nested_of}
-use Rattle.step_eval.specs.Machines.{Progress}
 use Rattle.forkjoin_sched.specs.Pools.{PoolParts}
 use Rattle.forkjoin_sched.specs.declared.work.PoolWork.TheVariants as pool_work
 use Rattle.loop_team.specs.Teams.{TeamParts, AreJobsIn, phases_in}
 use Rattle.loop_team.specs.declared.work.TeamWork.TheVariants as team_work
-use Rattle.machine_accounts.specs.Machines.{IsFreshJob, IsRunJob, IsFreshConstruct, IsRunNested, IsGoing, IsWaiting}
 use Rattle.machine_accounts.specs.Orders.{HasServed}
 use Rattle.lone_hart.specs.Accounts.{Stands}
 use Rattle.lone_hart.specs.Sites.{IsPoolOf}
 use Rattle.lone_hart.specs.declared.site.LoneSite.{LoneSite}
 use Rattle.lone_hart.specs.declared.site.LoneSite.TheVariants.{Base, Pool, Team}
-
--- nothing was done yet with the sites of a job, and of a construct
-abbrev pub is_fresh_job : Plan → ℕ → List Entry → JobParts → Type 0
-is_fresh_job p around es job = IsPlan p × IsFreshJob p around es (job_of job)
-
-abbrev pub is_fresh : Plan → ℕ → List Entry → NestedParts → Type 0
-is_fresh p around es nested = IsFreshConstruct p around es (nested_of nested)
-
--- between these entries a job was run, and a construct
-abbrev pub is_run_job : Plan → List Entry → List Entry → JobParts → Type 0
-is_run_job p before after job = IsRunJob p before after (job_of job)
-
-abbrev pub is_run : Plan → List Entry → List Entry → NestedParts → Type 0
-is_run p before after nested = IsRunNested p before after (nested_of nested)
-
--- a machine ran its job up to here, and up to the construct that it awaits
-abbrev pub is_going : Progress → Plan → ℕ → List Entry → List Entry → Type 0
-is_going machine p around start es = IsPlan p × IsGoing p around start es machine
-
-abbrev pub is_waiting : NestedParts → Progress → Plan → ℕ → List Entry → List Entry → Type 0
-is_waiting nested machine p around start es =
-    IsPlan p × IsWaiting p around start es (nested_of nested) machine
 
 -- The jobs that the pool handed out were run, one after another.
 pub record ServesPool (p : Plan) (around : ℕ) (start es : List Entry) (nested : NestedParts)

@@ -1,11 +1,9 @@
 -- The schedulers of the sites, as the only hart has them.
-use Rattle.std.specs.Prelude.{◌≡◌, ◌⊎◌, ℕ, ℤ, suc, ◌+◌, ◌-◌, ◌*◌, List, length, map, Option, Some, None}
+use Rattle.std.specs.Prelude.{◌≡◌, ◌⊎◌, ℕ, suc, ◌+◌, ◌-◌, ◌*◌, length, map, Option, Some, None}
 use Rattle.array_tree.specs.Trees.{statement_of}
 use Rattle.array_jobs.specs.Jobs.{JobParts, job_of}
 use Rattle.join_book.specs.Books.{IsFull, HasFailed}
 use Rattle.step_eval.specs.Nests.{NestedParts, nested_of, phases_of, jobs_in, IsFitNest}
-use Rattle.step_eval.specs.Machines.{Progress, AreAwaited}
-use Rattle.step_eval.specs.declared.stage.Stage.TheVariants.{Awaiting}
 use Rattle.sched_api.specs.declared.hearing.Told.{Told}
 use Rattle.base_sched.specs.Oldest as base
 use Rattle.forkjoin_sched.specs.Pools as pools
@@ -70,7 +68,3 @@ HearsAt (Base b) told (Base b') = base.HearsOf b told b'
 HearsAt (Pool nested p) told (Pool nested' p') = (nested' ≡ nested) × pools.Hears p told p'
 HearsAt (Team t) told (Team t') = teams.Hears t told t'
 HearsAt before told after = ⊥
-
--- the machine awaits these writes
-abbrev pub IsAwaitingWrites : Progress → List (ℕ × ℤ) → Type 0
-IsAwaitingWrites machine written = (machine.stage ≡ Awaiting) × AreAwaited machine written

@@ -1,31 +1,24 @@
-//! The schedulers of the sites, and the machines, as the only hart has them.
-ghost use Rattle.std.specs.Prelude.{◌≡◌, ◌≤◌, ℕ, List, IfOk, OnOk, IsSome, Some, false};
-ghost use Rattle.step_eval.specs.Nests.{NestedParts, nested_of, nested_writes};
-ghost use Rattle.step_eval.specs.Machines.{left_of, is_awaiting, IsFinished};
-ghost use Rattle.contexts.specs.declared.machine.Step.TheVariants.{Finished};
-ghost use Rattle.hart_work.specs.Tasks.{HasNext, HasAccount, Goes};
-ghost use Rattle.hart_work.specs.Accounts.{Accounts};
-ghost use Rattle.lone_hart.specs.Sites.{construct_in, jobs_left, IsSettledSite, IsOwed, IsOverSite, HearsAt, IsAwaitingWrites};
-ghost use Rattle.lone_hart.specs.Served.{is_fresh_job, is_fresh, is_run_job, is_run, is_going, is_waiting, is_serving, is_lent, is_failed};
-ghost use Rattle.transfer_table.specs.Plan.{Plan};
-ghost use Rattle.transfer_table.specs.declared.entry.Entry.{Entry};
+//! The schedulers of the sites, as the only hart has them.
+ghost use Rattle.std.specs.Prelude.{◌≡◌, ◌≤◌, ℕ, IfOk, IsSome, Some};
+ghost use Rattle.hart_work.specs.Tasks.{HasNext, HasAccount};
+ghost use Rattle.lone_hart.specs.Sites.{construct_in, jobs_left, IsSettledSite, IsOwed, IsOverSite, HearsAt};
+ghost use Rattle.lone_hart.specs.Served.{is_serving, is_lent, is_failed};
 
-use crate::machines::{as_seen, started};
 use crate::pools::{deposit_in_pool, fail_in_pool, next_of_pool, open_pool, take_from_pool};
 use crate::site::LoneSite;
 use crate::teams::{arrive_in_team, fail_in_team, next_of_team, open_team};
 use array_eval::Overlay;
 use array_jobs::{Job, Piece};
 use array_tree::Block;
-use contexts::{Running, Step};
 use hart_port::{Entered, Port, Taken};
-use hart_work::{Found, Resources, Schedulers, Task};
+use hart_work::{Schedulers, Task};
+use job_machines::JobMachines;
 use sched_api::{sched_register, sched_request, sched_unregister, sched_yield};
 use std::alloc::{AllocError, Global};
 use std::marker::PhantomData;
-use step_eval::{Kind, Nested, StepMachine, compute};
+use step_eval::{Kind, Nested};
 
-/// The schedulers of the sites, and the machines, as the only hart has them: nobody else knows them, and nothing waits.
+/// The schedulers of the sites, as the only hart has them: nobody else knows them, and nothing waits.
 #[derive(Drop)]
 pub struct LoneSchedulers<'p> {
     of: PhantomData<&'p Block>,
@@ -38,22 +31,9 @@ impl<'p> LoneSchedulers<'p> {
     }
 }
 
-impl<'p> Resources for LoneSchedulers<'p> {
-    ghost use Rattle.std.specs.Prelude.{◌≡◌, false};
-    ghost use Rattle.step_eval.specs.Nests.{nested_of, nested_writes};
-    ghost use Rattle.step_eval.specs.Machines.{left_of, is_awaiting, IsFinished};
-    ghost use Rattle.lone_hart.specs.Sites.{construct_in, IsSettledSite, IsAwaitingWrites};
-    ghost use Rattle.lone_hart.specs.Served.{is_fresh_job, is_fresh, is_run_job, is_run, is_going, is_waiting, is_serving};
-
-    type Job = Job<'p>;
-
-    type Piece = Piece<'p>;
-
-    type Nested = Nested<'p>;
-
-    type Written = Overlay;
-
-    type Machine = StepMachine<'p>;
+impl<'p, R> Schedulers<R, JobMachines<'p>> for LoneSchedulers<'p> {
+    ghost use Rattle.lone_hart.specs.Sites.{construct_in, jobs_left, IsSettledSite, IsOwed, IsOverSite, HearsAt};
+    ghost use Rattle.lone_hart.specs.Served.{is_serving, is_lent, is_failed};
 
     type Site = LoneSite<'p>;
 
@@ -62,105 +42,25 @@ impl<'p> Resources for LoneSchedulers<'p> {
 
     ghost tools = { λ _. tt };
 
-    ghost job_of = { λ m. m.job };
-
-    ghost job_in = { λ p. p.job };
-
-    ghost phase_of = { λ job. job.phase };
-
-    ghost place_of = { λ job. job.place };
-
-    ghost number_of = { λ n. n.site };
-
-    ghost writes_of = { λ n. nested_writes (nested_of n) };
-
-    ghost written_in = { λ w. w.pairs };
-
-    ghost ready = { λ m. is_awaiting m.stage ≡ false };
-
-    ghost awaits = { IsAwaitingWrites };
-
-    ghost steps_left = { λ m. left_of m.stage m.rest };
-
-    ghost finished = { IsFinished };
+    ghost keeps = { Unit {0} };
 
     ghost construct = { construct_in };
 
     ghost settled = { IsSettledSite };
 
-    ghost fresh_job = { is_fresh_job };
-
-    ghost fresh = { is_fresh };
-
-    ghost ran_job = { is_run_job };
-
-    ghost ran = { is_run };
-
-    ghost going = { is_going };
-
-    ghost awaiting = { is_waiting };
-
     ghost serving = { is_serving };
 
-    fn start(
-        &mut self,
-        alloc: Global,
-        job: Job<'p>,
-    ) -> Result<Running<StepMachine<'p>>, AllocError> {
-        started(alloc, job)
-    }
+    ghost left = { jobs_left };
 
-    fn step(&mut self, running: &mut Running<StepMachine<'p>>) -> Step<Found<Nested<'p>>>
-        requires { is_awaiting running.old.stage ≡ false }
-        ensures goes { Goes (λ (n : NestedParts). nested_writes (nested_of n)) result
-            (left_of running.old.stage running.old.rest)
-            (left_of running.new.stage running.new.rest) (is_awaiting running.new.stage ≡ false)
-            (IsAwaitingWrites running.new) (running.new.job ≡ running.old.job) }
-        ensures account { Accounts is_fresh (λ p start es. is_run_job p start es running.old.job)
-            (is_going running.old) (is_going running.new)
-            (λ nested. is_waiting nested running.new) result }
-        ensures finished { result ≡ Finished → IsFinished running.new }
-    {
-        as_seen(running.machine().go())
-    }
+    ghost owed = { IsOwed };
 
-    fn supply(
-        &mut self,
-        running: &mut Running<StepMachine<'p>>,
-        written: Overlay,
-    ) -> Result<(), AllocError>
-        requires { IsAwaitingWrites running.old written.pairs }
-        ensures job { OnOk result (running.new.job ≡ running.old.job) }
-        ensures ready { OnOk result (is_awaiting running.new.stage ≡ false) }
-        ensures left { OnOk result
-            (left_of running.new.stage running.new.rest
-            ≡ left_of running.old.stage running.old.rest) }
-        ensures going { OnOk result ((nested : NestedParts) (p : Plan) (around : ℕ)
-            (start es es' : List Entry) → is_waiting nested running.old p around start es
-            → is_run p es es' nested → is_going running.new p around start es') }
-    {
-        running.machine().supply(&written)
-    }
+    ghost over = { IsOverSite };
 
-    fn end(&mut self, machine: StepMachine<'p>) -> Piece<'p> {
-        machine.into_piece()
-    }
+    ghost lent = { is_lent };
 
-    fn number(&self, nested: &Nested<'p>) -> u16 {
-        nested.site
-    }
+    ghost failed = { is_failed };
 
-    fn phase(&self, job: &Job<'p>) -> u8 {
-        job.phase
-    }
-
-    fn place(&self, job: &Job<'p>) -> u8 {
-        job.place
-    }
-
-    fn compute(&mut self, alloc: Global, nested: Nested<'p>) -> Result<Overlay, AllocError> {
-        compute(alloc, &nested)
-    }
+    ghost hears = { HearsAt };
 
     fn open(&mut self, alloc: Global, nested: &Nested<'p>) -> Result<LoneSite<'p>, AllocError> {
         let nested = nested.copy()?;
@@ -177,23 +77,6 @@ impl<'p> Resources for LoneSchedulers<'p> {
     fn wishes(&self, _site: &LoneSite<'p>) -> u8 {
         0
     }
-}
-
-impl<'p, R> Schedulers<R> for LoneSchedulers<'p> {
-    ghost use Rattle.lone_hart.specs.Sites.{jobs_left, IsOwed, IsOverSite, HearsAt};
-    ghost use Rattle.lone_hart.specs.Served.{is_lent, is_failed};
-
-    ghost left = { jobs_left };
-
-    ghost owed = { IsOwed };
-
-    ghost over = { IsOverSite };
-
-    ghost lent = { is_lent };
-
-    ghost failed = { is_failed };
-
-    ghost hears = { HearsAt };
 
     /// There is no other hart that opens a site.
     fn find(&mut self, _rt: &R, _site: u16) -> Option<LoneSite<'p>> {

@@ -69,7 +69,7 @@ run_piece-steps-preserved g t c =
           (c.skip_span.ensures.skipped (inv.back.alone ∙ alone)) next.0 next.1));
       job = told.2 ∙ inv.job;
       ready = told.1;
-      tools = c.in-Nest-Pass.ensures.tools ∙ inv.tools;
+      tools = inv.tools;
     }
 
 pub run_piece-steps-preserved-else-is_err : goal.run_piece-steps-preserved-else-is_err
@@ -89,9 +89,9 @@ run_piece-steps-preserved-else-is_err g t c =
           let next = nests f.plan f.owner f.mine from.mine (inv.account alone) in
           let n = c.in-Nest-Nest.nested in
           let same : c.ctx_resume-running.result ≡ c.step.new.running = c.ctx_resume-running.ensures ∙ c.ctx_pause-paused.ensures in
-          let ran = subst (λ p. OnOk c.run_construct-written.result (g.H.Resources.ran p from.mine to.mine n)) inv.back.plan (run.ran (inv.back.alone ∙ alone)) in
+          let ran = subst (λ p. OnOk c.run_construct-written.result (g.M.Machines.ran p from.mine to.mine n)) inv.back.plan (run.ran (inv.back.alone ∙ alone)) in
           at_ok c.supply.result _ (sym (c.if-is_err.ensures.value)) c.supply.ensures.going n f.plan f.owner f.mine from.mine to.mine
-          (subst (λ m. g.H.Resources.awaiting n m f.plan f.owner f.mine from.mine) (sym same) next.0) ran);
+          (subst (λ m. g.M.Machines.awaiting n m f.plan f.owner f.mine from.mine) (sym same) next.0) ran);
       left = (let a = run.left in let b = inv.left in omega arith);
       job = first_of (search rules, grind (arith, common_steps));
       ready = first_of (search rules, grind (arith, common_steps));
@@ -107,7 +107,7 @@ serve-tasks-preserved-in-Piece g t c =
           let f = g.P.Port.seen c.args.port.now in
           let tv = g.P.Port.seen c.tasks.port in
           let next = c.in-Piece.ensures.served f.plan f.owner start tv.mine (inv.served alone start first) in
-          back_at f tv inv.back (λ p o. g.H.Schedulers.lent c.next.new.site c.in-Piece.job p o start tv.mine → g.H.Resources.serving c.run_job.new.site p o start (g.P.Port.seen c.run_job.new.port).mine)
+          back_at f tv inv.back (λ p o. g.H.Schedulers.lent c.next.new.site c.in-Piece.job p o start tv.mine → g.H.Schedulers.serving c.run_job.new.site p o start (g.P.Port.seen c.run_job.new.port).mine)
           (run.served (inv.back.alone ∙ alone) start) next.0);
       back = back_then (g.P.Port.seen c.args.port.now) (g.P.Port.seen c.tasks.port) (g.P.Port.seen c.run_job.new.port) inv.back run.back;
       construct = run.construct ∙ c.in-Piece.ensures.construct ∙ inv.construct;
@@ -155,10 +155,10 @@ be_guest-returns-clause-back g t c =
 
 pub be_guest-returns-clause-tools : goal.be_guest-returns-clause-tools
 be_guest-returns-clause-tools g t c =
-    let first : g.H.Resources.tools c.match-task.schedulers ≡ g.H.Resources.tools c.args.schedulers.now = elim c.match-task.branch [
-      | be_guest-in-Piece w ↦ ap g.H.Resources.tools w.schedulers-is ∙ w.run_job.ensures.tools
-      | be_guest-in-Visit w ↦ ap g.H.Resources.tools w.schedulers-is ∙ w.visit.ensures.tools
-      | be_guest-in-Nothing w ↦ ap g.H.Resources.tools w.schedulers-is
+    let first : g.H.Schedulers.tools c.match-task.schedulers ≡ g.H.Schedulers.tools c.args.schedulers.now = elim c.match-task.branch [
+      | be_guest-in-Piece w ↦ ap g.H.Schedulers.tools w.schedulers-is ∙ w.run_job.ensures.tools
+      | be_guest-in-Visit w ↦ ap g.H.Schedulers.tools w.schedulers-is ∙ w.visit.ensures.tools
+      | be_guest-in-Nothing w ↦ ap g.H.Schedulers.tools w.schedulers-is
     ] in
     c.serve.ensures.tools ∙ first
 
@@ -166,10 +166,11 @@ pub run_construct-serve-requires : goal.run_construct-serve-requires
 run_construct-serve-requires g t c =
     let h = g.P.Port.seen c.args.port.now in
     let asked = g.P.Port.seen c.ask.new.port in
-    let serving : WhereAlone asked (λ p around es. (start : List Entry) × g.H.Resources.serving c.in_ok-site.site p around start es) = λ alone. (
+    let serving : WhereAlone asked (λ p around es. g.H.Schedulers.keeps × (start : List Entry) × g.H.Schedulers.serving c.in_ok-site.site p around start es) = λ alone. (
+      (c.requires.fresh (sym (ap (λ (x : PortView). x.alone) c.in-Ok.ensures.does.0) ∙ sym c.ask.ensures.back.alone ∙ alone)).0,
       begun h c.number-number.result,
-      serves_first (g.H.Resources.serving c.in_ok-site.site) h (g.P.Port.seen c.register.new.port) asked c.number-number.result (g.H.Resources.number_of c.args.nested) c.number-number.ensures.number
-          c.in-Ok.ensures.does.0 c.ask.ensures.quiet c.ask.ensures.back.alone (λ whole. c.in_ok-site.ensures.serving h.plan h.owner h.mine h.hart c.owner.ensures.kept.plan (c.requires.fresh whole)) alone,
+      serves_first (g.H.Schedulers.serving c.in_ok-site.site) h (g.P.Port.seen c.register.new.port) asked c.number-number.result (g.M.Machines.number_of c.args.nested) c.number-number.ensures.number
+          c.in-Ok.ensures.does.0 c.ask.ensures.quiet c.ask.ensures.back.alone (λ whole. let own = c.requires.fresh whole in c.in_ok-site.ensures.serving own.0 h.plan h.owner h.mine h.hart c.owner.ensures.kept.plan own.1) alone,
     ) in
     search rules
 
@@ -181,8 +182,8 @@ run_construct-sweep_if-requires-clause-told g t c = λ well alone.
     let back = c.serve.ensures.back in
     let start = begun h c.number-number.result in
     let was : asked.alone ≡ true = sym back.alone ∙ alone in
-    let served = at_back asked v back (λ p o. g.H.Resources.serving c.serve.new.site p o start v.mine) (c.serve.ensures.served was start (serves_first (g.H.Resources.serving c.in_ok-site.site) h (g.P.Port.seen c.register.new.port) asked c.number-number.result (g.H.Resources.number_of c.args.nested) c.number-number.ensures.number
-    c.in-Ok.ensures.does.0 c.ask.ensures.quiet c.ask.ensures.back.alone (λ whole. c.in_ok-site.ensures.serving h.plan h.owner h.mine h.hart c.owner.ensures.kept.plan (c.requires.fresh whole)) was)) in
+    let served = at_back asked v back (λ p o. g.H.Schedulers.serving c.serve.new.site p o start v.mine) (c.serve.ensures.served was start (serves_first (g.H.Schedulers.serving c.in_ok-site.site) h (g.P.Port.seen c.register.new.port) asked c.number-number.result (g.M.Machines.number_of c.args.nested) c.number-number.ensures.number
+    c.in-Ok.ensures.does.0 c.ask.ensures.quiet c.ask.ensures.back.alone (λ whole. let own = c.requires.fresh whole in c.in_ok-site.ensures.serving own.0 h.plan h.owner h.mine h.hart c.owner.ensures.kept.plan own.1) was)) in
     let whole : asked ≡ registered h c.number-number.result = c.ask.ensures.quiet (sym c.ask.ensures.back.alone ∙ was) ∙ c.in-Ok.ensures.does.0 in
     let plan : v.plan ≡ h.plan = back.plan ∙ ap (λ (x : PortView). x.plan) whole in
     c.has_failed.ensures.ended well (c.serve.ensures.over refl) v.plan v.owner start v.mine (subst IsPlan (sym plan) c.owner.ensures.kept.plan) served
@@ -197,16 +198,16 @@ run_construct-returns-in-Ok-clause-ran g t c = λ alone.
     let done = g.P.Port.seen c.finish_site.new.port in
     let u = g.P.Port.seen c.unregister.new.port in
     let s = c.number-number.result in
-    let n = g.H.Resources.number_of c.args.nested in
-    let Q = g.H.Resources.serving c.serve.new.site in
+    let n = g.M.Machines.number_of c.args.nested in
+    let Q = g.H.Schedulers.serving c.serve.new.site in
     let is = c.in-Ok.ensures.does.0 in
     let one : a.alone ≡ true = ap (λ (x : PortView). x.alone) is ∙ alone in
     let whole : asked ≡ registered h s = c.ask.ensures.quiet one ∙ is in
     let served : Q h.plan s (begun h s) v.mine = subst (λ (x : PortView). Q x.plan x.owner (begun h s) v.mine) whole
-    (c.serve.ensures.served (c.ask.ensures.back.alone ∙ one) (begun h s) (serves_first (g.H.Resources.serving c.in_ok-site.site) h (g.P.Port.seen c.register.new.port) asked c.number-number.result (g.H.Resources.number_of c.args.nested) c.number-number.ensures.number
-    c.in-Ok.ensures.does.0 c.ask.ensures.quiet c.ask.ensures.back.alone (λ whole. c.in_ok-site.ensures.serving h.plan h.owner h.mine h.hart c.owner.ensures.kept.plan (c.requires.fresh whole)) (c.ask.ensures.back.alone ∙ one))) in
-    let nested : g.H.Resources.construct c.serve.new.site ≡ Some c.args.nested = c.serve.ensures.construct ∙ c.in_ok-site.ensures.construct in
-    let Ran = g.H.Resources.ran in
+    (c.serve.ensures.served (c.ask.ensures.back.alone ∙ one) (begun h s) (serves_first (g.H.Schedulers.serving c.in_ok-site.site) h (g.P.Port.seen c.register.new.port) asked c.number-number.result (g.M.Machines.number_of c.args.nested) c.number-number.ensures.number
+    c.in-Ok.ensures.does.0 c.ask.ensures.quiet c.ask.ensures.back.alone (λ whole. let own = c.requires.fresh whole in c.in_ok-site.ensures.serving own.0 h.plan h.owner h.mine h.hart c.owner.ensures.kept.plan own.1) (c.ask.ensures.back.alone ∙ one))) in
+    let nested : g.H.Schedulers.construct c.serve.new.site ≡ Some c.args.nested = c.serve.ensures.construct ∙ c.in_ok-site.ensures.construct in
+    let Ran = g.M.Machines.ran in
     let well : c.has_failed.result ≡ false → OnOk c.take.result (Ran h.plan h.mine u.mine c.args.nested) = λ none.
     let looked = c.finish_site.ensures.looked.same in
     let quiet = c.sweep_if.ensures.quiet none in

@@ -28,12 +28,12 @@ decreases-visit g l = 5 * (site_count l.tree.now - (g.P.Port.seen l.port.now).ow
 abbrev pub invariant-serve-tasks : goal.invariant-serve-tasks
 invariant-serve-tasks g l = record {
   back : IsBack (g.P.Port.seen l.fn.port) (g.P.Port.seen l.port);
-  construct : g.H.Resources.construct l.site ≡ g.H.Resources.construct l.fn.site;
-  settled : g.H.Resources.settled l.site;
+  construct : g.H.Schedulers.construct l.site ≡ g.H.Schedulers.construct l.fn.site;
+  settled : g.H.Schedulers.settled l.site;
   left : g.H.Schedulers.left l.site ≤ g.H.Schedulers.left l.fn.site;
-  served : WhereAlone (g.P.Port.seen l.fn.port) (λ p around es. (start : List Entry) → g.H.Resources.serving l.fn.site p around start es
-      → g.H.Resources.serving l.site p around start (g.P.Port.seen l.port).mine);
-  tools : g.H.Resources.tools l.schedulers ≡ g.H.Resources.tools l.fn.schedulers;
+  served : WhereAlone (g.P.Port.seen l.fn.port) (λ p around es. (start : List Entry) → g.H.Schedulers.serving l.fn.site p around start es
+      → g.H.Schedulers.serving l.site p around start (g.P.Port.seen l.port).mine);
+  tools : g.H.Schedulers.tools l.schedulers ≡ g.H.Schedulers.tools l.fn.schedulers;
 }
 
 abbrev pub decreases-serve-tasks : goal.decreases-serve-tasks
@@ -42,15 +42,15 @@ decreases-serve-tasks g l = g.H.Schedulers.left l.site
 abbrev pub invariant-run_piece-steps : goal.invariant-run_piece-steps
 invariant-run_piece-steps g l = record {
   back : IsBack (g.P.Port.seen l.fn.port) (g.P.Port.seen l.port);
-  construct : g.H.Resources.construct l.around ≡ g.H.Resources.construct l.fn.around;
-  stays : StaysSettled (g.H.Resources.settled l.fn.around) (g.H.Schedulers.owed l.fn.around) (g.H.Resources.settled l.around) (g.H.Schedulers.owed l.around);
-  served : StaysServed (g.H.Resources.serving l.fn.around) (g.H.Schedulers.lent l.fn.around) (g.H.Resources.serving l.around) (g.H.Schedulers.lent l.around);
+  construct : g.H.Schedulers.construct l.around ≡ g.H.Schedulers.construct l.fn.around;
+  stays : StaysSettled (g.H.Schedulers.settled l.fn.around) (g.H.Schedulers.owed l.fn.around) (g.H.Schedulers.settled l.around) (g.H.Schedulers.owed l.around);
+  served : StaysServed (g.H.Schedulers.serving l.fn.around) (g.H.Schedulers.lent l.fn.around) (g.H.Schedulers.serving l.around) (g.H.Schedulers.lent l.around);
   left : g.H.Schedulers.left l.around ≤ g.H.Schedulers.left l.fn.around;
-  account : WhereAlone (g.P.Port.seen l.fn.port) (λ p around es. g.H.Resources.going l.running p around es (g.P.Port.seen l.port).mine);
-  job : g.H.Resources.job_of l.running ≡ l.fn.job;
-  ready : g.H.Resources.ready l.running;
-  tools : g.H.Resources.tools l.schedulers ≡ g.H.Resources.tools l.fn.schedulers;
+  account : WhereAlone (g.P.Port.seen l.fn.port) (λ p around es. g.M.Machines.going l.running p around es (g.P.Port.seen l.port).mine);
+  job : g.M.Machines.job_of l.running ≡ l.fn.job;
+  ready : g.M.Machines.ready l.running;
+  tools : g.H.Schedulers.tools l.schedulers ≡ g.H.Schedulers.tools l.fn.schedulers;
 }
 
 abbrev pub decreases-run_piece-steps : goal.decreases-run_piece-steps
-decreases-run_piece-steps g l = g.H.Resources.steps_left l.running
+decreases-run_piece-steps g l = g.M.Machines.steps_left l.running

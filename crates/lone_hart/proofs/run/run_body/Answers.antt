@@ -16,4 +16,4 @@ run_piece-requires-clause-fresh c = λ alone.
     let body = subst (IsFreshJob c.args.tree.now 0 []) (sym (c.in_ok-job.ensures ∙ ap (λ q. body_of (program_of q)) c.program.ensures.same)) fresh in
     let here = subst (λ n. IsFreshJob c.args.tree.now n [] (job_of c.in_ok-job.job)) (sym c.requires.base) body in
     let now = subst (λ (es : List Entry). IsFreshJob c.args.tree.now v.owner es (job_of c.in_ok-job.job)) (sym c.requires.none) here in
-    (subst IsPlan (sym c.requires.plan) c.plan.ensures.kept, subst (λ p. IsFreshJob p v.owner v.mine (job_of c.in_ok-job.job)) (sym c.requires.plan) now)
+    (tt, (subst IsPlan (sym c.requires.plan) c.plan.ensures.kept, subst (λ p. IsFreshJob p v.owner v.mine (job_of c.in_ok-job.job)) (sym c.requires.plan) now))

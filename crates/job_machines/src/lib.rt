@@ -1,0 +1,9 @@
+//! The machines that run a program's jobs, as a hart's procedure asks for them.
+//!
+//! They are the same on one hart and on several. What they tell of the sites of their jobs serves a hart that keeps an account.
+#![tactic(auto)]
+
+mod machines;
+mod steps;
+
+pub use machines::JobMachines;
