@@ -79,8 +79,8 @@ impl<'p> SharedPool<'p> {
         }
     }
 
-    // The site of the jobs.
-    pub(crate) fn site(&self) -> u16
+    /// The site of the jobs. It doesn't wait.
+    pub fn site(&self) -> u16
         ensures { result ≡ self.now.site }
     {
         self.site

@@ -1,13 +1,13 @@
 -- A hart may go to a thread of its own where its port may. A search through all of its parts at once runs out of steps, so each
 -- part stands by itself.
 use denote.RattleType.{RattleType}
-use denote.Param.Send.{IsSend, sendable}
+use denote.Param.Send.{IsSend, IsSync, sendable}
 use denote.Param.SendFields.{declared_send}
 use denote.Ref.{NamedLft}
 use Rattle.std.proofs.Crossing.{crosses}
 use Rattle.array_jobs.specs.contracts.piece.Piece as Piece
-use Rattle.base_sched.specs.contracts.base.Base as Base
-use Rattle.base_sched.proofs.base.Base.TheSendSync as BaseCrosses
+use Rattle.base_sched.specs.contracts.shared.SharedBase as SharedBase
+use Rattle.base_sched.proofs.shared.SharedBase.TheSendSync as BaseCrosses
 use Rattle.site_directory.specs.contracts.shared_site.SharedSite as SharedSite
 use Rattle.loop_team.proofs.Crossings.{job_send}
 use Rattle.site_directory.proofs.Crossings.{line_send}
@@ -15,8 +15,8 @@ use Rattle.hart_tools.proofs.tools.Tools.TheSendSync as ToolsCrosses
 use Rattle.hart_loop.specs.contracts.harts.HartSchedulers as HartSchedulers
 use Rattle.hart_loop.specs.contracts.hart.Hart as Hart
 
-base_send : IsSend Base.the_row
-base_send = BaseCrosses.the_send
+base_sync : IsSync SharedBase.the_row
+base_sync = BaseCrosses.the_sync
 
 piece_send : (p : NamedLft) → IsSend (Piece.the_row p)
 piece_send p = let job = job_send p in search (crosses, sendable) depth 60 fits 20000
@@ -27,6 +27,6 @@ schedulers_send a p s = let line = line_send a s in let tools = ToolsCrosses.the
 -- each type of a hart names lifetimes of its own
 pub hart_send : (a p s : NamedLft) (P : RattleType) → IsSend P → IsSend (Hart.the_row a p P (SharedSite.the_row s))
 hart_send a p s P port =
-    let schedulers = schedulers_send a p s in let base = base_send in let job = job_send p in let piece = piece_send p in
+    let schedulers = schedulers_send a p s in let base = base_sync in let job = job_send p in let piece = piece_send p in
     declared_send (Hart.the_type a p P (SharedSite.the_row s))
     (search sendable depth 20, (search sendable depth 20, (search (crosses, sendable) depth 20, (search sendable depth 20, (search sendable depth 20, tt)))))

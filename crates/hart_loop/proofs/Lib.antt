@@ -2,5 +2,4 @@ pub mod Crossings
 pub mod Crews
 mod Boards
 mod Seats
-mod NoAccounts
 mod SameHarts

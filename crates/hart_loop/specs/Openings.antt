@@ -1,5 +1,5 @@
 -- The sites that a hart opens for all harts.
-use Rattle.std.specs.Prelude.{◌≡◌, map}
+use Rattle.std.specs.Prelude.{◌≡◌, map, option_map, IfSome, Option, Some, None}
 use Rattle.array_tree.specs.Trees.{statement_of}
 use Rattle.array_jobs.specs.Jobs.{job_of}
 use Rattle.step_eval.specs.Nests.{NestedParts, nested_of, phases_of, jobs_in, IsFitNest}
@@ -7,8 +7,9 @@ use Rattle.forkjoin_sched.specs.Shared.{SharedParts}
 use Rattle.site_directory.specs.declared.shared_site.SharedSite.{SharedSite}
 use Rattle.pipe_sched.specs.Pipes.{IsUncrossed}
 use Rattle.site_directory.specs.declared.shared_site.SharedSite.TheVariants.{Pool, Team, Pipe, Alone}
-use Rattle.hart_loop.specs.declared.opened.Shelf.{Shelf}
-use Rattle.hart_loop.specs.declared.opened.Shelf.TheVariants.{Published, Kept}
+use Rattle.hart_loop.specs.declared.hart_site.Keeper.{Keeper}
+use Rattle.hart_loop.specs.declared.hart_site.Keeper.TheVariants.{Base, Published, Kept}
+use Rattle.hart_loop.specs.declared.hart_site.HartSite.{HartSite}
 
 -- a shared pool has the jobs of the `par`
 pub record IsSharedPoolOf (nested : NestedParts) (shared : SharedParts) : Type 0 where
@@ -23,7 +24,17 @@ IsMadeOf nested (Team shared) = shared ≡ nested
 IsMadeOf nested (Pipe shared) = (shared ≡ nested) × IsUncrossed (nested_of nested)
 IsMadeOf nested Alone = Unit {0}
 
--- what stands on a shelf
-abbrev pub on_shelf : {S : Type 0} → Shelf S → S
-on_shelf (Published shared) = shared.now
-on_shelf (Kept shared) = shared.value
+-- what a keeper has of a site that isn't the base
+abbrev pub kept_in : {S : Type 0} → Keeper S → Option S
+kept_in (Base base) = None
+kept_in (Published shared) = Some shared.now
+kept_in (Kept shared) = Some shared.value
+
+-- it was made for the construct; the base was made for none
+abbrev pub IsMadeFor : Option SharedSite → NestedParts → Type 0
+IsMadeFor None nested = ⊥
+IsMadeFor (Some shared) nested = IsMadeOf nested shared
+
+-- the scheduler of a site that the hart opened was made for its construct
+abbrev pub IsOpened : {S : Type 0} → (S → SharedSite) → HartSite S → Type 0
+IsOpened held site = IfSome site.opened (IsMadeFor (option_map held (kept_in site.keeper)))

@@ -12,7 +12,7 @@ use crate::hart::{Hart, work};
 use crate::harts::HartSchedulers;
 use crate::members::Members;
 use array_jobs::{Job, Piece, body_job};
-use base_sched::Base;
+use base_sched::{Base, SharedBase};
 use deque_rows::laws::settle;
 use deque_rows::{HartRows, ROOM, rows_for};
 use disjoint_check::Accepted;
@@ -23,7 +23,7 @@ use once_cell::race::OnceBox;
 use site_directory::{SharedSite, cells, lines};
 use site_steps::{PatientPort, SiteTree};
 use std::alloc::{AllocError, Global};
-use std::sync::{Mutex, Wait};
+use std::sync::Wait;
 use std::thread;
 use std::thread::Threads;
 
@@ -141,7 +141,7 @@ fn run_lent<
         (λ back. AreTools words.now.table back.1.rows.items back.1.claims.items) }
 {
     let sites = tree.plan().sites();
-    let base = Mutex::new(Base::new(alloc, sites)?);
+    let base = SharedBase::new(Base::new(alloc, sites)?);
     let cells = cells(alloc, sites)?;
     let job = body_job(alloc, accepted.program())?;
     run_on(
@@ -165,7 +165,7 @@ fn run_on<
     tree: &SiteTree,
     words: &'x Claims,
     stock: Stock<P>,
-    base: &'x Mutex<Base>,
+    base: &'x SharedBase,
     cells: &'x [OnceBox<SharedSite<'p>>],
     job: Job<'p>,
 ) -> Result<(Option<Piece<'p>>, Stock<P>), AllocError>
@@ -218,7 +218,7 @@ fn crew<'x, 'p: 'x, P: Drop>(
     members: Members,
     words: &'x Claims,
     stock: Stock<P>,
-    base: &'x Mutex<Base>,
+    base: &'x SharedBase,
     cells: &'x [OnceBox<SharedSite<'p>>],
 ) -> Result<Vec<Hart<'x, 'p, P, SharedSite<'p>>>, AllocError>
     requires rows { vec_len stock.rows ≡ vec_len stock.ports }

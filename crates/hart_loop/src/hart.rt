@@ -6,12 +6,12 @@ use crate::hart_site::HartSite;
 use crate::harts::HartSchedulers;
 use crate::in_directory::InDirectory;
 use array_jobs::{Job, Piece};
-use base_sched::{Base, BaseHand};
+use base_sched::SharedBase;
 use hart_tools::Tools;
 use hart_work::{run_piece, serve};
 use site_steps::{PatientPort, SiteTree, finish_base, sweep_if};
 use std::alloc::{AllocError, Global};
-use std::sync::{Mutex, Wait};
+use std::sync::Wait;
 
 /// What one hart has to itself. One of them has the program's body as its job, and its piece in the end, unless memory was
 /// wanting.
@@ -19,7 +19,7 @@ use std::sync::{Mutex, Wait};
 pub struct Hart<'a, 'p, P, S> {
     pub port: P,
     pub schedulers: HartSchedulers<'a, 'p, S>,
-    pub base: &'a Mutex<Base>,
+    pub base: &'a SharedBase,
     pub job: Option<Job<'p>>,
     pub piece: Option<Piece<'p>>,
 }
@@ -109,7 +109,7 @@ fn run_body<'a, 'p, P: PatientPort, R: Wait, S: InDirectory<'p>, F: Fn(u8, u16, 
         job,
     );
     sweep_if(tree, &mut hart.port, hold, piece.is_err());
-    BaseHand::new(hart.base).shut(rt);
+    hart.base.shut(rt);
     finish_base(tree, &mut hart.port, hold);
     piece
 }

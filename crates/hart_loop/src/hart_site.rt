@@ -1,28 +1,37 @@
 //! One site, as one of several harts has it.
-ghost use Rattle.std.specs.Prelude.{◌≡◌};
+ghost use Rattle.std.specs.Prelude.{◌≡◌, IfOk, IsSome, IfSome, Some, option_map};
+ghost use Rattle.step_eval.specs.Nests.{NestedParts, nested_of, nested_writes};
 ghost use Rattle.hart_tools.specs.Places.{Fits};
-ghost use Rattle.hart_loop.specs.Offers.{IsOpened};
+ghost use Rattle.hart_tools.specs.Hands.{IsWhole};
+ghost use Rattle.hart_loop.specs.Openings.{IsOpened, kept_in};
 
 use crate::in_directory::InDirectory;
-use crate::opened::OpenSite;
-use base_sched::Base;
-use hart_tools::{Grip, Tools};
-use std::sync::Mutex;
+use crate::members::Members;
+use crate::opened::{publish, shared_site, written_by};
+use array_eval::Overlay;
+use base_sched::SharedBase;
+use hart_tools::{Grip, Tools, Whole};
+use site_directory::{SharedSite, SiteLine};
+use std::alloc::{AllocError, Global};
+use std::sync::Wait;
+use step_eval::Nested;
 
-/// The scheduler of one site, as one of several harts has it.
+/// Where a hart has the scheduler of a site.
 #[derive(Drop)]
-pub enum Keeper<'a, 'p, S> {
-    /// That of the base.
-    Base(&'a Mutex<Base>),
-    /// That of a site that another hart opened.
-    Guest(&'a S),
-    /// That of a site that this hart opened.
-    Home(OpenSite<'a, 'p, S>),
+pub enum Keeper<'a, S> {
+    /// It is the base.
+    Base(&'a SharedBase),
+    /// In the directory, for all harts.
+    Published(&'a S),
+    /// By itself, since the directory didn't take it, or the hart's row has too little room.
+    Kept(Box<S>),
 }
 
 /// One site, as a hart has it.
 pub struct HartSite<'a, 'p, S> {
-    pub(crate) keeper: Keeper<'a, 'p, S>,
+    pub(crate) keeper: Keeper<'a, S>,
+    // The construct, where this hart opened the site.
+    pub(crate) opened: Option<Nested<'p>>,
     // How deep in other sites it is.
     pub(crate) level: u8,
     // How many tasks the hart may still be given here. No run comes near its end.
@@ -33,6 +42,7 @@ impl<'a, 'p, S: Drop> Drop for HartSite<'a, 'p, S> {
     fn drop(self) {
         let HartSite {
             keeper: _,
+            opened: _,
             level: _,
             turns: _,
         } = self;
@@ -40,44 +50,133 @@ impl<'a, 'p, S: Drop> Drop for HartSite<'a, 'p, S> {
 }
 
 impl<'a, 'p, S: InDirectory<'p>> HartSite<'a, 'p, S> {
-    /// A site of which the hart was given no task yet.
-    pub(crate) fn new(keeper: Keeper<'a, 'p, S>, level: u8) -> HartSite<'a, 'p, S>
-        ensures { result.keeper ≡ keeper.entry }
+    // A site of which the hart was given no task yet.
+    fn new(keeper: Keeper<'a, S>, opened: Option<Nested<'p>>, level: u8) -> HartSite<'a, 'p, S>
+        ensures keeper { result.keeper ≡ keeper.entry }
+        ensures opened { result.opened ≡ opened.entry }
     {
         HartSite {
             keeper,
+            opened,
             level,
             turns: u64::MAX,
         }
     }
 
-    // What the hart has of the site's scheduler.
-    pub(crate) fn into_keeper(self) -> Keeper<'a, 'p, S>
-        ensures { result ≡ self.entry.keeper }
+    /// The base.
+    pub fn base(base: &'a SharedBase) -> HartSite<'a, 'p, S>
+        ensures { IsOpened S.held result }
     {
-        let HartSite {
-            keeper,
-            level: _,
-            turns: _,
-        } = self;
-        keeper
+        HartSite::new(Keeper::Base(base), None, 0)
     }
 
-    /// The base.
-    pub fn base(lock: &'a Mutex<Base>) -> HartSite<'a, 'p, S>
-        ensures { IsOpened S.held result.keeper }
+    /// A site that another hart opened.
+    pub(crate) fn found(shared: &'a S, level: u8) -> HartSite<'a, 'p, S>
+        ensures { IsOpened S.held result }
     {
-        HartSite::new(Keeper::Base(lock), 0)
+        HartSite::new(Keeper::Published(shared), None, level)
+    }
+
+    /// Makes a scheduler for the construct, and publishes it for all harts, unless its pieces have no room.
+    pub(crate) fn open(
+        alloc: Global,
+        lines: &mut [SiteLine<'a, S>],
+        tools: &Tools<'_>,
+        members: Members,
+        nested: &Nested<'p>,
+    ) -> Result<HartSite<'a, 'p, S>, AllocError>
+        ensures opened { IfOk result (λ site. site.opened ≡ Some nested.now) }
+        ensures made { IfOk result (λ site. IsOpened S.held site) }
+    {
+        let level = tools.level(nested.site);
+        let own = nested.copy()?;
+        let shared = shared_site(alloc, tools.hart(), members, nested)?;
+        let shared = Box::new(alloc, S::put(shared))?;
+        let keeper = if tools.has_room(level, nested) {
+            publish(lines, nested.site, shared)
+        } else {
+            Keeper::Kept(shared)
+        };
+        Ok(HartSite::new(keeper, Some(own), level))
+    }
+
+    // The scheduler of a site that isn't the base.
+    fn shared(&self) -> Option<&SharedSite<'p>>
+        ensures { option_map (λ shared. shared.now) result
+            ≡ option_map S.held (kept_in self.now.keeper) }
+    {
+        match &self.keeper {
+            Keeper::Base(_) => None,
+            Keeper::Published(shared) => Some(shared.shared()),
+            Keeper::Kept(shared) => Some(shared.shared()),
+        }
     }
 
     /// What to make a hand on.
-    pub(crate) fn grip<'t>(&self, tools: &Tools<'t>) -> Grip<'t, '_, 'p>
+    pub(crate) fn grip<'x, 't>(&'x self, tools: &Tools<'t>) -> Grip<'x, 'p>
+    where
+        't: 'x,
         ensures { Fits tools.now result }
     {
         match &self.keeper {
-            Keeper::Base(lock) => Grip::Base(lock),
-            Keeper::Guest(shared) => tools.grip(shared.shared(), self.level),
-            Keeper::Home(site) => tools.grip(site.shared(), self.level),
+            Keeper::Base(base) => Grip::Base(base),
+            Keeper::Published(shared) => tools.grip(shared.shared(), self.level),
+            Keeper::Kept(shared) => tools.grip(shared.shared(), self.level),
+        }
+    }
+
+    /// How many harts more than its home the site has work for: none where no other hart finds it, or has a hand on it.
+    pub(crate) fn wishes(&self, tools: &Tools<'_>) -> u8 {
+        match (&self.keeper, &self.opened, self.grip(tools)) {
+            (_, _, Grip::Nobody) => 0,
+            (Keeper::Published(_), Some(nested), _) => nested.members() - 1,
+            _ => 0,
+        }
+    }
+
+    /// What the construct writes of a site that this hart opened: what all pieces wrote, where the scheduler is handed out and
+    /// has the jobs that it was made with, and else what this hart computes by itself. Where a piece found no memory, so does
+    /// the hart.
+    pub(crate) fn take<R: Wait>(
+        &self,
+        rt: &R,
+        alloc: Global,
+        tools: &mut Tools<'_>,
+    ) -> Result<Overlay, AllocError>
+        requires opened { IsSome self.now.opened }
+        requires made { IsOpened S.held self.now }
+        ensures written { (nested : NestedParts) → self.now.opened ≡ Some nested → IfOk result
+            (λ written. written.pairs ≡ nested_writes (nested_of nested)) }
+        ensures tools { tools.new ≡ tools.old }
+    {
+        let whole = self.take_out(rt, tools)?;
+        match (&self.opened, self.shared()) {
+            (Some(nested), Some(shared)) => written_by(alloc, nested, shared, whole),
+            (Some(_), None) => unreachable!(),
+            (None, _) => unreachable!(),
+        }
+    }
+
+    // The scheduler, where it is handed out. Where a piece of the site found no memory, so does the hart; where it has no hand, there
+    // was no piece.
+    fn take_out<R: Wait>(
+        &self,
+        rt: &R,
+        tools: &mut Tools<'_>,
+    ) -> Result<Option<Whole<'p>>, AllocError>
+        ensures whole { IfOk result (λ whole. IfSome whole IsWhole) }
+        ensures tools { tools.new ≡ tools.old }
+    {
+        let grip = self.grip(tools);
+        let whole = tools.take_out(rt, grip);
+        let has_failed = match &whole {
+            Some(whole) => whole.has_failed(),
+            None => !matches!(grip, Grip::Nobody) && tools.has_failed(rt, grip),
+        };
+        if has_failed {
+            Err(AllocError)
+        } else {
+            Ok(whole)
         }
     }
 }

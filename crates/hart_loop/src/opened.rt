@@ -1,111 +1,31 @@
-//! Sites that a hart opens for all harts.
-ghost use Rattle.std.specs.Prelude.{◌≡◌, IfOk, Some};
+//! The schedulers of sites that a hart opens for all harts.
+ghost use Rattle.std.specs.Prelude.{◌≡◌, IfOk, IfSome, Some};
 ghost use Rattle.array_tree.specs.Trees.{statement_of};
+ghost use Rattle.join_book.specs.Books.{IsFull};
+ghost use Rattle.loop_team.specs.Teams.{IsOver};
+ghost use Rattle.pipe_sched.specs.Slots.{IsFull as IsDone};
 ghost use Rattle.step_eval.specs.declared.shape.Kind.TheVariants as kind;
 ghost use Rattle.step_eval.specs.Shapes.{kind_of};
-ghost use Rattle.step_eval.specs.Nests.{nested_of, nested_writes, phases_of};
+ghost use Rattle.step_eval.specs.Nests.{nested_of, nested_writes};
 ghost use Rattle.pipe_sched.specs.Pipes.{IsUncrossed};
-ghost use Rattle.hart_loop.specs.Openings.{IsMadeOf, on_shelf, IsSharedPoolOf};
+ghost use Rattle.hart_tools.specs.Hands.{IsWhole};
+ghost use Rattle.hart_loop.specs.Openings.{IsMadeOf, IsSharedPoolOf, kept_in};
 
-use crate::in_directory::InDirectory;
+use crate::hart_site::Keeper;
 use crate::members::Members;
 use array_eval::Overlay;
-use forkjoin_sched::SharedPool;
-use hart_tools::{Grip, Tools};
+use forkjoin_sched::{Pool, SharedPool};
+use hart_tools::Whole;
 use lone_hart::{open_pool, take_from_pool};
 use loop_team::{SharedTeam, Team};
 use pipe_sched::{Pipe, SharedPipe};
 use pipe_walk::uncrossed;
 use site_directory::{SharedSite, SiteLine};
 use std::alloc::{AllocError, Global};
-use std::sync::Wait;
 use step_eval::{Kind, Nested, compute};
 
-/// Where a hart has the scheduler that it made.
-#[derive(Drop)]
-pub enum Shelf<'a, S> {
-    /// In the directory, for all harts.
-    Published(&'a S),
-    /// By itself, since the directory didn't take it, or the hart's row has too little room.
-    Kept(Box<S>),
-}
-
-/// A site that a hart opened: the construct, and the scheduler that the hart made for it.
-#[derive(Drop)]
-pub struct OpenSite<'a, 'p, S> {
-    pub nested: Nested<'p>,
-    pub shelf: Shelf<'a, S>,
-}
-
-impl<'a, 'p, S: InDirectory<'p>> OpenSite<'a, 'p, S> {
-    /// Makes a scheduler for the construct, and publishes it with this home, unless its pieces have no room.
-    pub fn new(
-        alloc: Global,
-        lines: &mut [SiteLine<'a, S>],
-        home: u8,
-        has_room: bool,
-        members: Members,
-        nested: &Nested<'p>,
-    ) -> Result<OpenSite<'a, 'p, S>, AllocError>
-        ensures nested { IfOk result (λ site. site.nested ≡ nested.now) }
-        ensures made { IfOk result (λ site. IsMadeOf site.nested (S.held (on_shelf site.shelf))) }
-    {
-        let own = nested.copy()?;
-        let shared = Box::new(alloc, S::put(shared_site(alloc, home, members, nested)?))?;
-        let shelf = if has_room {
-            publish(lines, nested.site, shared)
-        } else {
-            Shelf::Kept(shared)
-        };
-        Ok(OpenSite { nested: own, shelf })
-    }
-
-    /// The scheduler.
-    pub fn shared(&self) -> &SharedSite<'p>
-        ensures { result.now ≡ S.held (on_shelf self.now.shelf) }
-    {
-        match &self.shelf {
-            Shelf::Published(shared) => shared.shared(),
-            Shelf::Kept(shared) => shared.shared(),
-        }
-    }
-
-    /// How many harts more than its home the site has work for: none where no other hart finds it.
-    pub fn wishes(&self) -> u8 {
-        match &self.shelf {
-            Shelf::Published(_) => self.nested.members() - 1,
-            Shelf::Kept(_) => 0,
-        }
-    }
-
-    /// What the construct writes: what all pieces wrote, where the scheduler is handed out and has the jobs that it was made
-    /// with, and else what this hart computes by itself. Where a piece found no memory, the answer is want of memory,
-    /// whatever is taken out.
-    pub fn take<R: Wait>(
-        self,
-        rt: &R,
-        alloc: Global,
-        tools: &mut Tools<'_>,
-        level: u8,
-    ) -> Result<Overlay, AllocError>
-        requires { IsMadeOf self.nested (S.held (on_shelf self.shelf)) }
-        ensures written { IfOk result
-            (λ written. written.pairs ≡ nested_writes (nested_of self.entry.nested)) }
-        ensures tools { tools.new ≡ tools.old }
-    {
-        match self.shared() {
-            SharedSite::Pool { home, pool } => {
-                take_pool(rt, alloc, tools, &self.nested, pool, *home, level)
-            }
-            SharedSite::Team(team) => take_team(rt, alloc, tools, &self.nested, team),
-            SharedSite::Pipe(pipe) => take_pipe(rt, alloc, tools, &self.nested, pipe),
-            SharedSite::Alone => compute(alloc, &self.nested),
-        }
-    }
-}
-
-// The scheduler of a construct.
-fn shared_site<'p>(
+/// The scheduler of a construct, with this hart as its home.
+pub(crate) fn shared_site<'p>(
     alloc: Global,
     home: u8,
     members: Members,
@@ -143,98 +63,92 @@ fn shared_pipe<'p>(alloc: Global, nested: &Nested<'p>) -> Result<SharedSite<'p>,
     Ok(SharedSite::Pipe(shared))
 }
 
-// Puts a scheduler into the cell of its site.
-fn publish<'a, S: Drop>(lines: &mut [SiteLine<'a, S>], site: u16, shared: Box<S>) -> Shelf<'a, S>
-    ensures { on_shelf result ≡ shared.value }
+/// Puts a scheduler into the cell of its site.
+pub(crate) fn publish<'a, S: Drop>(
+    lines: &mut [SiteLine<'a, S>],
+    site: u16,
+    shared: Box<S>,
+) -> Keeper<'a, S>
+    ensures { kept_in result ≡ Some shared.value }
 {
     let Some(line) = lines.get_mut(usize::from(site)) else {
-        return Shelf::Kept(shared);
+        return Keeper::Kept(shared);
     };
     match line.publish(shared) {
-        Ok(published) => Shelf::Published(published),
-        Err(back) => Shelf::Kept(back),
+        Ok(published) => Keeper::Published(published),
+        Err(back) => Keeper::Kept(back),
     }
 }
 
-// What a `par` writes whose pool is full. Where a piece has failed, so has the construct, whatever is taken out.
-fn take_pool<'b, 'p, R: Wait + 'b>(
-    rt: &'b R,
+/// What a construct writes whose scheduler is this, and was handed out: what all pieces wrote, where it has the jobs that it was
+/// made with, and else, or where it wasn't handed out, what this hart computes by itself.
+pub(crate) fn written_by<'p>(
     alloc: Global,
-    tools: &mut Tools<'_>,
     nested: &Nested<'p>,
-    shared: &'b SharedPool<'p>,
-    home: u8,
-    level: u8,
+    shared: &SharedSite<'p>,
+    whole: Option<Whole<'p>>,
 ) -> Result<Overlay, AllocError>
-    requires { IsSharedPoolOf nested.now shared.now }
-    ensures written { IfOk result
-        (λ written. written.pairs ≡ nested_writes (nested_of nested.now)) }
-    ensures tools { tools.new ≡ tools.old }
+    requires made { IsMadeOf nested.now shared.now }
+    requires whole { IfSome whole IsWhole }
+    ensures { IfOk result (λ written. written.pairs ≡ nested_writes (nested_of nested.now)) }
 {
-    if let Some(place) = tools.pool_place(shared, home, level) {
-        let has_failed = tools.has_failed(rt, Grip::Pool(place));
-        let taken = tools.take_pool(rt, place);
-        if has_failed {
-            return Err(AllocError);
+    match (shared, whole) {
+        (SharedSite::Pool { pool, .. }, Some(Whole::Pool(taken))) => {
+            written_by_pool(alloc, nested, pool, taken)
         }
-        if let Some(pool) = taken {
-            if pool.jobs() == shared.jobs() {
-                return take_from_pool(nested, pool);
-            }
-        }
+        (_, Some(Whole::Team(team))) => written_by_team(alloc, nested, team),
+        (SharedSite::Pipe(_), Some(Whole::Pipe(pipe))) => written_by_pipe(alloc, nested, pipe),
+        _ => compute(alloc, nested),
     }
-    compute(alloc, nested)
 }
 
-// What a `team` writes that is over. Where a piece has failed, so has the construct, whatever is taken out.
-fn take_team<'b, 'p, R: Wait + 'b>(
-    rt: &'b R,
+// What a `par` writes whose pool was handed out.
+fn written_by_pool<'p>(
     alloc: Global,
-    tools: &mut Tools<'_>,
     nested: &Nested<'p>,
-    shared: &'b SharedTeam<'p>,
+    shared: &SharedPool<'p>,
+    pool: Pool<'p>,
 ) -> Result<Overlay, AllocError>
-    ensures written { IfOk result
-        (λ written. written.pairs ≡ nested_writes (nested_of nested.now)) }
-    ensures tools { tools.new ≡ tools.old }
+    requires of { IsSharedPoolOf nested.now shared.now }
+    requires full { IsFull pool.book }
+    ensures { IfOk result (λ written. written.pairs ≡ nested_writes (nested_of nested.now)) }
 {
-    if let Some(place) = tools.team_place(shared) {
-        let has_failed = tools.has_failed(rt, Grip::Team(place));
-        let taken = tools.take_team(rt, place);
-        if has_failed {
-            return Err(AllocError);
-        }
-        if let Some(team) = taken {
-            if *team.nested() == *nested {
-                return team.take_all();
-            }
-        }
+    if pool.jobs() == shared.jobs() {
+        take_from_pool(nested, pool)
+    } else {
+        compute(alloc, nested)
     }
-    compute(alloc, nested)
 }
 
-// What a `team` writes whose pipe is full. Where a piece has failed, so has the construct, whatever is taken out.
-fn take_pipe<'b, 'p, R: Wait + 'b>(
-    rt: &'b R,
+// What a `team` writes that was handed out.
+fn written_by_team<'p>(
     alloc: Global,
-    tools: &mut Tools<'_>,
     nested: &Nested<'p>,
-    shared: &'b SharedPipe<'p>,
+    team: Team<'p>,
 ) -> Result<Overlay, AllocError>
-    requires { IsUncrossed (nested_of nested.now) }
-    ensures written { IfOk result
-        (λ written. written.pairs ≡ nested_writes (nested_of nested.now)) }
-    ensures tools { tools.new ≡ tools.old }
+    requires { IsOver team }
+    ensures { IfOk result (λ written. written.pairs ≡ nested_writes (nested_of nested.now)) }
 {
-    let has_failed = tools.has_failed(rt, Grip::Pipe(shared));
-    let taken = tools.take_pipe(rt, shared);
-    if has_failed {
-        return Err(AllocError);
+    if *team.nested() == *nested {
+        team.take_all()
+    } else {
+        compute(alloc, nested)
     }
-    if let Some(pipe) = taken {
-        if *pipe.nested() == *nested {
-            return pipe.take_all();
-        }
+}
+
+// What a `team` writes whose pipe was handed out.
+fn written_by_pipe<'p>(
+    alloc: Global,
+    nested: &Nested<'p>,
+    pipe: Pipe<'p>,
+) -> Result<Overlay, AllocError>
+    requires clear { IsUncrossed (nested_of nested.now) }
+    requires done { IsDone pipe.state }
+    ensures { IfOk result (λ written. written.pairs ≡ nested_writes (nested_of nested.now)) }
+{
+    if *pipe.nested() == *nested {
+        pipe.take_all()
+    } else {
+        compute(alloc, nested)
     }
-    compute(alloc, nested)
 }

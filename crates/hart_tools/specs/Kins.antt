@@ -1,7 +1,13 @@
 -- What no call changes of a hart's tools.
-use Rattle.deque_rows.specs.Rows.{Kin}
-use Rattle.claim_words.specs.Seats.{SeatKin}
+use Rattle.deque_rows.specs.declared.hart.HartRows.{HartRows}
+use Rattle.deque_rows.specs.Rows as rows
+use Rattle.claim_words.specs.declared.seat.ClaimSeat.{ClaimSeat}
+use Rattle.claim_words.specs.Seats as seats
 
 pub record ToolKins : Type 0 where
-  pub rows : Kin
-  pub seat : SeatKin
+  pub rows : rows.Kin
+  pub seat : seats.SeatKin
+
+-- of rows and a seat
+abbrev pub kins_of : HartRows → ClaimSeat → ToolKins
+kins_of own seat = record { rows = rows.kin own; seat = seats.kin seat }

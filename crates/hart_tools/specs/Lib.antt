@@ -1,5 +1,7 @@
 pub mod ClaimRows
 pub mod Kins
 pub mod Places
-pub mod Trials
+pub mod Hands
+pub mod Told
 pub mod Stocks
+pub mod Facts

@@ -1,37 +1,36 @@
 //! What a hart has for all sites: its rows, its right to claim, and where each site's rows are.
-ghost use Rattle.std.specs.Prelude.{◌≡◌, ◌≢◌, ◌<◌, ◌↔◌, false, Some, IsTrue, IfSome, IfOk, map, reverse, vec_len};
+ghost use Rattle.std.specs.Prelude.{◌≡◌, ◌≢◌, ◌<◌, ◌≤◌, ◌+◌, ◌↔◌, ◌⊎◌, false, None, IsTrue, IfOk, IfSome, length, map, reverse, vec_len};
 ghost use Rattle.std.specs.Option.{ForSome};
-ghost use Rattle.transfer_table.specs.Plan.{IsSite, parent as parent_of};
-ghost use Rattle.hart_port.specs.PortView.{IsPortView, is_in, Registers, MayRequest, requested_by, yielded, MayUnregister, unregistered};
-ghost use Rattle.join_book.specs.Books.{IsFull};
-ghost use Rattle.loop_team.specs.Teams.{IsOver};
-ghost use Rattle.pipe_sched.specs.Slots.{IsFull as IsDone};
-ghost use Rattle.deque_rows.specs.Rows.{IsLevel, kin as rows_kin};
+ghost use Rattle.deque_rows.specs.Rows.{IsLevel, home_log, row_room, kin as rows_kin};
 ghost use Rattle.claim_words.specs.Seats.{IsOf, kin as seat_kin};
-ghost use Rattle.hart_tools.specs.Places.{Fits, PoolFits, TeamFits, entrance_of};
-ghost use Rattle.hart_tools.specs.declared.trial.Trial.TheVariants.{Elsewhere};
-ghost use Rattle.hart_tools.specs.Trials.{HasTried, RoseUnlessTried};
+ghost use Rattle.hart_tools.specs.Places.{Fits, PoolFits, TeamFits, site_at};
+ghost use Rattle.hart_tools.specs.Hands.{HasTried, IsWhole};
 ghost use Rattle.hart_tools.specs.Stocks.{AreTools};
+ghost use Rattle.hart_tools.specs.Told.{inside};
+ghost use Rattle.hart_port.specs.Count.{Rose};
+ghost use Rattle.hart_port.specs.PortView.{IsPortView, is_in, Registers, MayRequest, requested_by, yielded, MayUnregister, unregistered};
+ghost use Rattle.sched_api.specs.Calls.{RoseUnlessLent};
+ghost use Rattle.transfer_table.specs.Plan.{IsSite, parent as parent_of};
 
 use crate::claims::Claims;
-use crate::pipe_place::{next_of_pipe, try_pipe};
-use crate::pool_place::{PoolPlace, has_room};
-use crate::team_place::TeamPlace;
-use crate::trial::Trial;
+use crate::grip::{Grip, PoolPlace, TeamPlace};
+use crate::hand::Hand;
+use crate::whole::Whole;
 use array_jobs::{Job, Piece};
-use base_sched::{Base, BaseHand};
+use crossbeam_utils::Backoff;
 use deque_rows::HartRows;
-use forkjoin_sched::{Pool, SharedPool};
+use forkjoin_sched::SharedPool;
 use hart_port::{Port, Taken};
-use loop_team::{ClaimSeat, SharedTeam, Team};
-use pipe_sched::{Pipe, PipeHand, SharedPipe};
+use loop_team::{ClaimSeat, SharedTeam};
+use pipe_sched::PipeHand;
 use sched_api::{
-    Next, sched_reenter, sched_register, sched_request, sched_unregister, sched_yield,
+    Lent, Next, sched_enter, sched_reenter, sched_register, sched_request, sched_unregister,
+    sched_yield,
 };
 use site_directory::SharedSite;
 use std::alloc::{AllocError, Global};
 use std::marker::Model;
-use std::sync::{Mutex, Wait};
+use std::sync::Wait;
 use step_eval::{Kind, Nested};
 
 /// What a hart has for all sites: its sight of the rows of codes, its seat of the claim words, and where each site's rows are.
@@ -49,30 +48,14 @@ impl<'t> Model for Tools<'t> {
     ghost use Rattle.std.specs.Prelude.{◌≡◌};
     ghost use Rattle.claim_words.specs.Seats.{IsOf, kin as seat_kin};
     ghost use Rattle.deque_rows.specs.Rows.{kin as rows_kin};
-    ghost use Rattle.hart_tools.specs.Kins.{ToolKins};
+    ghost use Rattle.hart_tools.specs.Kins.{ToolKins, kins_of};
 
     ghost Value = { ToolKins };
 
-    ghost view = { λ t. record { rows = rows_kin t.rows; seat = seat_kin t.seat } };
+    ghost view = { λ t. kins_of t.rows t.seat };
 
     ghost invariant = { λ t. IsOf t.claims.now.table (seat_kin t.seat)
         × ((rows_kin t.rows).harts ≡ t.harts) };
-}
-
-/// What a hart makes its hand on.
-#[derive(Clone, Copy)]
-pub enum Grip<'t, 'b, 'p> {
-    /// The base, behind its lock.
-    Base(&'b Mutex<Base>),
-    /// A pool, with its row.
-    Pool(PoolPlace<'b, 'p>),
-    /// A team, with its claim rows.
-    Team(TeamPlace<'t, 'b, 'p>),
-    /// A pipe, behind its lock.
-    Pipe(&'b SharedPipe<'p>),
-    /// No scheduler, or one for which the hart has no rows; no run comes to such a one. The hart tells it nothing, and is told
-    /// nothing.
-    Nobody,
 }
 
 impl<'t> Tools<'t> {
@@ -124,7 +107,7 @@ impl<'t> Tools<'t> {
     }
 
     /// A pool with its row, where there is that row.
-    pub fn pool_place<'b, 'p>(
+    fn pool_place<'b, 'p>(
         &self,
         pool: &'b SharedPool<'p>,
         home: u8,
@@ -141,7 +124,9 @@ impl<'t> Tools<'t> {
     }
 
     /// A team with its claim rows, where there are just those that it needs.
-    pub fn team_place<'b, 'p>(&self, team: &'b SharedTeam<'p>) -> Option<TeamPlace<'t, 'b, 'p>>
+    fn team_place<'b, 'p>(&self, team: &'b SharedTeam<'p>) -> Option<TeamPlace<'b, 'p>>
+    where
+        't: 'b,
         ensures fits { ForSome result (λ place. TeamFits self.now.seat place) }
         ensures team { ForSome result (λ place. place.team.now ≡ team.now) }
     {
@@ -155,7 +140,9 @@ impl<'t> Tools<'t> {
     }
 
     /// What to make a hand on of a scheduler that harts share, at a site of this level.
-    pub fn grip<'b, 'p>(&self, shared: &'b SharedSite<'p>, level: u8) -> Grip<'t, 'b, 'p>
+    pub fn grip<'b, 'p>(&self, shared: &'b SharedSite<'p>, level: u8) -> Grip<'b, 'p>
+    where
+        't: 'b,
         ensures { Fits self.now result }
     {
         match shared {
@@ -172,49 +159,11 @@ impl<'t> Tools<'t> {
         }
     }
 
-    /// The pool, once, where it is full.
-    pub fn take_pool<'b, 'p, R: Wait + 'b>(
-        &mut self,
-        rt: &'b R,
-        place: PoolPlace<'b, 'p>,
-    ) -> Option<Pool<'p>>
-        requires { PoolFits self.old.rows place }
-        ensures full { IfSome result (λ pool. IsFull pool.book) }
-        ensures tools { self.new ≡ self.old }
-    {
-        place.hand::<R>(&mut self.rows).take_out(rt)
-    }
-
-    /// The team, once, where it is over.
-    pub fn take_team<'b, 'p, R: Wait + 'b>(
-        &mut self,
-        rt: &'b R,
-        place: TeamPlace<'t, 'b, 'p>,
-    ) -> Option<Team<'p>>
-        requires { TeamFits self.old.seat place }
-        ensures over { IfSome result (λ team. IsOver team) }
-        ensures tools { self.new ≡ self.old }
-    {
-        place.hand::<R>(&mut self.seat).take_out(rt)
-    }
-
-    /// The pipe, once, where it is full.
-    pub fn take_pipe<'b, 'p, R: Wait + 'b>(
-        &mut self,
-        rt: &'b R,
-        pipe: &'b SharedPipe<'p>,
-    ) -> Option<Pipe<'p>>
-        ensures full { IfSome result (λ pipe. IsDone pipe.state) }
-        ensures tools { self.new ≡ self.old }
-    {
-        PipeHand::<R>::new(pipe).take_out(rt)
-    }
-
     /// Registers the child, and tells the scheduler.
     pub fn register<'b, P: Port, R: Wait + 'b>(
         &mut self,
         rt: &'b R,
-        grip: Grip<'t, 'b, '_>,
+        grip: Grip<'b, '_>,
         port: &mut P,
         hold: P::Hold,
         child: u16,
@@ -226,32 +175,16 @@ impl<'t> Tools<'t> {
         ensures kept { IsPortView (P.seen port.new) }
         ensures tools { self.new ≡ self.old }
     {
-        match grip {
-            Grip::Base(lock) => {
-                sched_register(port, hold, &mut BaseHand::new(lock), rt, child)?;
-                Ok(())
-            }
-            Grip::Pool(place) => {
-                sched_register(port, hold, &mut place.hand(&mut self.rows), rt, child)?;
-                Ok(())
-            }
-            Grip::Team(place) => {
-                sched_register(port, hold, &mut place.hand(&mut self.seat), rt, child)?;
-                Ok(())
-            }
-            Grip::Pipe(pipe) => {
-                sched_register(port, hold, &mut PipeHand::new(pipe), rt, child)?;
-                Ok(())
-            }
-            Grip::Nobody => port.register(hold, child),
-        }
+        let mut hand = Hand::new(&mut self.rows, &mut self.seat, grip);
+        sched_register(port, hold, &mut hand, rt, child)?;
+        Ok(())
     }
 
     /// Asks for `count` harts for the child, and tells the scheduler.
     pub fn request<'b, P: Port, R: Wait + 'b>(
         &mut self,
         rt: &'b R,
-        grip: Grip<'t, 'b, '_>,
+        grip: Grip<'b, '_>,
         port: &mut P,
         hold: P::Hold,
         child: u16,
@@ -264,42 +197,15 @@ impl<'t> Tools<'t> {
         ensures kept { IsPortView (P.seen port.new) }
         ensures tools { self.new ≡ self.old }
     {
-        match grip {
-            Grip::Base(lock) => {
-                sched_request(port, hold, &mut BaseHand::new(lock), rt, child, count);
-            }
-            Grip::Pool(place) => {
-                sched_request(
-                    port,
-                    hold,
-                    &mut place.hand(&mut self.rows),
-                    rt,
-                    child,
-                    count,
-                );
-            }
-            Grip::Team(place) => {
-                sched_request(
-                    port,
-                    hold,
-                    &mut place.hand(&mut self.seat),
-                    rt,
-                    child,
-                    count,
-                );
-            }
-            Grip::Pipe(pipe) => {
-                sched_request(port, hold, &mut PipeHand::new(pipe), rt, child, count);
-            }
-            Grip::Nobody => port.request(hold, child, count),
-        }
+        let mut hand = Hand::new(&mut self.rows, &mut self.seat, grip);
+        sched_request(port, hold, &mut hand, rt, child, count);
     }
 
     /// Unregisters the port's owner, and tells the scheduler.
     pub fn unregister<'b, P: Port, R: Wait + 'b>(
         &mut self,
         rt: &'b R,
-        grip: Grip<'t, 'b, '_>,
+        grip: Grip<'b, '_>,
         port: &mut P,
         hold: P::Hold,
     )
@@ -309,28 +215,15 @@ impl<'t> Tools<'t> {
         ensures kept { IsPortView (P.seen port.new) }
         ensures tools { self.new ≡ self.old }
     {
-        match grip {
-            Grip::Base(lock) => {
-                sched_unregister(port, hold, &mut BaseHand::new(lock), rt);
-            }
-            Grip::Pool(place) => {
-                sched_unregister(port, hold, &mut place.hand(&mut self.rows), rt);
-            }
-            Grip::Team(place) => {
-                sched_unregister(port, hold, &mut place.hand(&mut self.seat), rt);
-            }
-            Grip::Pipe(pipe) => {
-                sched_unregister(port, hold, &mut PipeHand::new(pipe), rt);
-            }
-            Grip::Nobody => port.unregister(hold),
-        }
+        let mut hand = Hand::new(&mut self.rows, &mut self.seat, grip);
+        sched_unregister(port, hold, &mut hand, rt);
     }
 
     /// Gives the hart back from the port's owner, and tells the scheduler.
     pub fn give_back<'b, P: Port, R: Wait + 'b>(
         &mut self,
         rt: &'b R,
-        grip: Grip<'t, 'b, '_>,
+        grip: Grip<'b, '_>,
         port: &mut P,
         hold: P::Hold,
     )
@@ -341,88 +234,116 @@ impl<'t> Tools<'t> {
         ensures kept { IsPortView (P.seen port.new) }
         ensures tools { self.new ≡ self.old }
     {
-        match grip {
-            Grip::Base(lock) => {
-                sched_yield(port, hold, &mut BaseHand::new(lock), rt);
-            }
-            Grip::Pool(place) => {
-                sched_yield(port, hold, &mut place.hand(&mut self.rows), rt);
-            }
-            Grip::Team(place) => {
-                sched_yield(port, hold, &mut place.hand(&mut self.seat), rt);
-            }
-            Grip::Pipe(pipe) => {
-                sched_yield(port, hold, &mut PipeHand::new(pipe), rt);
-            }
-            Grip::Nobody => port.yield_hart(hold),
-        }
+        let mut hand = Hand::new(&mut self.rows, &mut self.seat, grip);
+        sched_yield(port, hold, &mut hand, rt);
     }
 
-    /// Tries once to enter the child, whose scheduler this is. A scheduler of another site is not entered.
-    pub fn try_enter<'b, 'p, P: Port, R: Wait + 'b>(
+    /// Tries to enter the child until the hart is inside, where it is told what to do, or isn't wanted: where another hart moved at
+    /// the same time, it looks again. A hart that isn't inside was refused by the port, or the scheduler is of another site.
+    pub fn enter<'b, 'p, P: Port, R: Wait + 'b>(
         &mut self,
         rt: &'b R,
-        grip: Grip<'t, 'b, 'p>,
+        grip: Grip<'b, 'p>,
         port: &mut P,
         hold: P::Hold,
         child: u16,
-    ) -> Trial<'p>
+    ) -> Option<Next<Job<'p>>>
         requires fits { Fits self.old grip }
         requires known { IsSite (P.seen port.old).plan child }
         requires child { (P.seen port.old).owner ≡ parent_of (P.seen port.old).plan child }
         ensures does { HasTried (P.seen port.old) child result (P.seen port.new) }
-        ensures count { RoseUnlessTried result (P.refused port.old) (P.refused port.new) }
-        ensures elsewhere { result ≡ Elsewhere → entrance_of grip.entry ≢ Some child }
+        ensures count { P.refused port.old ≤ P.refused port.new }
+        ensures refused { result ≡ None → Rose (P.refused port.old) (P.refused port.new)
+            ⊎ (site_at grip.entry ≢ child) }
         ensures kept { IsPortView (P.seen port.new) }
         ensures tools { self.new ≡ self.old }
     {
-        match grip {
-            Grip::Pool(place) => place.try_enter(rt, &mut self.rows, port, hold, child),
-            Grip::Team(place) => place.try_enter(rt, &mut self.seat, port, hold, child),
-            Grip::Pipe(pipe) => try_pipe(rt, pipe, port, hold, child),
-            _ => {
-                // A look at the owner tells what every port keeps.
-                let _ = port.owner();
-                Trial::Elsewhere
+        // A look at the owner tells what every port keeps.
+        let _ = port.owner();
+        if grip.site() != child {
+            return None;
+        }
+        let backoff = Backoff::new();
+        'tries: for _ in rt.forever() {
+            match self.try_once(rt, grip, port, hold) {
+                Lent::Inside(Next::Run(None)) => return Some(self.next(rt, grip, false)),
+                Lent::Inside(Next::Run(Some(job))) => return Some(Next::Run(job)),
+                Lent::Inside(Next::Lend(child)) => return Some(Next::Lend(child)),
+                Lent::Inside(Next::Nothing) => return Some(Next::Nothing),
+                Lent::NotWanted { shown: _ } => return None,
+                Lent::Moved { read: _, found: _ } => backoff.spin(),
             }
         }
+        unreachable!()
     }
 
-    /// What a hart is told that is inside; None is a context, which no run puts there.
+    // Tries once to enter the site of the scheduler.
+    fn try_once<'b, 'p, P: Port, R: Wait + 'b>(
+        &mut self,
+        rt: &'b R,
+        grip: Grip<'b, 'p>,
+        port: &mut P,
+        hold: P::Hold,
+    ) -> Lent<Option<Job<'p>>>
+        requires fits { Fits self.old grip }
+        requires known { IsSite (P.seen port.old).plan (site_at grip) }
+        requires child { (P.seen port.old).owner
+            ≡ parent_of (P.seen port.old).plan (site_at grip) }
+        ensures does { HasTried (P.seen port.old) (site_at grip.entry) (inside result)
+            (P.seen port.new) }
+        ensures count { RoseUnlessLent result (P.refused port.old) (P.refused port.new) }
+        ensures kept { IsPortView (P.seen port.new) }
+        ensures tools { self.new ≡ self.old }
+    {
+        let mut hand = Hand::new(&mut self.rows, &mut self.seat, grip);
+        sched_enter(port, hold, &mut hand, rt)
+    }
+
+    /// Waits for what the hart does next that is inside. A guest leaves where there is nothing to do, and the base and the home
+    /// wait until their work is over.
     pub fn next<'b, 'p, R: Wait + 'b>(
         &mut self,
         rt: &'b R,
-        grip: Grip<'t, 'b, 'p>,
-    ) -> Option<Next<Job<'p>>>
+        grip: Grip<'b, 'p>,
+        is_home: bool,
+    ) -> Next<Job<'p>>
         requires { Fits self.old grip }
         ensures { self.new ≡ self.old }
     {
-        match grip {
-            Grip::Base(lock) => match sched_reenter(&mut BaseHand::new(lock), rt) {
-                Next::Run(()) => None,
-                Next::Lend(child) => Some(Next::Lend(child)),
-                Next::Nothing => Some(Next::Nothing),
-            },
-            Grip::Pool(place) => place.next(rt, &mut self.rows),
-            Grip::Team(place) => place.next(rt, &mut self.seat),
-            Grip::Pipe(pipe) => next_of_pipe(rt, pipe),
-            Grip::Nobody => Some(Next::Nothing),
+        let is_guest = !is_home && !matches!(grip, Grip::Base(_));
+        let backoff = Backoff::new();
+        'looks: for _ in rt.forever() {
+            if self.is_over(rt, grip, is_home) {
+                return Next::Nothing;
+            }
+            match self.look(rt, grip) {
+                Next::Run(Some(job)) => return Next::Run(job),
+                Next::Run(None) => {}
+                Next::Lend(child) => return Next::Lend(child),
+                Next::Nothing if is_guest => return Next::Nothing,
+                Next::Nothing => backoff.snooze(),
+            }
         }
+        unreachable!()
     }
 
-    /// Whether a hart has to leave though it might be told more: the base where it is shut, and the home where the work of
-    /// its site is over.
-    pub fn is_over<'b, R: Wait + 'b>(
-        &mut self,
-        rt: &'b R,
-        grip: Grip<'t, 'b, '_>,
-        is_home: bool,
-    ) -> bool
+    // What a hart is told that is inside.
+    fn look<'b, 'p, R: Wait + 'b>(&mut self, rt: &'b R, grip: Grip<'b, 'p>) -> Next<Option<Job<'p>>>
+        requires { Fits self.old grip }
+        ensures { self.new ≡ self.old }
+    {
+        let mut hand = Hand::new(&mut self.rows, &mut self.seat, grip);
+        sched_reenter(&mut hand, rt)
+    }
+
+    // Whether a hart has to leave though it might be told more: the base where it is shut, and the home where the work of its
+    // site is over.
+    fn is_over<'b, R: Wait + 'b>(&mut self, rt: &'b R, grip: Grip<'b, '_>, is_home: bool) -> bool
         requires { Fits self.old grip }
         ensures { self.new ≡ self.old }
     {
         match grip {
-            Grip::Base(lock) => BaseHand::<R>::new(lock).is_shut(rt),
+            Grip::Base(base) => base.is_shut(),
             Grip::Pool(place) => is_home && place.hand::<R>(&mut self.rows).is_full(rt),
             Grip::Team(place) => is_home && place.hand::<R>(&mut self.seat).is_over(rt),
             Grip::Pipe(pipe) => is_home && PipeHand::<R>::new(pipe).is_full(rt),
@@ -431,22 +352,17 @@ impl<'t> Tools<'t> {
     }
 
     /// Lays the pieces of the site out for all harts. Those of a team and of a pipe are so always.
-    pub fn offer<'b, R: Wait + 'b>(&mut self, rt: &'b R, grip: Grip<'t, 'b, '_>)
+    pub fn offer<'b, R: Wait + 'b>(&mut self, rt: &'b R, grip: Grip<'b, '_>)
         requires { Fits self.old grip }
         ensures { self.new ≡ self.old }
     {
         if let Grip::Pool(place) = grip {
-            place.offer(rt, &mut self.rows);
+            offer_in(rt, place, &mut self.rows);
         }
     }
 
     /// A piece is done. One that is a stranger there is let go.
-    pub fn deposit<'b, 'p, R: Wait + 'b>(
-        &mut self,
-        rt: &'b R,
-        grip: Grip<'t, 'b, 'p>,
-        piece: Piece<'p>,
-    )
+    pub fn deposit<'b, 'p, R: Wait + 'b>(&mut self, rt: &'b R, grip: Grip<'b, 'p>, piece: Piece<'p>)
         requires { Fits self.old grip }
         ensures { self.new ≡ self.old }
     {
@@ -465,13 +381,7 @@ impl<'t> Tools<'t> {
     }
 
     /// The piece of this phase at this place found no memory. A pool has one phase, and of a team it is the one that runs.
-    pub fn fail<'b, R: Wait + 'b>(
-        &mut self,
-        rt: &'b R,
-        grip: Grip<'t, 'b, '_>,
-        phase: u8,
-        place: u8,
-    )
+    pub fn fail<'b, R: Wait + 'b>(&mut self, rt: &'b R, grip: Grip<'b, '_>, phase: u8, place: u8)
         requires { Fits self.old grip }
         ensures { self.new ≡ self.old }
     {
@@ -485,7 +395,7 @@ impl<'t> Tools<'t> {
 
     /// Whether a piece found no memory, so that the sites inside don't come. Nor do they where the hart computes the
     /// construct by itself.
-    pub fn has_failed<'b, R: Wait + 'b>(&mut self, rt: &'b R, grip: Grip<'t, 'b, '_>) -> bool
+    pub fn has_failed<'b, R: Wait + 'b>(&mut self, rt: &'b R, grip: Grip<'b, '_>) -> bool
         requires { Fits self.old grip }
         ensures { self.new ≡ self.old }
     {
@@ -495,6 +405,30 @@ impl<'t> Tools<'t> {
             Grip::Team(place) => place.hand::<R>(&mut self.seat).has_failed(rt),
             Grip::Pipe(pipe) => PipeHand::<R>::new(pipe).has_failed(rt),
             Grip::Nobody => true,
+        }
+    }
+
+    /// Hands the scheduler out, once, where its work is over.
+    pub fn take_out<'b, 'p, R: Wait + 'b>(
+        &mut self,
+        rt: &'b R,
+        grip: Grip<'b, 'p>,
+    ) -> Option<Whole<'p>>
+        requires { Fits self.old grip }
+        ensures whole { IfSome result IsWhole }
+        ensures tools { self.new ≡ self.old }
+    {
+        match grip {
+            Grip::Pool(place) => {
+                let pool = place.hand::<R>(&mut self.rows).take_out(rt);
+                Some(Whole::Pool(pool?))
+            }
+            Grip::Team(place) => {
+                let team = place.hand::<R>(&mut self.seat).take_out(rt);
+                Some(Whole::Team(team?))
+            }
+            Grip::Pipe(pipe) => Some(Whole::Pipe(PipeHand::<R>::new(pipe).take_out(rt)?)),
+            _ => None,
         }
     }
 }
@@ -530,4 +464,27 @@ pub fn tools_of<'x>(
         tools.push(Tools::new(own, seat, words, harts))?;
     }
     Ok(tools)
+}
+
+/// Lays the jobs of the pool out in the row of this hart, where it is the home and the row has room for all of them.
+pub(crate) fn offer_in<'b, 'p, R: Wait + 'b>(
+    rt: &'b R,
+    place: PoolPlace<'b, 'p>,
+    rows: &mut HartRows,
+)
+    requires { PoolFits (rows_kin rows.old) place }
+    ensures { rows_kin rows.new ≡ rows_kin rows.old }
+{
+    if place.home == rows.hart() && has_room(rows, place.level, place.pool.jobs().len()) {
+        place.hand(rows).offer(rt);
+    }
+}
+
+// Whether the hart's row of this level has room for so many codes.
+fn has_room(rows: &HartRows, level: u8, count: usize) -> bool
+    requires { IsLevel level }
+    ensures { IsTrue result
+        → count + length (home_log rows.now level).pushed ≤ row_room rows.now level }
+{
+    count <= rows.room(level) as usize
 }

@@ -1,7 +1,7 @@
 //! Sites that a hart opens, and that another finds.
 ghost use Rattle.std.specs.Prelude.{◌≡◌, map, vec_len};
 ghost use Rattle.claim_words.specs.Seats.{AreAll, kin};
-ghost use Rattle.hart_loop.specs.Offers.{IsOpened, opened_by};
+ghost use Rattle.hart_loop.specs.Openings.{IsOpened};
 
 use array_eval::Overlay;
 use array_jobs::{Piece, piece_of};
@@ -10,7 +10,8 @@ use deque_rows::rows;
 use disjoint_check::check;
 use hart_loop::{HartSchedulers, HartSite, InDirectory, Members};
 use hart_tools::{Claims, Tools, tools_of};
-use hart_work::{Resources, Schedulers, Task};
+use hart_work::{Schedulers, Task};
+use job_machines::JobMachines;
 use loop_team::ClaimSeat;
 use once_cell::race::OnceBox;
 use sample_programs::{
@@ -46,9 +47,9 @@ fn next_piece<'a, 'p, R: Wait, S: InDirectory<'p>>(
     site: &mut HartSite<'a, 'p, S>,
     is_home: bool,
 ) -> Option<Piece<'p>>
-    requires opened { IsOpened S.held site.old.keeper }
-    ensures opened { IsOpened S.held site.new.keeper }
-    ensures construct { opened_by site.new.keeper ≡ opened_by site.old.keeper }
+    requires opened { IsOpened S.held site.old }
+    ensures opened { IsOpened S.held site.new }
+    ensures construct { site.new.opened ≡ site.old.opened }
 {
     match hart.next(rt, site, is_home) {
         Task::Piece(job) => piece_of(alloc, job).ok(),
@@ -63,9 +64,9 @@ fn does_a_piece<'a, 'p, R: Wait, S: InDirectory<'p>>(
     home: &mut HartSchedulers<'a, 'p, S>,
     site: &mut HartSite<'a, 'p, S>,
 ) -> bool
-    requires opened { IsOpened S.held site.old.keeper }
-    ensures opened { IsOpened S.held site.new.keeper }
-    ensures construct { opened_by site.new.keeper ≡ opened_by site.old.keeper }
+    requires opened { IsOpened S.held site.old }
+    ensures opened { IsOpened S.held site.new }
+    ensures construct { site.new.opened ≡ site.old.opened }
 {
     match next_piece(rt, alloc, home, site, true) {
         Some(piece) => {
@@ -86,7 +87,7 @@ fn by_the_home<'a, 'p, R: Wait, S: InDirectory<'p>>(
 ) -> Result<Overlay, Fail> {
     let nested = first_construct(alloc, program)?;
     let mut home = HartSchedulers::new(lines(alloc, cells)?, tools, Members::Wait);
-    let mut site = home.open(alloc, &nested)?;
+    let mut site = Schedulers::<R, JobMachines<'p>>::open(&mut home, alloc, &nested)?;
     home.offer(rt, &site);
     let first = does_a_piece(rt, alloc, &mut home, &mut site);
     let second = does_a_piece(rt, alloc, &mut home, &mut site);
@@ -127,7 +128,7 @@ fn does_one<'a, 'p, R: Wait, S: InDirectory<'p>>(
     guest: &mut HartSchedulers<'a, 'p, S>,
     found: &mut HartSite<'a, 'p, S>,
 ) -> bool
-    requires opened { IsOpened S.held found.old.keeper }
+    requires opened { IsOpened S.held found.old }
 {
     let Some(piece) = next_piece(rt, alloc, guest, found, false) else {
         return false;
@@ -157,9 +158,9 @@ fn is_helped<'a, 'p, R: Wait, S: InDirectory<'p>>(
     site: &mut HartSite<'a, 'p, S>,
     guest: &mut HartSchedulers<'a, 'p, S>,
 ) -> bool
-    requires opened { IsOpened S.held site.old.keeper }
-    ensures opened { IsOpened S.held site.new.keeper }
-    ensures construct { opened_by site.new.keeper ≡ opened_by site.old.keeper }
+    requires opened { IsOpened S.held site.old }
+    ensures opened { IsOpened S.held site.new }
+    ensures construct { site.new.opened ≡ site.old.opened }
 {
     let Some(piece) = next_piece(rt, alloc, home, site, true) else {
         return false;
@@ -177,7 +178,7 @@ fn with_a_guest<'a, 'p, R: Wait, S: InDirectory<'p>>(
     home: &mut HartSchedulers<'a, 'p, S>,
     guest: &mut HartSchedulers<'a, 'p, S>,
 ) -> Result<Overlay, Fail> {
-    let mut site = home.open(alloc, nested)?;
+    let mut site = Schedulers::<R, JobMachines<'p>>::open(home, alloc, nested)?;
     home.offer(rt, &site);
     let helped = is_helped(rt, alloc, home, &mut site, guest);
     let written = home.take(rt, alloc, site)?;
@@ -226,11 +227,12 @@ fn untouched<'a, 'p, R: Wait, S: InDirectory<'p>>(
     program: &'p Program,
     cells: &'a [OnceBox<S>],
     tools: Tools<'a>,
+    members: Members,
 ) -> Result<(Overlay, u8), Fail> {
     let nested = first_construct(alloc, program)?;
-    let mut home = HartSchedulers::new(lines(alloc, cells)?, tools, Members::Wait);
-    let site = home.open(alloc, &nested)?;
-    let wishes = home.wishes(&site);
+    let mut home = HartSchedulers::new(lines(alloc, cells)?, tools, members);
+    let site = Schedulers::<R, JobMachines<'p>>::open(&mut home, alloc, &nested)?;
+    let wishes = Schedulers::<R, JobMachines<'p>>::wishes(&home, &site);
     Ok((home.take(rt, alloc, site)?, wishes))
 }
 
@@ -239,13 +241,14 @@ fn takes<R: Wait>(
     rt: &R,
     alloc: Global,
     program: &Program,
+    members: Members,
     expected: &[(u16, i64)],
     harts: u8,
 ) -> Result<bool, Fail> {
     let cells = cells::<SharedSite<'_>>(alloc, 1)?;
     let (words, claims) = Claims::new(alloc, &check(alloc, program, 2)?, 2)?;
     let (tools, _) = two_tools(alloc, &words, claims)?;
-    let (written, wishes) = untouched(rt, alloc, program, cells.as_slice(), tools)?;
+    let (written, wishes) = untouched(rt, alloc, program, cells.as_slice(), tools, members)?;
     Ok(wishes == harts && written.pairs() == expected)
 }
 
@@ -253,9 +256,44 @@ fn takes<R: Wait>(
 fn a_construct_whose_pieces_are_not_there_is_computed(rt: HostRuntime) -> Result<(), Fail> {
     let alloc = rt.alloc();
     let program = parsed(alloc, TWO_BRANCHES)?;
-    assert!(rt; takes(&rt, alloc, &program, BOTH_BRANCHES.as_slice(), 1)?);
+    assert!(rt;
+        takes(
+            &rt,
+            alloc,
+            &program,
+            Members::Wait,
+            BOTH_BRANCHES.as_slice(),
+            1
+        )?
+    );
     let program = parsed(alloc, TWO_PHASES)?;
-    assert!(rt; takes(&rt, alloc, &program, BOTH_PHASES.as_slice(), 2)?);
+    assert!(rt;
+        takes(
+            &rt,
+            alloc,
+            &program,
+            Members::Wait,
+            BOTH_PHASES.as_slice(),
+            2
+        )?
+    );
+    Ok(())
+}
+
+#[test]
+fn a_team_whose_pieces_cross_is_computed_by_its_home(rt: HostRuntime) -> Result<(), Fail> {
+    let alloc = rt.alloc();
+    let program = parsed(alloc, TWO_PHASES)?;
+    assert!(rt;
+        takes(
+            &rt,
+            alloc,
+            &program,
+            Members::Overtake,
+            BOTH_PHASES.as_slice(),
+            0
+        )?
+    );
     Ok(())
 }
 
@@ -264,8 +302,9 @@ fn asks_for_nobody<R: Wait>(rt: &R, alloc: Global, program: &Program) -> Result<
     let cells = cells::<SharedSite<'_>>(alloc, 1)?;
     let (words, claims) = Claims::new(alloc, &check(alloc, program, 2)?, 2)?;
     let (first, second) = two_tools(alloc, &words, claims)?;
-    let (_, one) = untouched(rt, alloc, program, cells.as_slice(), first)?;
-    let (written, none) = untouched(rt, alloc, program, cells.as_slice(), second)?;
+    let slice = cells.as_slice();
+    let (_, one) = untouched(rt, alloc, program, slice, first, Members::Wait)?;
+    let (written, none) = untouched(rt, alloc, program, slice, second, Members::Wait)?;
     Ok(one == 1 && none == 0 && are_both(&written))
 }
 

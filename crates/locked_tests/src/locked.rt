@@ -7,13 +7,14 @@ ghost use Rattle.hart_loop.specs.Harts.{StartsIn};
 use array_eval::Overlay;
 use array_jobs::{Job, Piece, body_job};
 use array_tree::Program;
-use base_sched::Base;
+use base_sched::{Base, SharedBase};
 use deque_rows::rows;
 use disjoint_check::{Accepted, check};
 use hart_loop::{Hart, HartSchedulers, HartSite, Members, work};
 use hart_port::{Ledger, LockedPort};
 use hart_tools::{Claims, Tools, tools_of};
-use hart_work::{Resources, Schedulers, run_construct};
+use hart_work::{Schedulers, run_construct};
+use job_machines::JobMachines;
 use loop_team::ClaimSeat;
 use once_cell::race::OnceBox;
 use sample_programs::{
@@ -35,7 +36,7 @@ fn hart<'x, 'p: 'x, R: Threads + Wait + Sync>(
     lock: &'x Mutex<Ledger>,
     plan: &'x Plan,
     number: u8,
-    base: &'x Mutex<Base>,
+    base: &'x SharedBase,
     cells: &'x [OnceBox<SharedSite<'p>>],
     tools: Tools<'x>,
     job: Option<Job<'p>>,
@@ -66,7 +67,7 @@ fn crew<'x, 'p: 'x, R: Threads + Wait + Sync>(
     alloc: Global,
     lock: &'x Mutex<Ledger>,
     plan: &'x Plan,
-    base: &'x Mutex<Base>,
+    base: &'x SharedBase,
     cells: &'x [OnceBox<SharedSite<'p>>],
     mut tools: Vec<Tools<'x>>,
     job: Job<'p>,
@@ -119,7 +120,7 @@ fn run_body<'x, 'p: 'x, R: Threads + Wait + Sync>(
     alloc: Global,
     accepted: &'x Accepted<'p>,
     lock: &'x Mutex<Ledger>,
-    base: &'x Mutex<Base>,
+    base: &'x SharedBase,
     cells: &'x [OnceBox<SharedSite<'p>>],
     tools: Vec<Tools<'x>>,
 ) -> Result<Piece<'p>, Fail>
@@ -152,7 +153,7 @@ fn body_writes<'x, 'p: 'x, R: Threads + Wait + Sync>(
     alloc: Global,
     accepted: &'x Accepted<'p>,
     lock: &'x Mutex<Ledger>,
-    base: &'x Mutex<Base>,
+    base: &'x SharedBase,
     cells: &'x [OnceBox<SharedSite<'p>>],
     harts: u8,
     written: &[(u16, i64)],
@@ -178,7 +179,7 @@ fn harts_write<R: Threads + Wait + Sync>(
     requires harts { (1 ≤ harts) × (harts ≤ 4) }
     requires few { accepted.now.plan.harts ≤ 4 }
 {
-    let base = Mutex::new(Base::new(alloc, accepted.plan().sites())?);
+    let base = SharedBase::new(Base::new(alloc, accepted.plan().sites())?);
     let cells = cells(alloc, accepted.plan().sites())?;
     body_writes(rt, alloc, accepted, lock, &base, &cells, harts, written)
 }
@@ -242,7 +243,7 @@ fn run_whole<'x, 'p: 'x, R: Threads + Wait + Sync>(
     accepted: &'x Accepted<'p>,
     tree: &SiteTree,
     lock: &'x Mutex<Ledger>,
-    base: &'x Mutex<Base>,
+    base: &'x SharedBase,
     cells: &'x [OnceBox<SharedSite<'p>>],
     tools: Tools<'x>,
 ) -> Result<(), Fail>
@@ -274,7 +275,7 @@ fn run_first<'x, 'p: 'x, R: Threads + Wait + Sync>(
     plan: &'x Plan,
     tree: &SiteTree,
     lock: &'x Mutex<Ledger>,
-    base: &'x Mutex<Base>,
+    base: &'x SharedBase,
     cells: &'x [OnceBox<SharedSite<'p>>],
     tools: Tools<'x>,
 ) -> Result<Overlay, Fail>
@@ -307,7 +308,7 @@ fn writes_late<'x, 'p: 'x, R: Threads + Wait + Sync>(
     program: &'p Program,
     accepted: &'x Accepted<'p>,
     lock: &'x Mutex<Ledger>,
-    base: &'x Mutex<Base>,
+    base: &'x SharedBase,
     cells: &'x [OnceBox<SharedSite<'p>>],
     tools: (Tools<'x>, Tools<'x>),
 ) -> Result<bool, Fail>
@@ -332,7 +333,7 @@ fn is_computed<R: Threads + Wait + Sync>(
 ) -> Result<bool, Fail>
     requires { accepted.now.plan.harts ≡ 2 }
 {
-    let base = Mutex::new(Base::new(alloc, accepted.plan().sites())?);
+    let base = SharedBase::new(Base::new(alloc, accepted.plan().sites())?);
     let cells = cells(alloc, accepted.plan().sites())?;
     let (words, claims) = Claims::new(alloc, accepted, 2)?;
     let tools = two_tools(alloc, &words, claims)?;
@@ -349,7 +350,8 @@ fn a_construct_whose_site_is_gone_is_computed(rt: HostRuntime) -> Result<(), Fai
 }
 
 // The home opens the first construct by these lines.
-fn open_first<'x, 'p: 'x>(
+fn open_first<'x, 'p: 'x, R: Wait>(
+    _rt: &'x R,
     alloc: Global,
     program: &'p Program,
     lines: Vec<SiteLine<'x, SharedSite<'p>>>,
@@ -357,7 +359,7 @@ fn open_first<'x, 'p: 'x>(
 ) -> Result<(), Fail> {
     let nested = first_construct(alloc, program)?;
     let mut home = HartSchedulers::new(lines, tools, Members::Wait);
-    let _opened = home.open(alloc, &nested)?;
+    let _opened = Schedulers::<R, JobMachines<'p>>::open(&mut home, alloc, &nested)?;
     Ok(())
 }
 
@@ -397,7 +399,7 @@ fn enters_by_another<'x, 'p: 'x, R: Threads + Wait + Sync>(
     let (own, others) = tools;
     let mut turned = lines(alloc, cells)?;
     turned.swap(1, 2);
-    open_first(alloc, program, turned, own)?;
+    open_first(rt, alloc, program, turned, own)?;
     enters_second(rt, alloc, plan, lock, cells, others)
 }
 

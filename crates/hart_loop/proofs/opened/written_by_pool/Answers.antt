@@ -4,7 +4,7 @@ use Rattle.std.proofs.lemmas.Bool.{and_parts}
 use Rattle.array_jobs.specs.Jobs.{JobParts, job_of}
 use Rattle.array_jobs.specs.Equal.{job_eq}
 use Rattle.array_jobs.specs.EqualLaws.{job_same}
-use Rattle.hart_loop.proofs.opened.take_pool.Goals as goal
+use Rattle.hart_loop.proofs.opened.written_by_pool.Goals as goal
 
 -- what is equal place by place is equal
 same_jobs : (xs ys : List JobParts) → pointwise (λ x y. job_eq (job_of x) (job_of y)) xs ys ≡ true → map job_of xs ≡ map job_of ys
@@ -17,11 +17,11 @@ same_jobs (x ∷ xs) (y ∷ ys) h =
     let rest : map job_of xs ≡ map job_of ys = same_jobs xs ys p.1 in cc
 
 pub take_from_pool-requires-clause-of : goal.take_from_pool-requires-clause-of
-take_from_pool-requires-clause-of g c =
-    let told : pointwise (λ x y. job_eq (job_of x) (job_of y)) c.jobs.result.now c.jobs-in-Some-taken.result.now ≡ true = sym c.eq.ensures ∙ c.if-eq.true in
-    let same : map job_of c.jobs.result.now ≡ map job_of c.jobs-in-Some-taken.result.now = same_jobs c.jobs.result.now c.jobs-in-Some-taken.result.now told in
+take_from_pool-requires-clause-of c =
+    let told : pointwise (λ x y. job_eq (job_of x) (job_of y)) c.jobs.result.now c.jobs-2.result.now ≡ true = sym c.eq.ensures ∙ c.if-eq.true in
+    let same : map job_of c.jobs.result.now ≡ map job_of c.jobs-2.result.now = same_jobs c.jobs.result.now c.jobs-2.result.now told in
     record {
-      fit = c.requires.fit;
-      one_phase = c.requires.one_phase;
-      jobs = ap (map job_of) (sym c.jobs.ensures) ∙ same ∙ ap (map job_of) c.jobs-in-Some-taken.ensures ∙ c.requires.jobs;
+      fit = c.requires.of.fit;
+      one_phase = c.requires.of.one_phase;
+      jobs = ap (map job_of) (sym c.jobs.ensures) ∙ same ∙ ap (map job_of) c.jobs-2.ensures ∙ c.requires.of.jobs;
     }

@@ -1,0 +1,13 @@
+-- That a hand fits is a fact, of which there is one proof at most.
+use denote.Struct.Props.{props}
+use Rattle.hart_tools.specs.declared.grip.Grip.{Grip}
+use Rattle.hart_tools.specs.declared.grip.Grip.TheVariants.{Base, Pool, Team, Pipe, Nobody}
+use Rattle.hart_tools.specs.Kins.{ToolKins}
+use Rattle.hart_tools.specs.Places.{Fits}
+
+pub fits_is_fact : (k : ToolKins) (grip : Grip) → IsProp (Fits k grip)
+fits_is_fact k (Base base) = hlevel props
+fits_is_fact k (Pool place) = hlevel props
+fits_is_fact k (Team place) = hlevel props
+fits_is_fact k (Pipe pipe) = hlevel props
+fits_is_fact k Nobody = hlevel props
