@@ -13,7 +13,8 @@ use Rattle.transfer_table.proofs.Balance.{legal_entries}
 use Rattle.board_rule.specs.declared.view.View.{View}
 use Rattle.board_words.specs.declared.entries.Drawn.{Drawn}
 use Rattle.board_words.specs.declared.entries.Ended.{Ended}
-use Rattle.board_rule.specs.Words.{entries_in}
+use Rattle.board_rule.specs.declared.layout.Layout.{Layout}
+use Rattle.board_rule.specs.Layouts.{entries_of}
 use Rattle.board_words.specs.Words.{journal_word, spelled}
 use Rattle.board_words.specs.Counts.{total, draws_in, ended_as}
 use Rattle.board_rule.specs.Counts.{draws}
@@ -23,46 +24,46 @@ use Rattle.board_rule.specs.Laws.{St}
 use Rattle.board_words.proofs.Lists.{index_of, get_there}
 use Rattle.board_words.proofs.Totals.{total-none}
 use Rattle.board_rule.proofs.BoardSteps.{in_plan, one_seat, other_hart}
-use Rattle.board_rule.proofs.Registers.{length_is}
+use Rattle.board_rule.proofs.Layouts.{length_of}
 use Rattle.board_words.proofs.Spelled.{entry_at}
 
-pub settled : (p : Plan) (s : St) (k : Stands p s) (id : ℕ) (v : View) → get_elem? s.views id ≡ some v → v.hart ≡ 0 → IsSeat v → v.drawn ≡ None → AllEnded p v
+pub settled : (lay : Layout) (p : Plan) (s : St) (k : Stands lay p s) (id : ℕ) (v : View) → get_elem? s.views id ≡ some v → v.hart ≡ 0 → IsSeat v → v.drawn ≡ None → AllEnded p v
     → (i : ℕ) (e : Entry) → slice_get k.journal i ≡ Some e → journal_word p s.words i ≡ spelled e
-settled p s k id v at zeroth seat undrawn all i e is = (k.places i e is).written (total-none (draws i) s.views none)
+settled lay p s k id v at zeroth seat undrawn all i e is = (k.places i e is).written (total-none (draws i) s.views none)
   where
     none : (j : ℕ) (u : View) → get_elem? s.views j ≡ some u → draws i u ≡ 0
     none j u there = dite (dec_le (suc u.hart) u.plan.harts)
         (λ seat_u. dite (ℕ_discrete j id)
         (λ z. let same : v ≡ u = some-injective v u (sym at ∙ ap (get_elem? s.views) (sym z) ∙ there) in ap (λ (d : Option Drawn). draws_in d i) (ap (λ (c : View). c.drawn) (sym same) ∙ undrawn))
         (λ apart. absurd (
-        let c = one_seat p s k j u there seat_u in let ended : k.ended ≡ v.ended = sym ((k.views id v at seat).itself.joined zeroth).1 in
+        let c = one_seat lay p s k j u there seat_u in let ended : k.ended ≡ v.ended = sym ((k.views id v at seat).itself.joined zeroth).1 in
         let g : total (ended_as u.hart) v.ended ≡ 0 = ap (total (ended_as u.hart)) (sym ended) ∙ c.1 in
-        let lt = in_plan p s k j u there seat_u in
-        let other = other_hart p s k id j v u at seat apart there in
+        let lt = in_plan lay p s k j u there seat_u in
+        let other = other_hart lay p s k id j v u at seat apart there in
         let m = all u.hart (let low : u.hart ≢ 0 = λ z. other (z ∙ sym zeroth) in omega arith) lt in omega arith)))
         (λ not. ap (λ (c : View). draws_in c.drawn i) (k.spent j u there not))
 
 -- the entry whose word was read
-pub place_of : (p : Plan) (ws : List ℕ) (es : List Entry) → Spells p ws es → (head n m i : ℕ) → get_elem? ws 0 ≡ some head → i < entries_in head → m ≡ site_count p → get_elem? ws (1 + m + i) ≡ some n
+pub place_of : (lay : Layout) (p : Plan) (ws : List ℕ) (es : List Entry) → Spells lay p ws es → (head n m i : ℕ) → get_elem? ws 0 ≡ some head → i < entries_of lay head → m ≡ site_count p → get_elem? ws (1 + m + i) ≡ some n
     → (e : Entry) × (slice_get es i ≡ Some e) × (n ≡ spelled e) × IsEntryOf p e
-place_of p ws es sp head n m i at lt is there =
+place_of lay p ws es sp head n m i at lt is there =
     let first : slice_index ws 0 ≡ head = index_of ws 0 head 0 at in
     let count = sp.count in
-    let inside : i < length es = (let a : entries_in (slice_index ws 0) ≡ entries_in head = ap entries_in first in omega arith) in
+    let inside : i < length es = (let a : entries_of lay (slice_index ws 0) ≡ entries_of lay head = ap (entries_of lay) first in omega arith) in
     let e = get_there es i inside in
     let here = sp.places i e.0 e.1 in
     let word : journal_word p ws i ≡ n = ap (λ (q : ℕ). slice_index ws (1 + q + i)) (sym is) ∙ index_of ws (1 + m + i) n 0 there in
     (e.0, e.1, sym word ∙ here.0, here.1)
 
 -- the words at the end have the journal
-pub ends : (p : Plan) (s : St) (k : Stands p s) (id : ℕ) (v : View) → get_elem? s.views id ≡ some v → v.hart ≡ 0 → IsSeat v → v.drawn ≡ None → AllEnded p v → Spells p s.words k.journal × IsJournal p v k.journal
-ends p s k id v at zeroth seat undrawn all =
+pub ends : (lay : Layout) (p : Plan) (s : St) (k : Stands lay p s) (id : ℕ) (v : View) → get_elem? s.views id ≡ some v → v.hart ≡ 0 → IsSeat v → v.drawn ≡ None → AllEnded p v → Spells lay p s.words k.journal × IsJournal p v k.journal
+ends lay p s k id v at zeroth seat undrawn all =
     let know = k.views id v at seat in
     let ended : v.ended ≡ k.ended = (know.itself.joined zeroth).1 in (
       record {
-        count = length_is p s k;
+        count = length_of lay p k.plan k.few k.journal k.table k.legal (slice_index s.words 0) k.board;
         few = legal_length p k.plan k.journal k.table k.legal;
-        places = λ i e is. (settled p s k id v at zeroth seat undrawn all i e is, entry_at p k.journal i e is (legal_entries p k.plan k.journal k.table k.legal));
+        places = λ i e is. (settled lay p s k id v at zeroth seat undrawn all i e is, entry_at p k.journal i e is (legal_entries p k.plan k.journal k.table k.legal));
       },
       record {
         table = k.table;

@@ -9,6 +9,7 @@ use Rattle.transfer_table.specs.Table.{TableState}
 use Rattle.transfer_table.specs.Entry.{made_by}
 use Rattle.hart_port.specs.PortView.{is_in}
 use Rattle.hart_port.specs.Ledger.{no_site}
+use Rattle.board_rule.specs.declared.layout.Layout.{Layout}
 use Rattle.board_rule.specs.declared.view.View.{View}
 use Rattle.board_rule.specs.declared.view.Marks.{Marks}
 use Rattle.board_words.specs.declared.entries.Drawn.{Drawn}
@@ -16,18 +17,19 @@ use Rattle.board_words.specs.declared.entries.Ended.{Ended}
 use Rattle.board_rule.specs.declared.view.Doing.{Doing}
 use Rattle.board_rule.specs.declared.view.Doing.TheVariants.{Idle}
 use Rattle.board_words.specs.Counts.{total, one_if, draws_in, ended_as}
-use Rattle.board_rule.specs.Counts.{draws, numbered, no_load, Load, part, load, flight}
-use Rattle.board_rule.specs.Views.{joined_view, spent_view}
+use Rattle.board_rule.specs.Counts.{draws, numbered, no_load, Load, part, load, guests}
 use Rattle.board_words.specs.Sets.{union}
-use Rattle.board_rule.specs.Rule.{Stands, Knows, KnowsSites, IsSeat, DoesRight}
+use Rattle.board_rule.specs.Views.{joined_view, spent_view}
 use Rattle.board_words.specs.Places.{AreAt}
+use Rattle.board_rule.specs.Rule.{Stands, Knows, KnowsSites, IsSeat, DoesRight}
 use Rattle.board_rule.specs.Steps.{IsReady}
 use Rattle.board_rule.specs.Laws.{St, Keeps}
 use Rattle.board_words.proofs.Totals.{total-set, total-same, total-snoc}
 use Rattle.board_rule.proofs.Loads.{part-idle}
 use Rattle.board_words.proofs.Sets.{in-no_site, union-in, length-union}
 use Rattle.board_words.proofs.Places.{place_at}
-use Rattle.board_rule.proofs.SiteSteps.{sites_other}
+use Rattle.board_rule.proofs.SiteSteps.{sites_other, guests-load}
+use Rattle.board_rule.proofs.Looks.{few_harts}
 use Rattle.board_rule.proofs.BoardSteps.{other_hart}
 
 -- what both knew to be gone is known, and nothing is seen empty
@@ -43,10 +45,10 @@ sites_joined p t h g m n c f k j = let none : (x : ℕ) → is_in (no_site p) x 
   gone = λ x is. ⊎_elim (λ a. k.gone x a) (λ b. j.gone x b) (union-in m.gone n.gone x is);
 }
 
-pub join_keeps : (p : Plan) (s : St) (k : Stands p s) (id other : ℕ) (v w : View) → get_elem? s.views id ≡ some v → other ≢ id → get_elem? s.views other ≡ some w
+pub join_keeps : (lay : Layout) (p : Plan) (s : St) (k : Stands lay p s) (id other : ℕ) (v w : View) → get_elem? s.views id ≡ some v → other ≢ id → get_elem? s.views other ≡ some w
     → v.hart ≡ 0 → IsSeat v → v.doing ≡ Idle → IsSeat w → IsReady w
-    → Keeps p s k record { words = s.words; homes = s.homes; views = set (set s.views id (joined_view v w)) other spent_view }
-join_keeps p s k id other v w at apart there zeroth seat idle seat_w ready_w =
+    → Keeps lay p s k record { words = s.words; homes = s.homes; views = set (set s.views id (joined_view v w)) other spent_view }
+join_keeps lay p s k id other v w at apart there zeroth seat idle seat_w ready_w =
     let both : View = joined_view v w in
     let know = k.views id v at seat in let me = know.itself in
     let know_w = k.views other w there seat_w in
@@ -56,7 +58,7 @@ join_keeps p s k id other v w at apart there zeroth seat idle seat_w ready_w =
     -- a count that is 0 of the spent view and of the other
     let same : (f : View → ℕ) → f both ≡ f v → f w ≡ 0 → f spent_view ≡ 0 → total f vs ≡ total f s.views
     = λ f a b c. let x = total-same f s.views id v both at a in let y = total-set f mid other w spent_view at_other in omega arith in
-    let w_hart : w.hart ≢ 0 = λ z. other_hart p s k id other v w at seat apart there (z ∙ sym zeroth) in
+    let w_hart : w.hart ≢ 0 = λ z. other_hart lay p s k id other v w at seat apart there (z ∙ sym zeroth) in
     let now : List Ended = k.ended ++ record { hart = w.hart; mine = w.mine; places = w.places } ∷ [] in
     let draws_w : (i : ℕ) → draws i w ≡ 0 = λ i. ap (λ (d : Option Drawn). draws_in d i) ready_w.1 in
     let part_w : (x : ℕ) → part w.doing x ≡ no_load = λ x. ap (λ (d : Doing). part d x) ready_w.0 ∙ part-idle x in
@@ -65,12 +67,13 @@ join_keeps p s k id other v w at apart there zeroth seat idle seat_w ready_w =
       seals = same (λ u. (part u.doing x).seals) refl (ap (λ (c : Load). c.seals) a) (ap (λ (c : Load). c.seals) b) i;
       reserves = same (λ u. (part u.doing x).reserves) refl (ap (λ (c : Load). c.reserves) a) (ap (λ (c : Load). c.reserves) b) i;
       lands = same (λ u. (part u.doing x).lands) refl (ap (λ (c : Load). c.lands) a) (ap (λ (c : Load). c.lands) b) i;
+      leaves = same (λ u. (part u.doing x).leaves) refl (ap (λ (c : Load). c.leaves) a) (ap (λ (c : Load). c.leaves) b) i;
       credits = same (λ u. (part u.doing x).credits) refl (ap (λ (c : Load). c.credits) a) (ap (λ (c : Load). c.credits) b) i;
     } in
-    let flown : (y : ℕ) → k.closing y ≡ true → flight s.views y ≡ 0 → flight vs y ≡ 0 = λ y _ z. ap (λ (c : Load). c.reserves + c.lands) (load_same y) ∙ z in
-    let P : View → Type 0 = λ z. Knows p k.journal k.table z k.closing (flight vs) k.made now in
-    let R : Doing → Type 0 = λ d. DoesRight p k.journal k.table both d in
-    let few = k.four in (
+    let flown : (y : ℕ) → k.closing y ≡ true → guests lay p k.table s.views y ≡ 0 → guests lay p k.table vs y ≡ 0 = λ y _ z. guests-load lay p k.table s.views vs y (load_same y) ∙ z in
+    let P : View → Type 0 = λ z. Knows lay p k.journal k.table z k.closing (guests lay p k.table vs) k.made now in
+    let R : Doing → Type 0 = λ d. DoesRight lay p k.journal k.table both d in
+    let few = few_harts p k.plan in (
       record {
         journal = k.journal;
         table = k.table;
@@ -78,7 +81,7 @@ join_keeps p s k id other v w at apart there zeroth seat idle seat_w ready_w =
         ended = now;
         closing = k.closing;
         plan = k.plan;
-        four = k.four;
+        few = k.few;
         wide = k.wide;
         legal = k.legal;
         board = k.board;
@@ -98,14 +101,14 @@ join_keeps p s k id other v w at apart there zeroth seat idle seat_w ready_w =
             (λ c. subst P c.1 (record {
               itself = record { plan = me.plan; mine = me.mine; placed = me.placed; owner = me.owner; drawn = me.drawn; joined = λ z. ((me.joined zeroth).0, ap (λ (es : List Ended). es ++ record { hart = w.hart; mine = w.mine; places = w.places } ∷ []) (me.joined zeroth).1) };
               does = subst R (sym idle) tt;
-              sites = sites_other p k.table v.hart both.marks k.closing k.closing (flight s.views) (flight vs) (λ y z. z) flown
-                  (let Q : Plan → Type 0 = λ q. KnowsSites p k.table v.hart (record v.marks { empty = no_site q; gone = union v.marks.gone w.marks.gone }) k.closing (flight s.views) in
-                  subst Q (sym me.plan) (sites_joined p k.table v.hart w.hart v.marks w.marks k.closing (flight s.views) know.sites know_w.sites));
+              sites = sites_other p k.table v.hart both.marks k.closing k.closing (guests lay p k.table s.views) (guests lay p k.table vs) (λ y z. z) flown
+                  (let Q : Plan → Type 0 = λ q. KnowsSites p k.table v.hart (record v.marks { empty = no_site q; gone = union v.marks.gone w.marks.gone }) k.closing (guests lay p k.table s.views) in
+                  subst Q (sym me.plan) (sites_joined p k.table v.hart w.hart v.marks w.marks k.closing (guests lay p k.table s.views) know.sites know_w.sites));
             }))
             (λ c. let o = k.views j u c.1 lt in let it = o.itself in record {
-              itself = record { plan = it.plan; mine = it.mine; placed = it.placed; owner = it.owner; drawn = it.drawn; joined = λ z. absurd (other_hart p s k id j v u at seat c.0 c.1 (z ∙ sym zeroth)) };
+              itself = record { plan = it.plan; mine = it.mine; placed = it.placed; owner = it.owner; drawn = it.drawn; joined = λ z. absurd (other_hart lay p s k id j v u at seat c.0 c.1 (z ∙ sym zeroth)) };
               does = o.does;
-              sites = sites_other p k.table u.hart u.marks k.closing k.closing (flight s.views) (flight vs) (λ y z. z) flown o.sites;
+              sites = sites_other p k.table u.hart u.marks k.closing k.closing (guests lay p k.table s.views) (guests lay p k.table vs) (λ y z. z) flown o.sites;
             })
             (at_set s.views id j both u t.1))
             (at_set mid other j spent_view u is);

@@ -1,5 +1,5 @@
 -- The step that writes an entry at the place that was drawn.
-use Rattle.std.proofs.Common.{◌≡◌, ◌≢◌, ℕ, ◌+◌, ◌<◌, ◌≤◌, true, eqb, eq-eqb, ne_eqb, List, length, set, slice_get, refl, sym, ap, ◌∙◌, subst, arith, Option, Some, ⊎_elim, length-set, get_or-set_same, get_or-set_other}
+use Rattle.std.proofs.Common.{◌≡◌, ◌≢◌, ℕ, ◌<◌, ◌≤◌, true, eqb, eq-eqb, ne_eqb, List, length, set, slice_get, refl, sym, ap, ◌∙◌, subst, arith, Option, Some, ⊎_elim, length-set, get_or-set_same, get_or-set_other}
 use mathlib.Core.Option.{some}
 use mathlib.Core.Logic.{dite}
 use native.Mathlib.Decide.{ℕ_discrete}
@@ -9,13 +9,14 @@ use Rattle.transfer_table.specs.Plan.{Plan, room}
 use Rattle.transfer_table.specs.Table.{TableState}
 use Rattle.transfer_table.specs.declared.entry.Entry.{Entry}
 use Rattle.transfer_table.proofs.Bounds.{legal_length}
+use Rattle.board_rule.specs.declared.layout.Layout.{Layout}
 use Rattle.board_rule.specs.declared.view.View.{View}
 use Rattle.board_words.specs.declared.entries.Drawn.{Drawn}
 use Rattle.board_rule.specs.declared.view.Doing.{Doing}
-use Rattle.board_rule.specs.declared.view.Doing.TheVariants.{Idle, Claiming, Crediting, Reserved, Landing, Sealing}
+use Rattle.board_rule.specs.declared.view.Doing.TheVariants.{Idle, Claiming, Crediting, Reserved, Landing, Leaving, Sealing}
 use Rattle.board_words.specs.Words.{journal_index, journal_word, spelled}
 use Rattle.board_words.specs.Counts.{total, one_if, draws_in}
-use Rattle.board_rule.specs.Counts.{draws, numbered, Load, load, flight}
+use Rattle.board_rule.specs.Counts.{draws, numbered, load, guests}
 use Rattle.board_rule.specs.Views.{jot_view}
 use Rattle.board_rule.specs.Rule.{Stands, Knows, IsSeat, DoesRight}
 use Rattle.board_rule.specs.Laws.{St, after_step, Keeps}
@@ -23,19 +24,20 @@ use Rattle.board_words.proofs.Totals.{total-set, total-same}
 use Rattle.board_words.proofs.Lists.{get-inside}
 use Rattle.board_rule.proofs.Loads.{load-same}
 use Rattle.board_words.proofs.Places.{place_at}
-use Rattle.board_rule.proofs.SiteSteps.{sites_other, knows_other}
+use Rattle.board_rule.proofs.SiteSteps.{guests-load, sites_other, knows_other}
 
-does_jotted : (p : Plan) (es : List Entry) (t : TableState) (v : View) (d : Doing) → DoesRight p es t v d → DoesRight p es t (jot_view v) d
-does_jotted p es t v Idle r = tt
-does_jotted p es t v (Claiming x) r = (r.0, r.1, r.2, refl)
-does_jotted p es t v (Crediting x k) r = r
-does_jotted p es t v (Reserved x) r = (r.0, r.1, r.2, refl)
-does_jotted p es t v (Landing x) r = r
-does_jotted p es t v (Sealing x) r = r
+does_jotted : (lay : Layout) (p : Plan) (es : List Entry) (t : TableState) (v : View) (d : Doing) → DoesRight lay p es t v d → DoesRight lay p es t (jot_view v) d
+does_jotted lay p es t v Idle r = tt
+does_jotted lay p es t v (Claiming x) r = (r.0, r.1, r.2, refl)
+does_jotted lay p es t v (Crediting x k) r = r
+does_jotted lay p es t v (Reserved x) r = (r.0, r.1, r.2, refl)
+does_jotted lay p es t v (Landing x) r = r
+does_jotted lay p es t v (Leaving x) r = r
+does_jotted lay p es t v (Sealing x) r = r
 
-pub jot_keeps : (p : Plan) (s : St) (k : Stands p s) (id : ℕ) (v : View) (place : ℕ) (e : Entry) → get_elem? s.views id ≡ some v → IsSeat v → v.drawn ≡ Some record { place = place; entry = e }
-    → Keeps p s k (after_step s (journal_index p place) (spelled e) id (jot_view v))
-jot_keeps p s k id v place e at seat drawn =
+pub jot_keeps : (lay : Layout) (p : Plan) (s : St) (k : Stands lay p s) (id : ℕ) (v : View) (place : ℕ) (e : Entry) → get_elem? s.views id ≡ some v → IsSeat v → v.drawn ≡ Some record { place = place; entry = e }
+    → Keeps lay p s k (after_step s (journal_index p place) (spelled e) id (jot_view v))
+jot_keeps lay p s k id v place e at seat drawn =
     let w : View = jot_view v in
     let i : ℕ = journal_index p place in
     let n : ℕ = spelled e in
@@ -48,7 +50,7 @@ jot_keeps p s k id v place e at seat drawn =
     = λ j not. total-same (draws j) s.views id v w at (sym (old_draw j ∙ ap one_if (ne_eqb place j (λ z. not (sym z))))) in
     let word_same : (j : ℕ) → j ≢ place → journal_word p (set s.words i n) j ≡ journal_word p s.words j = λ j not. get_or-set_other s.words i (journal_index p j) n 0 (λ z. not (omega arith)) in
     let load_same : (y : ℕ) → load y (set s.views id w) ≡ load y s.views = λ y. load-same y s.views id v w at refl in
-    let flown : (y : ℕ) → k.closing y ≡ true → flight s.views y ≡ 0 → flight (set s.views id w) y ≡ 0 = λ y _ none. ap (λ (c : Load). c.reserves + c.lands) (load_same y) ∙ none in (
+    let flown : (y : ℕ) → k.closing y ≡ true → guests lay p k.table s.views y ≡ 0 → guests lay p k.table (set s.views id w) y ≡ 0 = λ y _ none. guests-load lay p k.table s.views (set s.views id w) y (load_same y) ∙ none in (
       record {
         journal = k.journal;
         table = k.table;
@@ -56,7 +58,7 @@ jot_keeps p s k id v place e at seat drawn =
         ended = k.ended;
         closing = k.closing;
         plan = k.plan;
-        four = k.four;
+        few = k.few;
         wide = length-set s.words i n ∙ k.wide;
         legal = k.legal;
         board = get_or-set_other s.words i 0 n 0 (λ z. omega arith) ∙ k.board;
@@ -77,12 +79,12 @@ jot_keeps p s k id v place e at seat drawn =
         unmade = k.unmade;
         over = k.over;
         views = λ j u is lt. ⊎_elim
-            (λ t. let P : View → Type 0 = λ z. Knows p k.journal k.table z k.closing (flight (set s.views id w)) k.made k.ended in subst P t.1 (record {
+            (λ t. let P : View → Type 0 = λ z. Knows lay p k.journal k.table z k.closing (guests lay p k.table (set s.views id w)) k.made k.ended in subst P t.1 (record {
               itself = record { plan = me.plan; mine = me.mine; placed = me.placed; owner = me.owner; drawn = λ d c. absurd (cc); joined = me.joined };
-              does = does_jotted p k.journal k.table v v.doing know.does;
-              sites = sites_other p k.table v.hart v.marks k.closing k.closing (flight s.views) (flight (set s.views id w)) (λ y z. z) flown know.sites;
+              does = does_jotted lay p k.journal k.table v v.doing know.does;
+              sites = sites_other p k.table v.hart v.marks k.closing k.closing (guests lay p k.table s.views) (guests lay p k.table (set s.views id w)) (λ y z. z) flown know.sites;
             }))
-            (λ t. knows_other p k.journal k.table u k.closing k.closing (flight s.views) (flight (set s.views id w)) k.made k.ended (λ y z. z) flown (k.views j u t.1 lt))
+            (λ t. knows_other lay p k.journal k.table u k.closing k.closing (guests lay p k.table s.views) (guests lay p k.table (set s.views id w)) k.made k.ended (λ y z. z) flown (k.views j u t.1 lt))
             (at_set s.views id j w u is);
         spent = λ j u is not. ⊎_elim (λ t. absurd (not (subst IsSeat t.1 seat))) (λ t. k.spent j u t.1 not) (at_set s.views id j w u is);
       },

@@ -1,13 +1,14 @@
 pub mod Loads
 pub mod SiteWords
 pub mod Fields
+pub mod BoardWords
+pub mod Layouts
 pub mod SiteSteps
 pub mod BoardSteps
 pub mod Looks
 pub mod Claims
 pub mod Dones
 pub mod Jots
-pub mod BoardWords
 pub mod Registers
 pub mod Moves
 pub mod Opens
@@ -15,4 +16,5 @@ pub mod Joins
 pub mod Follows
 pub mod Tells
 pub mod Ends
+pub mod Lasts
 pub mod Bounds

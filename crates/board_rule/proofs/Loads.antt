@@ -27,6 +27,7 @@ pub record Shifts (c c' a b : Load) : Type 0 where
   pub seals : c'.seals + a.seals ≡ c.seals + b.seals
   pub reserves : c'.reserves + a.reserves ≡ c.reserves + b.reserves
   pub lands : c'.lands + a.lands ≡ c.lands + b.lands
+  pub leaves : c'.leaves + a.leaves ≡ c.leaves + b.leaves
   pub credits : c'.credits + a.credits ≡ c.credits + b.credits
 
 pub load-shift : (x : ℕ) (vs : List View) (j : ℕ) (v w : View) (a b : Load) → get_elem? vs j ≡ some v → part v.doing x ≡ a → part w.doing x ≡ b → Shifts (load x vs) (load x (set vs j w)) a b
@@ -35,6 +36,7 @@ load-shift x vs j v w a b at was is = let P : Load × Load → Type 0 = λ z. Sh
   seals = total-set (λ u. (part u.doing x).seals) vs j v w at;
   reserves = total-set (λ u. (part u.doing x).reserves) vs j v w at;
   lands = total-set (λ u. (part u.doing x).lands) vs j v w at;
+  leaves = total-set (λ u. (part u.doing x).leaves) vs j v w at;
   credits = total-set (λ u. (part u.doing x).credits) vs j v w at;
 })
 
@@ -45,5 +47,6 @@ load-same x vs j v w at same = λ i. record {
   seals = total-same (λ u. (part u.doing x).seals) vs j v w at (ap (λ (c : Load). c.seals) same) i;
   reserves = total-same (λ u. (part u.doing x).reserves) vs j v w at (ap (λ (c : Load). c.reserves) same) i;
   lands = total-same (λ u. (part u.doing x).lands) vs j v w at (ap (λ (c : Load). c.lands) same) i;
+  leaves = total-same (λ u. (part u.doing x).leaves) vs j v w at (ap (λ (c : Load). c.leaves) same) i;
   credits = total-same (λ u. (part u.doing x).credits) vs j v w at (ap (λ (c : Load). c.credits) same) i;
 }

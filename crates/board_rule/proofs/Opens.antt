@@ -1,13 +1,12 @@
 -- The board as it is made, and a hart's seat that is split off.
-use Rattle.std.proofs.Common.{◌≡◌, ◌≤◌, ◌≢◌, ℕ, zero, suc, ◌+◌, ◌<◌, Bool, true, false, eqb, ne_eqb, ◌&&◌, nat_le, List, [], ◌∷◌, ◌++◌, set, replicate, slice_index, refl, sym, ap, ◌∙◌, subst, arith, ⊎_elim}
+use Rattle.std.proofs.Common.{◌≡◌, ◌≢◌, ℕ, zero, suc, ◌+◌, ◌<◌, Bool, true, false, eqb, ne_eqb, ◌&&◌, nat_le, List, [], ◌∷◌, ◌++◌, set, replicate, refl, sym, ap, ◌∙◌, subst, arith, ⊎_elim}
 use mathlib.Core.Option.{some, some-injective, some-ne-none}
 use lib.ListN.{get_elem?}
-use Rattle.std.proofs.lemmas.Bool.Decides.{nat_tests}
 use Rattle.std.proofs.lemmas.List.{length-replicate}
 use Rattle.atomic_table.specs.Table.{opening}
 use Rattle.atomic_table.proofs.Lists.{at_set, at_snoc}
 use Rattle.transfer_table.specs.Plan.{Plan, IsPlan, IsSite, site_count}
-use Rattle.transfer_table.specs.Table.{TableState, first_state, is_live, is_home, lives_with}
+use Rattle.transfer_table.specs.Table.{TableState, first_state, row, is_live, is_home, lives_with}
 use Rattle.transfer_table.specs.declared.entry.Row.{Row}
 use Rattle.transfer_table.proofs.Lists.{replicate_at}
 use Rattle.transfer_table.proofs.Stages.{first_blank}
@@ -17,10 +16,9 @@ use Rattle.hart_port.specs.Ledger.{no_site}
 use Rattle.board_rule.specs.declared.view.View.{View}
 use Rattle.board_rule.specs.declared.view.Doing.{Doing}
 use Rattle.board_rule.specs.declared.view.Doing.TheVariants.{Idle}
-use Rattle.hart_port.specs.Words.{owner_digits}
 use Rattle.board_words.specs.Words.{width, journal_index}
 use Rattle.board_words.specs.Counts.{total, one_if}
-use Rattle.board_rule.specs.Counts.{draws, numbered, no_load, Load, part, load, flight}
+use Rattle.board_rule.specs.Counts.{draws, numbered, no_load, Load, part, load, guests}
 use Rattle.board_rule.specs.Views.{first_view, no_marks, split_left, split_right}
 use Rattle.board_rule.specs.Rule.{Stands, Knows, KnowsSites, HasFlags, IsSeat, DoesRight}
 use Rattle.board_rule.specs.Laws.{St, Keeps}
@@ -28,19 +26,31 @@ use Rattle.board_words.proofs.Totals.{total-same, total-snoc}
 use Rattle.board_rule.proofs.Loads.{part-idle}
 use Rattle.board_words.proofs.Sets.{in-no_site}
 use Rattle.board_words.proofs.Places.{place_at}
-use Rattle.board_rule.proofs.SiteSteps.{sites_other}
+use Rattle.board_rule.proofs.SiteSteps.{sites_other, guests-load}
+use Rattle.hart_port.specs.Words.{owner_digits}
+use Rattle.board_rule.specs.declared.layout.Layout.{Layout}
+use Rattle.board_rule.specs.declared.layout.Layout.TheVariants.{Owners, Guests}
+use Rattle.board_rule.specs.Layouts.{HasRoom, first_word}
+use Rattle.board_rule.proofs.Layouts.{no_insider}
+use Rattle.std.proofs.lemmas.Bool.Decides.{nat_tests}
+use Rattle.transfer_table.specs.declared.entry.Stage.TheVariants.{New}
 use Rattle.board_rule.proofs.BoardSteps.{one_seat, other_hart}
 
 no_digits : (n : ℕ) → owner_digits (replicate n 0) ≡ 0
 no_digits zero = refl
 no_digits (suc n) = let r = no_digits n in omega arith
 
-first_is : (v w : View) (j : ℕ) → get_elem? (v ∷ []) j ≡ some w → v ≡ w
-first_is v w zero e = some-injective v w e
-first_is v w (suc j) e = absurd (some-ne-none w (sym e))
+-- the first word of a new board
+opening_word : (lay : Layout) (p : Plan) → first_word lay (first_state p) 0 ≡ 0
+opening_word Owners p = let z = no_digits p.harts in omega arith
+opening_word Guests p = refl
 
 pub first_seats : (h : ℕ) → one_if (eqb 0 h) + 0 + 0 + one_if (nat_le 1 h) ≡ 1
 first_seats h = grind (arith, nat_tests)
+
+first_is : (v w : View) (j : ℕ) → get_elem? (v ∷ []) j ≡ some w → v ≡ w
+first_is v w zero e = some-injective v w e
+first_is v w (suc j) e = absurd (some-ne-none w (sym e))
 
 flags : (p : Plan) → HasFlags p (no_marks p)
 flags p = let n = length-replicate (site_count p + 1) false in record { homes = n; closed = n; drained = n; empty = n; gone = n }
@@ -61,28 +71,30 @@ nothing_known p t h c f homeless = let none : (x : ℕ) → is_in (no_site p) x 
 -- an idle seat adds nothing to a load
 load-idle : (x : ℕ) (v : View) → v.doing ≡ Idle → load x (v ∷ []) ≡ no_load
 load-idle x v idle = let e : part v.doing x ≡ no_load = ap (λ (d : Doing). part d x) idle ∙ part-idle x in
-    λ i. record { claims = (e i).claims + 0; seals = (e i).seals + 0; reserves = (e i).reserves + 0; lands = (e i).lands + 0; credits = (e i).credits + 0 }
+    λ i. record { claims = (e i).claims + 0; seals = (e i).seals + 0; reserves = (e i).reserves + 0; lands = (e i).lands + 0; leaves = (e i).leaves + 0; credits = (e i).credits + 0 }
 
-pub opens : (p : Plan) → IsPlan p → p.harts ≤ 4 → Stands p (opening (replicate (width p) 0) [] (first_view p))
-opens p plan four = record {
+pub opens : (lay : Layout) (p : Plan) → IsPlan p → HasRoom lay p.harts → Stands lay p (opening (replicate (width p) 0) [] (first_view p))
+opens lay p plan few = record {
   journal = [];
   table = first_state p;
   made = 1;
   ended = [];
   closing = λ _. false;
   plan = plan;
-  four = four;
+  few = few;
   wide = length-replicate (width p) 0;
   legal = refl;
-  board = (let z = no_digits p.harts in let y : slice_index (replicate (width p) 0) 0 ≡ 0 = replicate_at (width p) 0 0 in omega arith);
+  board = replicate_at (width p) 0 0 ∙ sym (opening_word lay p);
   places = λ i e is. absurd (cc);
   beyond = λ i l. (replicate_at (width p) (journal_index p i) 0, refl);
-  sites = λ x site. let none = load-idle x (first_view p) refl in rw (replicate_at {A = ℕ} (width p) x 0, none) (record { want = 0; claimed = omega arith; fresh = λ _. (refl, refl); over = λ z. absurd (cc); sealed = omega arith; wishes = refl; word_is = omega arith });
+  sites = λ x site. let none = load-idle x (first_view p) refl in
+      let no_guest = no_insider lay p plan [] (first_state p) refl x site (λ live. let new : (row (first_state p) x).stage ≡ New = ap (λ (r : Row). r.stage) (first_blank p x) in cc) in
+      rw (replicate_at {A = ℕ} (width p) x 0, none, no_guest) (record { want = 0; claimed = omega arith; fresh = λ _. refl; over = λ z. absurd (cc); idle = λ _. refl; sealed = omega arith; wishes = refl; word_is = omega arith });
   seats = λ h l. first_seats h;
   first = refl;
   unmade = λ h l. refl;
   over = λ k e is. absurd (some-ne-none e (sym is));
-  views = λ j v is lt. let P : View → Type 0 = λ z. Knows p [] (first_state p) z (λ _. false) (flight (first_view p ∷ [])) 1 [] in subst P (first_is (first_view p) v j is) (record {
+  views = λ j v is lt. let P : View → Type 0 = λ z. Knows lay p [] (first_state p) z (λ _. false) (guests lay p (first_state p) (first_view p ∷ [])) 1 [] in subst P (first_is (first_view p) v j is) (record {
     itself = record { plan = refl; mine = refl; placed = tt; owner = sym (replicate_at p.harts 0 0); drawn = λ d c. absurd (cc); joined = λ _. (refl, refl) };
     does = tt;
     sites = nothing_known p (first_state p) 0 (λ _. false) _ (λ x site. ap (λ (r : Row). is_live r.stage && is_home r.home 0) (first_blank p x));
@@ -93,9 +105,9 @@ opens p plan four = record {
 pub made_tells : (m h : ℕ) → one_if (eqb m h) + one_if (nat_le (m + 1) h) ≡ one_if (nat_le m h)
 made_tells m h = grind (arith, nat_tests)
 
-pub split_keeps : (p : Plan) (s : St) (k : Stands p s) (id : ℕ) (v : View) → get_elem? s.views id ≡ some v → v.hart ≡ 0 → v.plan ≡ p → v.made < p.harts → v.doing ≡ Idle
-    → Keeps p s k record { words = s.words; homes = s.homes; views = set s.views id (split_left v) ++ split_right v ∷ [] }
-split_keeps p s k id v at zeroth is_plan below idle =
+pub split_keeps : (lay : Layout) (p : Plan) (s : St) (k : Stands lay p s) (id : ℕ) (v : View) → get_elem? s.views id ≡ some v → v.hart ≡ 0 → v.plan ≡ p → v.made < p.harts → v.doing ≡ Idle
+    → Keeps lay p s k record { words = s.words; homes = s.homes; views = set s.views id (split_left v) ++ split_right v ∷ [] }
+split_keeps lay p s k id v at zeroth is_plan below idle =
     let l : View = split_left v in let r : View = split_right v in
     let some_hart = k.plan.some_hart in
     let seat : IsSeat v = subst (λ (z : ℕ × Plan). z.0 < z.1.harts) (λ i. (sym zeroth i, sym is_plan i)) (let z : 0 < p.harts = omega arith in z) in
@@ -112,10 +124,11 @@ split_keeps p s k id v at zeroth is_plan below idle =
       seals = none (λ u. (part u.doing x).seals) refl (ap (λ (c : Load). c.seals) e) i;
       reserves = none (λ u. (part u.doing x).reserves) refl (ap (λ (c : Load). c.reserves) e) i;
       lands = none (λ u. (part u.doing x).lands) refl (ap (λ (c : Load). c.lands) e) i;
+      leaves = none (λ u. (part u.doing x).leaves) refl (ap (λ (c : Load). c.leaves) e) i;
       credits = none (λ u. (part u.doing x).credits) refl (ap (λ (c : Load). c.credits) e) i;
     } in
-    let flown : (y : ℕ) → k.closing y ≡ true → flight s.views y ≡ 0 → flight vs y ≡ 0 = λ y _ z. ap (λ (c : Load). c.reserves + c.lands) (load_same y) ∙ z in
-    let R : Doing → Type 0 = λ d. DoesRight p k.journal k.table l d in (
+    let flown : (y : ℕ) → k.closing y ≡ true → guests lay p k.table s.views y ≡ 0 → guests lay p k.table vs y ≡ 0 = λ y _ z. guests-load lay p k.table s.views vs y (load_same y) ∙ z in
+    let R : Doing → Type 0 = λ d. DoesRight lay p k.journal k.table l d in (
       record {
         journal = k.journal;
         table = k.table;
@@ -123,7 +136,7 @@ split_keeps p s k id v at zeroth is_plan below idle =
         ended = k.ended;
         closing = k.closing;
         plan = k.plan;
-        four = k.four;
+        few = k.few;
         wide = k.wide;
         legal = k.legal;
         board = k.board;
@@ -132,26 +145,26 @@ split_keeps p s k id v at zeroth is_plan below idle =
         sites = λ x site. rw (load_same x) (k.sites x site);
         seats = λ h c. let old = k.seats h c in let sum = total-snoc (numbered h) (set s.views id l) r in let same = total-same (numbered h) s.views id v l at refl in let tell = made_tells v.made h in
             let m : one_if (nat_le (k.made + 1) h) ≡ one_if (nat_le (v.made + 1) h) = ap (λ (q : ℕ). one_if (nat_le (q + 1) h)) (sym made) in let m' : one_if (nat_le k.made h) ≡ one_if (nat_le v.made h) = ap (λ (q : ℕ). one_if (nat_le q h)) (sym made) in omega arith;
-        first = none (numbered 0) refl (let one = one_seat p s k id v at seat in let above : v.hart < v.made = omega (arith, one.2, made) in let apart : v.made ≢ 0 = λ z. omega arith in ap one_if (ne_eqb v.made 0 apart)) ∙ k.first;
+        first = none (numbered 0) refl (let one = one_seat lay p s k id v at seat in let above : v.hart < v.made = omega (arith, one.2, made) in let apart : v.made ≢ 0 = λ z. omega arith in ap one_if (ne_eqb v.made 0 apart)) ∙ k.first;
         unmade = λ h c. k.unmade h (omega arith);
         over = k.over;
-        views = λ j u is lt. let P : View → Type 0 = λ z. Knows p k.journal k.table z k.closing (flight vs) (k.made + 1) k.ended in ⊎_elim
+        views = λ j u is lt. let P : View → Type 0 = λ z. Knows lay p k.journal k.table z k.closing (guests lay p k.table vs) (k.made + 1) k.ended in ⊎_elim
             (λ old. ⊎_elim
             (λ t. subst P t.1 (record {
               itself = record { plan = me.plan; mine = me.mine; placed = me.placed; owner = me.owner; drawn = me.drawn; joined = λ z. (ap (λ (q : ℕ). q + 1) made, (me.joined zeroth).1) };
               does = subst R (sym idle) tt;
-              sites = sites_other p k.table v.hart v.marks k.closing k.closing (flight s.views) (flight vs) (λ y z. z) flown know.sites;
+              sites = sites_other p k.table v.hart v.marks k.closing k.closing (guests lay p k.table s.views) (guests lay p k.table vs) (λ y z. z) flown know.sites;
             }))
             (λ t. let o = k.views j u t.1 lt in let it = o.itself in record {
-              itself = record { plan = it.plan; mine = it.mine; placed = it.placed; owner = it.owner; drawn = it.drawn; joined = λ z. absurd (other_hart p s k id j v u at seat t.0 t.1 (z ∙ sym zeroth)) };
+              itself = record { plan = it.plan; mine = it.mine; placed = it.placed; owner = it.owner; drawn = it.drawn; joined = λ z. absurd (other_hart lay p s k id j v u at seat t.0 t.1 (z ∙ sym zeroth)) };
               does = o.does;
-              sites = sites_other p k.table u.hart u.marks k.closing k.closing (flight s.views) (flight vs) (λ y z. z) flown o.sites;
+              sites = sites_other p k.table u.hart u.marks k.closing k.closing (guests lay p k.table s.views) (guests lay p k.table vs) (λ y z. z) flown o.sites;
             })
             (at_set s.views id j l u old))
             (λ new. subst P new (record {
-              itself = record { plan = is_plan; mine = sym unmade; placed = tt; owner = sym idle_hart.base; drawn = λ d c. absurd (cc); joined = λ z. absurd (let c = (one_seat p s k id v at seat).2 in omega arith) };
+              itself = record { plan = is_plan; mine = sym unmade; placed = tt; owner = sym idle_hart.base; drawn = λ d c. absurd (cc); joined = λ z. absurd (let c = (one_seat lay p s k id v at seat).2 in omega arith) };
               does = tt;
-              sites = (let Q : Plan → Type 0 = λ q. KnowsSites p k.table v.made (no_marks q) k.closing (flight vs) in subst Q (sym is_plan) (nothing_known p k.table v.made k.closing (flight vs) (legal_idle-lives_with p k.plan k.journal k.table k.legal v.made unmade)));
+              sites = (let Q : Plan → Type 0 = λ q. KnowsSites p k.table v.made (no_marks q) k.closing (guests lay p k.table vs) in subst Q (sym is_plan) (nothing_known p k.table v.made k.closing (guests lay p k.table vs) (legal_idle-lives_with p k.plan k.journal k.table k.legal v.made unmade)));
             }))
             (at_snoc (set s.views id l) r u j is);
         spent = λ j u is not. ⊎_elim

@@ -1,11 +1,11 @@
 -- The step that makes a Register, and the one that makes a Request.
-use Rattle.std.proofs.Common.{◌≡◌, ℕ, ◌+◌, ◌*◌, ◌%◌, ◌^◌, ◌<◌, Bool, true, false, ◌&&◌, eq-eqb, length, set, slice_index, refl, sym, ap, ◌∙◌, subst, arith, ⊎_elim, inr, length-set}
+use Rattle.std.proofs.Common.{◌≡◌, ℕ, ◌+◌, ◌<◌, Bool, true, false, ◌&&◌, eq-eqb, length, set, slice_index, refl, sym, ap, ◌∙◌, subst, arith, ⊎_elim, inr, length-set}
 use mathlib.Core.Option.{some}
 use mathlib.Core.Logic.{dite}
 use native.Mathlib.Decide.{ℕ_discrete}
 use lib.ListN.{get_elem?}
 use Rattle.transfer_table.specs.Plan.{Plan, IsSite}
-use Rattle.transfer_table.specs.Table.{TableState, effect_of, owner, row, is_live, is_home, lives_with}
+use Rattle.transfer_table.specs.Table.{TableState, effect_of, row, is_live, is_home, lives_with}
 use Rattle.transfer_table.specs.Allowed.{IsAllowed}
 use Rattle.transfer_table.specs.Entry.{site_of, covers, requested}
 use Rattle.transfer_table.specs.declared.entry.Row.{Row}
@@ -19,40 +19,37 @@ use Rattle.board_rule.specs.declared.view.View.{View}
 use Rattle.board_rule.specs.declared.view.Marks.{Marks}
 use Rattle.board_rule.specs.declared.view.Doing.{Doing}
 use Rattle.board_rule.specs.declared.view.Doing.TheVariants.{Idle, Claiming, Crediting, Sealing}
-use Rattle.board_rule.specs.Words.{length_unit, entries_in}
-use Rattle.board_rule.specs.Counts.{Load, no_load, weight, busy_at, part, load, flight}
+use Rattle.board_rule.specs.Counts.{Load, no_load, weight, busy_at, part, load, guests}
 use Rattle.board_rule.specs.Views.{register_view, request_view, skip_view, home_marks}
-use Rattle.board_rule.specs.Rule.{Stands, KnowsSites, IsSeat, IsSiteWord, DoesRight}
 use Rattle.board_words.specs.Shown.{started}
+use Rattle.board_rule.specs.Rule.{Stands, KnowsSites, IsSeat, IsSiteWord, DoesRight}
 use Rattle.board_words.proofs.Shown.{shown-new, shown-live, shown-after}
 use Rattle.board_rule.specs.Steps.{MayRequest}
-use Rattle.board_rule.specs.Laws.{St, after_step, Appends}
+use Rattle.board_rule.specs.Laws.{St, Appends}
+use Rattle.board_rule.specs.StepLaws.{after_tick}
+use Rattle.board_rule.specs.declared.layout.Layout.{Layout}
+use Rattle.board_rule.specs.Layouts.{entries_of, Adds, insiders}
+use Rattle.board_rule.proofs.Layouts.{insiders_stay}
 use Rattle.board_rule.proofs.Loads.{part-elsewhere, part-here, part-idle, load-shift}
 use Rattle.board_words.proofs.Sets.{with_site-same, with_site-other, with_site-in, with_site-keeps, without-other, without-in}
 use Rattle.board_rule.proofs.SiteWords.{registered_word, requested_word, skipped_word}
-use Rattle.board_rule.proofs.Fields.{digits_small, entries_is}
 use Rattle.board_rule.proofs.BoardSteps.{board_step, in_plan, other_hart, sites_moved}
-use Rattle.board_rule.proofs.BoardWords.{board_next}
 use Rattle.board_rule.proofs.Claims.{turns_to, idle_part}
-use Rattle.board_rule.proofs.Dones.{home_live}
+use Rattle.board_rule.proofs.Looks.{home_live}
 use Rattle.board_words.proofs.Asked.{asked_by_home, is_home-some}
 
--- the length that the board word tells
-pub length_is : (p : Plan) (s : St) (k : Stands p s) → entries_in (slice_index s.words 0) ≡ length k.journal
-length_is p s k = entries_is (slice_index s.words 0) (length k.journal) k.table.owners k.board (digits_small p k.plan k.four k.journal k.table k.legal)
-
 -- a site's word tells of its row where that is shown
-pub word_row : {w : ℕ} {b : Bool} {c : Load} {r r' : Row} → r ≡ r' → IsSiteWord w b c r → IsSiteWord w b c r'
-word_row {w = w} {b = b} {c = c} same word = subst (IsSiteWord w b c) same word
+pub word_row : {w : ℕ} {b : Bool} {c : Load} {r r' : Row} {m : ℕ} → r ≡ r' → IsSiteWord w b c r m → IsSiteWord w b c r' m
+word_row {w = w} {b = b} {c = c} {m = m} same word = subst (λ (r : Row). IsSiteWord w b c r m) same word
 
 -- ---- register
 
-pub register_allowed : (p : Plan) (s : St) (k : Stands p s) (id : ℕ) (v : View) (x : ℕ) → get_elem? s.views id ≡ some v → IsSeat v → v.doing ≡ Claiming x → IsAllowed p k.table (Register v.hart x)
-register_allowed p s k id v x at seat does =
+pub register_allowed : (lay : Layout) (p : Plan) (s : St) (k : Stands lay p s) (id : ℕ) (v : View) (x : ℕ) → get_elem? s.views id ≡ some v → IsSeat v → v.doing ≡ Claiming x → IsAllowed p k.table (Register v.hart x)
+register_allowed lay p s k id v x at seat does =
     let know = k.views id v at seat in
-    let R : Doing → Type 0 = λ q. DoesRight p k.journal k.table v q in
-    let right : DoesRight p k.journal k.table v (Claiming x) = subst R does know.does in
-    (in_plan p s k id v at seat, right.0, sym know.itself.owner ∙ right.1, right.2)
+    let R : Doing → Type 0 = λ q. DoesRight lay p k.journal k.table v q in
+    let right : DoesRight lay p k.journal k.table v (Claiming x) = subst R does know.does in
+    (in_plan lay p s k id v at seat, right.0, sym know.itself.owner ∙ right.1, right.2)
 
 sites_registered : (p : Plan) (t : TableState) (h x : ℕ) → Fits p t → IsAllowed p t (Register h x) → (m : Marks) (c : ℕ → Bool) (f : ℕ → ℕ) → KnowsSites p t h m c f → KnowsSites p (effect_of p t (Register h x)) h (home_marks x m) c f
 sites_registered p t h x fits a m c f k =
@@ -72,77 +69,76 @@ sites_registered p t h x fits a m c f k =
       gone = λ y is. let r = k.gone y is in (r.0, gone_lasts p t (Register h x) fits a y r.0 r.1);
     }
 
-pub register_appends : (p : Plan) (s : St) (k : Stands p s) (id : ℕ) (v : View) (x amount : ℕ) → get_elem? s.views id ≡ some v → IsSeat v → v.doing ≡ Claiming x
-    → amount + v.owner * 4096 ^ v.hart ≡ length_unit + x * 4096 ^ v.hart
-    → Appends p s k (Register v.hart (busy_at v.doing)) (after_step s 0 ((slice_index s.words 0 + amount) % 2 ^ 64) id (register_view (entries_in (slice_index s.words 0)) v))
-register_appends p s k id v z amount at seat claiming added =
+pub register_appends : (lay : Layout) (p : Plan) (s : St) (k : Stands lay p s) (id : ℕ) (v : View) (x amount : ℕ) → get_elem? s.views id ≡ some v → IsSeat v → v.doing ≡ Claiming x → Adds lay v.owner v.hart x amount
+    → Appends lay p s k (Register v.hart (busy_at v.doing)) (after_tick lay s amount id (λ place. register_view place v))
+register_appends lay p s k id v z amount at seat claiming adds =
     let x : ℕ = busy_at v.doing in
     let same : x ≡ z = ap busy_at claiming in
     let does : v.doing ≡ Claiming x = claiming ∙ ap Claiming (sym same) in
     let know = k.views id v at seat in
-    let R : Doing → Type 0 = λ q. DoesRight p k.journal k.table v q in
-    let right : DoesRight p k.journal k.table v (Claiming x) = subst R does know.does in
+    let R : Doing → Type 0 = λ q. DoesRight lay p k.journal k.table v q in
+    let right : DoesRight lay p k.journal k.table v (Claiming x) = subst R does know.does in
     let site = right.0 in
     let h : ℕ = v.hart in let t : TableState = k.table in let e : Entry = Register h x in
     let fits = legal_position p k.plan k.journal t k.legal in
-    let allowed = register_allowed p s k id v x at seat does in
-    let w : View = register_view (entries_in (slice_index s.words 0)) v in
+    let allowed = register_allowed lay p s k id v x at seat does in
+    let adds_here : Adds lay v.owner v.hart x amount = subst (λ (q : ℕ). Adds lay v.owner v.hart q amount) (sym same) adds in
+    let w : View = register_view (entries_of lay (slice_index s.words 0)) v in
     let was : part v.doing x ≡ weight (Claiming x) = ap (λ (q : Doing). part q x) does ∙ part-here (Claiming x) x refl in
     let shift = load-shift x s.views id v w (weight (Claiming x)) no_load at was (part-idle x) in
-    let r1 : (load x (set s.views id w)).reserves + 0 ≡ (load x s.views).reserves + 0 = shift.reserves in let r2 : (load x (set s.views id w)).lands + 0 ≡ (load x s.views).lands + 0 = shift.lands in
-    let amount_is : amount + owner t h * 4096 ^ h ≡ length_unit + x * 4096 ^ h = subst (λ (q : ℕ × ℕ). amount + q.0 * 4096 ^ h ≡ length_unit + q.1 * 4096 ^ h) (λ i. (know.itself.owner i, sym same i)) added in
-    board_step p s k id v e Idle (home_marks x v.marks) x (entries_in (slice_index s.words 0)) ((slice_index s.words 0 + amount) % 2 ^ 64) at seat right.3 refl allowed refl (length_is p s k)
-    (board_next p k.plan k.four k.journal t e k.legal allowed (slice_index s.words 0) amount k.board amount_is)
+    let r1 : (load x (set s.views id w)).reserves + 0 ≡ (load x s.views).reserves + 0 = shift.reserves in let r2 : (load x (set s.views id w)).lands + 0 ≡ (load x s.views).lands + 0 = shift.lands in let r3 : (load x (set s.views id w)).leaves + 0 ≡ (load x s.views).leaves + 0 = shift.leaves in
+    let inner = insiders_stay lay p k.plan k.journal t e k.legal allowed refl refl in
+    board_step lay p s k id v e Idle (home_marks x v.marks) x amount (entries_of lay (slice_index s.words 0)) at seat right.3 refl allowed refl adds_here refl
     (λ y n. part-idle y ∙ sym (ap (λ (q : Doing). part q y) does ∙ part-elsewhere (Claiming x) y (λ c. n (sym c))))
-    (registered_word (slice_index s.words x) (k.closing x) (load x s.views) (load x (set s.views id w)) (row t x) h x shift (legal_blank p k.plan k.journal t k.legal x site right.2) (word_row (shown-new p k.plan k.journal t k.legal x site right.2) (k.sites x site)))
+    (registered_word (slice_index s.words x) (k.closing x) (load x s.views) (load x (set s.views id w)) (row t x) (insiders lay p t x) (insiders lay p (effect_of p t e) x) h x shift inner (legal_blank p k.plan k.journal t k.legal x site right.2) (word_row (shown-new p k.plan k.journal t k.legal x site right.2) (k.sites x site)))
     refl
     (λ _ _. refl)
-    (λ _. omega arith)
+    (omega arith)
     (λ j u apart there seat_u is_empty saw. let o = (k.views j u there seat_u).sites in
-    let live = (home_live p s k j u x there seat_u (o.closed x (o.drained x (o.empty x is_empty)).0).0).1 in let new = right.2 in cc)
+    let live = (home_live lay p s k j u x there seat_u (o.closed x (o.drained x (o.empty x is_empty)).0).0).1 in let new = right.2 in cc)
     tt
-    (sites_registered p t h x fits allowed v.marks k.closing (flight s.views) know.sites)
+    (sites_registered p t h x fits allowed v.marks k.closing (guests lay p k.table s.views) know.sites)
 
 -- ---- skip
 
-pub skip_allowed : (p : Plan) (s : St) (k : Stands p s) (id : ℕ) (v : View) (x : ℕ) → get_elem? s.views id ≡ some v → IsSeat v → v.doing ≡ Claiming x → IsAllowed p k.table (Skip v.hart x)
-skip_allowed p s k id v x at seat does = register_allowed p s k id v x at seat does
+pub skip_allowed : (lay : Layout) (p : Plan) (s : St) (k : Stands lay p s) (id : ℕ) (v : View) (x : ℕ) → get_elem? s.views id ≡ some v → IsSeat v → v.doing ≡ Claiming x → IsAllowed p k.table (Skip v.hart x)
+skip_allowed lay p s k id v x at seat does = register_allowed lay p s k id v x at seat does
 
 -- a skip leaves the homes
-lives_with-skip : (p : Plan) (s : St) (k : Stands p s) (g x : ℕ) → IsAllowed p k.table (Skip g x) → (h y : ℕ) → IsSite p y → lives_with (effect_of p k.table (Skip g x)) y h ≡ lives_with k.table y h
-lives_with-skip p s k g x a h y site = let t : TableState = k.table in let lives : Row → Bool = λ r. is_live r.stage && is_home r.home h in
+lives_with-skip : (lay : Layout) (p : Plan) (s : St) (k : Stands lay p s) (g x : ℕ) → IsAllowed p k.table (Skip g x) → (h y : ℕ) → IsSite p y → lives_with (effect_of p k.table (Skip g x)) y h ≡ lives_with k.table y h
+lives_with-skip lay p s k g x a h y site = let t : TableState = k.table in let lives : Row → Bool = λ r. is_live r.stage && is_home r.home h in
     at_site p t (Skip g x) y (λ q r. lives r ≡ lives_with t q h) (legal_position p k.plan k.journal t k.legal) a site
     (ap lives (sym (legal_blank p k.plan k.journal t k.legal x a.1 a.3)))
     (λ _ _. refl)
     (λ _ c. ap lives (sym (legal_blank p k.plan k.journal t k.legal y site (covered_new p k.plan k.journal t (Skip g x) k.legal a y site c))))
 
-pub skip_appends : (p : Plan) (s : St) (k : Stands p s) (id : ℕ) (v : View) (x : ℕ) → get_elem? s.views id ≡ some v → IsSeat v → v.doing ≡ Claiming x
-    → Appends p s k (Skip v.hart (busy_at v.doing)) (after_step s 0 ((slice_index s.words 0 + length_unit) % 2 ^ 64) id (skip_view (entries_in (slice_index s.words 0)) v))
-skip_appends p s k id v z at seat claiming =
+pub skip_appends : (lay : Layout) (p : Plan) (s : St) (k : Stands lay p s) (id : ℕ) (v : View) (x amount : ℕ) → get_elem? s.views id ≡ some v → IsSeat v → v.doing ≡ Claiming x → Adds lay v.owner v.hart v.owner amount
+    → Appends lay p s k (Skip v.hart (busy_at v.doing)) (after_tick lay s amount id (λ place. skip_view place v))
+skip_appends lay p s k id v z amount at seat claiming adds =
     let x : ℕ = busy_at v.doing in
     let same : x ≡ z = ap busy_at claiming in
     let does : v.doing ≡ Claiming x = claiming ∙ ap Claiming (sym same) in
     let know = k.views id v at seat in
-    let R : Doing → Type 0 = λ q. DoesRight p k.journal k.table v q in
-    let right : DoesRight p k.journal k.table v (Claiming x) = subst R does know.does in
+    let R : Doing → Type 0 = λ q. DoesRight lay p k.journal k.table v q in
+    let right : DoesRight lay p k.journal k.table v (Claiming x) = subst R does know.does in
     let site = right.0 in
     let h : ℕ = v.hart in let t : TableState = k.table in let e : Entry = Skip h x in
     let fits = legal_position p k.plan k.journal t k.legal in
-    let allowed = skip_allowed p s k id v x at seat does in
-    let w : View = skip_view (entries_in (slice_index s.words 0)) v in
+    let allowed = skip_allowed lay p s k id v x at seat does in
+    let w : View = skip_view (entries_of lay (slice_index s.words 0)) v in
     let was : part v.doing x ≡ weight (Claiming x) = ap (λ (q : Doing). part q x) does ∙ part-here (Claiming x) x refl in
     let shift = load-shift x s.views id v w (weight (Claiming x)) (weight (Sealing x)) at was (part-here (Sealing x) x refl) in
-    let r1 : (load x (set s.views id w)).reserves + 0 ≡ (load x s.views).reserves + 0 = shift.reserves in let r2 : (load x (set s.views id w)).lands + 0 ≡ (load x s.views).lands + 0 = shift.lands in
-    board_step p s k id v e (Sealing x) v.marks v.owner (entries_in (slice_index s.words 0)) ((slice_index s.words 0 + length_unit) % 2 ^ 64) at seat right.3 refl allowed right.1 (length_is p s k)
-    (board_next p k.plan k.four k.journal t e k.legal allowed (slice_index s.words 0) length_unit k.board (ap (λ (o : ℕ). length_unit + o * 4096 ^ h) (sym know.itself.owner ∙ right.1)))
+    let r1 : (load x (set s.views id w)).reserves + 0 ≡ (load x s.views).reserves + 0 = shift.reserves in let r2 : (load x (set s.views id w)).lands + 0 ≡ (load x s.views).lands + 0 = shift.lands in let r3 : (load x (set s.views id w)).leaves + 0 ≡ (load x s.views).leaves + 0 = shift.leaves in
+    let inner = insiders_stay lay p k.plan k.journal t e k.legal allowed refl refl in
+    board_step lay p s k id v e (Sealing x) v.marks v.owner amount (entries_of lay (slice_index s.words 0)) at seat right.3 refl allowed right.1 adds refl
     (λ y n. part-elsewhere (Sealing x) y (λ c. n (sym c)) ∙ sym (ap (λ (q : Doing). part q y) does ∙ part-elsewhere (Claiming x) y (λ c. n (sym c))))
-    (skipped_word (slice_index s.words x) (k.closing x) (load x s.views) (load x (set s.views id w)) (row t x) x shift (legal_blank p k.plan k.journal t k.legal x site right.2) (word_row (shown-new p k.plan k.journal t k.legal x site right.2) (k.sites x site)))
+    (skipped_word (slice_index s.words x) (k.closing x) (load x s.views) (load x (set s.views id w)) (row t x) (insiders lay p t x) (insiders lay p (effect_of p t e) x) x shift inner (legal_blank p k.plan k.journal t k.legal x site right.2) (word_row (shown-new p k.plan k.journal t k.legal x site right.2) (k.sites x site)))
     refl
     (λ _ live. absurd (let new = right.2 in cc))
-    (λ _. omega arith)
+    (omega arith)
     (λ j u apart there seat_u is_empty saw. let gone = ((k.views j u there seat_u).sites.gone x (saw x site refl)).1 in let new = right.2 in cc)
     (site, ap (λ (r : Row). r.stage) (shown-after p k.plan k.journal t k.legal e allowed), inr (v.mine, refl))
-    (sites_moved p t e fits allowed h v.marks k.closing (flight s.views) (flight s.views) (lives_with-skip p s k h x allowed h) (λ _ _ c. c) (λ other _ _. absurd (other refl)) know.sites)
+    (sites_moved p t e fits allowed h v.marks k.closing (guests lay p k.table s.views) (guests lay p k.table s.views) (lives_with-skip lay p s k h x allowed h) (λ _ _. refl) (λ other _ _. absurd (other refl)) know.sites)
 
 -- ---- request
 
@@ -151,35 +147,34 @@ pub lives_with-kept : (p : Plan) (t : TableState) (e : Entry) → Fits p t → I
     → (h y : ℕ) → IsSite p y → lives_with (effect_of p t e) y h ≡ lives_with t y h
 lives_with-kept p t e fits a plain stage home h y site = at_site p t e y (λ x r. (is_live r.stage && is_home r.home h) ≡ lives_with t x h) fits a site (λ i. is_live (stage i) && is_home (home i) h) (λ _ _. refl) (λ _ c. absurd (let z : true ≡ false = sym c ∙ plain y in cc))
 
-pub request_allowed : (p : Plan) (s : St) (k : Stands p s) (id : ℕ) (v : View) (n : ℕ) → get_elem? s.views id ≡ some v → IsSeat v → MayRequest p v n → IsAllowed p k.table (Request v.hart v.owner n)
-request_allowed p s k id v n at seat may =
+pub request_allowed : (lay : Layout) (p : Plan) (s : St) (k : Stands lay p s) (id : ℕ) (v : View) (n : ℕ) → get_elem? s.views id ≡ some v → IsSeat v → MayRequest p v n → IsAllowed p k.table (Request v.hart v.owner n)
+request_allowed lay p s k id v n at seat may =
     let know = k.views id v at seat in
-    let home = home_live p s k id v v.owner at seat may.1 in
+    let home = home_live lay p s k id v v.owner at seat may.1 in
     let is_home = is_home-some (row k.table v.owner).home v.hart home.2 in
     let asked = asked_by_home p k.plan k.journal k.table k.legal v.owner v.hart home.0 is_home ∙ ap (requested v.owner) (sym know.itself.mine) in
-    (in_plan p s k id v at seat, home.0, sym know.itself.owner, is_home, may.2, omega (arith, asked, may.3))
+    (in_plan lay p s k id v at seat, home.0, sym know.itself.owner, is_home, may.2, omega (arith, asked, may.3))
 
-pub request_appends : (p : Plan) (s : St) (k : Stands p s) (id : ℕ) (v : View) (n : ℕ) → get_elem? s.views id ≡ some v → IsSeat v → MayRequest p v n
-    → Appends p s k (Request v.hart v.owner n) (after_step s 0 ((slice_index s.words 0 + length_unit) % 2 ^ 64) id (request_view n (entries_in (slice_index s.words 0)) v))
-request_appends p s k id v n at seat may =
+pub request_appends : (lay : Layout) (p : Plan) (s : St) (k : Stands lay p s) (id : ℕ) (v : View) (n amount : ℕ) → get_elem? s.views id ≡ some v → IsSeat v → MayRequest p v n → Adds lay v.owner v.hart v.owner amount
+    → Appends lay p s k (Request v.hart v.owner n) (after_tick lay s amount id (λ place. request_view n place v))
+request_appends lay p s k id v n amount at seat may adds =
     let x : ℕ = v.owner in
     let know = k.views id v at seat in
     let idle = may.0.0 in
-    let home = home_live p s k id v x at seat may.1 in
+    let home = home_live lay p s k id v x at seat may.1 in
     let h : ℕ = v.hart in let t : TableState = k.table in let e : Entry = Request h x n in
     let fits = legal_position p k.plan k.journal t k.legal in
-    let allowed = request_allowed p s k id v n at seat may in
-    let w : View = request_view n (entries_in (slice_index s.words 0)) v in
+    let allowed = request_allowed lay p s k id v n at seat may in
+    let w : View = request_view n (entries_of lay (slice_index s.words 0)) v in
     let shift = load-shift x s.views id v w no_load (weight (Crediting x n)) at (idle_part v x idle) (part-here (Crediting x n) x refl) in
-    let r1 : (load x (set s.views id w)).reserves + 0 ≡ (load x s.views).reserves + 0 = shift.reserves in let r2 : (load x (set s.views id w)).lands + 0 ≡ (load x s.views).lands + 0 = shift.lands in
-    let own : owner t h ≡ x = sym know.itself.owner in
-    board_step p s k id v e (Crediting x n) v.marks x (entries_in (slice_index s.words 0)) ((slice_index s.words 0 + length_unit) % 2 ^ 64) at seat may.0.1 refl allowed refl (length_is p s k)
-    (board_next p k.plan k.four k.journal t e k.legal allowed (slice_index s.words 0) length_unit k.board (ap (λ (q : ℕ). length_unit + q * 4096 ^ h) own))
+    let r1 : (load x (set s.views id w)).reserves + 0 ≡ (load x s.views).reserves + 0 = shift.reserves in let r2 : (load x (set s.views id w)).lands + 0 ≡ (load x s.views).lands + 0 = shift.lands in let r3 : (load x (set s.views id w)).leaves + 0 ≡ (load x s.views).leaves + 0 = shift.leaves in
+    let inner = insiders_stay lay p k.plan k.journal t e k.legal allowed refl refl in
+    board_step lay p s k id v e (Crediting x n) v.marks x amount (entries_of lay (slice_index s.words 0)) at seat may.0.1 refl allowed refl adds refl
     (turns_to v x (Crediting x n) idle refl)
-    (requested_word (slice_index s.words x) n (k.closing x) (load x s.views) (load x (set s.views id w)) (row t x) x shift (λ new. let live = home.1 in cc) (word_row (shown-live p k.plan k.journal t k.legal x home.0 home.1) (k.sites x home.0)))
+    (requested_word (slice_index s.words x) n (k.closing x) (load x s.views) (load x (set s.views id w)) (row t x) (insiders lay p t x) (insiders lay p (effect_of p t e) x) x shift inner (word_row (shown-live p k.plan k.journal t k.legal x home.0 home.1) (k.sites x home.0)))
     (ap started home.1)
     (λ _ live. live)
-    (λ _. omega arith)
-    (λ j u apart there seat_u is_empty saw. (k.views j u there seat_u).sites.alone x is_empty saw h (in_plan p s k id v at seat) (λ c. other_hart p s k id j v u at seat apart there (sym c)) own)
+    (omega arith)
+    (λ j u apart there seat_u is_empty saw. (k.views j u there seat_u).sites.alone x is_empty saw h (in_plan lay p s k id v at seat) (λ c. other_hart lay p s k id j v u at seat apart there (sym c)) (sym know.itself.owner))
     (home.0, (v.mine, refl))
-    (sites_moved p t e fits allowed h v.marks k.closing (flight s.views) (flight s.views) (lives_with-kept p t e fits allowed (λ _. refl) refl refl h) (λ _ _ z. z) (λ other _ _. other refl) know.sites)
+    (sites_moved p t e fits allowed h v.marks k.closing (guests lay p k.table s.views) (guests lay p k.table s.views) (lives_with-kept p t e fits allowed (λ _. refl) refl refl h) (λ _ _. refl) (λ other _ _. absurd (other refl)) know.sites)

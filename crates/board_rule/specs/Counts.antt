@@ -1,8 +1,12 @@
 -- Sums over the views of all seats: what they do at a site, and what they have drawn.
 use Rattle.std.specs.Prelude.{ℕ, ◌+◌, ◌==◌, if◌then◌else◌, List}
+use Rattle.transfer_table.specs.Plan.{Plan}
+use Rattle.transfer_table.specs.Table.{TableState}
+use Rattle.board_rule.specs.declared.layout.Layout.{Layout}
+use Rattle.board_rule.specs.Layouts.{insiders}
 use Rattle.board_rule.specs.declared.view.View.{View}
 use Rattle.board_rule.specs.declared.view.Doing.{Doing}
-use Rattle.board_rule.specs.declared.view.Doing.TheVariants.{Idle, Claiming, Crediting, Reserved, Landing, Sealing}
+use Rattle.board_rule.specs.declared.view.Doing.TheVariants.{Idle, Claiming, Crediting, Reserved, Landing, Leaving, Sealing}
 use Rattle.board_words.specs.Counts.{total, one_if, draws_in}
 
 -- 1 for a view that has drawn the place and hasn't written its entry
@@ -13,26 +17,28 @@ draws i v = draws_in v.drawn i
 abbrev pub numbered : ℕ → View → ℕ
 numbered h v = one_if (v.hart == h)
 
--- what seats do at one site: how many are claiming it, sealing it, reserved to it and landing on it, and for how many harts
--- they are crediting it
+-- what seats do at one site: how many are claiming it, sealing it, reserved to it, landing on it and leaving it, and for how
+-- many harts they are crediting it
 pub record Load : Type 0 where
   pub claims : ℕ
   pub seals : ℕ
   pub reserves : ℕ
   pub lands : ℕ
+  pub leaves : ℕ
   pub credits : ℕ
 
 abbrev pub no_load : Load
-no_load = record { claims = 0; seals = 0; reserves = 0; lands = 0; credits = 0 }
+no_load = record { claims = 0; seals = 0; reserves = 0; lands = 0; leaves = 0; credits = 0 }
 
 -- what a seat does at the site where it is busy
 abbrev pub weight : Doing → Load
 weight Idle = no_load
-weight (Claiming x) = record { claims = 1; seals = 0; reserves = 0; lands = 0; credits = 0 }
-weight (Crediting x k) = record { claims = 0; seals = 0; reserves = 0; lands = 0; credits = k }
-weight (Reserved x) = record { claims = 0; seals = 0; reserves = 1; lands = 0; credits = 0 }
-weight (Landing x) = record { claims = 0; seals = 0; reserves = 0; lands = 1; credits = 0 }
-weight (Sealing x) = record { claims = 0; seals = 1; reserves = 0; lands = 0; credits = 0 }
+weight (Claiming x) = record { claims = 1; seals = 0; reserves = 0; lands = 0; leaves = 0; credits = 0 }
+weight (Crediting x k) = record { claims = 0; seals = 0; reserves = 0; lands = 0; leaves = 0; credits = k }
+weight (Reserved x) = record { claims = 0; seals = 0; reserves = 1; lands = 0; leaves = 0; credits = 0 }
+weight (Landing x) = record { claims = 0; seals = 0; reserves = 0; lands = 1; leaves = 0; credits = 0 }
+weight (Leaving x) = record { claims = 0; seals = 0; reserves = 0; lands = 0; leaves = 1; credits = 0 }
+weight (Sealing x) = record { claims = 0; seals = 1; reserves = 0; lands = 0; leaves = 0; credits = 0 }
 
 -- the site where a seat is busy; 0 for none
 abbrev pub busy_at : Doing → ℕ
@@ -41,6 +47,7 @@ busy_at (Claiming x) = x
 busy_at (Crediting x k) = x
 busy_at (Reserved x) = x
 busy_at (Landing x) = x
+busy_at (Leaving x) = x
 busy_at (Sealing x) = x
 
 -- what a seat does at the site
@@ -54,9 +61,11 @@ load x vs = record {
   seals = total (λ v. (part v.doing x).seals) vs;
   reserves = total (λ v. (part v.doing x).reserves) vs;
   lands = total (λ v. (part v.doing x).lands) vs;
+  leaves = total (λ v. (part v.doing x).leaves) vs;
   credits = total (λ v. (part v.doing x).credits) vs;
 }
 
--- how many harts are on their way into the site
-abbrev pub flight : List View → ℕ → ℕ
-flight vs x = (load x vs).reserves + (load x vs).lands
+-- The guests that a site's word counts: those of the layout that are inside, and the harts that are reserved to the site,
+-- landing on it or leaving it.
+abbrev pub guests : Layout → Plan → TableState → List View → ℕ → ℕ
+guests lay p t vs x = insiders lay p t x + (load x vs).reserves + (load x vs).lands + (load x vs).leaves

@@ -12,14 +12,15 @@ use Rattle.transfer_table.specs.declared.entry.Entry.{Entry}
 use Rattle.hart_port.specs.PortView.{is_in}
 use Rattle.board_rule.specs.declared.view.View.{View}
 use Rattle.board_words.specs.declared.entries.Ended.{Ended}
-use Rattle.board_rule.specs.Words.{entries_in}
+use Rattle.board_rule.specs.declared.layout.Layout.{Layout}
+use Rattle.board_rule.specs.Layouts.{entries_of}
 use Rattle.board_words.specs.Words.{journal_word, spelled}
 use Rattle.board_words.specs.Counts.{total, ended_as}
 use Rattle.board_words.specs.Places.{AreAt}
 
 -- the words have this journal, each entry at its place
-pub record Spells (p : Plan) (ws : List ℕ) (es : List Entry) : Type 0 where
-  pub count : entries_in (slice_index ws 0) ≡ length es
+pub record Spells (lay : Layout) (p : Plan) (ws : List ℕ) (es : List Entry) : Type 0 where
+  pub count : entries_of lay (slice_index ws 0) ≡ length es
   pub few : length es ≤ room p
   pub places : (i : ℕ) (e : Entry) → slice_get es i ≡ Some e
       → (journal_word p ws i ≡ spelled e) × IsEntryOf p e

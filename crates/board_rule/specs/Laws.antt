@@ -4,6 +4,7 @@ use Rattle.atomic_table.specs.Table.{State}
 use Rattle.transfer_table.specs.Plan.{Plan}
 use Rattle.transfer_table.specs.Table.{admit_of}
 use Rattle.transfer_table.specs.declared.entry.Entry.{Entry}
+use Rattle.board_rule.specs.declared.layout.Layout.{Layout}
 use Rattle.board_rule.specs.declared.view.View.{View}
 use Rattle.board_rule.specs.Rule.{Stands}
 
@@ -19,10 +20,10 @@ after_step s i n id w = record {
 }
 
 -- the rule holds on, with the same journal and the same state of the table
-abbrev pub Keeps : (p : Plan) (s : St) → Stands p s → St → Type 0
-Keeps p s k s' = (k' : Stands p s') × (k'.journal ≡ k.journal) × (k'.table ≡ k.table)
+abbrev pub Keeps : (lay : Layout) (p : Plan) (s : St) → Stands lay p s → St → Type 0
+Keeps lay p s k s' = (k' : Stands lay p s') × (k'.journal ≡ k.journal) × (k'.table ≡ k.table)
 
 -- the rule holds on, the journal has one entry more, and the table admits it
-abbrev pub Appends : (p : Plan) (s : St) → Stands p s → Entry → St → Type 0
-Appends p s k e s' = (k' : Stands p s') × (k'.journal ≡ k.journal ++ e ∷ [])
+abbrev pub Appends : (lay : Layout) (p : Plan) (s : St) → Stands lay p s → Entry → St → Type 0
+Appends lay p s k e s' = (k' : Stands lay p s') × (k'.journal ≡ k.journal ++ e ∷ [])
     × (admit_of p k.table e ≡ Ok k'.table)

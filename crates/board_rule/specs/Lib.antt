@@ -1,4 +1,5 @@
 pub mod Words
+pub mod Layouts
 pub mod Counts
 pub mod Views
 pub mod Rule

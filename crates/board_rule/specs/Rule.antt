@@ -1,5 +1,5 @@
 -- What the words and the views stand for, between any two steps.
-use Rattle.std.specs.Prelude.{◌≡◌, ◌⊎◌, ℕ, ◌+◌, ◌*◌, ◌<◌, ◌≤◌, nat_le, Bool, true, false, List, [], length, slice_index, slice_get, Some, None}
+use Rattle.std.specs.Prelude.{◌≡◌, ◌≢◌, ◌⊎◌, ℕ, ◌+◌, ◌*◌, ◌<◌, ◌≤◌, nat_le, Bool, true, false, List, [], length, slice_index, slice_get, Some, None}
 use Rattle.std.specs.Option.{is_some}
 use mathlib.Core.Option.{some}
 use lib.ListN.{get_elem?}
@@ -12,40 +12,45 @@ use Rattle.transfer_table.specs.Entry.{made_by}
 use Rattle.transfer_table.specs.declared.entry.Row.{Row}
 use Rattle.transfer_table.specs.declared.entry.Stage.TheVariants.{New, Live, Gone}
 use Rattle.transfer_table.specs.declared.entry.Entry.{Entry}
-use Rattle.transfer_table.specs.declared.entry.Entry.TheVariants.{Request, Enter, Unregister, Skip}
+use Rattle.transfer_table.specs.declared.entry.Entry.TheVariants.{Request, Enter, Yield, Unregister, Skip}
 use Rattle.hart_port.specs.PortView.{is_in}
 use Rattle.board_rule.specs.declared.view.View.{View}
 use Rattle.board_rule.specs.declared.view.Marks.{Marks}
 use Rattle.board_words.specs.declared.entries.Drawn.{Drawn}
 use Rattle.board_words.specs.declared.entries.Ended.{Ended}
 use Rattle.board_rule.specs.declared.view.Doing.{Doing}
-use Rattle.board_rule.specs.declared.view.Doing.TheVariants.{Idle, Claiming, Crediting, Reserved, Landing, Sealing}
-use Rattle.hart_port.specs.Words.{board_word}
+use Rattle.board_rule.specs.declared.view.Doing.TheVariants.{Idle, Claiming, Crediting, Reserved, Landing, Leaving, Sealing}
+use Rattle.board_rule.specs.declared.layout.Layout.{Layout}
+use Rattle.board_rule.specs.declared.layout.Layout.TheVariants.{Owners, Guests}
+use Rattle.board_rule.specs.Layouts.{HasRoom, first_word, insiders}
 use Rattle.board_words.specs.Words.{width, journal_word, wish_unit, guest_unit}
 use Rattle.board_words.specs.Counts.{total, one_if, ended_as}
-use Rattle.board_rule.specs.Counts.{draws, numbered, Load, load, flight}
+use Rattle.board_rule.specs.Counts.{draws, numbered, Load, load, guests}
 use Rattle.board_rule.specs.Views.{spent_view}
 use Rattle.board_words.specs.Places.{IsPlace, AreAt, is_last}
 use Rattle.board_words.specs.Shown.{started, shown}
 
 -- ---- a site
 
--- A site's word, from the site's row, its closing bit and what the seats do there. The word has the claimed bit, twice the
--- closing bit, four times the closed bit, 256 times the want and 65,536 times the flight.
-pub record IsSiteWord (word : ℕ) (closing : Bool) (c : Load) (r : Row) : Type 0 where
+-- A site's word, from the row that it shows, its closing bit, what the seats do there, and how many harts inside it counts. The
+-- word has the claimed bit, twice the closing bit, four times the closed bit, 256 times the want and 65,536 times the guests.
+pub record IsSiteWord (word : ℕ) (closing : Bool) (c : Load) (r : Row) (inside : ℕ) : Type 0 where
   pub want : ℕ
   -- it is claimed where it isn't new or one seat is claiming it, and no two do
   pub claimed : started r.stage + c.claims ≤ 1
-  -- a new site isn't closing and nobody is on the way in
-  pub fresh : r.stage ≡ New → (closing ≡ false) × (c.reserves + c.lands ≡ 0)
+  -- a new site isn't closing
+  pub fresh : r.stage ≡ New → closing ≡ false
   -- a gone site that was registered is closing
   pub over : r.stage ≡ Gone → is_some r.home ≡ true → closing ≡ true
+  -- a site that isn't live has no guest: nobody is inside, on the way in, or leaving
+  pub idle : r.stage ≢ Live → inside + c.reserves + c.lands + c.leaves ≡ 0
   -- it is closed where it is gone and no seat is sealing it
   pub sealed : c.seals ≤ one_if (is_gone r.stage)
   -- the unmet wishes are the want, those for which a hart is reserved, and those that are not yet added to the want
   pub wishes : want + c.reserves + c.credits ≡ r.wishes
   pub word_is : word + 4 * c.seals ≡ started r.stage + c.claims + 2 * one_if closing
-      + 4 * one_if (is_gone r.stage) + wish_unit * want + guest_unit * (c.reserves + c.lands)
+      + 4 * one_if (is_gone r.stage) + wish_unit * want
+      + guest_unit * (inside + c.reserves + c.lands + c.leaves)
 
 -- ---- what a seat knows
 
@@ -65,7 +70,7 @@ pub record HasFlags (p : Plan) (m : Marks) : Type 0 where
 abbrev pub SawChildren : Plan → Marks → ℕ → Type 0
 SawChildren p m x = (c : ℕ) → IsSite p c → parent p c ≡ x → is_in m.gone c ≡ true
 
-module _ (p : Plan) (es : List Entry) (t : TableState) (v : View) where
+module _ (lay : Layout) (p : Plan) (es : List Entry) (t : TableState) (v : View) where
   -- what it is about
   abbrev pub DoesRight : Doing → Type 0
   DoesRight Idle = Unit {0}
@@ -74,10 +79,12 @@ module _ (p : Plan) (es : List Entry) (t : TableState) (v : View) where
   DoesRight (Reserved x) =
       IsSite p x × (v.owner ≡ parent p x) × ((row t x).stage ≡ Live) × (v.drawn ≡ None)
   DoesRight (Crediting x k) = IsSite p x × is_last v.mine (Request v.hart x k)
-  DoesRight (Landing x) = IsSite p x × is_last v.mine (Enter v.hart x)
+  DoesRight (Landing x) = IsSite p x × is_last v.mine (Enter v.hart x) × (lay ≡ Owners)
+  DoesRight (Leaving x) = IsSite p x × is_last v.mine (Yield v.hart x) × (lay ≡ Guests)
   DoesRight (Sealing x) = IsSite p x × ((shown es t x).stage ≡ Gone)
       × (is_last v.mine (Unregister v.hart x) ⊎ is_last v.mine (Skip v.hart x))
 
+module _ (p : Plan) (es : List Entry) (t : TableState) (v : View) where
   -- who it is, and what it made
   pub record KnowsItself (made : ℕ) (ended : List Ended) : Type 0 where
     pub plan : v.plan ≡ p
@@ -91,49 +98,50 @@ module _ (p : Plan) (es : List Entry) (t : TableState) (v : View) where
 
 -- what it knows of the sites
 pub record KnowsSites (p : Plan) (t : TableState) (h : ℕ) (m : Marks) (closing : ℕ → Bool)
-    (flights : ℕ → ℕ) : Type 0 where
+    (guests_of : ℕ → ℕ) : Type 0 where
   pub sized : HasFlags p m
   pub homes : (x : ℕ) → IsSite p x → is_in m.homes x ≡ lives_with t x h
   pub homes_in : (x : ℕ) → is_in m.homes x ≡ true → IsSite p x
   pub closed : (x : ℕ) → is_in m.closed x ≡ true → (is_in m.homes x ≡ true) × (closing x ≡ true)
-  pub drained : (x : ℕ) → is_in m.drained x ≡ true → (is_in m.closed x ≡ true) × (flights x ≡ 0)
+  -- no reserve succeeds under the closing bit, so a site that was seen without a guest has none from then on
+  pub drained : (x : ℕ) → is_in m.drained x ≡ true → (is_in m.closed x ≡ true) × (guests_of x ≡ 0)
   pub empty : (x : ℕ) → is_in m.empty x ≡ true → is_in m.drained x ≡ true
   -- a site that was seen empty, whose children were all seen gone, holds no other hart
   pub alone : (x : ℕ) → is_in m.empty x ≡ true → SawChildren p m x → IsAlone p t h x
   pub gone : (x : ℕ) → is_in m.gone x ≡ true → IsSite p x × ((row t x).stage ≡ Gone)
 
-pub record Knows (p : Plan) (es : List Entry) (t : TableState) (v : View) (closing : ℕ → Bool)
-    (flights : ℕ → ℕ) (made : ℕ) (ended : List Ended) : Type 0 where
+pub record Knows (lay : Layout) (p : Plan) (es : List Entry) (t : TableState) (v : View)
+    (closing : ℕ → Bool) (guests_of : ℕ → ℕ) (made : ℕ) (ended : List Ended) : Type 0 where
   pub itself : KnowsItself p es t v made ended
-  pub does : DoesRight p es t v v.doing
-  pub sites : KnowsSites p t v.hart v.marks closing flights
+  pub does : DoesRight lay p es t v v.doing
+  pub sites : KnowsSites p t v.hart v.marks closing guests_of
 
 -- ---- the rule
 
 -- The words and the views stand for a journal, a state of the table, how many seats were made, the harts that were joined
 -- away, and the closing bit of each site.
-pub record Stands (p : Plan) (s : State (Unit {0}) View) : Type 0 where
+pub record Stands (lay : Layout) (p : Plan) (s : State (Unit {0}) View) : Type 0 where
   pub journal : List Entry
   pub table : TableState
   pub made : ℕ
   pub ended : List Ended
   pub closing : ℕ → Bool
   pub plan : IsPlan p
-  -- the board word has room for four owners
-  pub four : p.harts ≤ 4
+  pub few : HasRoom lay p.harts
   pub wide : length s.words ≡ width p
   -- the journal is legal, and leads to the state
   pub legal : Reaches p journal table
-  -- the board word has the journal's length and the state's owners
-  pub board : slice_index s.words 0 ≡ board_word table (length journal)
+  -- the first word has the journal's length, and the state's owners where the layout has them there
+  pub board : slice_index s.words 0 ≡ first_word lay table (length journal)
   -- each place of the journal is written, or drawn by one view; behind it nothing is
   pub places : (i : ℕ) (e : Entry) → slice_get journal i ≡ Some e
       → IsPlace (journal_word p s.words i) (total (draws i) s.views) e
   pub beyond : (i : ℕ) → length journal ≤ i
       → (journal_word p s.words i ≡ 0) × (total (draws i) s.views ≡ 0)
-  -- each site's word shows its row and what the seats do there
+  -- each site's word shows its row, its guests, and what the seats do there
   pub sites : (x : ℕ) → IsSite p x
       → IsSiteWord (slice_index s.words x) (closing x) (load x s.views) (shown journal table x)
+      (insiders lay p table x)
   -- each hart has one seat, or was joined away, or has not been made
   pub seats : (h : ℕ) → IsHart p h → total (numbered h) s.views + total (ended_as h) ended
       + one_if (nat_le made h) ≡ 1
@@ -143,7 +151,7 @@ pub record Stands (p : Plan) (s : State (Unit {0}) View) : Type 0 where
       → (e.mine ≡ made_by e.hart journal) × AreAt journal e.mine e.places
   -- each seat knows what stands, and a seat that was joined away knows nothing
   pub views : (j : ℕ) (v : View) → get_elem? s.views j ≡ some v → IsSeat v
-      → Knows p journal table v closing (flight s.views) made ended
+      → Knows lay p journal table v closing (guests lay p table s.views) made ended
   pub spent : (j : ℕ) (v : View) → get_elem? s.views j ≡ some v → ¬ IsSeat v → v ≡ spent_view
 
 -- ---- what the rule tells of every seat

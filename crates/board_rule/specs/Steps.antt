@@ -37,7 +37,7 @@ MayClose v = IsReady v × (is_in v.marks.homes v.owner ≡ true)
 abbrev pub MaySeeDrained : View → Type 0
 MaySeeDrained v = IsReady v × (is_in v.marks.closed v.owner ≡ true)
 
--- it saw the owner without a hart on its way in
+-- it saw the owner's word without a guest
 abbrev pub MaySeeEmpty : View → Type 0
 MaySeeEmpty v = IsReady v × (is_in v.marks.drained v.owner ≡ true)
 

@@ -7,13 +7,16 @@ use Rattle.hart_port.specs.Words.{is_claimed, is_closed, flight_of}
 use Rattle.hart_port.specs.PortView.{is_in, with_site, without}
 use Rattle.hart_port.specs.Ledger.{no_site}
 use Rattle.board_rule.specs.Words.{others_at}
+use Rattle.board_rule.specs.declared.layout.Layout.{Layout}
+use Rattle.board_rule.specs.declared.layout.Layout.TheVariants.{Owners, Guests}
+use Rattle.board_rule.specs.Layouts.{after_enter, after_yield}
 use Rattle.board_rule.specs.Counts.{busy_at}
 use Rattle.board_rule.specs.declared.view.View.{View}
 use Rattle.board_rule.specs.declared.view.Look.{Look}
 use Rattle.board_rule.specs.declared.view.LookKind.{LookKind}
 use Rattle.board_rule.specs.declared.view.LookKind.TheVariants as look
 use Rattle.board_rule.specs.declared.view.Marks.{Marks}
-use Rattle.board_rule.specs.declared.view.Doing.TheVariants.{Idle, Claiming, Crediting, Reserved, Landing, Sealing}
+use Rattle.board_rule.specs.declared.view.Doing.TheVariants.{Idle, Claiming, Crediting, Reserved, Sealing}
 use Rattle.board_words.specs.Sets.{union}
 
 -- ---- seats that are made, split and joined
@@ -96,18 +99,32 @@ see_gone_next x found v = record v {
 abbrev pub see_gone_view : ℕ → ℕ → View → View
 see_gone_view x found v = looked x look.Look found (see_gone_next x found v)
 
--- a look at the owner's word, to see whether a hart is on its way in
-abbrev pub see_drained_next : ℕ → View → View
-see_drained_next found v = record v {
-  marks = if flight_of found == 0 then record v.marks {
-    drained = with_site v.marks.drained v.owner;
-  } else v.marks;
+-- the marks of a view whose owner was seen without a guest, and, by guests that are inside or by the first word, without
+-- another hart inside
+abbrev pub drained_marks : View → Marks
+drained_marks v = record v.marks { drained = with_site v.marks.drained v.owner }
+
+abbrev pub empty_marks : View → Marks
+empty_marks v = record v.marks {
+  drained = with_site v.marks.drained v.owner;
+  empty = with_site v.marks.empty v.owner;
 }
 
-abbrev pub see_drained_view : ℕ → View → View
-see_drained_view found v = looked v.owner look.Look found (see_drained_next found v)
+-- what it means that the owner's word has no guest
+abbrev pub marks_without : Layout → View → Marks
+marks_without Owners v = drained_marks v
+marks_without Guests v = empty_marks v
 
--- a look at the board word, to see whether another hart is in the owner
+-- a look at the owner's word, to see whether it has a guest
+abbrev pub see_drained_next : Layout → ℕ → View → View
+see_drained_next lay found v = record v {
+  marks = if flight_of found == 0 then marks_without lay v else v.marks;
+}
+
+abbrev pub see_drained_view : Layout → ℕ → View → View
+see_drained_view lay found v = looked v.owner look.Look found (see_drained_next lay found v)
+
+-- a look at a first word that has the owners, to see whether another hart is in the owner
 abbrev pub see_empty_next : ℕ → View → View
 see_empty_next found v = record v {
   marks = if others_at v.plan.harts found v.hart v.owner then v.marks else record v.marks {
@@ -133,7 +150,7 @@ reserve_next x w found v = record v { doing = if found == w then Reserved x else
 abbrev pub reserve_view : ℕ → ℕ → ℕ → View → View
 reserve_view x w found v = looked x look.Reserve found (reserve_next x w found v)
 
--- a credit, a landing and a seal: what was to be done is done
+-- a credit, a landing, a leave and a seal: what was to be done is done
 abbrev pub done_view : View → View
 done_view v = record v { doing = Idle }
 
@@ -145,7 +162,7 @@ close_view v = record v { marks = record v.marks { closed = with_site v.marks.cl
 abbrev pub jot_view : View → View
 jot_view v = record v { drawn = None }
 
--- ---- steps on the board word: each draws the place of its entry
+-- ---- steps on the first word: each draws the place of its entry
 
 abbrev pub home_marks : ℕ → Marks → Marks
 home_marks x m = record m {
@@ -181,13 +198,15 @@ request_view k place v = record (made_entry (Request v.hart v.owner k) v.owner p
   doing = Crediting v.owner k;
 }
 
-abbrev pub enter_view : ℕ → View → View
-enter_view place v = let x : ℕ = busy_at v.doing in record (made_entry (Enter v.hart x) x place v) {
-  doing = Landing x;
-}
+abbrev pub enter_view : Layout → ℕ → View → View
+enter_view lay place v = let x : ℕ = busy_at v.doing in
+    record (made_entry (Enter v.hart x) x place v) { doing = after_enter lay x }
 
-abbrev pub yield_view : ℕ → View → View
-yield_view place v = made_entry (Yield v.hart v.owner) (parent v.plan v.owner) place v
+abbrev pub yield_view : Layout → ℕ → View → View
+yield_view lay place v =
+    record (made_entry (Yield v.hart v.owner) (parent v.plan v.owner) place v) {
+      doing = after_yield lay v.owner;
+    }
 
 abbrev pub unregister_view : ℕ → View → View
 unregister_view place v =

@@ -1,110 +1,126 @@
 //! What each kind of step does, each law the contract of a function that does nothing.
 //! `specs/StepLaws.antt` says them. Each step changes the view of its own seat alone; a split also
 //! makes the new seat's, and a join changes two.
-ghost use Rattle.board_rule.specs.StepLaws.{ClaimKeeps, JotKeeps, CreditKeeps, GlanceKeeps, SeeGoneKeeps, SeeDrainedKeeps, SeeEmptyKeeps, ReserveKeeps, LandKeeps, CloseKeeps, SealKeeps, SplitKeeps, JoinKeeps, RegisterAppends, RequestAppends, EnterAppends, YieldAppends, UnregisterAppends, SkipAppends, GoneStaysGone, WantsBalance};
+ghost use Rattle.board_rule.specs.StepLaws.{ClaimKeeps, JotKeeps, CreditKeeps, GlanceKeeps, SeeGoneKeeps, SeeDrainedKeeps, SeeEmptyKeeps, ReserveKeeps, LandKeeps, LeaveKeeps, CloseKeeps, SealKeeps, SplitKeeps, JoinKeeps, RegisterAppends, RequestAppends, EnterAppends, YieldAppends, UnregisterAppends, SkipAppends, GoneStaysGone, WantsBalance, GuestsAreShown, GuestsAreFew};
+ghost use Rattle.board_rule.specs.declared.layout.Layout.{Layout};
 
 /// A claim keeps the rule and the journal.
 pub fn claim_keeps()
-    ensures { ClaimKeeps }
+    ensures { (lay : Layout) → ClaimKeeps lay }
 {}
 
 /// Writing an entry at its place keeps the rule and the journal.
 pub fn jot_keeps()
-    ensures { JotKeeps }
+    ensures { (lay : Layout) → JotKeeps lay }
 {}
 
 /// Adding to the want of a site keeps the rule and the journal.
 pub fn credit_keeps()
-    ensures { CreditKeeps }
+    ensures { (lay : Layout) → CreditKeeps lay }
 {}
 
 /// A look at a site keeps the rule and the journal.
 pub fn glance_keeps()
-    ensures { GlanceKeeps }
+    ensures { (lay : Layout) → GlanceKeeps lay }
 {}
 
 /// A look that may see a site gone keeps the rule and the journal.
 pub fn see_gone_keeps()
-    ensures { SeeGoneKeeps }
+    ensures { (lay : Layout) → SeeGoneKeeps lay }
 {}
 
-/// A look that may see the owner without a hart on its way in keeps the rule and the journal.
+/// A look that may see the owner without a guest keeps the rule and the journal.
 pub fn see_drained_keeps()
-    ensures { SeeDrainedKeeps }
+    ensures { (lay : Layout) → SeeDrainedKeeps lay }
 {}
 
-/// A look at the board that may see the owner empty keeps the rule and the journal.
+/// A look at the owners in the first word that may see the owner empty keeps the rule and the journal.
 pub fn see_empty_keeps()
     ensures { SeeEmptyKeeps }
 {}
 
 /// An exchange that reserves a hart, won or lost, keeps the rule and the journal.
 pub fn reserve_keeps()
-    ensures { ReserveKeeps }
+    ensures { (lay : Layout) → ReserveKeeps lay }
 {}
 
 /// A landing keeps the rule and the journal.
 pub fn land_keeps()
-    ensures { LandKeeps }
+    ensures { (lay : Layout) → LandKeeps lay }
+{}
+
+/// Leaving a site's guests keeps the rule and the journal.
+pub fn leave_keeps()
+    ensures { (lay : Layout) → LeaveKeeps lay }
 {}
 
 /// Closing a site keeps the rule and the journal.
 pub fn close_keeps()
-    ensures { CloseKeeps }
+    ensures { (lay : Layout) → CloseKeeps lay }
 {}
 
 /// Sealing a site keeps the rule and the journal.
 pub fn seal_keeps()
-    ensures { SealKeeps }
+    ensures { (lay : Layout) → SealKeeps lay }
 {}
 
 /// Making the next hart's seat keeps the rule and the journal.
 pub fn split_keeps()
-    ensures { SplitKeeps }
+    ensures { (lay : Layout) → SplitKeeps lay }
 {}
 
 /// Taking in another hart's seat keeps the rule and the journal.
 pub fn join_keeps()
-    ensures { JoinKeeps }
+    ensures { (lay : Layout) → JoinKeeps lay }
 {}
 
 /// The step of a register keeps the rule and appends its entry, which the table admits.
 pub fn register_appends()
-    ensures { RegisterAppends }
+    ensures { (lay : Layout) → RegisterAppends lay }
 {}
 
 /// The step of a request keeps the rule and appends its entry, which the table admits.
 pub fn request_appends()
-    ensures { RequestAppends }
+    ensures { (lay : Layout) → RequestAppends lay }
 {}
 
 /// The step of an enter keeps the rule and appends its entry, which the table admits.
 pub fn enter_appends()
-    ensures { EnterAppends }
+    ensures { (lay : Layout) → EnterAppends lay }
 {}
 
 /// The step of a yield keeps the rule and appends its entry, which the table admits.
 pub fn yield_appends()
-    ensures { YieldAppends }
+    ensures { (lay : Layout) → YieldAppends lay }
 {}
 
 /// The step of an unregister keeps the rule and appends its entry, which the table admits.
 pub fn unregister_appends()
-    ensures { UnregisterAppends }
+    ensures { (lay : Layout) → UnregisterAppends lay }
 {}
 
 /// The step of a skip keeps the rule and appends its entry, which the table admits.
 pub fn skip_appends()
-    ensures { SkipAppends }
+    ensures { (lay : Layout) → SkipAppends lay }
 {}
 
 /// What is gone stays gone over every entry.
 pub fn gone_stays_gone()
-    ensures { GoneStaysGone }
+    ensures { (lay : Layout) → GoneStaysGone lay }
 {}
 
 /// What a site has asked for is its want, the harts that are reserved to it or have entered, and what
 /// is not yet added to the want.
 pub fn wants_balance()
-    ensures { WantsBalance }
+    ensures { (lay : Layout) → WantsBalance lay }
+{}
+
+/// A site's word that counts the guests shows them, and a site that isn't live has none.
+pub fn guests_are_shown()
+    ensures { GuestsAreShown }
+{}
+
+/// The want and the guests of such a word are each at most all harts but one.
+pub fn guests_are_few()
+    ensures { GuestsAreFew }
 {}

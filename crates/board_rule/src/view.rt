@@ -11,13 +11,13 @@ pub enum LookKind {
     Look,
     /// The exchange by which a hart is reserved to a site.
     Reserve,
-    /// A load of the board word.
+    /// A load of the board's first word.
     LookAtBoard,
 }
 
 /// A word that was read.
 pub struct Look {
-    /// The site, or 0 for the board word.
+    /// The site, or 0 for the board's first word.
     pub site: u16,
     pub kind: LookKind,
     pub found: u64,
@@ -33,9 +33,11 @@ pub enum Doing {
     Crediting(u16, u8),
     /// It is reserved to the site, and its Enter is still to be made.
     Reserved(u16),
-    /// It has made its Enter of the site, and is to leave the site's flight.
+    /// It has made its Enter of the site, and is to take itself from the harts on their way in.
     Landing(u16),
-    /// It has made its Unregister of the site, and is to set the site's closed bit.
+    /// It has made its Yield of the site, and is to take itself from the site's guests.
+    Leaving(u16),
+    /// It has made its Unregister or its Skip of the site, and is to set the site's closed bit.
     Sealing(u16),
 }
 
@@ -45,7 +47,7 @@ pub struct Marks {
     pub homes: [bool; 0],
     /// Those of its homes that it closed.
     pub closed: [bool; 0],
-    /// Those of these that it has seen without a hart on its way in since.
+    /// Those of these whose word it has seen without a guest since.
     pub drained: [bool; 0],
     /// Those of these that it has seen without another hart inside since, and since it last saw a
     /// child gone.

@@ -2,7 +2,7 @@
 use Rattle.std.proofs.Common.{◌≡◌, ℕ, zero, suc, ◌<◌, List, [], ◌∷◌, length, slice_index_or, sym, arith}
 use Rattle.atomic_table.specs.Seated.{TableId}
 use Rattle.transfer_table.specs.Plan.{Plan}
-use Rattle.word_board.specs.declared.seat.HartSeat.{HartSeat}
+use Rattle.lent_board.specs.declared.seat.HartSeat.{HartSeat}
 use Rattle.word_board.specs.Seats.{AreAll}
 
 -- a seat of the board by its number

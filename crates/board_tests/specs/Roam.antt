@@ -4,8 +4,9 @@ use Rattle.transfer_table.specs.Plan.{parent}
 use Rattle.hart_port.specs.PortView.{is_in}
 use Rattle.board_rule.specs.declared.view.View.{View}
 use Rattle.word_board.specs.Of.{IsOf}
-use Rattle.word_board.specs.declared.seat.HartSeat.{HartSeat}
-use Rattle.word_board.specs.declared.board.WordBoard.{WordBoard}
+use Rattle.board_rule.specs.declared.layout.Laid.{Ghosts}
+use Rattle.lent_board.specs.declared.seat.HartSeat.{HartSeat}
+use Rattle.lent_board.specs.declared.board.Board.{Board}
 
 -- The hart is the home of no site behind its owner. A site stands behind its parent, since its number is greater.
 abbrev pub HasNoHomeBehind : View → Type 0
@@ -32,20 +33,20 @@ pub record HasLeft (v w : View) : Type 0 where
   pub closed : (c : ℕ) → c ≢ v.owner → is_in w.marks.closed c ≡ is_in v.marks.closed c
 
 -- hart h's seat of the board
-pub record IsHartOf (b : WordBoard) (h : ℕ) (q : HartSeat) : Type 0 where
+pub record IsHartOf {L : Type 0} {laid : Ghosts L} (b : Board L laid) (h : ℕ) (q : HartSeat) : Type 0 where
   pub of : IsOf b q
   pub hart : q.seat.me.0.hart ≡ h
 
 -- and the hart is at the base, the home of no site
-pub record IsNewHart (b : WordBoard) (h : ℕ) (q : HartSeat) : Type 0 where
+pub record IsNewHart {L : Type 0} {laid : Ghosts L} (b : Board L laid) (h : ℕ) (q : HartSeat) : Type 0 where
   pub of : IsOf b q
   pub hart : q.seat.me.0.hart ≡ h
   pub base : q.seat.me.0.owner ≡ 0
   pub homeless : HasNoHomeBehind q.seat.me.0
 
 -- the seat at place h is hart h's
-abbrev pub AreHarts : WordBoard → List HartSeat → Type 0
+abbrev pub AreHarts : {L : Type 0} {laid : Ghosts L} → Board L laid → List HartSeat → Type 0
 AreHarts b qs = (h : ℕ) (d : HartSeat) → h < length qs → IsHartOf b h (slice_index_or qs h d)
 
-abbrev pub AreNewHarts : WordBoard → List HartSeat → Type 0
+abbrev pub AreNewHarts : {L : Type 0} {laid : Ghosts L} → Board L laid → List HartSeat → Type 0
 AreNewHarts b qs = (h : ℕ) (d : HartSeat) → h < length qs → IsNewHart b h (slice_index_or qs h d)

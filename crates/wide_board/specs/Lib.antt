@@ -1,5 +1,5 @@
-pub mod Plays
-pub mod Of
-pub mod Calls
-pub mod Seats
-pub mod PortViews
+pub use Rattle.lent_board.specs.Plays
+pub use Rattle.lent_board.specs.Of
+pub use Rattle.lent_board.specs.Calls
+pub use Rattle.lent_board.specs.Seats
+pub use Rattle.lent_board.specs.PortViews

@@ -1,22 +1,20 @@
-//! The table of lent harts as atomic words, for more harts than one word can hold.
-//!
-//! A `WideBoard` is shared by reference among the threads of a run; each hart has a `WideSeat`, which
-//! it makes its transfers with. A transfer is one addition to the clock, and one to three steps on other
-//! words; a look is a load. Where the harts are no word tells: a site's word counts its guests, which
-//! are the harts in it and below it that aren't its home. No call locks, waits or takes memory, but for
-//! `new` and `close`. `wide_rule` has the rule and its laws.
+//! The table of lent harts as atomic words, for any plan: the first word is a clock, and the word of a
+//! site counts its guests. `lent_board` has its calls.
 #![tactic(auto)]
 
-mod board;
-mod ending;
-mod making;
-mod plays;
-mod port;
-mod seat;
-mod steps;
+use lent_board::{Board, BoardPort, ByGuests};
 
-pub use board::WideBoard;
-pub use ending::{WideClosed, WideRefused};
 pub use hart_port::{Entered, Seen, Taken};
-pub use port::WidePort;
-pub use seat::WideSeat;
+pub use lent_board::HartSeat as WideSeat;
+
+/// The board.
+pub type WideBoard = Board<ByGuests>;
+
+/// The port of a hart of it.
+pub type WidePort<'a> = BoardPort<'a, ByGuests>;
+
+/// The journal of a board that was closed.
+pub type WideClosed = lent_board::Closed<ByGuests>;
+
+/// There was no memory for the journal. Nothing has changed: the board and the seats come back.
+pub type WideRefused = lent_board::CloseRefused<ByGuests>;

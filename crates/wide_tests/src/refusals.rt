@@ -1,6 +1,6 @@
 //! What a hart is refused, and a run that isn't complete.
 ghost use Rattle.std.specs.Prelude.{◌≡◌, ◌≤◌, ◌-◌, [], ◌∷◌};
-ghost use Rattle.wide_rule.specs.Views.{fresh_view};
+ghost use Rattle.board_rule.specs.Views.{fresh_view};
 ghost use Rattle.wide_board.specs.Of.{IsOf};
 
 use crate::seats::{Opened, close, open};

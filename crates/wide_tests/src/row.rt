@@ -3,7 +3,7 @@ ghost use Rattle.std.specs.Prelude.{◌≡◌, ◌<◌, ◌≤◌, ◌-◌, [], 
 ghost use Rattle.hart_port.specs.PortView.{is_in};
 ghost use Rattle.board_words.specs.Words.{width};
 ghost use Rattle.wide_board.specs.Of.{IsOf};
-ghost use Rattle.wide_rule.specs.Views.{fresh_view};
+ghost use Rattle.board_rule.specs.Views.{fresh_view};
 
 use crate::seats::{Opened, close, open};
 use std::alloc::Global;

@@ -1,6 +1,6 @@
 //! A board: made with its seats, and closed with them.
 ghost use Rattle.std.specs.Prelude.{◌≡◌, ◌≤◌, ◌+◌, ◌-◌, [], ◌∷◌, ◌++◌, IfOk, vec_len};
-ghost use Rattle.wide_rule.specs.Views.{fresh_view};
+ghost use Rattle.board_rule.specs.Views.{fresh_view};
 ghost use Rattle.wide_board.specs.Of.{IsOf};
 ghost use Rattle.wide_board.specs.Seats.{IsJournalOf};
 ghost use Rattle.wide_tests.specs.Harts.{IsHartOf, AreBetween};

@@ -2,7 +2,7 @@
 ghost use Rattle.std.specs.Prelude.{◌≡◌, ◌<◌, ◌-◌, [], ◌∷◌, true};
 ghost use Rattle.transfer_table.specs.Plan.{site_count};
 ghost use Rattle.board_words.specs.Words.{width};
-ghost use Rattle.wide_rule.specs.Views.{fresh_view};
+ghost use Rattle.board_rule.specs.Views.{fresh_view};
 ghost use Rattle.wide_board.specs.Of.{IsOf};
 
 use crate::seats::{Opened, close, open};

@@ -1,22 +1,20 @@
-//! The table of lent harts as atomic words.
-//!
-//! A `WordBoard` is shared by reference among the threads of a run; each hart has a `HartSeat`, which
-//! it makes its transfers with. A transfer is one addition to the board word, and two or three steps
-//! on other words; a look is a load. No call locks, waits or takes memory, but for `new` and `close`.
-//! `docs/BOARD.md` tells how it works, `board_rule` has the rule and its laws.
+//! The table of lent harts as atomic words, for at most four harts: the first word has each hart's owner.
+//! `lent_board` has its calls.
 #![tactic(auto)]
 
-mod board;
-mod ending;
-mod making;
-mod plays;
-mod port;
-mod seat;
-mod steps;
-mod words;
+use lent_board::{Board, BoardPort, ByOwners};
 
-pub use board::WordBoard;
-pub use ending::{CloseRefused, Closed};
 pub use hart_port::{Entered, Seen, Taken};
-pub use port::WordPort;
-pub use seat::HartSeat;
+pub use lent_board::HartSeat;
+
+/// The board.
+pub type WordBoard = Board<ByOwners>;
+
+/// The port of a hart of it.
+pub type WordPort<'a> = BoardPort<'a, ByOwners>;
+
+/// The journal of a board that was closed.
+pub type Closed = lent_board::Closed<ByOwners>;
+
+/// There was no memory for the journal. Nothing has changed: the board and the seats come back.
+pub type CloseRefused = lent_board::CloseRefused<ByOwners>;

@@ -1,5 +1,5 @@
 use Rattle.std.proofs.Common.{rules, ◌≡◌, [], ◌∷◌, List, sym, subst}
-use Rattle.word_board.specs.declared.seat.HartSeat.{HartSeat}
+use Rattle.lent_board.specs.declared.seat.HartSeat.{HartSeat}
 use Rattle.word_board.specs.Seats.{AreAll}
 use Rattle.board_tests.proofs.Two.{alone}
 use Rattle.board_tests.proofs.seats.close_one.Goals as goal

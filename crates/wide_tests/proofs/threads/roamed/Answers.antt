@@ -1,7 +1,7 @@
 use Rattle.std.proofs.Common.{◌≡◌, ◌∙◌, List, length, map, sym, ap, subst}
 use Rattle.std.proofs.lemmas.List.{length-map, with_items_is}
 use Rattle.transfer_table.specs.Plan.{Plan}
-use Rattle.wide_board.specs.declared.seat.WideSeat.{WideSeat}
+use Rattle.lent_board.specs.declared.seat.HartSeat.{HartSeat}
 use Rattle.wide_board.specs.Seats.{AreSeats, AreAll}
 use Rattle.wide_tests.proofs.WidePorts.{seat_of, all_new, all_back}
 use Rattle.wide_tests.proofs.threads.roamed.Goals as goal
@@ -22,5 +22,5 @@ close-requires g c =
     let many : length xs ≡ p.harts = sym (length-map xs seat_of) ∙ ap length are ∙ sym c.in_ok-board.seats.ok.0 ∙ c.in_ok-board.ensures.seats.0 in
     let back = ap (map seat_of) (with_items_is c.in_ok-ports.ports ys (c.roam.ensures.count ∙ c.as_mut_slice.ensures.len)) in
     let all = all_back z p xs ys (subst (AreSeats z p) (sym are) c.in_ok-board.ensures.seats.1) many c.roam.ensures.count c.roam.ensures.same in
-    subst (λ (qs : List WideSeat). AreAll z c.in_ok-board.board.plan qs) (sym (c.in_ok-seats.ensures ∙ back))
+    subst (λ (qs : List HartSeat). AreAll z c.in_ok-board.board.plan qs) (sym (c.in_ok-seats.ensures ∙ back))
     (subst (λ (q : Plan). AreAll z q (map seat_of ys)) (sym c.in_ok-board.ensures.plan) all)

@@ -1,4 +1,0 @@
-pub mod Allowed
-pub mod Split
-pub mod Gathers
-pub mod Ports
