@@ -30,7 +30,8 @@ use Rattle.board_rule.specs.declared.view.Doing.TheVariants.{Idle, Claiming, Cre
 use Rattle.board_rule.specs.declared.layout.Layout.{Layout}
 use Rattle.board_rule.specs.Layouts.{first_word, entries_of, Adds, insiders}
 use Rattle.board_words.specs.Words.{journal_index, journal_word}
-use Rattle.board_words.specs.Counts.{total, one_if, draws_in, ended_as}
+use Rattle.transfer_table.specs.Counts.{one_if}
+use Rattle.board_words.specs.Counts.{total, draws_in, ended_as}
 use Rattle.board_rule.specs.Counts.{draws, numbered, Load, part, load, guests}
 use Rattle.board_rule.specs.Views.{made_entry}
 use Rattle.board_rule.specs.Rule.{Stands, Knows, KnowsSites, IsSeat, IsSiteWord, DoesRight, SawChildren}

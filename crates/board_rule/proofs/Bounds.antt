@@ -12,7 +12,8 @@ use Rattle.board_rule.proofs.Layouts.{few_insiders}
 use Rattle.board_rule.specs.declared.view.View.{View}
 use Rattle.board_rule.specs.declared.view.Doing.{Doing}
 use Rattle.board_rule.specs.declared.view.Doing.TheVariants.{Idle, Claiming, Crediting, Reserved, Landing, Leaving, Sealing}
-use Rattle.board_words.specs.Counts.{total, one_if}
+use Rattle.transfer_table.specs.Counts.{one_if}
+use Rattle.board_words.specs.Counts.{total}
 use Rattle.board_rule.specs.Counts.{numbered, guests, weight, busy_at, Load, part, load}
 use Rattle.board_words.specs.Shown.{shown}
 use Rattle.board_rule.specs.Rule.{Stands, IsSeat, DoesRight}

@@ -16,7 +16,8 @@ use Rattle.board_words.specs.declared.entries.Drawn.{Drawn}
 use Rattle.board_words.specs.declared.entries.Ended.{Ended}
 use Rattle.board_rule.specs.declared.view.Doing.{Doing}
 use Rattle.board_rule.specs.declared.view.Doing.TheVariants.{Idle}
-use Rattle.board_words.specs.Counts.{total, one_if, draws_in, ended_as}
+use Rattle.transfer_table.specs.Counts.{one_if}
+use Rattle.board_words.specs.Counts.{total, draws_in, ended_as}
 use Rattle.board_rule.specs.Counts.{draws, numbered, no_load, Load, part, load, guests}
 use Rattle.board_words.specs.Sets.{union}
 use Rattle.board_rule.specs.Views.{joined_view, spent_view}

@@ -15,7 +15,8 @@ use Rattle.board_words.specs.declared.entries.Drawn.{Drawn}
 use Rattle.board_rule.specs.declared.view.Doing.{Doing}
 use Rattle.board_rule.specs.declared.view.Doing.TheVariants.{Idle, Claiming, Crediting, Reserved, Landing, Leaving, Sealing}
 use Rattle.board_words.specs.Words.{journal_index, journal_word, spelled}
-use Rattle.board_words.specs.Counts.{total, one_if, draws_in}
+use Rattle.transfer_table.specs.Counts.{one_if}
+use Rattle.board_words.specs.Counts.{total, draws_in}
 use Rattle.board_rule.specs.Counts.{draws, numbered, load, guests}
 use Rattle.board_rule.specs.Views.{jot_view}
 use Rattle.board_rule.specs.Rule.{Stands, Knows, IsSeat, DoesRight}

@@ -17,7 +17,8 @@ use Rattle.board_rule.specs.declared.view.View.{View}
 use Rattle.board_rule.specs.declared.view.Doing.{Doing}
 use Rattle.board_rule.specs.declared.view.Doing.TheVariants.{Idle}
 use Rattle.board_words.specs.Words.{width, journal_index}
-use Rattle.board_words.specs.Counts.{total, one_if}
+use Rattle.transfer_table.specs.Counts.{one_if}
+use Rattle.board_words.specs.Counts.{total}
 use Rattle.board_rule.specs.Counts.{draws, numbered, no_load, Load, part, load, guests}
 use Rattle.board_rule.specs.Views.{first_view, no_marks, split_left, split_right}
 use Rattle.board_rule.specs.Rule.{Stands, Knows, KnowsSites, HasFlags, IsSeat, DoesRight}

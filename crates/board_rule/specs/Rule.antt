@@ -24,7 +24,8 @@ use Rattle.board_rule.specs.declared.layout.Layout.{Layout}
 use Rattle.board_rule.specs.declared.layout.Layout.TheVariants.{Owners, Guests}
 use Rattle.board_rule.specs.Layouts.{HasRoom, first_word, insiders}
 use Rattle.board_words.specs.Words.{width, journal_word, wish_unit, guest_unit}
-use Rattle.board_words.specs.Counts.{total, one_if, ended_as}
+use Rattle.transfer_table.specs.Counts.{one_if}
+use Rattle.board_words.specs.Counts.{total, ended_as}
 use Rattle.board_rule.specs.Counts.{draws, numbered, Load, load, guests}
 use Rattle.board_rule.specs.Views.{spent_view}
 use Rattle.board_words.specs.Places.{IsPlace, AreAt, is_last}

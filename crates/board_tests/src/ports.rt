@@ -11,7 +11,7 @@ fn a_hart_by_its_port(rt: HostRuntime) -> Result<(), Fail> {
     let plan = Plan::new(rt.alloc(), 2, &[0])?;
     let (board, a, b) = open_two(rt.alloc(), &plan)?;
     let mut port = WordPort::new(&board, a);
-    assert!(rt; port.hart() == 0 && port.owner() == 0 && !port.is_alone());
+    assert!(rt; port.hart() == 0 && port.owner() == 0);
     assert_eq!(rt; port.register((), 1), Ok(()));
     port.request((), 1, 1);
     assert!(rt; !port.see_gone((), 1));

@@ -6,7 +6,7 @@ use Rattle.std.proofs.lemmas.Nat.Bits.{and_high}
 use Rattle.transfer_table.specs.Table.{is_gone, is_live}
 use Rattle.transfer_table.specs.declared.entry.Stage.{Stage}
 use Rattle.transfer_table.specs.declared.entry.Stage.TheVariants.{New, Live, Gone}
-use Rattle.board_words.specs.Counts.{one_if}
+use Rattle.transfer_table.specs.Counts.{one_if}
 use Rattle.board_words.specs.Shown.{started}
 
 pub or_one : (n : ℕ) → bit_or n 1 + n % 2 ≡ n + 1

@@ -1,15 +1,12 @@
 -- Sums over seats, and what is counted of one.
 use Rattle.std.specs.Prelude.{ℕ, ◌+◌, ◌==◌, Bool, true, false, List, [], ◌∷◌, Option, Some, None}
+use Rattle.transfer_table.specs.Counts.{one_if}
 use Rattle.board_words.specs.declared.entries.Drawn.{Drawn}
 use Rattle.board_words.specs.declared.entries.Ended.{Ended}
 
 abbrev pub total : {V : Type 0} → (V → ℕ) → List V → ℕ
 total f [] = 0
 total f (v ∷ vs) = f v + total f vs
-
-abbrev pub one_if : Bool → ℕ
-one_if true = 1
-one_if false = 0
 
 abbrev pub draws_in : Option Drawn → ℕ → ℕ
 draws_in None i = 0

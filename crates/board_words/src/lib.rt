@@ -6,4 +6,4 @@ mod entries;
 mod words;
 
 pub use entries::{Drawn, Ended};
-pub use words::{CLAIMED, CLOSED, CLOSING, GUEST, WISH, entry_of, is_wanted, word_of};
+pub use words::{GUEST, entry_of, word_of};

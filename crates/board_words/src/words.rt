@@ -2,21 +2,11 @@
 ghost use Rattle.std.specs.Prelude.{◌≡◌, ◌≤◌};
 ghost use Rattle.transfer_table.specs.Plan.{most_sites};
 ghost use Rattle.transfer_table.specs.Entry.{hart_of, count_of, site_of};
-ghost use Rattle.hart_port.specs.Words.{is_wanted};
 ghost use Rattle.board_words.specs.Words.{spelled};
 
 use transfer_table::Entry;
 
-/// The claimed, the closing and the closed bit of a site's word.
-pub const CLAIMED: u64 = 1;
-
-pub const CLOSING: u64 = 2;
-
-pub const CLOSED: u64 = 4;
-
-/// One wish, and one hart that a site's word counts: on its way in, or a guest.
-pub const WISH: u64 = 256;
-
+/// One hart that a site's word counts: a hart on its way in, or a guest, as the layout has it.
 pub const GUEST: u64 = 65536;
 
 // One hart, one of a count, and one site in the word of an entry.
@@ -25,13 +15,6 @@ const HART: u64 = 8;
 const COUNT: u64 = 256;
 
 const SITE: u64 = 65536;
-
-/// Whether a site's word shows a wish that a hart may meet.
-pub fn is_wanted(word: u64) -> bool
-    ensures { result ≡ is_wanted word }
-{
-    word % 2 == 1 && word / 2 % 2 != 1 && word / 4 % 2 != 1 && word / WISH % 256 != 0
-}
 
 /// The word that spells the entry.
 pub fn word_of(entry: Entry) -> u64

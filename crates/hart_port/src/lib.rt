@@ -1,9 +1,10 @@
 //! Ports: one hart's right to make transfers.
 //!
-//! A port is what a hart moves by. Its calls are the five kinds of entry of the table, and looks at
-//! what other harts did. `Port` says what each call needs and does, whatever harts there are;
-//! `PlainPort` is the port of a single hart that shares nothing. `specs/PortView.antt` has what contracts
-//! see of a port.
+//! A hart makes its transfers by a port. The calls of a port are the six kinds of entry of the table, and
+//! looks at what other harts did. `Port` says what each call needs and does, for every number of harts.
+//! `PlainPort` is the port of a single hart that shares nothing, with its journal in a `Ledger`. `LockedPort` is
+//! the port of one of several harts that share a table behind a lock. `specs/PortView.antt` has what contracts
+//! see of a port, and `specs/Words.antt` the words that a port shows.
 #![tactic(auto)]
 
 mod ledger;
@@ -16,3 +17,4 @@ pub use ledger::Ledger;
 pub use locked::LockedPort;
 pub use plain::PlainPort;
 pub use port::{Entered, Port, Seen, Taken};
+pub use word::{CLAIMED, CLOSED, CLOSING, WISH, is_claimed, is_closed, is_wanted};

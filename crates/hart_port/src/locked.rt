@@ -194,13 +194,6 @@ impl<'a, R: Threads + Wait + Sync + 'a> Port for LockedPort<'a, R> {
         self.owner
     }
 
-    /// Never: the table is shared, whatever the plan.
-    fn is_alone(&self) -> bool {
-        // A look at a field tells what the type keeps: that the table is shared.
-        let _ = &self.plan;
-        false
-    }
-
     fn register(&mut self, hold: &'a R, site: u16) -> Result<(), Taken> {
         let may = has_room(&self.mine) && !self.claimed[site as usize];
         let hart = self.hart;

@@ -140,12 +140,6 @@ impl Port for PlainPort {
         self.ledger.owner(0)
     }
 
-    fn is_alone(&self) -> bool {
-        // A look at a field tells what the type keeps: that there is one hart.
-        let _ = &self.ledger;
-        true
-    }
-
     /// Makes Register of the site, exactly where it is new.
     fn register(&mut self, _hold: (), site: u16) -> Result<(), Taken>
         requires known { IsSite self.old.view.plan site }

@@ -74,11 +74,6 @@ pub trait Port {
         ensures same { result ≡ (seen self.now).owner }
         ensures kept { IsPortView (seen self.now) };
 
-    /// Whether no other hart shares the table.
-    fn is_alone(&self) -> bool
-        ensures same { result ≡ (seen self.now).alone }
-        ensures kept { IsPortView (seen self.now) };
-
     /// Makes Register of the site, a child of the owner, whose home the hart then is.
     fn register(&mut self, hold: Self::Hold, site: u16) -> Result<(), Taken>
         requires known { IsSite (seen self.old).plan site }

@@ -7,14 +7,26 @@ ghost use Rattle.hart_port.specs.Words.{site_word, stage_bits, closing_bit, is_c
 
 use transfer_table::{Board, Stage};
 
+/// The bit of a site's word that says that the site is claimed.
+pub const CLAIMED: u64 = 1;
+
+/// The bit that says that no further hart may enter.
+pub const CLOSING: u64 = 2;
+
+/// The bit that says that the site is gone.
+pub const CLOSED: u64 = 4;
+
+/// One wish, of the 255 for which a site's word has room.
+pub const WISH: u64 = 256;
+
 // The claimed and the closed bit of a site.
 fn stage_bits(stage: Stage) -> u64
     ensures { result ≡ stage_bits stage }
 {
     match stage {
         Stage::New => 0,
-        Stage::Live => 1,
-        Stage::Gone => 1 + 4,
+        Stage::Live => CLAIMED,
+        Stage::Gone => CLAIMED + CLOSED,
     }
 }
 
@@ -22,7 +34,7 @@ fn stage_bits(stage: Stage) -> u64
 fn closing_bit(closing: bool) -> u64
     ensures { result ≡ closing_bit closing }
 {
-    if closing { 2 } else { 0 }
+    if closing { CLOSING } else { 0 }
 }
 
 // The word of a site of the board's plan.
@@ -30,7 +42,7 @@ pub(crate) fn site_word(board: &Board, site: u16, closing: bool) -> u64
     requires { IsSite board.now.plan site }
     ensures { result ≡ site_word (row board.now.state site) closing }
 {
-    stage_bits(board.stage(site)) + closing_bit(closing) + 256 * u64::from(board.wishes(site))
+    stage_bits(board.stage(site)) + closing_bit(closing) + WISH * u64::from(board.wishes(site))
 }
 
 // Counts one more, up to the last value.
@@ -40,25 +52,25 @@ pub(crate) fn raise(count: &mut u64)
     *count = count.saturating_add(1);
 }
 
-// Whether the site of the word is claimed.
-pub(crate) fn is_claimed(word: u64) -> bool
+/// Whether a site's word says that the site is claimed.
+pub fn is_claimed(word: u64) -> bool
     ensures { result ≡ is_claimed word }
 {
     word % 2 == 1
 }
 
-// Whether the site of the word is gone.
-pub(crate) fn is_closed(word: u64) -> bool
+/// Whether a site's word says that the site is gone.
+pub fn is_closed(word: u64) -> bool
     ensures { result ≡ is_closed word }
 {
-    word / 4 % 2 == 1
+    word / CLOSED % 2 == 1
 }
 
-// Whether a hart may enter the site of the word.
-pub(crate) fn is_wanted(word: u64) -> bool
+/// Whether a site's word shows a wish that a hart may meet.
+pub fn is_wanted(word: u64) -> bool
     ensures { result ≡ is_wanted word }
 {
-    is_claimed(word) && word / 2 % 2 != 1 && !is_closed(word) && word / 256 % 256 != 0
+    is_claimed(word) && word / CLOSING % 2 != 1 && !is_closed(word) && word / WISH % 256 != 0
 }
 
 // The least other hart whose owner is the site, by the board word.

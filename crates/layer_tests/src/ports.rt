@@ -26,7 +26,7 @@ fn is_there_and_back(alloc: Global, plan: &Plan, entries: &[Entry]) -> Result<bo
 
 // Whether the port is that of the only hart, which is in the base.
 fn is_first(port: &PlainPort) -> bool {
-    port.hart() == 0 && port.owner() == 0 && port.is_alone()
+    port.hart() == 0 && port.owner() == 0
 }
 
 // Whether the hart registers a site.

@@ -17,7 +17,8 @@ use Rattle.transfer_table.specs.declared.entry.Entry.{Entry}
 use Rattle.transfer_table.proofs.Balance.{legal_entries}
 use Rattle.hart_port.specs.PortView.{is_in}
 use Rattle.board_rule.specs.declared.view.View.{View}
-use Rattle.board_words.specs.Counts.{ended_as, one_if}
+use Rattle.transfer_table.specs.Counts.{one_if}
+use Rattle.board_words.specs.Counts.{ended_as}
 use Rattle.board_rule.specs.Views.{joined_view}
 use Rattle.board_words.specs.Sets.{union}
 use Rattle.board_rule.specs.Ends.{AllEnded, IsJournal}

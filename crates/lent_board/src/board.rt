@@ -13,8 +13,8 @@ use crate::seat::HartSeat;
 use crate::words::is_held;
 use atomic_table::Table;
 use board_rule::{BoardRule, Laid, Layout, View};
-use board_words::{GUEST, is_wanted};
-use hart_port::{Entered, Seen, Taken};
+use board_words::GUEST;
+use hart_port::{Entered, Seen, Taken, is_claimed, is_closed, is_wanted};
 use std::alloc::Global;
 use transfer_table::{Entry, Plan};
 
@@ -48,7 +48,7 @@ impl<L: Laid> Board<L> {
     {
         let (hart, owner) = (seat.hart, seat.owner);
         let shown = self.claim(&mut seat.seat, site);
-        if shown % 2 == 1 {
+        if is_claimed(shown) {
             return Err(Taken { shown });
         }
         let place = self.make_register(&mut seat.seat, hart, owner, site);
@@ -68,7 +68,7 @@ impl<L: Laid> Board<L> {
     {
         let hart = seat.hart;
         let found = self.claim(&mut seat.seat, site);
-        if found % 2 == 1 {
+        if is_claimed(found) {
             return Err(Taken { shown: found });
         }
         let place = self.make_skip(&mut seat.seat, site);
@@ -153,7 +153,7 @@ impl<L: Laid> Board<L> {
         ensures of { IsOf self.now seat.new }
         ensures does { SeesGone seat.old.seat.me.0 site result seat.new.seat.me.0 }
     {
-        self.look_gone(&mut seat.seat, site) / 4 % 2 == 1
+        is_closed(self.look_gone(&mut seat.seat, site))
     }
 
     /// Looks whether the owner, which the hart has closed, has a guest. By guests that are another hart in

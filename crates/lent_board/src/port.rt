@@ -78,10 +78,6 @@ impl<'a, L: Laid> Port for BoardPort<'a, L> {
         self.seat.owner()
     }
 
-    fn is_alone(&self) -> bool {
-        false
-    }
-
     fn register(&mut self, _hold: (), site: u16) -> Result<(), Taken>
         requires known { IsSite (port_view self.old.seat).plan site }
         requires child { (port_view self.old.seat).owner

@@ -108,7 +108,7 @@ fn sites_come_and_go_over_a_port_that_waits(rt: HostRuntime) -> Result<(), Fail>
     let plan = Plan::new(rt.alloc(), 1, &[0, 0])?;
     let tree = SiteTree::new(rt.alloc(), &plan)?;
     let mut port = WaitingPort::new(PlainPort::new(rt.alloc(), &plan)?, &rt);
-    assert!(rt; !port.is_alone() && port.hart() == 0 && port.owner() == 0);
+    assert!(rt; port.hart() == 0 && port.owner() == 0);
     sweep_children(&tree, &mut port, ());
     finish_base(&tree, &mut port, ());
     let entries = port.into_port().finish();

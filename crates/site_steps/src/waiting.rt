@@ -63,12 +63,6 @@ impl<'a, P: Port, R: Wait> Port for WaitingPort<'a, P, R> {
         self.port.owner()
     }
 
-    fn is_alone(&self) -> bool {
-        // What the port keeps.
-        let _ = self.port.owner();
-        false
-    }
-
     fn register(&mut self, hold: P::Hold, site: u16) -> Result<(), Taken> {
         self.port.register(hold, site)
     }

@@ -1,4 +1,5 @@
 pub mod Causes
+pub mod Counts
 pub mod Plan
 pub mod Table
 pub mod Board

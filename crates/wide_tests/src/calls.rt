@@ -16,7 +16,7 @@ fn a_hart_by_its_port(rt: HostRuntime) -> Result<(), Fail> {
         between,
     } = open(rt.alloc(), &plan)?;
     let mut port = WidePort::new(&board, first);
-    assert!(rt; port.hart() == 0 && port.owner() == 0 && !port.is_alone());
+    assert!(rt; port.hart() == 0 && port.owner() == 0);
     assert_eq!(rt; port.register((), 1), Ok(()));
     port.request((), 1, 1);
     assert!(rt; !port.see_gone((), 1));
