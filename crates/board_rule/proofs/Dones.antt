@@ -15,7 +15,7 @@ use Rattle.board_words.specs.Shown.{shown}
 use Rattle.board_rule.specs.Rule.{Stands, KnowsSites, IsSeat, IsSiteWord, DoesRight}
 use Rattle.transfer_table.specs.declared.entry.Row.{Row}
 use Rattle.board_words.proofs.Shown.{shown-live}
-use Rattle.board_rule.specs.Steps.{MayClose}
+use Rattle.board_rule.specs.Steps.{MayClose, MayFollow}
 use Rattle.board_rule.specs.Laws.{St, after_step, Keeps}
 use Rattle.board_rule.proofs.Loads.{part-elsewhere, part-here, part-idle, load-shift, load-same, Shifts}
 use Rattle.board_words.proofs.Sets.{with_site-in, with_site-keeps}
@@ -45,25 +45,25 @@ done_step lay p s k id v x n d at seat site does busy word =
 right : (lay : Layout) (p : Plan) (s : St) (k : Stands lay p s) (id : ℕ) (v : View) (d : Doing) → get_elem? s.views id ≡ some v → IsSeat v → v.doing ≡ d → DoesRight lay p k.journal k.table v d
 right lay p s k id v d at seat does = let R : Doing → Type 0 = λ q. DoesRight lay p k.journal k.table v q in subst R does (k.views id v at seat).does
 
-pub credit_keeps : (lay : Layout) (p : Plan) (s : St) (k : Stands lay p s) (id : ℕ) (v : View) (x n : ℕ) → get_elem? s.views id ≡ some v → IsSeat v → slice_index s.words x < 2 ^ 64 → v.doing ≡ Crediting x n
+pub credit_keeps : (lay : Layout) (p : Plan) (s : St) (k : Stands lay p s) (id : ℕ) (v : View) (x n : ℕ) → get_elem? s.views id ≡ some v → IsSeat v → slice_index s.words x < 2 ^ 64 → MayFollow v (Crediting x n)
     → Keeps lay p s k (after_step s x ((slice_index s.words x + 256 * n) % 2 ^ 64) id (done_view v))
-credit_keeps lay p s k id v x n at seat small does = let site = (right lay p s k id v (Crediting x n) at seat does).0 in
-    done_step lay p s k id v x _ (Crediting x n) at seat site does refl (λ c c' shift word. credited_word (slice_index s.words x) n (k.closing x) c c' (shown k.journal k.table x) (insiders lay p k.table x) x shift (few_wishes lay p s k x site) small word)
+credit_keeps lay p s k id v x n at seat small does = let site = (right lay p s k id v (Crediting x n) at seat does.0).0 in
+    done_step lay p s k id v x _ (Crediting x n) at seat site does.0 refl (λ c c' shift word. credited_word (slice_index s.words x) n (k.closing x) c c' (shown k.journal k.table x) (insiders lay p k.table x) x shift (few_wishes lay p s k x site) small word)
 
-pub land_keeps : (lay : Layout) (p : Plan) (s : St) (k : Stands lay p s) (id : ℕ) (v : View) (x : ℕ) → get_elem? s.views id ≡ some v → IsSeat v → slice_index s.words x < 2 ^ 64 → v.doing ≡ Landing x
+pub land_keeps : (lay : Layout) (p : Plan) (s : St) (k : Stands lay p s) (id : ℕ) (v : View) (x : ℕ) → get_elem? s.views id ≡ some v → IsSeat v → slice_index s.words x < 2 ^ 64 → MayFollow v (Landing x)
     → Keeps lay p s k (after_step s x ((slice_index s.words x + (2 ^ 64 - 65536)) % 2 ^ 64) id (done_view v))
-land_keeps lay p s k id v x at seat small does = let site = (right lay p s k id v (Landing x) at seat does).0 in
-    done_step lay p s k id v x _ (Landing x) at seat site does refl (λ c c' shift word. landed_word (slice_index s.words x) (k.closing x) c c' (shown k.journal k.table x) (insiders lay p k.table x) x shift small word)
+land_keeps lay p s k id v x at seat small does = let site = (right lay p s k id v (Landing x) at seat does.0).0 in
+    done_step lay p s k id v x _ (Landing x) at seat site does.0 refl (λ c c' shift word. landed_word (slice_index s.words x) (k.closing x) c c' (shown k.journal k.table x) (insiders lay p k.table x) x shift small word)
 
-pub leave_keeps : (lay : Layout) (p : Plan) (s : St) (k : Stands lay p s) (id : ℕ) (v : View) (x : ℕ) → get_elem? s.views id ≡ some v → IsSeat v → slice_index s.words x < 2 ^ 64 → v.doing ≡ Leaving x
+pub leave_keeps : (lay : Layout) (p : Plan) (s : St) (k : Stands lay p s) (id : ℕ) (v : View) (x : ℕ) → get_elem? s.views id ≡ some v → IsSeat v → slice_index s.words x < 2 ^ 64 → MayFollow v (Leaving x)
     → Keeps lay p s k (after_step s x ((slice_index s.words x + (2 ^ 64 - 65536)) % 2 ^ 64) id (done_view v))
-leave_keeps lay p s k id v x at seat small does = let site = (right lay p s k id v (Leaving x) at seat does).0 in
-    done_step lay p s k id v x _ (Leaving x) at seat site does refl (λ c c' shift word. left_word (slice_index s.words x) (k.closing x) c c' (shown k.journal k.table x) (insiders lay p k.table x) x shift small word)
+leave_keeps lay p s k id v x at seat small does = let site = (right lay p s k id v (Leaving x) at seat does.0).0 in
+    done_step lay p s k id v x _ (Leaving x) at seat site does.0 refl (λ c c' shift word. left_word (slice_index s.words x) (k.closing x) c c' (shown k.journal k.table x) (insiders lay p k.table x) x shift small word)
 
-pub seal_keeps : (lay : Layout) (p : Plan) (s : St) (k : Stands lay p s) (id : ℕ) (v : View) (x : ℕ) → get_elem? s.views id ≡ some v → IsSeat v → v.doing ≡ Sealing x
+pub seal_keeps : (lay : Layout) (p : Plan) (s : St) (k : Stands lay p s) (id : ℕ) (v : View) (x : ℕ) → get_elem? s.views id ≡ some v → IsSeat v → MayFollow v (Sealing x)
     → Keeps lay p s k (after_step s x (bit_or (slice_index s.words x) 4) id (done_view v))
-seal_keeps lay p s k id v x at seat does = let r = right lay p s k id v (Sealing x) at seat does in
-    done_step lay p s k id v x _ (Sealing x) at seat r.0 does refl (λ c c' shift word. sealed_word (slice_index s.words x) (k.closing x) c c' (shown k.journal k.table x) (insiders lay p k.table x) x shift r.1 (few_wishes lay p s k x r.0) word)
+seal_keeps lay p s k id v x at seat does = let r = right lay p s k id v (Sealing x) at seat does.0 in
+    done_step lay p s k id v x _ (Sealing x) at seat r.0 does.0 refl (λ c c' shift word. sealed_word (slice_index s.words x) (k.closing x) c c' (shown k.journal k.table x) (insiders lay p k.table x) x shift r.1 (few_wishes lay p s k x r.0) word)
 
 -- ---- close
 

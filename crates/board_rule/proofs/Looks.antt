@@ -217,7 +217,7 @@ see_drained_keeps lay p s k id v at seat may =
 -- ---- a look at a first word that has the owners, which sees the owner empty
 
 -- where no other hart's field is the site, none is below the number of harts
-none_at : (n w h x : ℕ) → others_at n w h x ≡ false → (g : ℕ) → g < n → g ≢ h → owner_field w g ≢ x
+pub none_at : (n w h x : ℕ) → others_at n w h x ≡ false → (g : ℕ) → g < n → g ≢ h → owner_field w g ≢ x
 none_at zero w h x none g lt other = absurd (omega arith)
 none_at (suc n) w h x none g lt other = let both = neither (not (eqb n h) && eqb (owner_field w n) x) (others_at n w h x) none in
     dite (ℕ_discrete g n)

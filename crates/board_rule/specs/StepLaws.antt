@@ -20,7 +20,7 @@ use Rattle.board_words.specs.Words.{journal_index, spelled, wish_unit, guest_uni
 use Rattle.board_rule.specs.Counts.{busy_at, load, guests}
 use Rattle.board_rule.specs.Views.{split_left, split_right, joined_view, spent_view, glance_view, see_gone_view, see_drained_view, see_empty_view, claim_view, reserve_view, done_view, close_view, jot_view, register_view, request_view, enter_view, yield_view, unregister_view, skip_view}
 use Rattle.board_rule.specs.Rule.{Stands, IsSeat}
-use Rattle.board_rule.specs.Steps.{IsReady, MayClaim, MayReserve, MayRequest, MayYield, MayClose, MaySeeDrained, MaySeeEmpty, MayUnregister}
+use Rattle.board_rule.specs.Steps.{IsReady, MayFollow, MayClaim, MayReserve, MayRequest, MayYield, MayClose, MaySeeDrained, MaySeeEmpty, MayUnregister}
 use Rattle.board_rule.specs.Laws.{St, after_step, Keeps, Appends}
 
 -- ---- these keep the journal
@@ -42,7 +42,7 @@ JotKeeps lay = (p : Plan) (s : St) (k : Stands lay p s) (id : ℕ) (v : View) (p
 abbrev pub CreditKeeps : Layout → Type 0
 CreditKeeps lay = (p : Plan) (s : St) (k : Stands lay p s) (id : ℕ) (v : View) (x n : ℕ)
     → get_elem? s.views id ≡ some v → IsSeat v → slice_index s.words x < 2 ^ 64
-    → v.doing ≡ Crediting x n
+    → MayFollow v (Crediting x n)
     → Keeps lay p s k (after_step s x ((slice_index s.words x + wish_unit * n) % 2 ^ 64) id (done_view v))
 
 -- a look at a word: by a hart that means to enter
@@ -84,7 +84,7 @@ ReserveKeeps lay = (p : Plan) (s : St) (k : Stands lay p s) (id : ℕ) (v : View
 abbrev pub LandKeeps : Layout → Type 0
 LandKeeps lay = (p : Plan) (s : St) (k : Stands lay p s) (id : ℕ) (v : View) (x : ℕ)
     → get_elem? s.views id ≡ some v → IsSeat v → slice_index s.words x < 2 ^ 64
-    → v.doing ≡ Landing x
+    → MayFollow v (Landing x)
     → Keeps lay p s k (after_step s x ((slice_index s.words x + (2 ^ 64 - guest_unit)) % 2 ^ 64) id
     (done_view v))
 
@@ -92,7 +92,7 @@ LandKeeps lay = (p : Plan) (s : St) (k : Stands lay p s) (id : ℕ) (v : View) (
 abbrev pub LeaveKeeps : Layout → Type 0
 LeaveKeeps lay = (p : Plan) (s : St) (k : Stands lay p s) (id : ℕ) (v : View) (x : ℕ)
     → get_elem? s.views id ≡ some v → IsSeat v → slice_index s.words x < 2 ^ 64
-    → v.doing ≡ Leaving x
+    → MayFollow v (Leaving x)
     → Keeps lay p s k (after_step s x ((slice_index s.words x + (2 ^ 64 - guest_unit)) % 2 ^ 64) id
     (done_view v))
 
@@ -105,7 +105,7 @@ CloseKeeps lay = (p : Plan) (s : St) (k : Stands lay p s) (id : ℕ) (v : View)
 -- setting the closed bit of a site
 abbrev pub SealKeeps : Layout → Type 0
 SealKeeps lay = (p : Plan) (s : St) (k : Stands lay p s) (id : ℕ) (v : View) (x : ℕ)
-    → get_elem? s.views id ≡ some v → IsSeat v → v.doing ≡ Sealing x
+    → get_elem? s.views id ≡ some v → IsSeat v → MayFollow v (Sealing x)
     → Keeps lay p s k (after_step s x (bit_or (slice_index s.words x) 4) id (done_view v))
 
 -- hart 0's seat makes the next hart's

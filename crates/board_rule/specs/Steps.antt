@@ -5,12 +5,17 @@ use Rattle.transfer_table.specs.Entry.{requested}
 use Rattle.hart_port.specs.Words.{is_wanted}
 use Rattle.hart_port.specs.PortView.{is_in}
 use Rattle.board_rule.specs.declared.view.View.{View}
+use Rattle.board_rule.specs.declared.view.Doing.{Doing}
 use Rattle.board_rule.specs.declared.view.Doing.TheVariants.{Idle}
 use Rattle.board_rule.specs.Rule.{SawChildren}
 
 -- it is about nothing, and has no entry to write
 abbrev pub IsReady : View → Type 0
 IsReady v = (v.doing ≡ Idle) × (v.drawn ≡ None)
+
+-- it has written its entry, and this is what the entry leaves it to do
+abbrev pub MayFollow : View → Doing → Type 0
+MayFollow v todo = (v.doing ≡ todo) × (v.drawn ≡ None)
 
 -- the site is a child of the owner
 abbrev pub MayClaim : Plan → View → ℕ → Type 0

@@ -1,1 +1,2 @@
-pub mod Two
+mod Ports
+mod Two

@@ -1,52 +1,43 @@
--- Harts that go from site to site of a plan.
-use Rattle.std.specs.Prelude.{◌≡◌, ◌≢◌, ℕ, ◌≤◌, ◌<◌, true, false, List, length, slice_index_or}
-use Rattle.transfer_table.specs.Plan.{parent}
-use Rattle.hart_port.specs.PortView.{is_in}
-use Rattle.board_rule.specs.declared.view.View.{View}
-use Rattle.word_board.specs.Of.{IsOf}
-use Rattle.board_rule.specs.declared.layout.Laid.{Ghosts}
-use Rattle.lent_board.specs.declared.seat.HartSeat.{HartSeat}
-use Rattle.lent_board.specs.declared.board.Board.{Board}
+-- Harts that go from site to site of a plan, by their ports.
+use Rattle.std.specs.Prelude.{◌≡◌, ◌≢◌, ℕ, ◌≤◌, ◌<◌, true, false}
+use Rattle.transfer_table.specs.Plan.{Plan, parent}
+use Rattle.hart_port.specs.PortView.{PortView, is_in}
+
+-- it is the same hart of the same plan, and shares the same table
+pub record IsSameHart (v w : PortView) : Type 0 where
+  pub plan : w.plan ≡ v.plan
+  pub hart : w.hart ≡ v.hart
+  pub table : w.table ≡ v.table
 
 -- The hart is the home of no site behind its owner. A site stands behind its parent, since its number is greater.
-abbrev pub HasNoHomeBehind : View → Type 0
-HasNoHomeBehind v = (c : ℕ) → v.owner < c → is_in v.marks.homes c ≡ false
+abbrev pub HasNoHomeBehind : PortView → Type 0
+HasNoHomeBehind v = (c : ℕ) → v.owner < c → is_in v.homes c ≡ false
+
+-- the hart of the plan is in the base, and the home of no site
+pub record IsNew (p : Plan) (v : PortView) : Type 0 where
+  pub plan : v.plan ≡ p
+  pub base : v.owner ≡ 0
+  pub homeless : HasNoHomeBehind v
 
 -- the hart is where it was, the home of the same sites, and up to its owner it has closed the same
-pub record IsBack (v w : View) : Type 0 where
+pub record IsBack (v w : PortView) : Type 0 where
+  pub same : IsSameHart v w
   pub owner : w.owner ≡ v.owner
-  pub homes : (c : ℕ) → is_in w.marks.homes c ≡ is_in v.marks.homes c
-  pub closed : (c : ℕ) → c ≤ v.owner → is_in w.marks.closed c ≡ is_in v.marks.closed c
+  pub homes : (c : ℕ) → is_in w.homes c ≡ is_in v.homes c
+  pub closed : (c : ℕ) → c ≤ v.owner → is_in w.closed c ≡ is_in v.closed c
 
 -- the hart has only looked: what it has seen gone stays so
-pub record HasLooked (v w : View) : Type 0 where
+pub record HasLooked (v w : PortView) : Type 0 where
+  pub same : IsSameHart v w
   pub owner : w.owner ≡ v.owner
-  pub homes : w.marks.homes ≡ v.marks.homes
-  pub closed : w.marks.closed ≡ v.marks.closed
-  pub gone : (c : ℕ) → is_in v.marks.gone c ≡ true → is_in w.marks.gone c ≡ true
+  pub homes : w.homes ≡ v.homes
+  pub closed : w.closed ≡ v.closed
+  pub gone : (c : ℕ) → is_in v.gone c ≡ true → is_in w.gone c ≡ true
 
 -- the hart has left its owner for the owner's parent, and is its home no longer
-pub record HasLeft (v w : View) : Type 0 where
+pub record HasLeft (v w : PortView) : Type 0 where
+  pub same : IsSameHart v w
   pub owner : w.owner ≡ parent v.plan v.owner
-  pub own : is_in w.marks.homes v.owner ≡ false
-  pub homes : (c : ℕ) → c ≢ v.owner → is_in w.marks.homes c ≡ is_in v.marks.homes c
-  pub closed : (c : ℕ) → c ≢ v.owner → is_in w.marks.closed c ≡ is_in v.marks.closed c
-
--- hart h's seat of the board
-pub record IsHartOf {L : Type 0} {laid : Ghosts L} (b : Board L laid) (h : ℕ) (q : HartSeat) : Type 0 where
-  pub of : IsOf b q
-  pub hart : q.seat.me.0.hart ≡ h
-
--- and the hart is at the base, the home of no site
-pub record IsNewHart {L : Type 0} {laid : Ghosts L} (b : Board L laid) (h : ℕ) (q : HartSeat) : Type 0 where
-  pub of : IsOf b q
-  pub hart : q.seat.me.0.hart ≡ h
-  pub base : q.seat.me.0.owner ≡ 0
-  pub homeless : HasNoHomeBehind q.seat.me.0
-
--- the seat at place h is hart h's
-abbrev pub AreHarts : {L : Type 0} {laid : Ghosts L} → Board L laid → List HartSeat → Type 0
-AreHarts b qs = (h : ℕ) (d : HartSeat) → h < length qs → IsHartOf b h (slice_index_or qs h d)
-
-abbrev pub AreNewHarts : {L : Type 0} {laid : Ghosts L} → Board L laid → List HartSeat → Type 0
-AreNewHarts b qs = (h : ℕ) (d : HartSeat) → h < length qs → IsNewHart b h (slice_index_or qs h d)
+  pub own : is_in w.homes v.owner ≡ false
+  pub homes : (c : ℕ) → c ≢ v.owner → is_in w.homes c ≡ is_in v.homes c
+  pub closed : (c : ℕ) → c ≢ v.owner → is_in w.closed c ≡ is_in v.closed c

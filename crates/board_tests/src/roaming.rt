@@ -1,55 +1,46 @@
-//! Harts that go through the sites of one board, each in a thread of its own.
-ghost use Rattle.std.specs.Prelude.{◌≡◌, ◌≤◌, ◌<◌, true, false};
-ghost use Rattle.transfer_table.specs.Plan.{IsSite, parent, site_count};
-ghost use Rattle.hart_port.specs.PortView.{is_in};
-ghost use Rattle.board_rule.specs.Rule.{SawChildren};
-ghost use Rattle.word_board.specs.Of.{IsOf};
-ghost use Rattle.board_tests.specs.Roam.{HasNoHomeBehind, IsBack, HasLooked, HasLeft, IsNewHart, IsHartOf, AreNewHarts, AreHarts};
+//! Harts that go through the sites of one table, each in a thread of its own, by any port.
+ghost use Rattle.std.specs.Prelude.{◌≡◌, ℕ, ◌≤◌, ◌<◌, true, false, length, slice_index_or};
+ghost use Rattle.std.specs.List.{All};
+ghost use Rattle.transfer_table.specs.Plan.{IsSite, parent};
+ghost use Rattle.hart_port.specs.PortView.{is_in, ChildrenSeenGone};
+ghost use Rattle.board_tests.specs.Roam.{IsSameHart, HasNoHomeBehind, IsNew, IsBack, HasLooked, HasLeft};
 
-use crate::seats::{close_all, open_all};
-use std::alloc::{AllocError, Global};
+use hart_port::{Entered, Port, Seen, is_closed};
 use std::sync::Wait;
-use std::test::Fail;
 use std::thread::{Threads, for_each_mut};
-use transfer_table::{Plan, first_fault};
-use word_board::{Closed, Entered, HartSeat, Seen, WordBoard};
+use transfer_table::Plan;
 
 /// How often a hart looks whether a site is gone, or empty.
 const LOOKS: u32 = 1 << 30;
 
-/// How often a hart tries to enter a site.
-const TRIES: u32 = 16;
-
-/// Whether the hart came into the site as a guest.
-pub(crate) fn came_in(board: &WordBoard, seat: &mut HartSeat, site: u16) -> bool
-    requires of { IsOf board.now seat.old }
-    requires site { IsSite board.now.plan site }
-    requires child { seat.old.seat.me.0.owner ≡ parent board.now.plan site }
-    ensures of { IsOf board.now seat.new }
-    ensures hart { seat.new.seat.me.0.hart ≡ seat.old.seat.me.0.hart }
-    ensures marks { seat.new.seat.me.0.marks ≡ seat.old.seat.me.0.marks }
-    ensures inside { result ≡ true → seat.new.seat.me.0.owner ≡ site }
-    ensures outside { result ≡ false → seat.new.seat.me.0.owner ≡ seat.old.seat.me.0.owner }
+// Whether the hart came into the site as a guest. It tries so often at most, and no more once the site is gone.
+fn came_in<P: Port<Hold = ()>>(port: &mut P, site: u16, tries: u32) -> bool
+    requires site { IsSite (P.seen port.old).plan site }
+    requires child { (P.seen port.old).owner ≡ parent (P.seen port.old).plan site }
+    ensures same { IsSameHart (P.seen port.old) (P.seen port.new) }
+    ensures homes { (P.seen port.new).homes ≡ (P.seen port.old).homes }
+    ensures closed { (P.seen port.new).closed ≡ (P.seen port.old).closed }
+    ensures inside { result ≡ true → (P.seen port.new).owner ≡ site }
+    ensures outside { result ≡ false → (P.seen port.new).owner ≡ (P.seen port.old).owner }
 {
-    for _ in 0..TRIES {
-        if let Entered::Inside = board.try_enter(seat, site) {
-            return true;
+    for _ in 0..tries {
+        match port.try_enter((), site) {
+            Entered::Inside => return true,
+            Entered::NotWanted { shown } if is_closed(shown) => return false,
+            _ => {}
         }
     }
     false
 }
 
 // Looks until the site is gone. Whether it was seen so.
-fn saw_gone(board: &WordBoard, seat: &mut HartSeat, site: u16) -> bool
-    requires of { IsOf board.now seat.old }
-    requires site { IsSite board.now.plan site }
-    ensures of { IsOf board.now seat.new }
-    ensures hart { seat.new.seat.me.0.hart ≡ seat.old.seat.me.0.hart }
-    ensures looked { HasLooked seat.old.seat.me.0 seat.new.seat.me.0 }
-    ensures gone { result ≡ true → is_in seat.new.seat.me.0.marks.gone site ≡ true }
+fn saw_gone<P: Port<Hold = ()>>(port: &mut P, site: u16) -> bool
+    requires site { IsSite (P.seen port.old).plan site }
+    ensures looked { HasLooked (P.seen port.old) (P.seen port.new) }
+    ensures gone { result ≡ true → is_in (P.seen port.new).gone site ≡ true }
 {
     for _ in 0..LOOKS {
-        if board.see_gone(seat, site) {
+        if port.see_gone((), site) {
             return true;
         }
     }
@@ -57,18 +48,14 @@ fn saw_gone(board: &WordBoard, seat: &mut HartSeat, site: u16) -> bool
 }
 
 // The same of each child of the owner.
-fn saw_children_gone(board: &WordBoard, plan: &Plan, seat: &mut HartSeat) -> bool
-    requires of { IsOf board.now seat.old }
-    requires plan { plan.now ≡ board.now.plan }
-    ensures of { IsOf board.now seat.new }
-    ensures hart { seat.new.seat.me.0.hart ≡ seat.old.seat.me.0.hart }
-    ensures looked { HasLooked seat.old.seat.me.0 seat.new.seat.me.0 }
-    ensures gone { result ≡ true
-        → SawChildren board.now.plan seat.new.seat.me.0.marks seat.new.seat.me.0.owner }
+fn saw_children_gone<P: Port<Hold = ()>>(plan: &Plan, port: &mut P) -> bool
+    requires plan { plan.now ≡ (P.seen port.old).plan }
+    ensures looked { HasLooked (P.seen port.old) (P.seen port.new) }
+    ensures gone { result ≡ true → ChildrenSeenGone (P.seen port.new) }
 {
     for before in 0..plan.sites() {
         let site = before + 1;
-        if plan.parent(site) == seat.owner() && !saw_gone(board, seat, site) {
+        if plan.parent(site) == port.owner() && !saw_gone(port, site) {
             return false;
         }
     }
@@ -76,18 +63,14 @@ fn saw_children_gone(board: &WordBoard, plan: &Plan, seat: &mut HartSeat) -> boo
 }
 
 // Looks until the owner is empty. Whether it was seen so.
-fn saw_empty(board: &WordBoard, seat: &mut HartSeat) -> bool
-    requires of { IsOf board.now seat.old }
-    requires home { is_in seat.old.seat.me.0.marks.homes seat.old.seat.me.0.owner ≡ true }
-    requires closed { is_in seat.old.seat.me.0.marks.closed seat.old.seat.me.0.owner ≡ true }
-    ensures of { IsOf board.now seat.new }
-    ensures hart { seat.new.seat.me.0.hart ≡ seat.old.seat.me.0.hart }
-    ensures looked { HasLooked seat.old.seat.me.0 seat.new.seat.me.0 }
-    ensures empty { result ≡ true
-        → is_in seat.new.seat.me.0.marks.empty seat.new.seat.me.0.owner ≡ true }
+fn saw_empty<P: Port<Hold = ()>>(port: &mut P) -> bool
+    requires home { is_in (P.seen port.old).homes (P.seen port.old).owner ≡ true }
+    requires closed { is_in (P.seen port.old).closed (P.seen port.old).owner ≡ true }
+    ensures looked { HasLooked (P.seen port.old) (P.seen port.new) }
+    ensures empty { result ≡ true → is_in (P.seen port.new).empty (P.seen port.new).owner ≡ true }
 {
     for _ in 0..LOOKS {
-        if let Seen::Empty = board.see_empty(seat) {
+        if let Seen::Empty = port.see_empty(()) {
             return true;
         }
     }
@@ -95,146 +78,85 @@ fn saw_empty(board: &WordBoard, seat: &mut HartSeat) -> bool
 }
 
 // The home closes its site, waits for those inside, and unregisters it. Whether it did.
-fn leave(board: &WordBoard, plan: &Plan, seat: &mut HartSeat) -> bool
-    requires of { IsOf board.now seat.old }
-    requires plan { plan.now ≡ board.now.plan }
-    requires home { is_in seat.old.seat.me.0.marks.homes seat.old.seat.me.0.owner ≡ true }
-    requires open_yet { is_in seat.old.seat.me.0.marks.closed seat.old.seat.me.0.owner ≡ false }
-    ensures of { IsOf board.now seat.new }
-    ensures hart { seat.new.seat.me.0.hart ≡ seat.old.seat.me.0.hart }
-    ensures left { result ≡ true → HasLeft seat.old.seat.me.0 seat.new.seat.me.0 }
+fn leave<P: Port<Hold = ()>>(plan: &Plan, port: &mut P) -> bool
+    requires plan { plan.now ≡ (P.seen port.old).plan }
+    requires home { is_in (P.seen port.old).homes (P.seen port.old).owner ≡ true }
+    requires open_yet { is_in (P.seen port.old).closed (P.seen port.old).owner ≡ false }
+    ensures same { IsSameHart (P.seen port.old) (P.seen port.new) }
+    ensures left { result ≡ true → HasLeft (P.seen port.old) (P.seen port.new) }
 {
-    board.close_site(seat);
-    if !saw_children_gone(board, plan, seat) || !saw_empty(board, seat) {
+    port.close_site(());
+    if !saw_children_gone(plan, port) || !saw_empty(port) {
         return false;
     }
-    board.unregister(seat);
+    port.unregister(());
     true
 }
 
-/// The hart leads the site, or is its guest where another hart leads it, and goes through the sites inside. Whether it is back.
+// The hart leads the site, or is its guest where another hart leads it, and goes through the sites inside. Whether it is back.
 #[cycle(visits)]
-pub(crate) fn visit(board: &WordBoard, plan: &Plan, seat: &mut HartSeat, site: u16) -> bool
-    requires of { IsOf board.now seat.old }
-    requires plan { plan.now ≡ board.now.plan }
-    requires some_guest { 2 ≤ board.now.plan.harts }
-    requires site { IsSite board.now.plan site }
-    requires child { seat.old.seat.me.0.owner ≡ parent board.now.plan site }
-    requires homeless { HasNoHomeBehind seat.old.seat.me.0 }
-    ensures of { IsOf board.now seat.new }
-    ensures hart { seat.new.seat.me.0.hart ≡ seat.old.seat.me.0.hart }
-    ensures back { result ≡ true → IsBack seat.old.seat.me.0 seat.new.seat.me.0 }
+fn visit<P: Port<Hold = ()>>(plan: &Plan, port: &mut P, site: u16, tries: u32) -> bool
+    requires plan { plan.now ≡ (P.seen port.old).plan }
+    requires some_guest { 2 ≤ plan.now.harts }
+    requires site { IsSite plan.now site }
+    requires child { (P.seen port.old).owner ≡ parent plan.now site }
+    requires homeless { HasNoHomeBehind (P.seen port.old) }
+    ensures same { IsSameHart (P.seen port.old) (P.seen port.new) }
+    ensures back { result ≡ true → IsBack (P.seen port.old) (P.seen port.new) }
 {
-    if board.register(seat, site) == Ok(()) {
-        board.request(seat, site, plan.harts() - 1);
-        return visit_children(board, plan, seat, site) && leave(board, plan, seat);
+    if port.register((), site) == Ok(()) {
+        port.request((), site, plan.harts() - 1);
+        return visit_children(plan, port, site, tries) && leave(plan, port);
     }
-    if !came_in(board, seat, site) {
+    if !came_in(port, site, tries) {
         return true;
     }
-    if !visit_children(board, plan, seat, site) {
+    if !visit_children(plan, port, site, tries) {
         return false;
     }
-    board.yield_hart(seat);
+    port.yield_hart(());
     true
 }
 
-/// The hart goes through the children of the site that it is in. Whether it is back.
+// The hart goes through the children of the site that it is in. Whether it is back.
 #[cycle(visits)]
-pub(crate) fn visit_children(
-    board: &WordBoard,
-    plan: &Plan,
-    seat: &mut HartSeat,
-    inside: u16,
-) -> bool
-    requires of { IsOf board.now seat.old }
-    requires plan { plan.now ≡ board.now.plan }
-    requires some_guest { 2 ≤ board.now.plan.harts }
-    requires inside { seat.old.seat.me.0.owner ≡ inside }
-    requires homeless { HasNoHomeBehind seat.old.seat.me.0 }
-    ensures of { IsOf board.now seat.new }
-    ensures hart { seat.new.seat.me.0.hart ≡ seat.old.seat.me.0.hart }
-    ensures back { result ≡ true → IsBack seat.old.seat.me.0 seat.new.seat.me.0 }
+fn visit_children<P: Port<Hold = ()>>(plan: &Plan, port: &mut P, inside: u16, tries: u32) -> bool
+    requires plan { plan.now ≡ (P.seen port.old).plan }
+    requires some_guest { 2 ≤ plan.now.harts }
+    requires inside { (P.seen port.old).owner ≡ inside }
+    requires homeless { HasNoHomeBehind (P.seen port.old) }
+    ensures same { IsSameHart (P.seen port.old) (P.seen port.new) }
+    ensures back { result ≡ true → IsBack (P.seen port.old) (P.seen port.new) }
 {
     for site in 1..=plan.sites() {
-        if plan.parent(site) == inside && !visit(board, plan, seat, site) {
+        if plan.parent(site) == inside && !visit(plan, port, site, tries) {
             return false;
         }
     }
     true
 }
 
-// All harts do so at once, from the base.
-fn roam<R: Threads + Wait + Sync>(rt: &R, board: &WordBoard, plan: &Plan, seats: &mut [HartSeat])
-    requires plan { plan.now ≡ board.now.plan }
-    requires some_guest { 2 ≤ board.now.plan.harts }
-    requires seats { AreNewHarts board.now seats.old }
-    ensures { AreHarts board.now seats.new }
-{
-    let go = |hart: usize, seat: &mut HartSeat|
-        requires plan { plan.now ≡ board.now.plan }
-        requires some_guest { 2 ≤ board.now.plan.harts }
-        requires seat { IsNewHart board.now hart seat.old }
-        ensures { IsHartOf board.entry.now hart seat.new }
-    {
-        visit_children(board, plan, seat, 0);
-    };
-    let parts = seats.len().max(1);
-    for_each_mut(rt, seats, parts, &go);
-}
-
-// The journal of so many harts, each in a thread.
-fn roamed(
-    rt: &(impl Threads + Wait + Sync),
-    alloc: Global,
+/// All harts do so at once, from the base. A hart that comes too late to lead a site tries so often to enter it.
+pub(crate) fn roam<R: Threads + Wait + Sync, P: Port<Hold = ()> + Send>(
+    rt: &R,
     plan: &Plan,
-) -> Result<Closed, AllocError>
-    requires some { 2 ≤ plan.now.harts }
-    requires few { plan.now.harts ≤ 4 }
+    ports: &mut [P],
+    tries: u32,
+)
+    requires some_guest { 2 ≤ plan.now.harts }
+    requires new { All (λ port. IsNew plan.now (P.seen port)) ports.old }
+    ensures count { length ports.new ≡ length ports.old }
+    ensures same { (k : ℕ) (d : P) → k < length ports.old
+        → IsSameHart (P.seen (slice_index_or ports.old k d)) (P.seen (slice_index_or ports.new k d)) }
 {
-    let (board, mut seats) = open_all(alloc, plan)?;
-    roam(rt, &board, plan, seats.as_mut_slice());
-    close_all(alloc, board, seats)
-}
-
-// Whether the journal is complete: three entries for each site, and two more for each guest that came.
-fn is_complete(alloc: Global, plan: &Plan, closed: &Closed) -> Result<bool, Fail> {
-    let entries = closed.entries();
-    let (sites, guests) = (plan.sites() as usize, plan.harts() as usize - 1);
-    if entries.len() < 3 * sites || (3 + 2 * guests) * sites < entries.len() {
-        return Ok(false);
-    }
-    let all = vec![in alloc; true; plan.sites() as usize]?;
-    Ok(first_fault(alloc, plan, &all, entries)? == None)
-}
-
-#[test]
-fn two_threads_roam(rt: HostRuntime) -> Result<(), Fail> {
-    let plan = Plan::new(rt.alloc(), 2, &[0; 300])?;
-    let closed = roamed(&rt, rt.alloc(), &plan)?;
-    assert!(rt; is_complete(rt.alloc(), &plan, &closed)?);
-    Ok(())
-}
-
-// The parents of groups of four sites: one with two children, the first of which has a child.
-fn nested_parents(alloc: Global, groups: u16) -> Result<Vec<u16>, AllocError>
-    requires { groups ≤ 1000 }
-{
-    let mut parents = Vec::new(alloc);
-    for group in 0..groups {
-        let top = 4 * group + 1;
-        for parent in [0, top, top, top + 1] {
-            parents.push(parent)?;
-        }
-    }
-    Ok(parents)
-}
-
-#[test]
-fn four_threads_roam_in_nested_sites(rt: HostRuntime) -> Result<(), Fail> {
-    let parents = nested_parents(rt.alloc(), 75)?;
-    let plan = Plan::new(rt.alloc(), 4, parents.as_slice())?;
-    let closed = roamed(&rt, rt.alloc(), &plan)?;
-    assert!(rt; is_complete(rt.alloc(), &plan, &closed)?);
-    Ok(())
+    let go = |_: usize, port: &mut P|
+        requires some_guest { 2 ≤ plan.now.harts }
+        requires new { IsNew plan.now (P.seen port.old) }
+        ensures { IsSameHart (P.seen port.old) (P.seen port.new) }
+    {
+        visit_children(plan, port, 0, tries);
+    };
+    // As many parts as harts: those of one part go one after another, and each waits for all others.
+    let parts = ports.len().max(1);
+    for_each_mut(rt, ports, parts, &go);
 }

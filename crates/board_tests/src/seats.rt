@@ -1,39 +1,12 @@
 //! A board: made with its seats, and closed with them.
-ghost use Rattle.std.specs.Prelude.{◌≡◌, ◌≤◌, [], ◌∷◌, IfOk, vec_len};
+ghost use Rattle.std.specs.Prelude.{◌≡◌, [], ◌∷◌, IfOk};
 ghost use Rattle.board_rule.specs.Views.{fresh_view};
 ghost use Rattle.word_board.specs.Of.{IsOf};
 ghost use Rattle.word_board.specs.Seats.{IsJournalOf};
-ghost use Rattle.board_tests.specs.Roam.{AreNewHarts, AreHarts};
 
 use std::alloc::{AllocError, Global};
 use transfer_table::Plan;
 use word_board::{Closed, HartSeat, WordBoard};
-
-/// The board of a plan, and its seats, each at the base.
-pub(crate) fn open_all(alloc: Global, plan: &Plan) -> Result<(WordBoard, Vec<HartSeat>), AllocError>
-    requires few { plan.now.harts ≤ 4 }
-    ensures plan { IfOk result (λ r. r.0.plan ≡ plan.now) }
-    ensures count { IfOk result (λ r. vec_len r.1 ≡ plan.now.harts) }
-    ensures harts { IfOk result (λ r. AreNewHarts r.0 r.1.items) }
-{
-    WordBoard::new(alloc, plan)
-}
-
-/// The journal of a board, closed with all its seats.
-pub(crate) fn close_all(
-    alloc: Global,
-    board: WordBoard,
-    seats: Vec<HartSeat>,
-) -> Result<Closed, AllocError>
-    requires count { vec_len seats ≡ board.plan.harts }
-    requires harts { AreHarts board seats.items }
-    ensures { IfOk result (λ closed. IsJournalOf board.plan seats.items closed) }
-{
-    match board.close(alloc, seats) {
-        Ok(closed) => Ok(closed),
-        Err(_) => Err(AllocError),
-    }
-}
 
 /// The board of a plan for one hart, and its seat.
 pub(crate) fn open_one(alloc: Global, plan: &Plan) -> Result<(WordBoard, HartSeat), AllocError>

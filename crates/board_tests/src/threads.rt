@@ -1,113 +1,202 @@
-//! The row of two harts at one site by two threads, as far as its order allows it: whether the guest comes in time is left open.
-ghost use Rattle.std.specs.Prelude.{◌≡◌, [], ◌∷◌};
-ghost use Rattle.board_tests.specs.Roam.{IsNewHart, IsHartOf, AreNewHarts, AreHarts};
+//! Harts that roam on a board of either layout, each in a thread of its own.
+ghost use Rattle.std.specs.Prelude.{◌≡◌, ◌≤◌, map, IfOk};
+ghost use Rattle.std.specs.List.{All};
+ghost use Rattle.board_rule.specs.Layouts.{HasRoom};
+ghost use Rattle.lent_board.specs.Of.{IsOf};
 
-use crate::roaming::{came_in, visit};
-use crate::seats::{close_all, open_all};
-use std::alloc::Global;
+use crate::roaming::roam;
+use board_rule::Laid;
+use lent_board::{Board, BoardPort, ByGuests, ByOwners, Closed, HartSeat};
+use std::alloc::{AllocError, Global};
 use std::sync::Wait;
 use std::test::Fail;
-use std::thread::{Threads, for_each_mut};
+use std::thread::Threads;
 use transfer_table::{Entry, Plan, first_fault};
-use word_board::{Closed, HartSeat, WordBoard};
 
-/// How often the guest tries, before it gives up on a home that doesn't come.
-const ROUNDS: u32 = 1 << 20;
+/// How often a hart tries to enter a site where many harts roam.
+const FEW_TRIES: u32 = 16;
 
-const WITH_A_GUEST: [Entry; 5] = [
-    Entry::Register { hart: 0, site: 1 },
-    Entry::Request {
-        hart: 0,
-        site: 1,
-        count: 1,
-    },
-    Entry::Enter { hart: 1, site: 1 },
-    Entry::Yield { hart: 1, site: 1 },
-    Entry::Unregister { hart: 0, site: 1 },
-];
+/// How often where two harts meet at one site.
+const MANY_TRIES: u32 = 1 << 20;
 
-const ALONE: [Entry; 3] = [
-    Entry::Register { hart: 0, site: 1 },
-    Entry::Request {
-        hart: 0,
-        site: 1,
-        count: 1,
-    },
-    Entry::Unregister { hart: 0, site: 1 },
-];
-
-// The hart tries to be the guest of the site until the site is gone.
-fn be_guest(board: &WordBoard, seat: &mut HartSeat)
-    requires plan { board.now.plan ≡ record { harts = 2; parents = 0 ∷ [] } }
-    requires new { IsNewHart board.now 1 seat.old }
-    ensures { IsHartOf board.now 1 seat.new }
+// A port for each seat.
+fn ports_of<'a, L: Laid>(
+    alloc: Global,
+    board: &'a Board<L>,
+    seats: Vec<HartSeat>,
+) -> Result<Vec<BoardPort<'a, L>>, AllocError>
+    requires of { All (IsOf board.now) seats.items }
+    ensures { IfOk result (λ ports. map (λ port. port.seat) ports.items ≡ seats.items) }
 {
-    for _ in 0..ROUNDS {
-        if came_in(board, seat, 1) {
-            board.yield_hart(seat);
-            return;
-        }
-        if board.see_gone(seat, 1) {
-            return;
-        }
+    let mut ports = Vec::with_capacity(alloc, seats.len())?;
+    for seat in seats {
+        ports.push(BoardPort::new(board, seat))?;
+    }
+    Ok(ports)
+}
+
+// The seats of the ports.
+fn seats_of<'a, L: Laid>(
+    alloc: Global,
+    ports: Vec<BoardPort<'a, L>>,
+) -> Result<Vec<HartSeat>, AllocError>
+    ensures { IfOk result (λ seats. seats.items ≡ map (λ port. port.seat) ports.entry.items) }
+{
+    let mut seats = Vec::with_capacity(alloc, ports.len())?;
+    for port in ports {
+        seats.push(port.into_seat())?;
+    }
+    Ok(seats)
+}
+
+// The journal of a board on which so many harts roamed, each in a thread.
+fn roamed<L: Laid>(
+    rt: &(impl Threads + Wait + Sync),
+    alloc: Global,
+    plan: &Plan,
+    tries: u32,
+) -> Result<Closed<L>, AllocError>
+    requires some_guest { 2 ≤ plan.now.harts }
+    requires few_harts { HasRoom L.layout plan.now.harts }
+{
+    let (board, seats) = Board::<L>::new(alloc, plan)?;
+    let mut ports = ports_of(alloc, &board, seats)?;
+    roam(rt, plan, ports.as_mut_slice(), tries);
+    let seats = seats_of(alloc, ports)?;
+    match board.close(alloc, seats) {
+        Ok(closed) => Ok(closed),
+        Err(_) => Err(AllocError),
     }
 }
 
-// Hart 0 is the home, hart 1 the guest.
-fn take_part(board: &WordBoard, plan: &Plan, seat: &mut HartSeat, hart: usize)
-    requires plan { plan.now ≡ board.now.plan }
-    requires row { board.now.plan ≡ record { harts = 2; parents = 0 ∷ [] } }
-    requires new { IsNewHart board.now hart seat.old }
-    ensures { IsHartOf board.now hart seat.new }
-{
-    match hart {
-        0 => {
-            visit(board, plan, seat, 1);
-        }
-        1 => be_guest(board, seat),
-        _ => {}
-    }
-}
-
-// Both do so at once.
-fn play<R: Threads + Wait + Sync>(rt: &R, board: &WordBoard, plan: &Plan, seats: &mut [HartSeat])
-    requires plan { plan.now ≡ board.now.plan }
-    requires row { board.now.plan ≡ record { harts = 2; parents = 0 ∷ [] } }
-    requires seats { AreNewHarts board.now seats.old }
-    ensures { AreHarts board.now seats.new }
-{
-    let go = |hart: usize, seat: &mut HartSeat|
-        requires plan { plan.now ≡ board.now.plan }
-        requires row { board.now.plan ≡ record { harts = 2; parents = 0 ∷ [] } }
-        requires seat { IsNewHart board.now hart seat.old }
-        ensures { IsHartOf board.entry.now hart seat.new }
-    { take_part(board, plan, seat, hart) };
-    for_each_mut(rt, seats, 2, &go);
-}
-
-// Whether a journal is the row's, with the guest or without.
-fn is_row(alloc: Global, plan: &Plan, closed: &Closed) -> Result<bool, Fail> {
-    let entries = closed.entries();
-    let all = vec![in alloc; true; plan.sites() as usize]?;
-    if entries.len() > 5 || first_fault(alloc, plan, &all, entries)? != None {
+// Whether the journal is complete: three entries for each site, and two more for each guest that came.
+fn is_complete(alloc: Global, plan: &Plan, entries: &[Entry]) -> Result<bool, Fail> {
+    let (sites, guests) = (plan.sites() as usize, plan.harts() as usize - 1);
+    if entries.len() < 3 * sites || (3 + 2 * guests) * sites < entries.len() {
         return Ok(false);
     }
-    Ok(entries == WITH_A_GUEST.as_slice() || entries == ALONE.as_slice())
+    let all = vec![in alloc; true; plan.sites() as usize]?;
+    Ok(first_fault(alloc, plan, &all, entries)? == None)
 }
 
-// Whether the two play the row.
-fn is_played(rt: &(impl Threads + Wait + Sync), alloc: Global) -> Result<bool, Fail> {
-    let plan = Plan::new(alloc, 2, &[0])?;
-    let (board, mut seats) = open_all(alloc, &plan)?;
-    play(rt, &board, &plan, seats.as_mut_slice());
-    let closed = close_all(alloc, board, seats)?;
-    is_row(alloc, &plan, &closed)
+// The parents of groups of four sites: one with two children, the first of which has a child.
+fn nested_parents(alloc: Global, groups: u16) -> Result<Vec<u16>, AllocError>
+    requires { groups ≤ 1000 }
+{
+    let mut parents = Vec::new(alloc);
+    for group in 0..groups {
+        let top = 4 * group + 1;
+        for parent in [0, top, top, top + 1] {
+            parents.push(parent)?;
+        }
+    }
+    Ok(parents)
+}
+
+#[test]
+fn two_threads_roam_by_owners(rt: HostRuntime) -> Result<(), Fail> {
+    let plan = Plan::new(rt.alloc(), 2, &[0; 300])?;
+    let closed: Closed<ByOwners> = roamed(&rt, rt.alloc(), &plan, FEW_TRIES)?;
+    assert!(rt; is_complete(rt.alloc(), &plan, closed.entries())?);
+    Ok(())
+}
+
+#[test]
+fn two_threads_roam_by_guests(rt: HostRuntime) -> Result<(), Fail> {
+    let plan = Plan::new(rt.alloc(), 2, &[0; 300])?;
+    let closed: Closed<ByGuests> = roamed(&rt, rt.alloc(), &plan, FEW_TRIES)?;
+    assert!(rt; is_complete(rt.alloc(), &plan, closed.entries())?);
+    Ok(())
+}
+
+#[test]
+fn four_threads_roam_in_nested_sites(rt: HostRuntime) -> Result<(), Fail> {
+    let parents = nested_parents(rt.alloc(), 75)?;
+    let plan = Plan::new(rt.alloc(), 4, parents.as_slice())?;
+    let closed: Closed<ByOwners> = roamed(&rt, rt.alloc(), &plan, FEW_TRIES)?;
+    assert!(rt; is_complete(rt.alloc(), &plan, closed.entries())?);
+    Ok(())
+}
+
+#[test]
+fn five_threads_roam_in_nested_sites(rt: HostRuntime) -> Result<(), Fail> {
+    let parents = nested_parents(rt.alloc(), 75)?;
+    let plan = Plan::new(rt.alloc(), 5, parents.as_slice())?;
+    let closed: Closed<ByGuests> = roamed(&rt, rt.alloc(), &plan, FEW_TRIES)?;
+    assert!(rt; is_complete(rt.alloc(), &plan, closed.entries())?);
+    Ok(())
+}
+
+#[test]
+fn sixteen_threads_roam(rt: HostRuntime) -> Result<(), Fail> {
+    let plan = Plan::new(rt.alloc(), 16, &[0; 300])?;
+    let closed: Closed<ByGuests> = roamed(&rt, rt.alloc(), &plan, FEW_TRIES)?;
+    assert!(rt; is_complete(rt.alloc(), &plan, closed.entries())?);
+    Ok(())
+}
+
+// The entries of a hart that leads a site, and of another that is its guest.
+fn with_a_guest(home: u8, guest: u8) -> [Entry; 5] {
+    [
+        Entry::Register {
+            hart: home,
+            site: 1,
+        },
+        Entry::Request {
+            hart: home,
+            site: 1,
+            count: 1,
+        },
+        Entry::Enter {
+            hart: guest,
+            site: 1,
+        },
+        Entry::Yield {
+            hart: guest,
+            site: 1,
+        },
+        Entry::Unregister {
+            hart: home,
+            site: 1,
+        },
+    ]
+}
+
+// The entries of a hart that leads a site and has no guest.
+fn alone(home: u8) -> [Entry; 3] {
+    [
+        Entry::Register {
+            hart: home,
+            site: 1,
+        },
+        Entry::Request {
+            hart: home,
+            site: 1,
+            count: 1,
+        },
+        Entry::Unregister {
+            hart: home,
+            site: 1,
+        },
+    ]
+}
+
+// Whether one hart led the site, and the other was its guest or came too late.
+fn is_row(entries: &[Entry]) -> bool {
+    entries == with_a_guest(0, 1)
+        || entries == with_a_guest(1, 0)
+        || entries == alone(0)
+        || entries == alone(1)
 }
 
 #[test]
 fn two_threads_at_one_site(rt: HostRuntime) -> Result<(), Fail> {
+    let plan = Plan::new(rt.alloc(), 2, &[0])?;
     for _ in 0..20 {
-        assert!(rt; is_played(&rt, rt.alloc())?);
+        let closed: Closed<ByOwners> = roamed(&rt, rt.alloc(), &plan, MANY_TRIES)?;
+        assert!(rt; is_row(closed.entries()));
+        let closed: Closed<ByGuests> = roamed(&rt, rt.alloc(), &plan, MANY_TRIES)?;
+        assert!(rt; is_row(closed.entries()));
     }
     Ok(())
 }

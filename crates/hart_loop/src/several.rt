@@ -9,12 +9,11 @@ ghost use Rattle.transfer_table.specs.Journal.{IsComplete};
 ghost use Rattle.lone_hart.specs.Journals.{entries_in, IsListed, IsBoard, IsWide};
 
 use crate::members::Members;
+use crate::on_board::on_board;
 use crate::on_plain_port::on_plain_port;
-use crate::on_wide_board::on_wide_board;
-use crate::on_word_board::on_word_board;
 use disjoint_check::Accepted;
 use entered_sites::entered_by;
-use lone_hart::Outcome;
+use lone_hart::{Journal, Outcome};
 use outside_io::Gate;
 use site_steps::SiteTree;
 use std::alloc::{AllocError, Global};
@@ -134,9 +133,13 @@ fn run_once<R: Threads + Wait + Sync, F: Fn(u8, u16, u8, u8) + Sync>(
     if harts == 1 {
         on_plain_port(rt, alloc, accepted, members, pass, tree)
     } else if harts <= MOST_ON_WORDS {
-        on_word_board(rt, alloc, accepted, members, pass, tree)
+        let (store, closed) = on_board(rt, alloc, accepted, members, pass, tree)?;
+        let journal = Journal::Board(closed);
+        Ok(Outcome { store, journal })
     } else {
-        on_wide_board(rt, alloc, accepted, members, pass, tree)
+        let (store, closed) = on_board(rt, alloc, accepted, members, pass, tree)?;
+        let journal = Journal::Wide(closed);
+        Ok(Outcome { store, journal })
     }
 }
 

@@ -17,4 +17,4 @@ pub use ledger::Ledger;
 pub use locked::LockedPort;
 pub use plain::PlainPort;
 pub use port::{Entered, Port, Seen, Taken};
-pub use word::{CLAIMED, CLOSED, CLOSING, WISH, is_claimed, is_closed, is_wanted};
+pub use word::{CLAIMED, CLOSED, CLOSING, WISH, is_claimed, is_closed, is_wanted, other_hart};

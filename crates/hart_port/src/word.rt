@@ -73,8 +73,9 @@ pub fn is_wanted(word: u64) -> bool
     is_claimed(word) && word / CLOSING % 2 != 1 && !is_closed(word) && word / WISH % 256 != 0
 }
 
-// The least other hart whose owner is the site, by the board word.
-pub(crate) fn other_hart(word: u64, harts: u8, hart: u8, site: u16) -> Option<u8>
+/// The least of so many harts, other than this one, whose owner is the site by the board word, which has room for the
+/// owners of four.
+pub fn other_hart(word: u64, harts: u8, hart: u8, site: u16) -> Option<u8>
     ensures some { IfSome result (λ g. IsOther harts hart g × (owner_field word g ≡ site)) }
     ensures none { IfNone result ((g : ℕ) → IsOther harts hart g → owner_field word g ≢ site) }
 {

@@ -20,7 +20,7 @@ use Rattle.board_words.specs.Words.{journal_index, spelled}
 use Rattle.board_rule.specs.Counts.{busy_at}
 use Rattle.board_rule.specs.Views.{claim_view, reserve_view, glance_view, see_gone_view, see_drained_next, see_drained_view, see_empty_view, close_view, done_view, jot_view, register_view, request_view, enter_view, yield_view, unregister_view, skip_view}
 use Rattle.board_rule.specs.Rule.{Stands, IsSeat, DoesRight}
-use Rattle.board_rule.specs.Steps.{IsReady, MayClaim, MayReserve, MayRequest, MayYield, MayClose, MaySeeDrained, MaySeeEmpty, MayUnregister}
+use Rattle.board_rule.specs.Steps.{IsReady, MayFollow, MayClaim, MayReserve, MayRequest, MayYield, MayClose, MaySeeDrained, MaySeeEmpty, MayUnregister}
 use Rattle.board_rule.specs.Laws.{St}
 use Rattle.board_words.proofs.Asked.{new_untouched}
 use Rattle.board_words.proofs.Rooms.{has_room}
@@ -45,16 +45,16 @@ module _ (lay : Layout) (p : Plan) (slots id : ℕ) (me : M) (seat : IsSeat me.0
   pub jots : (place : ℕ) (e : Entry) → me.0.drawn ≡ Some record { place = place; entry = e } → Allows (Stands lay p) slots id me (journal_index p place) (λ _. spelled e) (λ _. Tells (λ _. jot_view) nothing_more me (spelled e))
   jots place e drawn = allowed lay p slots id me (journal_index p place) (λ _. spelled e) (λ _. jot_view) nothing_more (λ _. seat) (λ s k at _. ((jot_keeps lay p s k id me.0 place e at seat drawn).0, tt))
 
-  pub credits : (x n : ℕ) → me.0.doing ≡ Crediting x n → Allows (Stands lay p) slots id me x (λ w. (w + 256 * n) % 2 ^ 64) (Tells (λ _. done_view) nothing_more me)
+  pub credits : (x n : ℕ) → MayFollow me.0 (Crediting x n) → Allows (Stands lay p) slots id me x (λ w. (w + 256 * n) % 2 ^ 64) (Tells (λ _. done_view) nothing_more me)
   credits x n does = allowed lay p slots id me x (λ w. (w + 256 * n) % 2 ^ 64) (λ _. done_view) nothing_more (λ _. seat) (λ s k at small. ((credit_keeps lay p s k id me.0 x n at seat small does).0, tt))
 
-  pub lands : (x : ℕ) → me.0.doing ≡ Landing x → Allows (Stands lay p) slots id me x (λ w. (w + (2 ^ 64 - 65536)) % 2 ^ 64) (Tells (λ _. done_view) nothing_more me)
+  pub lands : (x : ℕ) → MayFollow me.0 (Landing x) → Allows (Stands lay p) slots id me x (λ w. (w + (2 ^ 64 - 65536)) % 2 ^ 64) (Tells (λ _. done_view) nothing_more me)
   lands x does = allowed lay p slots id me x (λ w. (w + (2 ^ 64 - 65536)) % 2 ^ 64) (λ _. done_view) nothing_more (λ _. seat) (λ s k at small. ((land_keeps lay p s k id me.0 x at seat small does).0, tt))
 
-  pub leaves : (x : ℕ) → me.0.doing ≡ Leaving x → Allows (Stands lay p) slots id me x (λ w. (w + (2 ^ 64 - 65536)) % 2 ^ 64) (Tells (λ _. done_view) nothing_more me)
+  pub leaves : (x : ℕ) → MayFollow me.0 (Leaving x) → Allows (Stands lay p) slots id me x (λ w. (w + (2 ^ 64 - 65536)) % 2 ^ 64) (Tells (λ _. done_view) nothing_more me)
   leaves x does = allowed lay p slots id me x (λ w. (w + (2 ^ 64 - 65536)) % 2 ^ 64) (λ _. done_view) nothing_more (λ _. seat) (λ s k at small. ((leave_keeps lay p s k id me.0 x at seat small does).0, tt))
 
-  pub seals : (x : ℕ) → me.0.doing ≡ Sealing x → Allows (Stands lay p) slots id me x (λ w. bit_or w 4) (Tells (λ _. done_view) nothing_more me)
+  pub seals : (x : ℕ) → MayFollow me.0 (Sealing x) → Allows (Stands lay p) slots id me x (λ w. bit_or w 4) (Tells (λ _. done_view) nothing_more me)
   seals x does = allowed lay p slots id me x (λ w. bit_or w 4) (λ _. done_view) nothing_more (λ _. seat) (λ s k at _. ((seal_keeps lay p s k id me.0 x at seat does).0, tt))
 
   pub glances : (x : ℕ) → IsReady me.0 → IsSite p x → Allows (Stands lay p) slots id me x (λ n. n) (Tells (glance_view x) IsSmall me)

@@ -3,7 +3,7 @@ ghost use Rattle.std.specs.Prelude.{◌≡◌, ◌<◌, Some};
 ghost use Rattle.transfer_table.specs.Plan.{IsSite, parent, room};
 ghost use Rattle.transfer_table.specs.Entry.{registers, requested};
 ghost use Rattle.board_rule.specs.Rule.{FitsPlan};
-ghost use Rattle.board_rule.specs.Steps.{IsReady, MayClaim, MayReserve, MayRequest, MayYield, MayClose, MaySeeDrained, MaySeeEmpty, MayUnregister};
+ghost use Rattle.board_rule.specs.Steps.{IsReady, MayFollow, MayClaim, MayReserve, MayRequest, MayYield, MayClose, MaySeeDrained, MaySeeEmpty, MayUnregister};
 ghost use Rattle.board_rule.specs.Views.{claim_view, reserve_view, glance_view, see_gone_view, see_drained_view, see_empty_view, close_view, done_view, jot_view, register_view, request_view, enter_view, yield_view, unregister_view, skip_view};
 ghost use Rattle.board_rule.specs.declared.view.Doing.TheVariants.{Claiming, Crediting, Reserved, Landing, Leaving, Sealing};
 ghost use Rattle.board_rule.specs.declared.layout.Layout.TheVariants.{Owners};
@@ -198,7 +198,7 @@ impl<L: Laid> Board<L> {
     pub(crate) fn credit(&self, seat: &mut Seat<(), View>, site: u16, count: u8)
         requires on { IsOn self.now seat.old.table_id seat.old.me.0 }
         requires site { IsSite self.now.plan site }
-        requires crediting { seat.old.me.0.doing ≡ Crediting site count }
+        requires crediting { MayFollow seat.old.me.0 (Crediting site count) }
         ensures on { IsOn self.now seat.new.table_id seat.new.me.0 }
         ensures view { seat.new.me ≡ (done_view seat.old.me.0, seat.old.me.1) }
         ensures fits { FitsPlan seat.new.me.0 }
@@ -212,7 +212,7 @@ impl<L: Laid> Board<L> {
     pub(crate) fn arrive(&self, seat: &mut Seat<(), View>, site: u16)
         requires on { IsOn self.now seat.old.table_id seat.old.me.0 }
         requires site { IsSite self.now.plan site }
-        requires entered { seat.old.me.0.doing ≡ after_enter L.layout site }
+        requires entered { MayFollow seat.old.me.0 (after_enter L.layout site) }
         requires fits { FitsPlan seat.old.me.0 }
         ensures on { IsOn self.now seat.new.table_id seat.new.me.0 }
         ensures view { seat.new.me ≡ (done_view seat.old.me.0, seat.old.me.1) }
@@ -228,7 +228,7 @@ impl<L: Laid> Board<L> {
     pub(crate) fn depart(&self, seat: &mut Seat<(), View>, site: u16)
         requires on { IsOn self.now seat.old.table_id seat.old.me.0 }
         requires site { IsSite self.now.plan site }
-        requires yielded { seat.old.me.0.doing ≡ after_yield L.layout site }
+        requires yielded { MayFollow seat.old.me.0 (after_yield L.layout site) }
         requires fits { FitsPlan seat.old.me.0 }
         ensures on { IsOn self.now seat.new.table_id seat.new.me.0 }
         ensures view { seat.new.me ≡ (done_view seat.old.me.0, seat.old.me.1) }
@@ -244,7 +244,7 @@ impl<L: Laid> Board<L> {
     fn land(&self, seat: &mut Seat<(), View>, site: u16)
         requires on { IsOn self.now seat.old.table_id seat.old.me.0 }
         requires site { IsSite self.now.plan site }
-        requires landing { seat.old.me.0.doing ≡ Landing site }
+        requires landing { MayFollow seat.old.me.0 (Landing site) }
         ensures on { IsOn self.now seat.new.table_id seat.new.me.0 }
         ensures view { seat.new.me ≡ (done_view seat.old.me.0, seat.old.me.1) }
         ensures fits { FitsPlan seat.new.me.0 }
@@ -258,7 +258,7 @@ impl<L: Laid> Board<L> {
     fn leave(&self, seat: &mut Seat<(), View>, site: u16)
         requires on { IsOn self.now seat.old.table_id seat.old.me.0 }
         requires site { IsSite self.now.plan site }
-        requires leaving { seat.old.me.0.doing ≡ Leaving site }
+        requires leaving { MayFollow seat.old.me.0 (Leaving site) }
         ensures on { IsOn self.now seat.new.table_id seat.new.me.0 }
         ensures view { seat.new.me ≡ (done_view seat.old.me.0, seat.old.me.1) }
         ensures fits { FitsPlan seat.new.me.0 }
@@ -272,7 +272,7 @@ impl<L: Laid> Board<L> {
     pub(crate) fn seal(&self, seat: &mut Seat<(), View>, site: u16)
         requires on { IsOn self.now seat.old.table_id seat.old.me.0 }
         requires site { IsSite self.now.plan site }
-        requires sealing { seat.old.me.0.doing ≡ Sealing site }
+        requires sealing { MayFollow seat.old.me.0 (Sealing site) }
         ensures on { IsOn self.now seat.new.table_id seat.new.me.0 }
         ensures view { seat.new.me ≡ (done_view seat.old.me.0, seat.old.me.1) }
         ensures fits { FitsPlan seat.new.me.0 }

@@ -1,7 +1,8 @@
 //! A first word that has the owners, as a number.
-ghost use Rattle.std.specs.Prelude.{◌≡◌, ◌<◌, ◌≤◌, ◌*◌, ◌^◌, ◌&&◌, ◌==◌, not};
-ghost use Rattle.hart_port.specs.Words.{owner_field};
+ghost use Rattle.std.specs.Prelude.{◌≡◌, ◌<◌, ◌≤◌, ◌*◌, ◌^◌};
 ghost use Rattle.board_rule.specs.Words.{owner_unit, others_at};
+
+use hart_port::other_hart;
 
 /// By how much it grows with each entry.
 pub(crate) const LENGTH_UNIT: u64 = 1 << 48;
@@ -21,35 +22,12 @@ pub(crate) fn digit(change: u16, hart: u8) -> u64
     }
 }
 
-/// Whether it has another hart in the site.
+/// Whether it has another of so many harts in the site.
 pub(crate) fn is_held(word: u64, harts: u8, hart: u8, site: u16) -> bool
-    requires { harts ≤ 4 }
     ensures { result ≡ others_at harts word hart site }
 {
-    let mut held = false;
-    for other in 0..harts {
-        held = is_at(word, other, hart, site) || held;
-    }
-    held
-}
-
-// Whether it has `other` in the site, and it is another hart.
-fn is_at(word: u64, other: u8, hart: u8, site: u16) -> bool
-    requires { other < 4 }
-    ensures { result ≡ (not (other == hart) && (owner_field word other == site)) }
-{
-    other != hart && owner_field(word, other) == site as u64
-}
-
-// The hart's field of the board word.
-fn owner_field(word: u64, hart: u8) -> u64
-    requires { hart < 4 }
-    ensures { result ≡ owner_field word hart }
-{
-    match hart {
-        0 => word % 4096,
-        1 => word / 4096 % 4096,
-        2 => word / 16777216 % 4096,
-        _ => word / 68719476736 % 4096,
+    match other_hart(word, harts, hart, site) {
+        Some(_) => true,
+        None => false,
     }
 }

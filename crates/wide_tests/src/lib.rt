@@ -1,4 +1,4 @@
-//! Tests of harts that share a table on the wide board.
+//! Tests of harts that share a table, call by call, on the wide board.
 //!
 //! They stand apart since a crate is proved a second time with its tests.
 #![tactic(auto)]
@@ -10,12 +10,8 @@ mod calls;
 #[cfg(test)]
 mod refusals;
 #[cfg(test)]
-mod roaming;
-#[cfg(test)]
 mod row;
 #[cfg(test)]
 mod seats;
 #[cfg(test)]
 mod skips;
-#[cfg(test)]
-mod threads;

@@ -1,12 +1,12 @@
 use Rattle.std.proofs.Common.{◌≡◌}
-use Rattle.word_board.specs.Of.{IsOf}
+use Rattle.board_tests.specs.Roam.{IsSameHart}
 use Rattle.board_tests.proofs.roaming.came_in.Given as goal
 
 -- the hart is still outside
 abbrev pub invariant-loop : goal.invariant-loop
-invariant-loop l = record {
-  of : IsOf l.board l.seat;
-  hart : l.seat.seat.me.0.hart ≡ l.initial.seat.seat.me.0.hart;
-  marks : l.seat.seat.me.0.marks ≡ l.initial.seat.seat.me.0.marks;
-  owner : l.seat.seat.me.0.owner ≡ l.initial.seat.seat.me.0.owner;
+invariant-loop g l = record {
+  same : IsSameHart (g.P.Port.seen l.initial.port) (g.P.Port.seen l.port);
+  homes : (g.P.Port.seen l.port).homes ≡ (g.P.Port.seen l.initial.port).homes;
+  closed : (g.P.Port.seen l.port).closed ≡ (g.P.Port.seen l.initial.port).closed;
+  owner : (g.P.Port.seen l.port).owner ≡ (g.P.Port.seen l.initial.port).owner;
 }

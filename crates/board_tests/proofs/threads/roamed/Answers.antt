@@ -2,9 +2,9 @@ use Rattle.std.proofs.Common.{◌≡◌, ◌∙◌, List, length, map, sym, ap, 
 use Rattle.std.proofs.lemmas.List.{length-map, with_items_is}
 use Rattle.transfer_table.specs.Plan.{Plan}
 use Rattle.lent_board.specs.declared.seat.HartSeat.{HartSeat}
-use Rattle.wide_board.specs.Seats.{AreSeats, AreAll}
-use Rattle.wide_tests.proofs.WidePorts.{seat_of, all_new, all_back}
-use Rattle.wide_tests.proofs.threads.roamed.Goals as goal
+use Rattle.lent_board.specs.Seats.{AreSeats, AreAll}
+use Rattle.board_tests.proofs.Ports.{seat_of, all_new, all_back}
+use Rattle.board_tests.proofs.threads.roamed.Goals as goal
 
 pub roam-requires-clause-new : goal.roam-requires-clause-new
 roam-requires-clause-new g c κs within =

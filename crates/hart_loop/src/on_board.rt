@@ -1,73 +1,72 @@
-//! Runs of a crew on a wide board.
+//! Runs of a crew on a board, of either layout.
 ghost use Rattle.std.specs.Prelude.{◌≡◌, ◌≤◌, All, IfOk, length, map};
 ghost use Rattle.array_tree.specs.Trees.{program_of};
 ghost use Rattle.array_meaning.specs.Work.{final_store};
 ghost use Rattle.transfer_table.specs.Plan.{most_entries};
-ghost use Rattle.wide_board.specs.Of.{IsOf};
-ghost use Rattle.lone_hart.specs.Journals.{entries_in, IsWide};
+ghost use Rattle.board_rule.specs.Layouts.{HasRoom};
+ghost use Rattle.lent_board.specs.Of.{IsOf};
 
 use crate::crew::run_ports;
 use crate::members::Members;
+use array_eval::Store;
+use board_rule::Laid;
 use disjoint_check::Accepted;
-use lone_hart::{Journal, Outcome, store_after};
+use lent_board::{Board, BoardPort, Closed, HartSeat};
+use lone_hart::store_after;
 use site_steps::{SiteTree, WaitingPort};
 use std::alloc::{AllocError, Global};
 use std::sync::Wait;
 use std::thread::Threads;
-use wide_board::{WideBoard, WidePort, WideSeat};
 
-/// Runs an accepted program once on the harts of its plan, which move on a wide board of their own.
-pub fn on_wide_board<R: Threads + Wait + Sync, F: Fn(u8, u16, u8, u8) + Sync>(
+/// Runs an accepted program once on the harts of its plan, which move on a board of their own. Returns the store at
+/// the end and the journal of the board.
+pub fn on_board<L: Laid, R: Threads + Wait + Sync, F: Fn(u8, u16, u8, u8) + Sync>(
     rt: &R,
     alloc: Global,
     accepted: &Accepted<'_>,
     members: Members,
     pass: &F,
     tree: &SiteTree,
-) -> Result<Outcome, AllocError>
+) -> Result<(Store, Closed<L>), AllocError>
     requires callable { F.IsAlwaysCallable pass.now }
+    requires few_harts { HasRoom L.layout accepted.now.plan.harts }
     requires tree { tree.now ≡ accepted.now.plan }
-    ensures store { IfOk result
-        (λ outcome. outcome.store ≡ final_store (program_of accepted.now.program)) }
-    ensures short { IfOk result (λ outcome. length (entries_in outcome.journal) ≤ most_entries) }
-    ensures wide { IfOk result (λ outcome. IsWide outcome.journal) }
+    ensures store { IfOk result (λ r. r.0 ≡ final_store (program_of accepted.now.program)) }
+    ensures short { IfOk result (λ r. length r.1 ≤ most_entries) }
 {
-    let (board, seats) = WideBoard::new(alloc, accepted.plan())?;
+    let (board, seats) = Board::<L>::new(alloc, accepted.plan())?;
     let ports = ports_of(rt, alloc, &board, seats)?;
     let (piece, ports) = run_ports(rt, alloc, accepted, members, pass, tree, ports)?;
     let store = store_after(piece)?;
     let seats = seats_of(alloc, ports)?;
     match board.close(alloc, seats) {
-        Ok(closed) => Ok(Outcome {
-            store,
-            journal: Journal::Wide(closed),
-        }),
+        Ok(closed) => Ok((store, closed)),
         Err(_) => Err(AllocError),
     }
 }
 
 // A port for each seat.
-fn ports_of<'x, R: Wait>(
+fn ports_of<'x, L: Laid, R: Wait>(
     rt: &'x R,
     alloc: Global,
-    board: &'x WideBoard,
-    seats: Vec<WideSeat>,
-) -> Result<Vec<WaitingPort<'x, WidePort<'x>, R>>, AllocError>
+    board: &'x Board<L>,
+    seats: Vec<HartSeat>,
+) -> Result<Vec<WaitingPort<'x, BoardPort<'x, L>, R>>, AllocError>
     requires { All (IsOf board.now) seats.items }
     ensures { IfOk result (λ ports. map (λ port. port.port.seat) ports.items ≡ seats.items) }
 {
     let mut ports = Vec::with_capacity(alloc, seats.len())?;
     for seat in seats {
-        ports.push(WaitingPort::new(WidePort::new(board, seat), rt))?;
+        ports.push(WaitingPort::new(BoardPort::new(board, seat), rt))?;
     }
     Ok(ports)
 }
 
 // The seats of the ports.
-fn seats_of<'x, R>(
+fn seats_of<'x, L: Laid, R>(
     alloc: Global,
-    ports: Vec<WaitingPort<'x, WidePort<'x>, R>>,
-) -> Result<Vec<WideSeat>, AllocError>
+    ports: Vec<WaitingPort<'x, BoardPort<'x, L>, R>>,
+) -> Result<Vec<HartSeat>, AllocError>
     ensures { IfOk result
         (λ seats. seats.items ≡ map (λ port. port.port.seat) ports.entry.items) }
 {

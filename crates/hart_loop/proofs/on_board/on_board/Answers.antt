@@ -2,12 +2,13 @@ use Rattle.std.proofs.Common.{◌≡◌, ◌∙◌, length, sym, ap, subst}
 use Rattle.array_tree.specs.Trees.{program_of}
 use Rattle.transfer_table.specs.Plan.{Plan}
 use Rattle.transfer_table.proofs.Bounds.{few_entries}
+use Rattle.board_rule.specs.Layouts.{HasRoom}
 use Rattle.lent_board.specs.PortViews.{port_view, table_name}
 use Rattle.lent_board.specs.Seats.{AreSeats}
 use Rattle.hart_loop.specs.Harts.{AllStart}
 use Rattle.hart_loop.proofs.Boards.{ports_start, ports_back}
 use Rattle.hart_loop.proofs.Seats.{seat_of, all_new, all_back}
-use Rattle.hart_loop.proofs.on_wide_board.on_wide_board.Goals as goal
+use Rattle.hart_loop.proofs.on_board.on_board.Goals as goal
 
 pub run_ports-requires-clause-starts : goal.run_ports-requires-clause-starts
 run_ports-requires-clause-starts g c κs within =
@@ -28,6 +29,9 @@ close-requires g c =
     let count : length qs ≡ p.harts = sym c.in_ok-board.seats.ok.0 ∙ c.in_ok-board.ensures.seats.0 ∙ ap (λ (q : Plan). q.harts) (sym c.in_ok-board.ensures.plan) in
     all_back z p ws (ports_back port_view seat_of (table_name z) p qs ws c.in_ok-ports.ports.items c.in_ok-piece.ports.items count (all_new z p qs new)
     c.in_ok-ports.ensures c.in_ok-seats.ensures c.in_ok-piece.ensures.same)
+
+pub new-requires : goal.new-requires
+new-requires g c = subst (λ (p : Plan). HasRoom g.L.Laid.layout p.harts) (sym c.plan.ensures.same) c.requires.few_harts
 
 pub returns-in-Ok-clause-store : goal.returns-in-Ok-clause-store
 returns-in-Ok-clause-store g c = c.in_ok-store.ensures (program_of c.args.accepted.now.program) c.in_ok-piece.ensures.piece

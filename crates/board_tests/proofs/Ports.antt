@@ -1,18 +1,18 @@
--- Ports of all seats of a wide board: before harts roam, and after.
+-- Ports of all seats of a board: before harts roam, and after.
 use Rattle.std.proofs.Common.{◌≡◌, ℕ, ◌+◌, ◌<◌, ◌∙◌, false, List, [], ◌∷◌, length, map, get_or, sym, ap, subst, arith}
 use Rattle.std.specs.List.{All}
 use Rattle.std.proofs.lemmas.List.{get_or-map, length-map}
 use Rattle.atomic_table.specs.Seated.{TableId}
 use Rattle.transfer_table.specs.Plan.{Plan, site_count}
 use Rattle.transfer_table.proofs.Lists.{replicate_at}
-use Rattle.wide_board.specs.PortViews.{table_name, port_view}
+use Rattle.lent_board.specs.PortViews.{table_name, port_view}
 use Rattle.lent_board.proofs.Names.{same_table}
-use Rattle.wide_tests.specs.Roam.{IsSameHart, IsNew}
+use Rattle.board_tests.specs.Roam.{IsSameHart, IsNew}
 use Rattle.board_rule.specs.declared.layout.Laid.{Ghosts}
 use Rattle.board_rule.specs.declared.view.View.{View}
 use Rattle.lent_board.specs.declared.seat.HartSeat.{HartSeat}
 use Rattle.lent_board.specs.declared.port.BoardPort.{BoardPort}
-use Rattle.wide_board.specs.Seats.{IsNewSeat, AreSeats, AreAll}
+use Rattle.lent_board.specs.Seats.{IsNewSeat, AreSeats, AreAll}
 
 -- a new hart is in the base, and the home of no site
 is_new : (z : TableId) (p : Plan) (n h : ℕ) (q : HartSeat) → IsNewSeat z p n h q → IsNew p (port_view q)

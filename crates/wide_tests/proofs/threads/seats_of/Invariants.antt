@@ -1,6 +1,0 @@
-use Rattle.std.proofs.Common.{◌≡◌, map}
-use Rattle.wide_tests.proofs.threads.seats_of.Given as goal
-
--- the seats of the ports so far
-abbrev pub invariant-loop-port : goal.invariant-loop-port
-invariant-loop-port l = l.seats.items ≡ map (λ port. port.seat) l.yielded
