@@ -1,2 +1,2 @@
-mod Ports
+pub mod SeatPorts
 mod Two

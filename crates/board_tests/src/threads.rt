@@ -50,7 +50,7 @@ fn seats_of<'a, L: Laid>(
 }
 
 // The journal of a board on which so many harts roamed, each in a thread.
-fn roamed<L: Laid>(
+fn roamed<L: Laid + Sync>(
     rt: &(impl Threads + Wait + Sync),
     alloc: Global,
     plan: &Plan,
@@ -183,10 +183,10 @@ fn alone(home: u8) -> [Entry; 3] {
 
 // Whether one hart led the site, and the other was its guest or came too late.
 fn is_row(entries: &[Entry]) -> bool {
-    entries == with_a_guest(0, 1)
-        || entries == with_a_guest(1, 0)
-        || entries == alone(0)
-        || entries == alone(1)
+    entries == with_a_guest(0, 1).as_slice()
+        || entries == with_a_guest(1, 0).as_slice()
+        || entries == alone(0).as_slice()
+        || entries == alone(1).as_slice()
 }
 
 #[test]

@@ -3,7 +3,7 @@ use Rattle.std.proofs.lemmas.List.{length-map, with_items_is}
 use Rattle.transfer_table.specs.Plan.{Plan}
 use Rattle.lent_board.specs.declared.seat.HartSeat.{HartSeat}
 use Rattle.lent_board.specs.Seats.{AreSeats, AreAll}
-use Rattle.board_tests.proofs.Ports.{seat_of, all_new, all_back}
+use Rattle.board_tests.proofs.SeatPorts.{seat_of, all_new, all_back}
 use Rattle.board_tests.proofs.threads.roamed.Goals as goal
 
 pub roam-requires-clause-new : goal.roam-requires-clause-new

@@ -1,0 +1,6 @@
+-- Plans whose sites all lie under the base.
+use Rattle.std.specs.Prelude.{◌≡◌, ℕ}
+use Rattle.transfer_table.specs.Plan.{Plan, IsSite, parent}
+
+abbrev pub IsFlat : Plan → Type 0
+IsFlat p = (c : ℕ) → IsSite p c → parent p c ≡ 0

@@ -1,0 +1,30 @@
+//! Times the transfers of harts that share a board, by owners (the word board) and by guests (the wide board).
+//!
+//! Each hart registers, closes, looks at and unregisters sites of its own, which lie under the base. The time of the
+//! slowest hart, divided by all Register and Unregister, goes to the standard error, in nanoseconds: the best and the
+//! median of many fresh boards.
+#![tactic(auto)]
+
+mod rounds;
+mod visits;
+
+use crate::rounds::rounds;
+use lent_board::{ByGuests, ByOwners};
+use std::io;
+use std::io::Write;
+
+fn main(rt: HostRuntime) -> io::Result<()> {
+    for harts in [1, 2, 4] {
+        let times = rounds::<ByOwners, _>(&rt, rt.alloc(), harts)?;
+        eprintln!(rt;
+            "by owners, {harts} harts: best {} ns, median {} ns",
+            times.best, times.median
+        )?;
+        let times = rounds::<ByGuests, _>(&rt, rt.alloc(), harts)?;
+        eprintln!(rt;
+            "by guests, {harts} harts: best {} ns, median {} ns",
+            times.best, times.median
+        )?;
+    }
+    Ok(())
+}
