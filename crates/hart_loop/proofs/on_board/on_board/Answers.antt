@@ -31,7 +31,7 @@ close-requires g c =
     c.in_ok-ports.ensures c.in_ok-seats.ensures c.in_ok-piece.ensures.same)
 
 pub new-requires : goal.new-requires
-new-requires g c = subst (λ (p : Plan). HasRoom g.L.Laid.layout p.harts) (sym c.plan.ensures.same) c.requires.few_harts
+new-requires g c = record { few_harts = subst (λ (p : Plan). HasRoom g.L.Laid.layout p.harts) (sym c.plan.ensures.same) c.requires.few_harts }
 
 pub returns-in-Ok-clause-store : goal.returns-in-Ok-clause-store
 returns-in-Ok-clause-store g c = c.in_ok-store.ensures (program_of c.args.accepted.now.program) c.in_ok-piece.ensures.piece
