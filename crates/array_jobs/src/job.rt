@@ -22,7 +22,7 @@ pub struct Job<'p> {
     pub phase: u8,
     /// The number of the branch or of the member, from 0 to 63.
     pub place: u8,
-    /// The number that the next site inside the work gets. With the number of the sites that the work enters it is
+    /// The number that the next site inside the work gets. With the number of the sites that the work has it is
     /// at most 4,096.
     pub first: u16,
     /// What is run.

@@ -63,7 +63,7 @@ fn same_work(a: &Work, b: &Work) -> bool
     }
 }
 
-/// How many sites the work enters. That must be below `2^32`.
+/// How many sites the work has, those on both sides of each `if` among them. That must be below `2^32`.
 pub fn sites_in(work: &Work) -> u32
     requires { sites_of (work_of work.now) < 2 ^ 32 }
     ensures { result ≡ sites_of (work_of work.now) }

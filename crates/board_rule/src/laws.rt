@@ -59,7 +59,7 @@ pub fn close_keeps()
     ensures { (lay : Layout) → CloseKeeps lay }
 {}
 
-/// Sealing a site keeps the rule and the journal.
+/// Sealing a site, after its Unregister or its Skip, keeps the rule and the journal.
 pub fn seal_keeps()
     ensures { (lay : Layout) → SealKeeps lay }
 {}

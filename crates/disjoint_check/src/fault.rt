@@ -36,7 +36,7 @@ pub enum CheckFault {
     TooDeep { level: u32 },
     /// There are more than 1,048,576 units of work.
     TooMuchWork { units: u64 },
-    /// There are more than 4,095 sites.
+    /// There are more than 4,095 sites, or so many that their longest journal on the plan's harts has more than 65,535 entries.
     TooManySites { sites: u64 },
     /// There are more than 16,384 pieces.
     TooManyPieces { pieces: u64 },

@@ -26,7 +26,7 @@ pub(crate) fn sites_of(alloc: Global, program: &Program) -> Result<Vec<Site>, Al
     Ok(sites)
 }
 
-// Adds the sites of a block behind those that were entered before, given the construct around it.
+// Adds the sites of a block behind those of the walk so far, given the construct around it.
 #[cycle(unroll)]
 fn unroll_block(block: &Block, around: u16, sites: &mut Vec<Site>) -> Result<(), AllocError>
     ensures { IfOk result (λ _. sites.new.items
@@ -114,7 +114,7 @@ fn unroll_phases(
     Ok(())
 }
 
-// The turns of a loop. A body that enters no site is passed over, however many turns it has.
+// The turns of a loop. A body that has no site is passed over, however many turns it has.
 #[cycle(unroll)]
 #[tactic(auto, using(crate::proofs::Unrolling::skipped, crate::proofs::Unrolling::repeat_next))]
 fn unroll_turns(

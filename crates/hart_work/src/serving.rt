@@ -7,6 +7,7 @@ ghost use Rattle.hart_port.specs.PortView.{IsPortView, is_in};
 ghost use Rattle.site_accounts.specs.Accounts.{AreFresh, IsSpan};
 ghost use Rattle.site_accounts.specs.Laws.{IsSkippedSpan};
 ghost use Rattle.site_steps.specs.Back.{IsSettled, IsBack};
+ghost use Rattle.site_steps.specs.Skips.{HasSkipped};
 ghost use Rattle.hart_work.specs.Tasks.{StaysSettled, HasAccount};
 ghost use Rattle.hart_work.specs.Accounts.{WhereAlone, StaysServed};
 
@@ -280,12 +281,14 @@ fn be_guest<P: PatientPort, R, M: Machines, H: Schedulers<R, M>, F: Fn(u8, &M::J
     serve(rt, alloc, tree, pass, port, hold, schedulers, site, false);
 }
 
-// Skips sites that the hart is told of. Where it is alone and these are whole subtrees with which nobody has done anything, they
-// are over then as sites that nobody is to enter.
+// Skips sites that the hart is told of: each child of the owner among them, unless its skip is refused. Where the hart is alone and
+// these are whole subtrees with which nobody has done anything, they are over then as sites that nobody is to enter.
 fn skip_span<P: PatientPort>(tree: &SiteTree, port: &mut P, hold: P::Hold, first: u16, end: u16)
     requires plan { (P.seen port.old).plan ≡ tree.now }
     requires inner { IsSettled (P.seen port.old) }
     ensures back { IsBack (P.seen port.old) (P.seen port.new) }
+    ensures each { HasSkipped P.skip_gives (P.seen port.old) (P.refused port.old) (P.seen port.new)
+        (P.refused port.new) first end }
     ensures skipped { WhereAlone (P.seen port.old) (λ p around es.
         IsSpan p around first (end - first) → AreFresh p es first (end - first)
         → IsSkippedSpan p es (P.seen port.new).mine first (end - first)) }

@@ -53,6 +53,18 @@ impl NotingGate {
         self.notes.lock(rt).reports.len()
     }
 
+    /// How many different harts reported a piece.
+    pub fn harts<R: Wait>(&self, rt: &R) -> usize {
+        let notes = self.notes.lock(rt);
+        let mut came = [false; 16];
+        for report in notes.reports.iter() {
+            if let Some(has_come) = came.get_mut(usize::from(report.hart)) {
+                *has_come = true;
+            }
+        }
+        came.iter().filter(|has_come| **has_come).count()
+    }
+
     /// Whether the piece at this place of this phase was reported.
     pub fn has<R: Wait>(&self, rt: &R, phase: u8, place: u8) -> bool {
         let notes = self.notes.lock(rt);
@@ -143,6 +155,60 @@ impl Gate for MeetingGate {
     }
 }
 
+/// A gate that holds each hart that reports a piece until so many different harts have reported one, for so many looks at most.
+#[derive(Drop)]
+pub struct CrowdGate {
+    noted: NotingGate,
+    harts: usize,
+    ran_out: Mutex<bool>,
+}
+
+impl CrowdGate {
+    /// A gate for so many harts that no hart has passed.
+    pub fn new(alloc: Global, harts: usize) -> Result<CrowdGate, AllocError> {
+        Ok(CrowdGate {
+            noted: NotingGate::new(alloc)?,
+            harts,
+            ran_out: Mutex::new(false),
+        })
+    }
+
+    /// What was noted.
+    pub fn noted(&self) -> &NotingGate {
+        &self.noted
+    }
+
+    /// Whether a hart was held until its looks ran out.
+    pub fn has_run_out<R: Wait>(&self, rt: &R) -> bool {
+        *self.ran_out.lock(rt)
+    }
+
+    // Looks until so many harts have reported a piece, or the looks of a hart ran out.
+    fn hold<R: Wait>(&self, rt: &R) {
+        let backoff = Backoff::new();
+        for _ in 0..LOOKS {
+            if self.noted.harts(rt) >= self.harts || self.has_run_out(rt) {
+                return;
+            }
+            backoff.snooze();
+        }
+        *self.ran_out.lock(rt) = true;
+    }
+}
+
+impl Gate for CrowdGate {
+    fn passed<R: Threads + Wait + Sync>(&self, rt: &R, hart: u8, site: u16, phase: u8, place: u8) {
+        let report = Report {
+            hart,
+            site,
+            phase,
+            place,
+        };
+        let _ = self.noted.note(rt, report);
+        self.hold(rt);
+    }
+}
+
 /// A gate that holds the hart that reports member 1 in phase 0 until member 0 is reported in phase 1, for so many looks at most.
 #[derive(Drop)]
 pub struct OvertakingGate {
@@ -157,6 +223,11 @@ impl OvertakingGate {
             noted: NotingGate::new(alloc)?,
             ran_out: Mutex::new(false),
         })
+    }
+
+    /// What was noted.
+    pub fn noted(&self) -> &NotingGate {
+        &self.noted
     }
 
     /// Whether a hart was held until its looks ran out.

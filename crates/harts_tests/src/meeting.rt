@@ -1,7 +1,8 @@
-//! Runs whose gates see both harts.
-use crate::gates::{MeetingGate, NotingGate, Report};
-use crate::runs::{NESTED, TWO, TWO_BRANCHES, output_of};
+//! Runs whose gates see all harts.
+use crate::gates::{CrowdGate, MeetingGate, NotingGate, Report};
+use crate::runs::{NESTED, SIXTEEN, TWO, TWO_BRANCHES, output_of};
 use memchr::memmem;
+use std::alloc::{AllocError, Global};
 use std::sync::Wait;
 use std::test::Fail;
 
@@ -41,22 +42,30 @@ fn has(text: &[u8], bytes: &[u8]) -> bool {
     memmem::find(text, bytes).is_some()
 }
 
-// Whether the journal brings the hart into the site.
-fn is_brought(output: &[u8], report: &Report) -> bool {
-    match (report.hart, report.site) {
-        (0, 1) => has(output, b" h0 register s1 under s0\n") || has(output, b" h0 enter s1\n"),
-        (0, 2) => has(output, b" h0 register s2 under s1\n") || has(output, b" h0 enter s2\n"),
-        (1, 1) => has(output, b" h1 register s1 under s0\n") || has(output, b" h1 enter s1\n"),
-        (1, 2) => has(output, b" h1 register s2 under s1\n") || has(output, b" h1 enter s2\n"),
-        _ => false,
+/// Whether the journal brings the hart of each report into its site.
+pub fn are_brought(alloc: Global, output: &[u8], reports: &[Report]) -> Result<bool, AllocError> {
+    for report in reports {
+        if !is_brought(alloc, output, report)? {
+            return Ok(false);
+        }
     }
+    Ok(true)
 }
 
-// How many of the reports are of this piece, which is of phase 0.
-fn times(reports: &[Report], site: u16, place: u8) -> usize {
+// Whether the journal brings the hart into the site.
+fn is_brought(alloc: Global, output: &[u8], report: &Report) -> Result<bool, AllocError> {
+    let hart = report.hart;
+    let site = report.site;
+    let registered = format!(in alloc; " h{hart} register s{site} under ")?;
+    let entered = format!(in alloc; " h{hart} enter s{site}\n")?;
+    Ok(has(output, registered.as_bytes()) || has(output, entered.as_bytes()))
+}
+
+/// How many of the reports are of this piece.
+pub fn times(reports: &[Report], site: u16, phase: u8, place: u8) -> usize {
     reports
         .iter()
-        .filter(|report| report.site == site && report.phase == 0 && report.place == place)
+        .filter(|report| report.site == site && report.phase == phase && report.place == place)
         .count()
 }
 
@@ -67,8 +76,25 @@ fn each_piece_is_taken_once_by_a_hart_inside_its_site(rt: HostRuntime) -> Result
     assert!(rt; output.starts_with(b"a = 5 6 0 9\n"));
     let reports = gate.reports(&rt, rt.alloc())?;
     assert!(rt; reports.len() == 4);
-    assert!(rt; times(&reports, 1, 0) == 1 && times(&reports, 1, 1) == 1);
-    assert!(rt; times(&reports, 2, 0) == 1 && times(&reports, 2, 1) == 1);
-    assert!(rt; reports.iter().all(|report| is_brought(&output, report)));
+    assert!(rt; times(&reports, 1, 0, 0) == 1 && times(&reports, 1, 0, 1) == 1);
+    assert!(rt; times(&reports, 2, 0, 0) == 1 && times(&reports, 2, 0, 1) == 1);
+    assert!(rt; are_brought(rt.alloc(), &output, &reports)?);
+    Ok(())
+}
+
+// Sixteen branches that write a cell each.
+const SIXTEEN_BRANCHES: &[u8] =
+    b"array a[16]; par { { a[0] = 1; } { a[1] = 2; } { a[2] = 3; } { a[3] = 4; } { a[4] = 5; } { a[5] = 6; } { a[6] = 7; } { a[7] = 8; } { a[8] = 9; } { a[9] = 10; } { a[10] = 11; } { a[11] = 12; } { a[12] = 13; } { a[13] = 14; } { a[14] = 15; } { a[15] = 16; } }";
+
+// Each of the harts is held at its first piece until all have one, so each takes just one.
+#[test]
+fn sixteen_harts_are_inside_one_site(rt: HostRuntime) -> Result<(), Fail> {
+    let gate = CrowdGate::new(rt.alloc(), 16)?;
+    let output = output_of(&rt, SIXTEEN, SIXTEEN_BRANCHES, &gate)?;
+    assert!(rt; !gate.has_run_out(&rt));
+    assert!(rt; output.starts_with(b"a = 1 2 3 4 5 6 7 8 9 10 11 12 13 14 15 16\n"));
+    let reports = gate.noted().reports(&rt, rt.alloc())?;
+    assert!(rt; reports.len() == 16 && gate.noted().harts(&rt) == 16);
+    assert!(rt; are_brought(rt.alloc(), &output, &reports)?);
     Ok(())
 }

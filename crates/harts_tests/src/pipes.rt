@@ -1,16 +1,20 @@
 //! Runs whose members overtake.
 ghost use Rattle.std.specs.Prelude.{◌≤◌};
 
-use crate::gates::OvertakingGate;
-use crate::runs::output_of;
+use crate::gates::{OvertakingGate, Report};
+use crate::meeting::{are_brought, times};
+use crate::runs::{NESTED, TURNS, TWO_BRANCHES, is_right, output_of};
+use array_tree::Program;
 use disjoint_check::check;
 use hart_loop::{Journal, run_piped};
 use outside_io::OpenGate;
 use pipe_walk::pipe_check;
 use sample_programs::parsed;
+use std::alloc::Global;
 use std::sync::Wait;
 use std::test::Fail;
 use std::thread::Threads;
+use transfer_table::first_fault;
 
 const PIPE: &[&str] = &["pipe", "--harts", "2"];
 
@@ -18,12 +22,22 @@ const PIPE: &[&str] = &["pipe", "--harts", "2"];
 const TWO_STEPS: &[u8] =
     b"array a[6]; array b[6]; team i in 0..6 by 3 { a[i] = i + 1; } barrier { b[i] = a[i / 2] * 10; }";
 
+// Whether there is a report of each of three members in both phases, and no other.
+fn are_all_six(reports: &[Report]) -> bool {
+    let first = (0u8..3).all(|place| times(reports, 1, 0, place) == 1);
+    let second = (0u8..3).all(|place| times(reports, 1, 1, place) == 1);
+    reports.len() == 6 && first && second
+}
+
 #[test]
 fn a_member_goes_on_while_one_above_it_is_held(rt: HostRuntime) -> Result<(), Fail> {
     let gate = OvertakingGate::new(rt.alloc())?;
     let output = output_of(&rt, PIPE, TWO_STEPS, &gate)?;
     assert!(rt; !gate.has_run_out(&rt));
     assert!(rt; output.starts_with(b"a = 1 2 3 4 5 6\nb = 10 10 20 20 30 30\n"));
+    let reports = gate.noted().reports(&rt, rt.alloc())?;
+    assert!(rt; are_all_six(&reports));
+    assert!(rt; are_brought(rt.alloc(), &output, &reports)?);
     Ok(())
 }
 
@@ -53,5 +67,98 @@ fn ends_with_journal<R: AllocGlobal + Threads + Wait + Sync>(
 fn the_journal_is_that_of_its_ports(rt: HostRuntime) -> Result<(), Fail> {
     assert!(rt; ends_with_journal(&rt, 1)? && ends_with_journal(&rt, 3)?);
     assert!(rt; ends_with_journal(&rt, 5)? && ends_with_journal(&rt, 16)?);
+    Ok(())
+}
+
+// In each of its four phases a member reads what the two below it wrote in the phase before.
+const FOUR_STEPS: &[u8] =
+    b"array a[32]; array b[32]; array c[32]; array d[32]; team i in 0..32 by 8 { a[i] = i; } barrier { b[i] = a[i] + a[i / 2]; } barrier { c[i] = b[i] + b[i / 2]; } barrier { d[i] = c[i] + c[i / 2]; }";
+
+// In a member's phases there are pools.
+const POOLS: &[u8] =
+    b"array a[8]; array b[8]; team i in 0..4 by 4 { par { { a[2 * i] = i; } { a[2 * i + 1] = 9; } } } barrier { par { { b[2 * i] = a[i]; } { b[2 * i + 1] = a[i] * 2; } } }";
+
+// All of them have no two pieces that cross.
+const PIPED: &[&[u8]] = &[TWO_BRANCHES, NESTED, TURNS, TWO_STEPS, FOUR_STEPS, POOLS];
+
+// Whether the table takes the journal of a run on so many harts as a complete one.
+fn is_complete<R: Threads + Wait + Sync>(
+    rt: &R,
+    alloc: Global,
+    program: &Program,
+    harts: u8,
+) -> Result<bool, Fail>
+    requires several { 2 ≤ harts }
+    requires few { harts ≤ 16 }
+{
+    let accepted = check(alloc, program, harts)?;
+    if let Err(_) = pipe_check(alloc, &accepted) {
+        return Err(Fail::new("a crossing"));
+    }
+    let outcome = run_piped(rt, alloc, &accepted, &OpenGate)?;
+    let all = vec![in alloc; true; accepted.plan().sites() as usize]?;
+    let fault = first_fault(alloc, accepted.plan(), &all, outcome.journal.entries())?;
+    Ok(fault.is_none())
+}
+
+// Whether it is so on two, three and four harts.
+fn are_complete<R: Threads + Wait + Sync>(
+    rt: &R,
+    alloc: Global,
+    program: &Program,
+) -> Result<bool, Fail> {
+    Ok(
+        is_complete(rt, alloc, program, 2)?
+            && is_complete(rt, alloc, program, 3)?
+            && is_complete(rt, alloc, program, 4)?,
+    )
+}
+
+#[test]
+fn each_journal_is_complete_many_times(rt: HostRuntime) -> Result<(), Fail> {
+    for text in PIPED {
+        let program = parsed(rt.alloc(), text)?;
+        for _ in 0..50 {
+            assert!(rt; are_complete(&rt, rt.alloc(), &program)?);
+        }
+    }
+    Ok(())
+}
+
+#[test]
+fn each_journal_of_sixteen_harts_is_complete_many_times(rt: HostRuntime) -> Result<(), Fail> {
+    for text in PIPED {
+        let program = parsed(rt.alloc(), text)?;
+        for _ in 0..50 {
+            assert!(rt; is_complete(&rt, rt.alloc(), &program, 16)?);
+        }
+    }
+    Ok(())
+}
+
+const PIPE_THREE: &[&str] = &["pipe", "--harts", "3"];
+
+const PIPE_FOUR: &[&str] = &["pipe", "--harts", "4"];
+
+const PIPE_SIXTEEN: &[&str] = &["pipe", "--harts", "16"];
+
+#[test]
+fn each_store_is_that_of_one_hart_many_times(rt: HostRuntime) -> Result<(), Fail> {
+    for program in PIPED {
+        for _ in 0..50 {
+            let few = is_right(&rt, PIPE, program)? && is_right(&rt, PIPE_THREE, program)?;
+            assert!(rt; few && is_right(&rt, PIPE_FOUR, program)?);
+        }
+    }
+    Ok(())
+}
+
+#[test]
+fn each_store_of_sixteen_harts_is_that_of_one_many_times(rt: HostRuntime) -> Result<(), Fail> {
+    for program in PIPED {
+        for _ in 0..50 {
+            assert!(rt; is_right(&rt, PIPE_SIXTEEN, program)?);
+        }
+    }
     Ok(())
 }

@@ -47,7 +47,7 @@ pub const FOUR: &[&str] = &["run", "--harts", "4"];
 
 const FIVE: &[&str] = &["run", "--harts", "5"];
 
-const SIXTEEN: &[&str] = &["run", "--harts", "16"];
+pub const SIXTEEN: &[&str] = &["run", "--harts", "16"];
 
 const SOLO: &[&str] = &["solo"];
 
@@ -92,8 +92,8 @@ fn the_second_hart_comes_or_does_not(rt: HostRuntime) -> Result<(), Fail> {
     Ok(())
 }
 
-// Whether the output begins with the arrays of the one-thread meaning.
-fn is_right<R: AllocGlobal + Threads + Wait + Sync>(
+/// Whether the output begins with the arrays of the one-thread meaning.
+pub fn is_right<R: AllocGlobal + Threads + Wait + Sync>(
     rt: &R,
     words: &[&str],
     program: &[u8],

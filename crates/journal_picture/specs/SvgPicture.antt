@@ -293,8 +293,19 @@ legend_svg step y =
 abbrev pub told_start : List ℕ
 told_start = codes "<text x='16' y='52' font-size='14' text-anchor='start'>"
 
+-- A byte of what is told, as XML has it. In place of what is no printable letter of ASCII and no line's end stands '?'.
+abbrev pub escaped_byte : ℕ → List ℕ
+escaped_byte byte =
+    if byte == 60 then codes "&lt;" else
+    if byte == 38 then codes "&amp;" else
+    if byte == 10 then byte ∷ [] else
+    if nat_le 32 byte then (if nat_le byte 126 then byte ∷ [] else codes "?") else codes "?"
+
+abbrev pub escaped : List ℕ → List ℕ
+escaped told = flat_map escaped_byte told
+
 unfoldable pub end_svg : List ℕ → List ℕ
-end_svg told = told ++ codes "</text>\n</svg>\n"
+end_svg told = escaped told ++ codes "</text>\n</svg>\n"
 
 -- head, title, legend and axis
 abbrev pub frame_svg : Plan → List Entry → List ℕ

@@ -67,12 +67,18 @@ deeds_text es = flat_map (λ e. cell (deed e)) es
 abbrev pub sites_text : List ℕ → List ℕ
 sites_text sites = flat_map (λ s. cell (site_name s)) sites
 
+-- the text at the left of three columns
+abbrev pub name_cell : List ℕ → List ℕ
+name_cell text = text ++ blanks (3 - length text)
+
+abbrev pub hart_name : ℕ → List ℕ
+hart_name h = name_cell (codes "h" ++ decimal h)
+
 -- the lines of harts, the first of which is this one: before the entry at a place, and behind it and the 13 that follow
 abbrev pub lanes_text : ℕ → ℕ → List (List ℕ) → List ℕ
 lanes_text at h [] = []
 lanes_text at h (lane ∷ more) =
-    codes "h" ++ decimal h ++ sites_text (take 15 (drop at lane)) ++ codes "\n"
-    ++ lanes_text at (h + 1) more
+    hart_name h ++ sites_text (take 15 (drop at lane)) ++ codes "\n" ++ lanes_text at (h + 1) more
 
 -- the mark of a fault, behind the last entry
 abbrev pub mark_text : Bool → Bool → List ℕ
@@ -83,10 +89,10 @@ mark_text false last = []
 -- the line of the entries' numbers, and that of what they do
 abbrev pub numbers_line : Bool → Bool → ℕ → List Entry → List ℕ
 numbers_line faulty last at shown =
-    codes "   entry" ++ numbers_text at shown ++ mark_text faulty last ++ codes "\n"
+    codes "    entry" ++ numbers_text at shown ++ mark_text faulty last ++ codes "\n"
 
 abbrev pub deeds_line : List Entry → List ℕ
-deeds_line shown = codes "        " ++ deeds_text shown ++ codes "\n"
+deeds_line shown = codes "         " ++ deeds_text shown ++ codes "\n"
 
 -- the band of the entry at a place and the 13 that follow
 abbrev pub band_text : Bool → List Entry → List (List ℕ) → ℕ → List ℕ

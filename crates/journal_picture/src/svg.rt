@@ -1,7 +1,7 @@
 //! The picture as SVG.
 ghost use Rattle.std.specs.Prelude.{◌≡◌, ◌≤◌, ◌++◌, IfOk, OnOk, length, string_bytes};
 ghost use Rattle.transfer_table.specs.Plan.{site_count, most_entries};
-ghost use Rattle.journal_picture.specs.SvgPicture.{end_svg, fault_svg, folded_note, frame_svg, head_of, head_svg, legend_svg, mark_svg, marks_note, marks_or_note, picture_svg, shown_svg, svg_of, svg_picture, swatch_svg, swatches_svg, title_of, title_svg, words_svg};
+ghost use Rattle.journal_picture.specs.SvgPicture.{end_svg, escaped, escaped_byte, fault_svg, folded_note, frame_svg, head_of, head_svg, legend_svg, mark_svg, marks_note, marks_or_note, picture_svg, shown_svg, svg_of, svg_picture, swatch_svg, swatches_svg, title_of, title_svg, words_svg};
 
 use crate::axis::{write_marks, write_ticks};
 use crate::bars::{fill, is_folded, write_lanes, write_rect};
@@ -12,7 +12,7 @@ use std::alloc::{AllocError, Global};
 use transfer_table::{Board, Entry, Plan, first_fault};
 
 /// The picture of the list as SVG 1.1, up to its first fault; the plan's sites have these shapes. What is told of the list stands
-/// below the title. The list has at most 65,535 entries. Which sites are meant to be entered is a truth value for each, that of
+/// below the title, with `<` and `&` escaped; in place of a byte that is no printable letter of ASCII and no line's end stands `?`. The list has at most 65,535 entries. Which sites are meant to be entered is a truth value for each, that of
 /// site `s` at place `s - 1`.
 ///
 /// It has at most 4,096 bars: if there are more stays, each lane has its first 512 and its last 512, with more than four harts as many as
@@ -60,9 +60,31 @@ fn ended(text: Vec<u8>, told: &[u8]) -> Result<Vec<u8>, AllocError>
     ensures { IfOk result (λ whole. whole.items ≡ text.items ++ end_svg told.now) }
 {
     let mut whole = text;
-    whole.extend_from_slice(told)?;
+    add_escaped(&mut whole, told)?;
     whole.extend_from_slice(b"</text>\n</svg>\n")?;
     Ok(whole)
+}
+
+// Adds what is told, as XML has it.
+fn add_escaped(whole: &mut Vec<u8>, told: &[u8]) -> Result<(), AllocError>
+    ensures { OnOk result (whole.new.items ≡ whole.old.items ++ escaped told.now) }
+{
+    for byte in told {
+        add_byte(whole, *byte)?;
+    }
+    Ok(())
+}
+
+// Adds a byte of what is told.
+fn add_byte(whole: &mut Vec<u8>, byte: u8) -> Result<(), AllocError>
+    ensures { OnOk result (whole.new.items ≡ whole.old.items ++ escaped_byte byte) }
+{
+    match byte {
+        b'<' => whole.extend_from_slice(b"&lt;"),
+        b'&' => whole.extend_from_slice(b"&amp;"),
+        b'\n' | b' '..=b'~' => Ok(whole.push(byte)?),
+        _ => Ok(whole.push(b'?')?),
+    }
 }
 
 // Adds all up to what is told.

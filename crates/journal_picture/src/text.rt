@@ -1,14 +1,14 @@
 //! The picture in text.
 ghost use Rattle.std.specs.Prelude.{◌≡◌, ◌≤◌, ◌++◌, ◌*◌, ◌+◌, IfOk, OnOk, length, take, drop, string_bytes, true};
 ghost use Rattle.transfer_table.specs.Plan.{site_count, most_entries};
-ghost use Rattle.journal_picture.specs.TextPicture.{band_count, band_text, bands_text, deed, deeds_line, deeds_text, lanes_text, mark_text, numbers_line, numbers_text, shown_text, sites_text, text_of, text_picture};
+ghost use Rattle.journal_picture.specs.TextPicture.{band_count, band_text, bands_text, deed, deeds_line, deeds_text, hart_name, lanes_text, mark_text, numbers_line, numbers_text, shown_text, sites_text, text_of, text_picture};
 ghost use Rattle.journal_picture.specs.Drawn.{state_after};
 
 use crate::drawn::{before, board_after};
 use crate::lanes::{Lane, lanes_of};
 use crate::shape::Shape;
 use crate::tree::write_tree;
-use crate::words::{site_name, write_cell};
+use crate::words::{site_name, write_cell, write_name};
 use std::alloc::{AllocError, Global};
 use transfer_table::{Board, Entry, Plan, first_fault};
 
@@ -140,7 +140,7 @@ fn write_numbers_line(
     ensures { OnOk result (string_bytes text.new ≡ string_bytes text.old
         ++ numbers_line faulty last at shown.now) }
 {
-    text.push_str("   entry")?;
+    text.push_str("    entry")?;
     write_numbers(alloc, text, at, shown)?;
     write_mark(text, faulty, last)?;
     text.push_str("\n")
@@ -150,7 +150,7 @@ fn write_numbers_line(
 fn write_deeds_line(text: &mut String, shown: &[Entry]) -> Result<(), AllocError>
     ensures { OnOk result (string_bytes text.new ≡ string_bytes text.old ++ deeds_line shown.now) }
 {
-    text.push_str("        ")?;
+    text.push_str("         ")?;
     write_deeds(text, shown)?;
     text.push_str("\n")
 }
@@ -238,11 +238,19 @@ fn write_lanes(
     ensures { OnOk result (string_bytes text.new ≡ string_bytes text.old ++ lanes_text at 0 lanes.now) }
 {
     for (hart, lane) in lanes.iter().enumerate() {
-        write!(text, "h{hart}")?;
+        write_hart(alloc, text, hart)?;
         write_sites(alloc, text, window(lane.sites(), at, 15))?;
         text.push_str("\n")?;
     }
     Ok(())
+}
+
+// Adds the name of a hart.
+fn write_hart(alloc: Global, text: &mut String, hart: usize) -> Result<(), AllocError>
+    ensures { OnOk result (string_bytes text.new ≡ string_bytes text.old ++ hart_name hart) }
+{
+    let name = format!(in alloc; "h{hart}")?;
+    write_name(text, name.as_str())
 }
 
 // Adds the names of sites.

@@ -1,6 +1,6 @@
 //! Words of both pictures.
 ghost use Rattle.std.specs.Prelude.{◌≡◌, ◌++◌, OnOk, string_bytes, IfOk};
-ghost use Rattle.journal_picture.specs.TextPicture.{blanks, cell, site_name, kind_text};
+ghost use Rattle.journal_picture.specs.TextPicture.{blanks, cell, name_cell, site_name, kind_text};
 
 use crate::shape::Kind;
 use std::alloc::{AllocError, Global};
@@ -21,6 +21,14 @@ pub(crate) fn write_cell(text: &mut String, words: &str) -> Result<(), AllocErro
 {
     write_blanks(text, 6usize.saturating_sub(words.len()))?;
     text.push_str(words)
+}
+
+/// Adds the name at the left of three columns, so that `h9` and `h10` are equally wide.
+pub(crate) fn write_name(text: &mut String, name: &str) -> Result<(), AllocError>
+    ensures { OnOk result (string_bytes text.new ≡ string_bytes text.old ++ name_cell name.now) }
+{
+    text.push_str(name)?;
+    write_blanks(text, 3usize.saturating_sub(name.len()))
 }
 
 /// The name of a site.

@@ -110,6 +110,20 @@ fn texts_that_are_no_output_are_told(rt: HostRuntime) -> Result<(), Fail> {
     serve(&rt, AUDIT, BRANCHES, Status::Syntax, b"", told)
 }
 
+// Two members add into one cell.
+const ADDED: &[u8] = b"array n_sum[1]; team i in 0..4 by 2 { n_sum[0] = n_sum[0] + i; }\n";
+
+// An audit knows the programs of `run` alone.
+#[test]
+fn what_tally_takes_is_refused(rt: HostRuntime) -> Result<(), Fail> {
+    let output = b"n_sum = 6\ntransfers 2\n0 h0 register s1 under s0\n1 h0 unregister s1\n";
+    let tally = &["tally", "--harts", "1"];
+    serve(&rt, tally, ADDED, Status::Done, output, b"")?;
+    let text = input(rt.alloc(), ADDED, output)?;
+    let told = b"refused: overlap on n_sum[0] at line 1\n";
+    serve(&rt, AUDIT, &text, Status::Refused, b"", told)
+}
+
 #[test]
 fn the_program_part_is_read_first(rt: HostRuntime) -> Result<(), Fail> {
     let told = b"syntax: unexpected at byte 10\n";

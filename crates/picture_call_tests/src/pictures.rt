@@ -99,15 +99,15 @@ const NESTED_RUN: &[u8] = b"transfers 16
 ";
 
 const NESTED_TEXT: &[u8] =
-    b"   entry     0     1     2     3     4     5     6     7     8     9    10    11    12    13
-           reg   req   reg enter   req   reg   req unreg   reg unreg   req enter yield unreg
-h0  base    s1    s1    s2    s2    s2    s2    s2    s1    s3    s3    s3    s3    s3    s1
-h1  base  base  base  base    s1    s1    s4    s4    s4    s4    s1    s1    s3    s1    s1
+    b"    entry     0     1     2     3     4     5     6     7     8     9    10    11    12    13
+            reg   req   reg enter   req   reg   req unreg   reg unreg   req enter yield unreg
+h0   base    s1    s1    s2    s2    s2    s2    s2    s1    s3    s3    s3    s3    s3    s1
+h1   base  base  base  base    s1    s1    s4    s4    s4    s4    s1    s1    s3    s1    s1
 
-   entry    14    15
-         yield unreg
-h0    s1    s1  base
-h1    s1  base  base
+    entry    14    15
+          yield unreg
+h0     s1    s1  base
+h1     s1  base  base
 
 base
   s1 pool, line 2, home h0
@@ -250,10 +250,10 @@ const SKIPPING: &[u8] = b"transfers 5
 4 h0 unregister s1
 ";
 
-const SKIPPED_TEXT: &[u8] = b"   entry     0     1     2     3     4 fault
-           reg  skip  skip  skip unreg
-h0  base    s1    s1    s1    s1  base
-h1  base  base  base  base  base  base
+const SKIPPED_TEXT: &[u8] = b"    entry     0     1     2     3     4 fault
+            reg  skip  skip  skip unreg
+h0   base    s1    s1    s1    s1  base
+h1   base  base  base  base  base  base
 
 base
   s1 pool, line 2, home h0
@@ -280,10 +280,10 @@ const ILLEGAL: &[u8] = b"transfers 5
 4 h0 unregister s2
 ";
 
-const ILLEGAL_TEXT: &[u8] = b"   entry     0     1     2 fault
-           reg   req   reg
-h0  base    s1    s1    s2
-h1  base  base  base  base
+const ILLEGAL_TEXT: &[u8] = b"    entry     0     1     2 fault
+            reg   req   reg
+h0   base    s1    s1    s2
+h1   base  base  base  base
 
 base
   s1 pool, line 2, home h0, not ended, unmet wishes 1
@@ -349,10 +349,10 @@ a = 1
 transfers 0
 ";
 
-const DIFFERING_TEXT: &[u8] = b"   entry
-        
-h0  base
-h1  base
+const DIFFERING_TEXT: &[u8] = b"    entry
+         
+h0   base
+h1   base
 
 base
 
@@ -368,9 +368,9 @@ fn arrays_that_differ_are_told_below_the_journal(rt: HostRuntime) -> Result<(), 
 // A program without sites, whose journal has no entries.
 const EMPTY: &[u8] = b"\n%%\ntransfers 0\n";
 
-const EMPTY_TEXT: &[u8] = b"   entry
-        
-h0  base
+const EMPTY_TEXT: &[u8] = b"    entry
+         
+h0   base
 
 base
 

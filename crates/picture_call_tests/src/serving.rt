@@ -30,10 +30,10 @@ transfers 5
 ";
 
 /// The picture of that output in text.
-pub const FIRST_TEXT: &[u8] = b"   entry     0     1     2     3     4
-           reg   req enter yield unreg
-h0  base    s1    s1    s1    s1  base
-h1  base  base  base    s1  base  base
+pub const FIRST_TEXT: &[u8] = b"    entry     0     1     2     3     4
+            reg   req enter yield unreg
+h0   base    s1    s1    s1    s1  base
+h1   base  base  base    s1  base  base
 
 base
   s1 pool, line 3, home h0

@@ -4,6 +4,8 @@
 #[cfg(test)]
 mod longest;
 #[cfg(test)]
+mod many;
+#[cfg(test)]
 mod pictures;
 #[cfg(test)]
 mod stays;

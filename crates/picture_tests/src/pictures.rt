@@ -3,10 +3,10 @@ use journal_picture::{Kind, Shape, svg_picture, text_picture};
 use std::test::Fail;
 use transfer_table::{Entry, Plan};
 
-const FIRST_TEXT: &[u8] = b"   entry     0     1     2     3     4
-           reg   req enter yield unreg
-h0  base    s1    s1    s1    s1  base
-h1  base  base  base    s1  base  base
+const FIRST_TEXT: &[u8] = b"    entry     0     1     2     3     4
+            reg   req enter yield unreg
+h0   base    s1    s1    s1    s1  base
+h1   base  base  base    s1  base  base
 
 base
   s1 pool, line 3, home h0
@@ -16,10 +16,10 @@ legal 5
 ";
 
 const NESTED_TEXT: &[u8] =
-    b"   entry     0     1     2     3     4     5     6     7     8     9    10
-           reg   req   reg   req enter   reg   req unreg unreg yield unreg
-h0  base    s1    s1    s2    s2    s2    s2    s2    s2    s1    s1  base
-h1  base  base  base  base  base    s1    s3    s3    s1    s1  base  base
+    b"    entry     0     1     2     3     4     5     6     7     8     9    10
+            reg   req   reg   req enter   reg   req unreg unreg yield unreg
+h0   base    s1    s1    s2    s2    s2    s2    s2    s2    s1    s1  base
+h1   base  base  base  base  base    s1    s3    s3    s1    s1  base  base
 
 base
   s1 pool, line 4, home h0
@@ -30,10 +30,10 @@ reg registers a site, req requests harts, unreg unregisters the site
 legal 11
 ";
 
-const SKIPPED_TEXT: &[u8] = b"   entry     0     1     2     3 fault
-           reg  skip  skip unreg
-h0  base    s1    s1    s1  base
-h1  base  base  base  base  base
+const SKIPPED_TEXT: &[u8] = b"    entry     0     1     2     3 fault
+            reg  skip  skip unreg
+h0   base    s1    s1    s1  base
+h1   base  base  base  base  base
 
 base
   s1 pool, line 4, home h0
@@ -44,10 +44,10 @@ reg registers a site, req requests harts, unreg unregisters the site
 illegal: entry 4, s2 is skipped
 ";
 
-const PASSED_TEXT: &[u8] = b"   entry     0     1     2     3
-           reg  skip  skip unreg
-h0  base    s1    s1    s1  base
-h1  base  base  base  base  base
+const PASSED_TEXT: &[u8] = b"    entry     0     1     2     3
+            reg  skip  skip unreg
+h0   base    s1    s1    s1  base
+h1   base  base  base  base  base
 
 base
   s1 pool, line 4, home h0
@@ -58,10 +58,10 @@ reg registers a site, req requests harts, unreg unregisters the site
 legal 4
 ";
 
-const FAULTY_TEXT: &[u8] = b"   entry     0     1     2 fault
-           reg   req   reg
-h0  base    s1    s1    s2
-h1  base  base  base  base
+const FAULTY_TEXT: &[u8] = b"    entry     0     1     2 fault
+            reg   req   reg
+h0   base    s1    s1    s2
+h1   base  base  base  base
 
 base
   s1 pool, line 4, home h0, not ended, unmet wishes 1

@@ -24,7 +24,7 @@ sites_of_phases nested stores phase (suc n) =
     sites_of_jobs (jobs_in nested phase (stores phase))
     ++ sites_of_phases nested stores (phase + 1) n
 
--- The site of a construct, followed by those inside the jobs of all its phases, are as many numbers as it enters sites,
+-- The site of a construct, followed by those inside the jobs of all its phases, are as many numbers as it has sites,
 -- from its own on, each once. So a number inside is a site of exactly one job of exactly one phase, and no job has another.
 abbrev pub JobsHaveTheSitesInside : Type 0
 JobsHaveTheSitesInside = (nested : NestedTree) (stores : ℕ → Store) →

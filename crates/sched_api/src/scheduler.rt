@@ -28,7 +28,7 @@ pub enum Lent<C> {
     Moved { read: u64, found: u64 },
 }
 
-/// One hart's hand on one scheduler. No call takes memory.
+/// One hart's hand on one scheduler. No call allocates, but `enter` of a pipe's hand.
 pub trait Scheduler {
     /// What a call needs of the runtime.
     type Hold: Copy;

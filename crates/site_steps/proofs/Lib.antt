@@ -2,5 +2,5 @@ pub mod Children
 pub mod Flags
 pub mod Overs
 pub mod Backs
-pub mod Skipped
 pub mod Sweeps
+pub mod Skipped

@@ -13,7 +13,7 @@ use Rattle.site_steps.proofs.Children.{before_next}
 use Rattle.site_steps.proofs.Overs.{over_stays}
 
 -- a count that rose has risen since an earlier time, and until a later one
-rose_within : (a b c d : ℕ) → a ≤ b → Rose b c → c ≤ d → Rose a d
+pub rose_within : (a b c d : ℕ) → a ≤ b → Rose b c → c ≤ d → Rose a d
 rose_within a b c d before (inl more) after = inl (omega arith)
 rose_within a b c d before (inr last) after = elim (cases_lt a d) [
   | inl less ↦ inl less

@@ -1,20 +1,34 @@
--- What a hart does that skips sites.
-use Rattle.std.specs.Prelude.{◌≡◌, ℕ, ◌<◌, ◌≤◌, true, List, ◌++◌}
-use Rattle.std.specs.List.{All}
+-- What a hart does that skips sites, of what its port tells of skips, and of the port's count of refusals before and after.
+use Rattle.std.specs.Prelude.{◌≡◌, ◌⊎◌, ℕ, ◌<◌, ◌≤◌, true, List, [], ◌∷◌, ◌++◌, map}
+use Rattle.std.specs.List.{All, Contains}
 use Rattle.transfer_table.specs.Plan.{IsSite, parent}
-use Rattle.transfer_table.specs.Entry.{site_of, is_skip}
-use Rattle.transfer_table.specs.declared.entry.Entry.{Entry}
+use Rattle.transfer_table.specs.declared.entry.Entry.TheVariants.{Skip}
+use Rattle.hart_port.specs.Count.{Rose}
 use Rattle.hart_port.specs.PortView.{PortView, HasClaimed}
+use Rattle.site_steps.specs.Sweeps.{Gives, IsRefused}
 
--- a skip of a site from first to before end
-abbrev pub IsSkipBetween : ℕ → ℕ → Entry → Type 0
-IsSkipBetween first end e = (is_skip e ≡ true) × (first ≤ site_of e) × (site_of e < end)
+-- the number is that of a child of the hart's owner, from first to before end
+pub record IsChildBetween (h : PortView) (first end s : ℕ) : Type 0 where
+  pub low : first ≤ s
+  pub high : s < end
+  pub site : IsSite h.plan s
+  pub child : parent h.plan s ≡ h.owner
 
--- The hart made such skips, and did nothing else.
-pub record HasSkipped (h after : PortView) (first end : ℕ) : Type 0 where
-  pub made : List Entry
-  pub same : after ≡ record h { mine = h.mine ++ made }
-  pub skips : All (IsSkipBetween first end) made
+-- each number is below all that follow
+abbrev pub AreRising : List ℕ → Type 0
+AreRising [] = Unit {0}
+AreRising (s ∷ more) = All (λ t. s < t) more × AreRising more
+
+-- The hart skipped these children of its owner, in rising order, and did nothing else. Of each other child between the bounds the
+-- skip was refused.
+pub record HasSkipped {P : Type 0} (gives : Gives P) (h : PortView) (refused : ℕ)
+    (after : PortView) (refused' first end : ℕ) : Type 0 where
+  pub sites : List ℕ
+  pub same : after ≡ record h { mine = h.mine ++ map (λ s. Skip h.hart s) sites }
+  pub children : All (IsChildBetween h first end) sites
+  pub rising : AreRising sites
+  pub each : (s : ℕ) → IsChildBetween h first end s
+      → Contains sites s ⊎ (Rose refused refused' × IsRefused gives s)
 
 -- where no other hart shares the table, it registered each child of its owner between these bounds, or it or a site around it
 -- was skipped

@@ -7,11 +7,11 @@ use Rattle.hart_port.specs.PortView.{PortView}
 use Rattle.hart_port.specs.declared.port.Taken.{Taken}
 use Rattle.site_steps.specs.Visits.{IsBefore}
 
--- what a port tells of a register: the port, the site, the answer, and the port afterwards
+-- what a port tells of a register or of a skip: the port, the site, the answer, and the port afterwards
 abbrev pub Gives : Type 0 → Type 1
 Gives P = P → ℕ → Result (Unit {0}) Taken → P → Type 0
 
--- a register of the site was refused
+-- such a call for the site was refused
 abbrev pub IsRefused : {P : Type 0} → Gives P → ℕ → Type 0
 IsRefused {P} gives s = (before after : P) × (taken : Taken) × gives before s (Err taken) after
 

@@ -39,7 +39,7 @@ pub turn_sites_in : (var : List ℕ) (low high : ℤ) (body : Sequence) → int_
 turn_sites_in var low high body below =
     ap (λ n. n * sites_in body) (span_next low high (below_of_test low high below)) ∙ omega arith
 
--- A loop with no turn left enters no site.
+-- A loop with no turn left has no site.
 pub no_turn_sites : (var : List ℕ) (low high : ℤ) (body : Sequence) → int_lt low high ≡ false → sites_of (member_of var low high body) ≡ 0
 no_turn_sites var low high body above = rw above (omega arith)
 

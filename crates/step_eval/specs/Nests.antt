@@ -84,13 +84,13 @@ piece_trees (Team line var low high members phases) phase =
     member_trees var low high (unsigned_abs members) (phase_at phases phase) 0
     (unsigned_abs members)
 
--- How many sites the bodies of the phases before this one enter.
+-- How many sites the bodies of the phases before this one have.
 abbrev pub sites_before : Sequences → ℕ → ℕ
 sites_before no_more phase = 0
 sites_before (beside first rest) zero = 0
 sites_before (beside first rest) (suc phase) = sites_in first + sites_before rest phase
 
--- How many sites the phases before this one enter, each in all its iterations.
+-- How many sites the phases before this one have, each in all its iterations.
 abbrev pub earlier_sites : Statement → ℕ → ℕ
 earlier_sites (Assign line array index value) phase = 0
 earlier_sites (For line var low high body) phase = 0

@@ -1,5 +1,5 @@
--- What is still to be run: works, the next one first. Both sides of an `if` may have sites, so a work knows how many the walk
--- has behind it that nobody enters.
+-- What is still to be run: works, the next one first. Both sides of an `if` may have sites, so a work knows how many sites of a
+-- side that was not chosen the walk has behind it.
 use Rattle.std.specs.Prelude.{ℕ, ◌+◌, List, [], ◌∷◌}
 use Rattle.array_meaning.specs.Stores.{Vars}
 use Rattle.array_meaning.specs.Steps.{Steps, Done, followed_by}

@@ -22,7 +22,8 @@ use std::alloc::{AllocError, Global};
 /// A work that is still to be run.
 #[derive(Clone, Copy, Debug, Drop)]
 pub(crate) enum Frame<'p> {
-    /// The statements of a block from number `from` on. So many sites that nobody enters come behind the block.
+    /// The statements of a block from number `from` on. So many sites of the side that
+    /// the `if` around it did not choose come behind the block.
     Statements {
         block: &'p Block,
         from: usize,

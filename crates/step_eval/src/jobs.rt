@@ -52,7 +52,7 @@ fn first_site(nested: &Nested, phase: u8) -> u16
     nested.site + 1 + earlier_sites(nested.construct, phase) as u16
 }
 
-// How many sites the phases before this one enter.
+// How many sites the phases before this one have.
 fn earlier_sites(construct: &Stmt, phase: u8) -> u64
     requires { phase < phases_of (statement_of construct.now) }
     ensures { result ≡ capped (earlier_sites (statement_of construct.now) phase) }
@@ -68,7 +68,7 @@ fn earlier_sites(construct: &Stmt, phase: u8) -> u64
     }
 }
 
-// How many sites so many of the first phases enter, each in all its iterations.
+// How many sites so many of the first phases have, each in all its iterations.
 fn sites_before(phases: &Blocks, low: i64, high: i64, phase: u8) -> u64
     requires { phase ≤ count_of (sequences_of phases.now) }
     ensures { result ≡ capped (span low high * sites_before (sequences_of phases.now) phase) }

@@ -210,7 +210,7 @@ fn stage_after(step: &Step<Found>) -> Stage
     }
 }
 
-// How many sites a construct enters.
+// How many sites a construct has.
 fn sites_in_construct(construct: Option<&Stmt>) -> u64
     ensures { result ≡ sites_seen construct.entry }
 {

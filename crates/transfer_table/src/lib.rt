@@ -1,7 +1,7 @@
 //! The table of transfers: which hart is in which site of a plan, and the entries that move it.
 //!
 //! A plan is a number of harts and a tree of sites. An entry registers a site, asks harts for it,
-//! lets a hart enter or leave it, or unregisters it. `Board` holds the state that the entries
+//! lets a hart enter or leave it, unregisters it, or skips it with all sites inside it. `Board` holds the state that the entries
 //! admitted so far have led to; `specs/Table.antt` says what each entry needs and does.
 #![tactic(auto)]
 

@@ -92,7 +92,7 @@ step_by None = step.Finished
 step_by (Some Nothing) = step.More
 step_by (Some (Skips first end)) = step.Nest (found.Pass first end)
 
--- How many sites a construct enters, where there is one.
+-- How many sites a construct has, where there is one.
 abbrev pub sites_seen : Option (Bor Stmt) → ℕ
 sites_seen None = 0
 sites_seen (Some construct) = capped (statement_sites_in (statement_of construct.now))

@@ -10,6 +10,6 @@ returns c =
     let first = string_bytes c.push_str.new.self in
     let second = string_bytes c.write_deeds.new.text in
     let third = string_bytes c.push_str-2.new.self in
-    let head : first ≡ old ++ codes "        " = search rules in
+    let head : first ≡ old ++ codes "         " = search rules in
     let line : OnOk c.push_str-2.result (third ≡ second ++ codes "\n") = search rules in
-    on_three c.push_str-2.result old first second third (codes "        ") (deeds_text c.args.shown.now) (codes "\n") head c.in_ok-write_deeds.ensures line
+    on_three c.push_str-2.result old first second third (codes "         ") (deeds_text c.args.shown.now) (codes "\n") head c.in_ok-write_deeds.ensures line

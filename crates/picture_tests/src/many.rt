@@ -1,0 +1,71 @@
+//! Pictures of runs of many harts, and of what is told in other bytes than a verdict's.
+use journal_picture::{Kind, Shape, svg_picture, text_picture};
+use std::test::Fail;
+use transfer_table::{Entry, Plan};
+
+const POOL: [Shape; 1] = [Shape {
+    kind: Kind::Pool,
+    line: 3,
+}];
+
+// Hart 10 is lent to the site and comes back.
+const LENT: [Entry; 5] = [
+    Entry::Register { hart: 0, site: 1 },
+    Entry::Request {
+        hart: 0,
+        site: 1,
+        count: 1,
+    },
+    Entry::Enter { hart: 10, site: 1 },
+    Entry::Yield { hart: 10, site: 1 },
+    Entry::Unregister { hart: 0, site: 1 },
+];
+
+const LENT_TEXT: &[u8] = b"    entry     0     1     2     3     4
+            reg   req enter yield unreg
+h0   base    s1    s1    s1    s1  base
+h1   base  base  base  base  base  base
+h2   base  base  base  base  base  base
+h3   base  base  base  base  base  base
+h4   base  base  base  base  base  base
+h5   base  base  base  base  base  base
+h6   base  base  base  base  base  base
+h7   base  base  base  base  base  base
+h8   base  base  base  base  base  base
+h9   base  base  base  base  base  base
+h10  base  base  base    s1  base  base
+h11  base  base  base  base  base  base
+h12  base  base  base  base  base  base
+h13  base  base  base  base  base  base
+h14  base  base  base  base  base  base
+h15  base  base  base  base  base  base
+
+base
+  s1 pool, line 3, home h0
+
+reg registers a site, req requests harts, unreg unregisters the site
+legal 5
+";
+
+#[test]
+fn names_of_harts_are_equally_wide(rt: HostRuntime) -> Result<(), Fail> {
+    let alloc = rt.alloc();
+    let plan = Plan::new(alloc, 16, &[0])?;
+    let text = text_picture(alloc, &plan, &[true], &POOL, &LENT, b"legal 5\n")?;
+    let same = text.as_slice() == LENT_TEXT;
+    assert!(rt; same);
+    Ok(())
+}
+
+#[test]
+fn what_is_told_is_escaped_in_svg(rt: HostRuntime) -> Result<(), Fail> {
+    let alloc = rt.alloc();
+    let plan = Plan::new(alloc, 2, &[0])?;
+    let told = b"a < b & c > d\t\xff\n";
+    let text = svg_picture(alloc, &plan, &[true], &POOL, &[], told)?;
+    let same = text
+        .as_slice()
+        .ends_with(b"'start'>a &lt; b &amp; c > d??\n</text>\n</svg>\n");
+    assert!(rt; same);
+    Ok(())
+}
