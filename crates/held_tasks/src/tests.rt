@@ -15,6 +15,7 @@ struct Sum<'p> {
 
 impl<'p> TaskKind for Sum<'p> {
     type Output = u64;
+
     type Error = AllocError;
 
     ghost gives = { λ _ _. Unit {0} };
@@ -40,8 +41,14 @@ fn run_sum<'p, V: Holds<Sum<'p>>, H: Harts<V>>(
     let cuts = cuts - 1;
     let (front, back) = numbers.split_at(numbers.len() / 2);
     let mut halves = Vec::with_capacity(alloc, 2)?;
-    halves.push_reserved(Sum { numbers: front, cuts });
-    halves.push_reserved(Sum { numbers: back, cuts });
+    halves.push_reserved(Sum {
+        numbers: front,
+        cuts,
+    });
+    halves.push_reserved(Sum {
+        numbers: back,
+        cuts,
+    });
     let sums = fork_join_as::<Sum<'p>, V, H>(alloc, harts, halves)?;
     Ok(sum_of(sums.as_slice()))
 }
@@ -89,6 +96,7 @@ struct Product<'p> {
 
 impl<'p> TaskKind for Product<'p> {
     type Output = u64;
+
     type Error = AllocError;
 
     ghost gives = { λ _ _. Unit {0} };
@@ -140,9 +148,10 @@ impl<'p> Task for Product<'p> {
         both.push_reserved(left);
         both.push_reserved(Sum { numbers, cuts });
         let sums = fork_join_as::<Sum<'p>, Product<'p>, H>(alloc, harts, both)?;
-        Ok(sums
-            .iter()
-            .fold(1u64, |product, sum| product.wrapping_mul(*sum)))
+        Ok(
+            sums.iter()
+                .fold(1u64, |product, sum| product.wrapping_mul(*sum)),
+        )
     }
 }
 

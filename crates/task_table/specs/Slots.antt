@@ -54,5 +54,5 @@ module _ {T R K : Type 0} where
   Collects ends tasks me i found after =
       (after.0 ≡ looked me.0 i found)
       × (found ≡ 2 → (task : T) × (outcome : R) × (get_elem? tasks i ≡ some task) × ends task outcome
-          × (after.1 ≡ (i, Ended outcome) ∷ me.1))
+      × (after.1 ≡ (i, Ended outcome) ∷ me.1))
       × (found ≢ 2 → after.1 ≡ me.1)

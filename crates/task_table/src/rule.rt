@@ -9,7 +9,8 @@ pub struct TaskRule<T> {
     marker: PhantomData<T>,
 }
 
-impl<T: TaskKind> TableRule<TaskSlot<T, Outcome<T>>, Sight<TaskList<T>>, TaskList<T>> for TaskRule<T> {
+impl<T: TaskKind> TableRule<TaskSlot<T, Outcome<T>>, Sight<TaskList<T>>, TaskList<T>>
+    for TaskRule<T> {
     ghost use Rattle.std.specs.Prelude.{alloc_error};
     ghost use Rattle.task_table.specs.Slots.{TasksStand, Ends};
 

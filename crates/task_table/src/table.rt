@@ -15,8 +15,13 @@ use tasks::TaskKind;
 /// Tasks that wait, and the outcomes of those that have ended. Harts share it by reference.
 #[derive(Drop)]
 pub struct TaskTable<T: TaskKind> {
-    pub(crate) table:
-        Table<TaskSlot<T, Outcome<T>>, Sight<TaskList<T>>, TaskList<T>, TaskRule<T>, Global>,
+    pub(crate) table: Table<
+        TaskSlot<T, Outcome<T>>,
+        Sight<TaskList<T>>,
+        TaskList<T>,
+        TaskRule<T>,
+        Global,
+    >,
     pub(crate) count: usize,
     pub ghost words: { table.shared.table_id.words ≡ count },
     pub ghost slots: { table.shared.table_id.slots ≡ count },

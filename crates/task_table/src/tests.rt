@@ -12,6 +12,7 @@ struct Twice(u32);
 
 impl TaskKind for Twice {
     type Output = u64;
+
     type Error = AllocError;
 
     ghost gives = { λ _ _. Unit {0} };

@@ -33,11 +33,7 @@ pub trait Task: TaskKind {
     /// # Errors
     ///
     /// An error of the task's own, or an allocation failure.
-    fn run<H: Harts<Self>>(
-        self,
-        alloc: Global,
-        harts: &mut H,
-    ) -> Result<Self::Output, Self::Error>
+    fn run<H: Harts<Self>>(self, alloc: Global, harts: &mut H) -> Result<Self::Output, Self::Error>
         requires { Self.depth self ≤ H.levels harts.old }
         ensures output { IfOk result (λ output. Self.gives self output) }
         ensures error { IfErr result

@@ -32,6 +32,7 @@ struct Digits<'p> {
 
 impl<'p> TaskKind for Digits<'p> {
     type Output = u64;
+
     type Error = DigitError;
 
     ghost gives = { λ _ _. Unit {0} };
@@ -58,9 +59,7 @@ impl<'p> Task for Digits<'p> {
             cuts: cuts - 1,
         });
         let sums = harts.fork_join(alloc, halves)?;
-        Ok(sums
-            .iter()
-            .fold(0u64, |sum, part| sum.wrapping_mul(100).wrapping_add(*part)))
+        Ok(sums.iter().fold(0u64, |sum, part| sum.wrapping_mul(100).wrapping_add(*part)))
     }
 }
 
@@ -94,9 +93,18 @@ fn outputs_are_in_order(rt: HostRuntime) -> Result<(), Fail> {
 
 #[test]
 fn the_first_failed_task_decides(rt: HostRuntime) -> Result<(), Fail> {
-    assert_eq!(rt; sums(rt.alloc(), b"1234x6y8", 2), Err(DigitError::NotADigit(b'x')));
-    assert_eq!(rt; sums(rt.alloc(), b"12y4x6y8", 3), Err(DigitError::NotADigit(b'y')));
-    assert_eq!(rt; sums(rt.alloc(), b"1234567z", 0), Err(DigitError::NotADigit(b'z')));
+    assert_eq!(rt;
+        sums(rt.alloc(), b"1234x6y8", 2),
+        Err(DigitError::NotADigit(b'x'))
+    );
+    assert_eq!(rt;
+        sums(rt.alloc(), b"12y4x6y8", 3),
+        Err(DigitError::NotADigit(b'y'))
+    );
+    assert_eq!(rt;
+        sums(rt.alloc(), b"1234567z", 0),
+        Err(DigitError::NotADigit(b'z'))
+    );
     Ok(())
 }
 

@@ -14,7 +14,7 @@ pub own_outputs-requires : goal.own_outputs-requires
 own_outputs-requires g c = (
   c.args.tasks.items,
   zip_map g.V.Holds.held g.V.TaskKind.gives c.args.tasks.items c.in-Ok.outputs.items
-    (subst (λ ts. AllZip g.V.TaskKind.gives ts c.in-Ok.outputs.items) c.in_ok-held.ensures c.in-Ok.ensures.outputs),
+      (subst (λ ts. AllZip g.V.TaskKind.gives ts c.in-Ok.outputs.items) c.in_ok-held.ensures c.in-Ok.ensures.outputs),
 )
 
 pub returns-in-Err-clause-error : goal.returns-in-Err-clause-error
