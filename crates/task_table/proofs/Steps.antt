@@ -1,5 +1,5 @@
 -- Each step keeps the rule of a table of tasks.
-use Rattle.std.proofs.Common.{◌≡◌, ◌≢◌, ℕ, zero, suc, ◌<◌, ◌==◌, List, [], ◌∷◌, ◌++◌, map, replicate, get_or, set, sym, refl, ap, ◌∙◌, subst, arith, length, length-set, get_or-set_same, inl, inr, ⊎_elim}
+use Rattle.std.proofs.Common.{◌≡◌, ◌≢◌, ℕ, zero, suc, ◌<◌, ◌==◌, List, [], ◌∷◌, map, replicate, get_or, set, sym, refl, ◌∙◌, subst, arith, length, length-set, get_or-set_same, ⊎_elim}
 use Rattle.std.proofs.lemmas.List.{get_or-set_other, length-map, length-replicate}
 use mathlib.Core.Logic.{dite}
 use mathlib.Core.Option.{Option, some, none, some-injective, some-ne-none}
@@ -9,7 +9,7 @@ use prog.Atomic.{either}
 use Rattle.atomic_table.specs.Table.{State, Me, Act, keeps, takes, gives, rest, stepped, carried_after, opening, Valid, Allows, Enters}
 use Rattle.atomic_table.proofs.Lists.{at_set, at_snoc, at_map, set_here, set_else, exchanged}
 use Rattle.task_table.specs.declared.slot.TaskSlot.{TaskSlot}
-use Rattle.task_table.specs.declared.slot.TaskSlot.TheVariants.{Waits, Ended, Out}
+use Rattle.task_table.specs.declared.slot.TaskSlot.TheVariants.{Waits, Ended}
 use Rattle.task_table.specs.declared.slot.Sight.{Sight}
 use Rattle.task_table.specs.Slots.{StandsAt, TasksStand, IsSight, Claims, Collects, looked}
 

@@ -1,13 +1,13 @@
 -- A table of tasks. A task's word is 0 while the task waits, 1 while a hart has it, 2 once its outcome is in its slot, and 3 once
 -- the outcome was collected.
-use Rattle.std.specs.Prelude.{◌≡◌, ◌≢◌, ◌⊎◌, ℕ, List, [], ◌∷◌, Result, IfOk, IfErr, slice_index, length}
+use Rattle.std.specs.Prelude.{◌≡◌, ◌≢◌, ◌⊎◌, ℕ, List, ◌∷◌, Result, IfOk, IfErr, slice_index, length}
 use mathlib.Core.Option.{Option, some}
 use lib.ListN.{get_elem?}
 use Rattle.atomic_table.specs.Table.{State, Me}
 use Rattle.std.specs.declared.snapshot.Snapshot.{Snapshot}
 use Rattle.std.specs.declared.vec.Vec.{Vec}
 use Rattle.task_table.specs.declared.slot.TaskSlot.{TaskSlot}
-use Rattle.task_table.specs.declared.slot.TaskSlot.TheVariants.{Waits, Ended, Out}
+use Rattle.task_table.specs.declared.slot.TaskSlot.TheVariants.{Waits, Ended}
 use Rattle.task_table.specs.declared.slot.Sight.{Sight}
 
 -- A task may end with this outcome: an output that it gives, an error of its own, or an allocation failure.

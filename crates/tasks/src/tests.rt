@@ -109,8 +109,8 @@ fn the_first_failed_task_decides(rt: HostRuntime) -> Result<(), Fail> {
 }
 
 #[test]
-fn sixteen_levels(rt: HostRuntime) -> Result<(), Fail> {
-    let digits = Vec::from_elem(rt.alloc(), b'0', 1 << 16)?;
-    assert_eq!(rt; sums(rt.alloc(), digits.as_slice(), 16)?, 0);
+fn tasks_nest_eight_levels_deep(rt: HostRuntime) -> Result<(), Fail> {
+    let digits = Vec::from_elem(rt.alloc(), b'0', 256)?;
+    assert_eq!(rt; sums(rt.alloc(), digits.as_slice(), 8)?, 0);
     Ok(())
 }

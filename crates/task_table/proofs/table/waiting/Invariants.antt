@@ -1,4 +1,4 @@
-use Rattle.std.proofs.Common.{◌≡◌, ◌++◌, ℕ, map}
+use Rattle.std.proofs.Common.{◌≡◌, ◌++◌, map}
 use Rattle.std.specs.Vec.Iter.{into_iter_items, into_iter_len}
 use Rattle.task_table.specs.declared.slot.TaskSlot.TheVariants.{Waits}
 use Rattle.task_table.proofs.table.waiting.Given as goal

@@ -1,4 +1,4 @@
-use Rattle.std.proofs.Common.{alloc_error, ap, sym, ◌∙◌, ◌∷◌, arith, rules}
+use Rattle.std.proofs.Common.{alloc_error, ◌∙◌, arith}
 use Rattle.atomic_table.specs.Table.{rest}
 use Rattle.task_table.specs.Slots.{Ends, list_of}
 use Rattle.task_table.proofs.Steps.{give_moves}

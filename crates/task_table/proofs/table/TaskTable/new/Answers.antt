@@ -1,4 +1,4 @@
-use Rattle.std.proofs.Common.{alloc_error, ap, sym, ◌∙◌, arith, rules, replicate, length, map, ℕ}
+use Rattle.std.proofs.Common.{alloc_error, ap, sym, ◌∙◌, replicate, length, map, ℕ}
 use Rattle.task_table.specs.declared.slot.TaskSlot.TheVariants.{Waits}
 use Rattle.task_table.specs.Slots.{Ends, list_of}
 use Rattle.task_table.proofs.Steps.{opens}

@@ -1,4 +1,4 @@
-use Rattle.std.proofs.Common.{alloc_error, arith, rules}
+use Rattle.std.proofs.Common.{alloc_error, arith}
 use Rattle.task_table.specs.Slots.{Ends, list_of}
 use Rattle.task_table.proofs.Steps.{sits}
 use Rattle.task_table.proofs.table.TaskTable.seat.Goals as goal
