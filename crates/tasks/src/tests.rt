@@ -23,7 +23,7 @@ impl From<AllocError> for DigitError {
     }
 }
 
-/// The sum of the digits of a text, modulo 2^64, by parts of the text.
+/// The sum of a text's digits or, while it may be cut, the number of its front half times 100 plus that of its back half.
 #[derive(Drop)]
 struct Digits<'p> {
     text: &'p [u8],
@@ -75,7 +75,7 @@ fn sum_of(text: &[u8]) -> Result<u64, DigitError> {
     Ok(sum)
 }
 
-// The sums of a text's parts, two decimal places each, by a text that is halved so many times.
+// The number of a text that may be cut so many times.
 fn sums(alloc: Global, text: &[u8], cuts: u8) -> Result<u64, DigitError>
     requires { cuts ≤ 16 }
 {
@@ -86,8 +86,8 @@ fn sums(alloc: Global, text: &[u8], cuts: u8) -> Result<u64, DigitError>
 fn outputs_are_in_order(rt: HostRuntime) -> Result<(), Fail> {
     let text = b"11223344";
     assert_eq!(rt; sums(rt.alloc(), text, 0)?, 20);
-    assert_eq!(rt; sums(rt.alloc(), text, 1)?, 6_14);
-    assert_eq!(rt; sums(rt.alloc(), text, 2)?, 20_406_08);
+    assert_eq!(rt; sums(rt.alloc(), text, 1)?, 614);
+    assert_eq!(rt; sums(rt.alloc(), text, 2)?, 204 * 100 + 608);
     Ok(())
 }
 
