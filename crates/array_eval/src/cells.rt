@@ -1,20 +1,39 @@
 //! Where arrays and indexes lead.
-ghost use Rattle.std.specs.Prelude.{◌≡◌, List, [], ℤ};
-ghost use Rattle.array_tree.specs.Trees.{declarations_of};
-ghost use Rattle.array_meaning.specs.Stores.{arrays_of, AreSized, cell_of, cells_of, at_cell};
+ghost use Rattle.std.specs.Prelude.{◌≡◌, ◌≤◌, ◌<◌, ◌^◌, List, [], ℤ};
+ghost use Rattle.array_tree.specs.Trees.{declarations_of, expression_of};
+ghost use Rattle.array_meaning.specs.Bounds.{most_cells};
+ghost use Rattle.array_meaning.specs.Stores.{arrays_of, AreSized, cell_of, cells_of, at_cell, is_dynamic, place_of};
 
 use crate::layout::Layout;
-use array_tree::{Arrays, Name};
+use crate::value::is_dynamic;
+use array_tree::{Arrays, Expr, Name};
 
-/// The cell that an index of an array leads to.
-pub(crate) fn cell(layout: &Layout, name: &Name, dynamic: bool, index: i64) -> usize
-    ensures { result ≡ cell_of layout.now name.now dynamic index }
+/// The cell that an index of an array leads to, where its value is `value`.
+#[inline]
+pub(crate) fn cell(layout: &Layout, name: &Name, index: &Expr, value: i64) -> usize
+    ensures { result ≡ cell_of layout.now name.now (is_dynamic (expression_of index.now)) value }
 {
     let place = layout.place_of(name);
-    if dynamic {
-        place.base + index.rem_euclid(place.length as i64) as usize
+    place.base + place_in(place.length, index, value)
+}
+
+// The place in an array of this length.
+//
+// Why: whether an index is dynamic is found by a walk through it, and matters only for a value outside the array.
+#[inline]
+fn place_in(length: usize, index: &Expr, value: i64) -> usize
+    requires some { 0 < length }
+    requires small { length ≤ most_cells }
+    ensures place { result ≡ place_of length (is_dynamic (expression_of index.now)) value }
+    ensures small { result ≤ 2 ^ 63 }
+{
+    let cells = length as i64;
+    if 0 <= value && value < cells {
+        value as usize
+    } else if is_dynamic(index) {
+        value.rem_euclid(cells) as usize
     } else {
-        place.base + index.unsigned_abs() as usize
+        value.unsigned_abs() as usize
     }
 }
 

@@ -11,7 +11,7 @@ use crate::layout::Layout;
 use crate::marked_store::MarkedStore;
 use crate::scope::Scope;
 use crate::store::Store;
-use crate::value::{evaluate, is_dynamic};
+use crate::value::evaluate;
 use array_tree::{Block, Blocks, Expr, Name, Program, Stmt};
 use std::alloc::{AllocError, Global};
 
@@ -65,7 +65,7 @@ pub fn run_assign(
 {
     let place = evaluate(layout, index, scope, store);
     let number = evaluate(layout, right, scope, store);
-    store.write(cell(layout, array, is_dynamic(index), place), number);
+    store.write(cell(layout, array, index, place), number);
 }
 
 // Runs a statement.

@@ -20,7 +20,7 @@ pub fn evaluate<C: Cells>(layout: &Layout, expr: &Expr, scope: &Scope, cells: &C
         Expr::Var(name) => scope.get(name),
         Expr::Read(array, index) => {
             let place = evaluate(layout, index, scope, cells);
-            cells.read(cell(layout, array, is_dynamic(index), place))
+            cells.read(cell(layout, array, index, place))
         }
         Expr::Neg(operand) => negate(evaluate(layout, operand, scope, cells)),
         Expr::Binary(op, left, right) => {

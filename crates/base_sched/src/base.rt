@@ -1,5 +1,5 @@
 //! The base of one thread.
-ghost use Rattle.std.specs.Prelude.{◌≡◌, ◌*◌, [], IsOk, IfOk, true, false};
+ghost use Rattle.std.specs.Prelude.{◌≡◌, ◌*◌, ◌==◌, [], IsOk, IfOk, length, true, false};
 ghost use Rattle.sched_api.specs.declared.hearing.Told.{Told};
 ghost use Rattle.sched_api.specs.Calls.{registered_told, unregistered_told, requested_told, yielded_told, blocked_told};
 ghost use Rattle.sched_api.specs.Wishes.{with_wishes, without_child};
@@ -78,6 +78,13 @@ impl Base {
     {
         self.wishes.close();
         self.is_shut = true;
+    }
+
+    /// Whether it has no wish, so that `enter` returns `Nothing`.
+    pub fn has_no_wish(&self) -> bool
+        ensures { result ≡ (length self.now.wishes.sites == 0) }
+    {
+        self.wishes.is_empty()
     }
 
     /// Whether it was shut.

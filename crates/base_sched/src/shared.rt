@@ -2,20 +2,26 @@
 ghost use Rattle.std.specs.Prelude.{IsOk};
 
 use crate::base::{Base, BaseHeard, heard};
+use crossbeam_utils::{Backoff, CachePadded};
 use sched_api::{Call, Next, Scheduler};
 use std::marker::PhantomData;
 use std::sync::atomic::{AtomicBool, Ordering};
 use std::sync::{Mutex, Wait};
 
-/// A base that harts share, behind a lock. Beside the lock stands what a hart with nothing to do looks at again and again: whether
-/// the base is shut, and whether there may be a wish.
+/// How many times an idle hart loads `is_asked` before it takes a wish: some 10 µs.
+///
+/// Why: a small site is over before a guest could reach it. A hart that enters it costs its home a wait, and finds no work.
+const LOOKS: usize = 24;
+
+/// A base that harts share, behind a lock. Two atomic words stand beside the lock, for idle harts, which load them again and
+/// again: whether the base was shut, and whether there may be a wish.
 #[derive(Drop)]
 pub struct SharedBase {
     lock: Mutex<Base>,
     // Whether it was shut. It changes under the lock.
-    is_shut: AtomicBool,
-    // Whether a wish came since a hart found none. It changes under the lock.
-    is_asked: AtomicBool,
+    is_shut: CachePadded<AtomicBool>,
+    // False only while the base has no wish. It changes under the lock.
+    is_asked: CachePadded<AtomicBool>,
 }
 
 impl SharedBase {
@@ -24,8 +30,8 @@ impl SharedBase {
         let is_shut = base.is_shut();
         SharedBase {
             lock: Mutex::new(base),
-            is_shut: AtomicBool::new(is_shut),
-            is_asked: AtomicBool::new(true),
+            is_shut: CachePadded::new(AtomicBool::new(is_shut)),
+            is_asked: CachePadded::new(AtomicBool::new(true)),
         }
     }
 
@@ -41,19 +47,36 @@ impl SharedBase {
         self.is_shut.load(Ordering::SeqCst)
     }
 
-    // Looks for a wish under the lock.
-    fn look<R: Wait>(&self, rt: &R) -> Next<()> {
+    // Whether `is_asked` stays true for some 10 µs.
+    fn stays_asked(&self) -> bool {
+        let backoff = Backoff::new();
+        for _ in 0..LOOKS {
+            if !self.is_asked.load(Ordering::SeqCst) {
+                return false;
+            }
+            backoff.snooze();
+        }
+        true
+    }
+
+    // Takes the oldest wish, if there is one.
+    fn take_wish<R: Wait>(&self, rt: &R) -> Next<()> {
         let mut base = self.lock.lock(rt);
         let next = base.enter(());
-        if matches!(next, Next::Nothing) {
+        self.note_wishes(&base);
+        next
+    }
+
+    // Sets `is_asked` by the base's wishes. The caller has the lock.
+    fn note_wishes(&self, base: &Base) {
+        if base.has_no_wish() {
             self.is_asked.store(false, Ordering::SeqCst);
         }
-        next
     }
 }
 
-/// One hart's hand on a base that harts share. Its calls do what those of `Base` do. Those that change its wishes, and `enter`
-/// where there may be one, wait for the lock; the others don't.
+/// One hart's hand on a base that harts share. Its calls do what those of `Base` do. `request` and `unregister` wait for the
+/// lock. `enter` takes a wish only if one stands for some 10 µs, and waits for the lock only then. The other calls don't wait.
 pub struct SharedBaseHand<'a, R> {
     shared: &'a SharedBase,
     of: PhantomData<&'a R>,
@@ -100,7 +123,11 @@ impl<'a, R: Wait + 'a> Scheduler for SharedBaseHand<'a, R> {
     }
 
     fn unregister(&mut self, hold: &'a R, child: u16) -> BaseHeard {
-        self.shared.lock.lock(hold).unregister((), child)
+        let shared = self.shared;
+        let mut base = shared.lock.lock(hold);
+        let heard = base.unregister((), child);
+        shared.note_wishes(&base);
+        heard
     }
 
     fn request(&mut self, hold: &'a R, child: u16, count: u8) -> BaseHeard {
@@ -117,8 +144,8 @@ impl<'a, R: Wait + 'a> Scheduler for SharedBaseHand<'a, R> {
 
     fn enter(&mut self, hold: &'a R) -> Next<()> {
         let shared = self.shared;
-        if shared.is_asked.load(Ordering::SeqCst) {
-            shared.look(hold)
+        if shared.stays_asked() {
+            shared.take_wish(hold)
         } else {
             Next::Nothing
         }

@@ -150,7 +150,8 @@ fn walk_loop<'s>(
     ensures { IfOk result (λ _. walker.new ≡ loop_told layout.now var.now low high
         (sequence_of body.now) (vars_of scope.now) walker.old) }
 {
-    if sites_in_block(body) == 0 {
+    // The sites of a body that isn't run needn't be counted.
+    if low < high && sites_in_block(body) == 0 {
         walker.run_loop(layout, body, var, low, high, scope);
         return Ok(());
     }

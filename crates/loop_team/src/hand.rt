@@ -17,9 +17,17 @@ use std::alloc::AllocError;
 use std::marker::PhantomData;
 use std::sync::Wait;
 
+/// How many times a hart that finds nothing snoozes inside one call of `enter`, at most, before it returns Nothing.
+///
+/// Why: a guest that leaves between two phases doesn't come back, since the wish that it met is spent.
+const SNOOZES: u32 = 100;
+
 /// One hart's hand on a shared team. It claims the members of the phase that runs with the hart's seat, beside the lock. Its
 /// other calls do what those of `Team` do, under the lock, for which each may wait but `site` and the callbacks that change
 /// no list. Once the team is handed out, `enter` answers Nothing and `unblock` gives its context back.
+///
+/// Where `enter` finds nothing and a phase is to come, it snoozes, a bounded number of times, until the team changes, and looks
+/// again.
 pub struct TeamHand<'a, 'r, 'p, R> {
     pub seat: &'r mut ClaimSeat,
     pub shared: &'a SharedTeam<'p>,
@@ -139,9 +147,10 @@ impl<'a, 'r, 'p, R: Wait + 'a> TeamHand<'a, 'r, 'p, R> {
     }
 
     // Looks for what there is to do, once. None where the hand has to look again.
-    fn turn(&mut self, rt: &R) -> Option<Next<TeamWork<'p>>>
+    fn turn(&mut self, rt: &R, snoozes: &mut u32) -> Option<Next<TeamWork<'p>>>
         ensures { Turns self.old result self.new }
     {
+        let seen = self.shared.changes();
         let Some(phase) = self.shared.phase() else {
             return self.look_ready(rt);
         };
@@ -150,7 +159,7 @@ impl<'a, 'r, 'p, R: Wait + 'a> TeamHand<'a, 'r, 'p, R> {
                 let job = self.shared.take_member(rt, phase, place)?;
                 Some(Next::Run(TeamWork::Begin(job)))
             }
-            Claimed::NoneLeft { shown: _ } => self.look_rest(rt, phase),
+            Claimed::NoneLeft { shown: _ } => self.look_rest(rt, phase, seen, snoozes),
         }
     }
 
@@ -173,14 +182,26 @@ impl<'a, 'r, 'p, R: Wait + 'a> TeamHand<'a, 'r, 'p, R> {
         next
     }
 
-    // Looks under the lock for what there is to do where no member of the phase is left. None where the hand has to look
-    // again.
-    fn look_rest(&mut self, rt: &R, phase: u8) -> Option<Next<TeamWork<'p>>>
+    // Looks under the lock for what there is to do where no member of the phase is left. Where it finds nothing, the hart stays
+    // for a change of the team. None where the hand has to look again.
+    fn look_rest(
+        &mut self,
+        rt: &R,
+        phase: u8,
+        seen: u64,
+        snoozes: &mut u32,
+    ) -> Option<Next<TeamWork<'p>>>
         ensures looked { HasLooked self.old self.new }
         ensures tells { TellsRest self.new.found result }
     {
         let (found, next) = self.shared.find_rest(rt, phase);
         self.note(found);
+        if found == Found::Idle {
+            if let Some(left) = self.shared.stay(phase, seen, *snoozes) {
+                *snoozes = left;
+                return None;
+            }
+        }
         next
     }
 
@@ -231,7 +252,11 @@ impl<'a, 'r, 'p, R: Wait + 'a> Scheduler for TeamHand<'a, 'r, 'p, R> {
     fn request(&mut self, hold: &'a R, child: u16, count: u8) -> TeamHeard {
         let shared = self.shared;
         match shared.lock.lock(hold).as_mut() {
-            Some(team) => team.request((), child, count),
+            Some(team) => {
+                let heard = team.request((), child, count);
+                shared.count_change();
+                heard
+            }
             None => heard(Call::Requested, child, count),
         }
     }
@@ -246,8 +271,9 @@ impl<'a, 'r, 'p, R: Wait + 'a> Scheduler for TeamHand<'a, 'r, 'p, R> {
                 return next;
             }
         }
+        let mut snoozes = SNOOZES;
         for _ in hold.forever() {
-            if let Some(next) = self.turn(hold) {
+            if let Some(next) = self.turn(hold, &mut snoozes) {
                 return next;
             }
         }

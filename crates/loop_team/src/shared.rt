@@ -10,6 +10,7 @@ use crate::team::Team;
 use crate::work::TeamWork;
 use array_eval::Overlay;
 use array_jobs::{Job, Piece};
+use crossbeam_utils::Backoff;
 use lithe_barrier::Arrival;
 use sched_api::{Next, Scheduler};
 use std::alloc::{AllocError, Global};
@@ -36,6 +37,9 @@ pub struct SharedTeam<'p> {
     ready: AtomicU64,
     // Whether the team is over. It changes under the lock.
     over: AtomicBool,
+    // How often what the team has for a hart changed: a phase began, a context became ready, a child asked for harts. It changes
+    // under the lock, after what it counts.
+    changes: AtomicU64,
 }
 
 impl<'p> Model for SharedTeam<'p> {
@@ -73,6 +77,7 @@ impl<'p> SharedTeam<'p> {
             phase: AtomicU64::new(phase),
             ready: AtomicU64::new(ready),
             over: AtomicBool::new(over),
+            changes: AtomicU64::new(0),
         })
     }
 
@@ -208,6 +213,7 @@ impl<'p> SharedTeam<'p> {
         }
         let phase = running(&self.nested, team.opened());
         self.phase.store(u64::from(phase), Ordering::SeqCst);
+        self.count_change();
         Ok(())
     }
 
@@ -233,7 +239,37 @@ impl<'p> SharedTeam<'p> {
     {
         team.unblock((), c)?;
         self.show_ready(team);
+        self.count_change();
         Ok(())
+    }
+
+    // How often what the team has for a hart changed.
+    pub(crate) fn changes(&self) -> u64 {
+        self.changes.load(Ordering::SeqCst)
+    }
+
+    // Counts a change. The caller has the team's lock.
+    pub(crate) fn count_change(&self) {
+        let _ = self.changes.fetch_add(1, Ordering::SeqCst);
+    }
+
+    // Snoozes in this phase, at most so many times, until the number of changes isn't `seen`, and returns how many times are left.
+    // None where they run out, where the team is over, and at once in the last phase, behind which none comes.
+    pub(crate) fn stay(&self, phase: u8, seen: u64, snoozes: u32) -> Option<u32> {
+        if u64::from(phase) + 1 >= u64::from(self.nested.phases()) {
+            return None;
+        }
+        let backoff = Backoff::new();
+        for left in (0..snoozes).rev() {
+            if self.changes() != seen {
+                return Some(left);
+            }
+            if self.shows_over() {
+                return None;
+            }
+            backoff.snooze();
+        }
+        None
     }
 
     // Shows how many contexts of the team, which is that of the lock, are ready.

@@ -1,5 +1,5 @@
 //! The wishes for harts that a scheduler hasn't met.
-ghost use Rattle.std.specs.Prelude.{◌≡◌, ◌+◌, ◌≤◌, ◌++◌, ◌∷◌, [], IfOk, IfSome, IfNone, replicate};
+ghost use Rattle.std.specs.Prelude.{◌≡◌, ◌+◌, ◌≤◌, ◌++◌, ◌∷◌, ◌==◌, [], IfOk, IfSome, IfNone, length, replicate};
 ghost use Rattle.std.specs.VecDeque.{deque_len, deque_capacity};
 ghost use Rattle.sched_api.specs.Wishes.{with_wishes, without_child, no_wishes};
 
@@ -53,6 +53,13 @@ impl Wishes {
         ensures none { IfNone result ((self.old.sites ≡ []) × (self.new ≡ self.old)) }
     {
         self.sites.pop_front()
+    }
+
+    /// Whether there is no wish.
+    pub fn is_empty(&self) -> bool
+        ensures { result ≡ (length self.now.sites == 0) }
+    {
+        self.sites.is_empty()
     }
 
     /// Takes all wishes of the child.

@@ -16,7 +16,7 @@ use crate::told::Told;
 use array_eval::{Layout, LoopVar, MarkedStore, Scope, Vars, evaluate, run_assign, run_loop};
 use array_jobs::Work;
 use array_tree::{Block, Name, Stmt};
-use site_counts::sites_in_block;
+use site_counts::{sites_in_block, sites_in_turns};
 use std::alloc::{AllocError, Global};
 
 /// A work that is still to be run.
@@ -137,6 +137,7 @@ impl<'p> Frames<'p> {
     }
 
     /// Runs the loop that is next to its end, with no step between its turns, if it comes to no site; false where that isn't so.
+    /// Where no turn is left, it doesn't count the sites of the body.
     #[inline(always)]
     pub(crate) fn run_through(
         &mut self,
@@ -150,7 +151,7 @@ impl<'p> Frames<'p> {
         ensures stacked { IsStacked self.new }
     {
         match self.top {
-            Some(Frame::Turns { body, next, high }) if sites_in_block(body) == 0 => {
+            Some(Frame::Turns { body, next, high }) if sites_in_turns(next, high, body) == 0 => {
                 self.run_turns(layout, around, store, body, next, high);
                 true
             }

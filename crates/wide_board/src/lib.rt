@@ -2,10 +2,9 @@
 //! site counts its guests. `lent_board` has its calls.
 #![tactic(auto)]
 
-use lent_board::{Board, BoardPort, ByGuests};
-
 pub use hart_port::{Entered, Seen, Taken};
 pub use lent_board::HartSeat as WideSeat;
+use lent_board::{Board, BoardPort, ByGuests};
 
 /// The board.
 pub type WideBoard = Board<ByGuests>;

@@ -2,10 +2,9 @@
 //! `lent_board` has its calls.
 #![tactic(auto)]
 
-use lent_board::{Board, BoardPort, ByOwners};
-
 pub use hart_port::{Entered, Seen, Taken};
 pub use lent_board::HartSeat;
+use lent_board::{Board, BoardPort, ByOwners};
 
 /// The board.
 pub type WordBoard = Board<ByOwners>;

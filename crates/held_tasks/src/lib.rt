@@ -1,0 +1,29 @@
+//! Tasks of one kind inside tasks of another: a library's tasks run on the harts of whatever task calls the library.
+//!
+//! A kind of tasks that [`Holds`] another can stand around it. A library states what its own kind of tasks is, and writes its
+//! procedure over any `V: Holds<Own>` and `H: Harts<V>`, with [`fork_join_as`] in the place of `fork_join`. So the procedure
+//! runs inside the tasks of an application, and inside its own.
+//!
+//! # Example
+//!
+//! ```text
+//! // In the library: its tasks are of the kind `Sort`.
+//! pub fn run_sort<V: Holds<Sort>, H: Harts<V>>(sort: Sort, alloc: Global, harts: &mut H) -> Result<Vec<u64>, AllocError> {
+//!     ..
+//!     let parts = fork_join_as::<Sort, V, H>(alloc, harts, halves)?;
+//!     ..
+//! }
+//!
+//! // In the application: its tasks are of the kind `Row`, one of which is a sort.
+//! impl Holds<Sort> for Row { .. }
+//! let sorted = run_sort::<Row, H>(sort, alloc, harts)?;
+//! ```
+#![tactic(auto)]
+
+mod holds;
+mod run;
+#[cfg(test)]
+mod tests;
+
+pub use holds::Holds;
+pub use run::fork_join_as;

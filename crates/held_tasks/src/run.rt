@@ -1,0 +1,71 @@
+//! Tasks of one kind on the harts of another.
+ghost use Rattle.std.specs.Prelude.{◌≡◌, ◌<◌, ◌⊎◌, List, All, map, IfOk, IfErr, alloc_error};
+ghost use Rattle.std.specs.List.{AllZip};
+ghost use Rattle.tasks.specs.Failures.{FirstFailure};
+
+use crate::holds::Holds;
+use std::alloc::{AllocError, Global};
+use tasks::{Harts, TaskKind};
+
+/// Runs tasks of the kind `T` on harts for tasks that hold them, and returns their outputs in order.
+///
+/// # Errors
+///
+/// The error of the first task, in the order of the list, that failed, or an allocation failure.
+///
+/// # Memory
+///
+/// Two lists beside what `fork_join` allocates: of the tasks that hold, and of the outputs.
+pub fn fork_join_as<T: TaskKind, V: Holds<T>, H: Harts<V>>(
+    alloc: Global,
+    harts: &mut H,
+    tasks: Vec<T>,
+) -> Result<Vec<T::Output>, T::Error>
+    requires { All (λ task. T.depth task < H.levels harts.old) tasks.items }
+    ensures outputs { IfOk result (λ outputs. AllZip T.gives tasks.items outputs.items) }
+    ensures error { IfErr result (λ error. FirstFailure T.gives T.fails tasks.items error
+        ⊎ T.Error.from_gives alloc_error error) }
+    ensures levels { H.levels harts.new ≡ H.levels harts.old }
+{
+    let held = hold_all::<T, V>(alloc, tasks)?;
+    match harts.fork_join(alloc, held) {
+        Ok(outputs) => {
+            let own = own_outputs::<T, V>(alloc, outputs)?;
+            Ok(own)
+        }
+        Err(error) => Err(V::error_of(error)),
+    }
+}
+
+// Each task, as a task of the other kind.
+fn hold_all<T: TaskKind, V: Holds<T>>(alloc: Global, tasks: Vec<T>) -> Result<Vec<V>, AllocError>
+    ensures { IfOk result (λ held. held.items ≡ map V.held tasks.items) }
+{
+    let mut held = Vec::with_capacity(alloc, tasks.len())?;
+    let mut rest = tasks.into_iter();
+    'tasks: while let Some(task) = rest.next() {
+        held.push(V::hold(task))?;
+    }
+    Ok(held)
+}
+
+// The own outputs of tasks that were held.
+fn own_outputs<T: TaskKind, V: Holds<T>>(
+    alloc: Global,
+    outputs: Vec<V::Output>,
+) -> Result<Vec<T::Output>, AllocError>
+    requires { (tasks : List T) × AllZip (λ task output. V.gives (V.held task) output)
+        tasks outputs.items }
+    ensures { IfOk result (λ own. (tasks : List T) → AllZip (λ task output. V.gives (V.held task) output)
+        tasks outputs.items → AllZip T.gives tasks own.items) }
+{
+    let mut own = Vec::with_capacity(alloc, outputs.len())?;
+    let mut rest = outputs.into_iter();
+    'outputs: while let Some(output) = rest.next() {
+        let Some(output) = V::output_of(output) else {
+            unreachable!()
+        };
+        own.push(output)?;
+    }
+    Ok(own)
+}

@@ -1,0 +1,60 @@
+//! The rule of a table of tasks, and what each kind of step ensures.
+use crate::slot::{Outcome, Sight, TaskList, TaskSlot};
+use atomic_table::{Play, TableRule};
+use std::marker::PhantomData;
+use tasks::TaskKind;
+
+/// A slot holds its task, or an outcome of that task.
+pub struct TaskRule<T> {
+    marker: PhantomData<T>,
+}
+
+impl<T: TaskKind> TableRule<TaskSlot<T, Outcome<T>>, Sight<TaskList<T>>, TaskList<T>>
+    for TaskRule<T> {
+    ghost use Rattle.std.specs.Prelude.{alloc_error};
+    ghost use Rattle.task_table.specs.Slots.{TasksStand, Ends};
+
+    ghost holds = { λ key. TasksStand (Ends T.gives T.fails (T.Error.from_gives alloc_error)) key key.value.items };
+
+    ghost first = { λ key. record { tasks = key; place = 0; found = 0 } };
+}
+
+/// The load by which a hart takes a seat.
+pub struct Sit;
+
+impl<T, R> Play<TaskSlot<T, R>, Sight<TaskList<T>>> for Sit {
+    ghost use Rattle.std.specs.Prelude.{◌≡◌};
+
+    ghost then = { λ s me found after. after.0.tasks ≡ me.0.tasks };
+}
+
+/// The exchange by which a task is claimed.
+pub struct Claim;
+
+impl<T, R> Play<TaskSlot<T, R>, Sight<TaskList<T>>> for Claim {
+    ghost use Rattle.task_table.specs.Slots.{Claims};
+
+    ghost then = { λ s me found after. Claims me.0.tasks.value.items me s.word found after };
+}
+
+/// The store by which a hart gives an outcome.
+pub struct Give;
+
+impl<T, R> Play<TaskSlot<T, R>, Sight<TaskList<T>>> for Give {
+    ghost use Rattle.std.specs.Prelude.{◌≡◌};
+    ghost use Rattle.atomic_table.specs.Table.{rest};
+
+    ghost then = { λ s me found after. after ≡ (me.0, rest me.1) };
+}
+
+/// The exchange by which an outcome is collected.
+pub struct Collect<T> {
+    marker: PhantomData<T>,
+}
+
+impl<T: TaskKind> Play<TaskSlot<T, Outcome<T>>, Sight<TaskList<T>>> for Collect<T> {
+    ghost use Rattle.std.specs.Prelude.{alloc_error};
+    ghost use Rattle.task_table.specs.Slots.{Collects, Ends};
+
+    ghost then = { λ s me found after. Collects (Ends T.gives T.fails (T.Error.from_gives alloc_error)) me.0.tasks.value.items me s.word found after };
+}

@@ -1,0 +1,34 @@
+//! What a slot holds, and what a seat knows.
+use atomic_table::Seat;
+use std::snapshot::Snapshot;
+use tasks::TaskKind;
+
+/// What a slot holds.
+#[derive(Drop)]
+pub enum TaskSlot<T, R> {
+    /// A task that waits.
+    Waits(T),
+    /// The outcome of a task that has ended.
+    Ended(R),
+    /// Nothing: a hart has the task, or its outcome was collected.
+    Out,
+}
+
+/// How a task ends: with an output or an error.
+pub type Outcome<T> = Result<<T as TaskKind>::Output, <T as TaskKind>::Error>;
+
+/// The tasks of a table, as contracts see them.
+pub type TaskList<T> = Snapshot<Vec<T>>;
+
+/// What a seat knows: no value of this type is made.
+pub struct Sight<K> {
+    /// The tasks of the table.
+    pub tasks: K,
+    /// The place whose word the seat read last.
+    pub place: usize,
+    /// The number that was in that word.
+    pub found: u64,
+}
+
+/// One hart's seat at a table of tasks.
+pub type TaskSeat<T> = Seat<TaskSlot<T, Outcome<T>>, Sight<TaskList<T>>>;

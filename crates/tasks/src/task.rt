@@ -1,0 +1,60 @@
+//! What an author writes, and what the author calls.
+ghost use Rattle.std.specs.Prelude.{◌≡◌, ◌≤◌, ◌<◌, ◌⊎◌, ℕ, All, IfOk, IfErr, alloc_error};
+ghost use Rattle.std.specs.List.{AllZip};
+ghost use Rattle.tasks.specs.Failures.{FirstFailure};
+
+use std::alloc::{AllocError, Global};
+
+/// What tasks of a kind output, and how they fail.
+pub trait TaskKind: Drop {
+    /// What a task comes to.
+    type Output: Drop;
+
+    /// Why a task fails. An allocation failure becomes such an error by `From`.
+    type Error: Drop + From<AllocError>;
+
+    /// The outputs that a task may give, on whatever hart it runs.
+    ghost gives: { Self → Self.Output → Type 0 };
+
+    /// The errors that a task may fail with, beside an allocation failure.
+    ghost fails: { Self → Self.Error → Type 0 };
+
+    /// How many levels of tasks may be inside a task.
+    ghost depth: { Self → ℕ };
+}
+
+/// How a task is run.
+///
+/// Why a trait of its own: a library's procedure needs to know what tasks give, and not how the tasks around it are run. So
+/// [`Harts`] asks for a [`TaskKind`] alone, and the procedure runs inside tasks of any kind.
+pub trait Task: TaskKind {
+    /// Runs the task on a hart. The task may run tasks inside it by `harts`.
+    ///
+    /// # Errors
+    ///
+    /// An error of the task's own, or an allocation failure.
+    fn run<H: Harts<Self>>(self, alloc: Global, harts: &mut H) -> Result<Self::Output, Self::Error>
+        requires { Self.depth self ≤ H.levels harts.old }
+        ensures output { IfOk result (λ output. Self.gives self output) }
+        ensures error { IfErr result
+            (λ error. Self.fails self error ⊎ Self.Error.from_gives alloc_error error) }
+        ensures levels { H.levels harts.new ≡ H.levels harts.old };
+}
+
+/// The harts that a task runs on.
+pub trait Harts<T: TaskKind> {
+    /// How many levels of tasks may be inside the task that runs.
+    ghost levels: { Self → ℕ };
+
+    /// Runs tasks, each on some hart, and returns their outputs in order. It returns once all tasks have ended.
+    ///
+    /// # Errors
+    ///
+    /// The error of the first task, in the order of the list, that failed, or an allocation failure.
+    fn fork_join(&mut self, alloc: Global, tasks: Vec<T>) -> Result<Vec<T::Output>, T::Error>
+        requires { All (λ task. T.depth task < levels self.old) tasks.items }
+        ensures outputs { IfOk result (λ outputs. AllZip T.gives tasks.items outputs.items) }
+        ensures error { IfErr result (λ error. FirstFailure T.gives T.fails tasks.items error
+            ⊎ T.Error.from_gives alloc_error error) }
+        ensures levels { levels self.new ≡ levels self.old };
+}
