@@ -142,11 +142,11 @@ much_ends (Make seed size harts) left left' bytes status more e ends = absurd mo
 -- what holds of the command with the bytes that it read holds with its input; what is so of `make` is so with any
 pub with_input : (IsSo : Command → List ℕ → Type 0) → ((seed size harts : ℕ) (a b : List ℕ) → IsSo (Make seed size harts) a → IsSo (Make seed size harts) b)
     → (command : Command) (bytes read : List ℕ) (left left' : Option (List ℕ)) → AreInput command left bytes → ReadsAll command left read left' → IsSo command read → IsSo command bytes
-with_input IsSo any (Run harts) bytes read left left' e all is = subst (λ (b : List ℕ). IsSo (Run harts) b) (sym (given_bytes bytes read left left' e all)) is
-with_input IsSo any (Tally harts) bytes read left left' e all is = subst (λ (b : List ℕ). IsSo (Tally harts) b) (sym (given_bytes bytes read left left' e all)) is
-with_input IsSo any (Pipe harts) bytes read left left' e all is = subst (λ (b : List ℕ). IsSo (Pipe harts) b) (sym (given_bytes bytes read left left' e all)) is
-with_input IsSo any Solo bytes read left left' e all is = subst (λ (b : List ℕ). IsSo Solo b) (sym (given_bytes bytes read left left' e all)) is
-with_input IsSo any (Audit harts) bytes read left left' e all is = subst (λ (b : List ℕ). IsSo (Audit harts) b) (sym (given_bytes bytes read left left' e all)) is
+with_input IsSo any (Run harts) bytes read left left' e all is = subst (λ (b : List ℕ). IsSo (Run harts) b) (sym (given_bytes bytes read left left' e all.given)) is
+with_input IsSo any (Tally harts) bytes read left left' e all is = subst (λ (b : List ℕ). IsSo (Tally harts) b) (sym (given_bytes bytes read left left' e all.given)) is
+with_input IsSo any (Pipe harts) bytes read left left' e all is = subst (λ (b : List ℕ). IsSo (Pipe harts) b) (sym (given_bytes bytes read left left' e all.given)) is
+with_input IsSo any Solo bytes read left left' e all is = subst (λ (b : List ℕ). IsSo Solo b) (sym (given_bytes bytes read left left' e all.given)) is
+with_input IsSo any (Audit harts) bytes read left left' e all is = subst (λ (b : List ℕ). IsSo (Audit harts) b) (sym (given_bytes bytes read left left' e all.given)) is
 with_input IsSo any (Make seed size harts) bytes read left left' e all is = any seed size harts read bytes is
 
 -- the same of the command that the words give

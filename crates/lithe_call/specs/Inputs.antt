@@ -3,7 +3,7 @@ use Rattle.std.specs.Prelude.{◌≡◌, ℕ, List, Option, Some}
 use Rattle.array_meaning.specs.Bounds.{most_bytes}
 use Rattle.outside_io.specs.Outside.{Rose}
 use Rattle.run_audit.specs.Parts.{most_audited}
-use Rattle.lithe_call.specs.Telling.{GivesAll, GivesMore}
+use Rattle.lithe_call.specs.Telling.{GivesWithin, GivesMore}
 use Rattle.command_words.specs.declared.command.Command.{Command}
 use Rattle.command_words.specs.declared.command.Command.TheVariants.{Audit, Make}
 
@@ -13,10 +13,10 @@ limit_of (Audit harts) = most_audited
 limit_of (Make seed size harts) = 0
 limit_of command = most_bytes
 
--- the command read these bytes, which were all that the source had left
+-- the command read these bytes, which were all that the source had left, and are no more than its input may have
 abbrev pub ReadsAll : Command → Option (List ℕ) → List ℕ → Option (List ℕ) → Type 0
 ReadsAll (Make seed size harts) left bytes left' = left' ≡ left
-ReadsAll command left bytes left' = GivesAll left bytes left'
+ReadsAll command left bytes left' = GivesWithin (limit_of command) left bytes left'
 
 -- the source gave more than the command's input may have
 abbrev pub GivesTooMuch : Command → Option (List ℕ) → Option (List ℕ) → Type 0

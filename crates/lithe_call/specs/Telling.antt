@@ -1,5 +1,5 @@
 -- What whole inputs and outputs are, in terms of what a source had left and what a sink has taken.
-use Rattle.std.specs.Prelude.{ℕ, ◌<◌, ◌⊎◌, List, length, take, Option}
+use Rattle.std.specs.Prelude.{ℕ, ◌<◌, ◌≤◌, ◌⊎◌, List, length, take, Option}
 use Rattle.outside_io.specs.Outside.{Rose, Gives, Appends, IsAtEnd}
 
 -- the source gave these bytes, and they were all
@@ -7,6 +7,12 @@ pub record GivesAll (before : Option (List ℕ)) (bytes : List ℕ)
     (after : Option (List ℕ)) : Type 0 where
   pub given : Gives before bytes after
   pub ended : IsAtEnd after
+
+-- the source gave these bytes, at most so many, and they were all
+pub record GivesWithin (limit : ℕ) (before : Option (List ℕ)) (bytes : List ℕ)
+    (after : Option (List ℕ)) : Type 0 where
+  pub given : GivesAll before bytes after
+  pub short : length bytes ≤ limit
 
 -- the source gave more than so many bytes
 pub record GivesMore (before : Option (List ℕ)) (limit : ℕ) (after : Option (List ℕ)) : Type 0 where

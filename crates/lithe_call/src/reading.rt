@@ -1,7 +1,7 @@
 //! Reads an input to its end.
-ghost use Rattle.std.specs.Prelude.{◌≡◌, ◌<◌, ◌≤◌, ◌^◌, IfOk, IsErrOf, vec_len};
+ghost use Rattle.std.specs.Prelude.{◌≡◌, ◌<◌, ◌≤◌, ◌^◌, IfOk, IsErrOf};
 ghost use Rattle.outside_io.specs.Outside.{Rose};
-ghost use Rattle.lithe_call.specs.Telling.{GivesAll, GivesMore};
+ghost use Rattle.lithe_call.specs.Telling.{GivesWithin, GivesMore};
 
 use outside_io::{Fill, Source};
 use std::alloc::{AllocError, Global};
@@ -39,8 +39,7 @@ pub fn read_all<A: Source>(
     requires { limit < 2 ^ 32 }
     ensures count { A.faults source.old ≤ A.faults source.new }
     ensures whole { IfOk result
-        (λ bytes. GivesAll (A.left source.old) bytes.items (A.left source.new)) }
-    ensures short { IfOk result (λ bytes. vec_len bytes ≤ limit) }
+        (λ bytes. GivesWithin limit (A.left source.old) bytes.items (A.left source.new)) }
     ensures too_long { IsErrOf result ReadError.TooLong
         → GivesMore (A.left source.old) limit (A.left source.new) }
     ensures failed { IsErrOf result ReadError.Failed

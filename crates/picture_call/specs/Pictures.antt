@@ -3,12 +3,13 @@ use Rattle.std.specs.Prelude.{◌≡◌, ℕ, List, Option, Some, Ok}
 use Rattle.array_tree.specs.Trees.{ProgramTree}
 use Rattle.command_words.specs.declared.command.Command.TheVariants.{Audit}
 use Rattle.command_words.specs.Form.{form_of}
+use Rattle.run_audit.specs.Parts.{most_audited}
 use Rattle.run_picture.specs.declared.picture.Form.{Form}
 use Rattle.run_picture.specs.Picture.{Pictured, picture_of}
 use Rattle.lithe_call.specs.declared.status.Status.{Status}
 use Rattle.lithe_call.specs.Auditing.{HasParts, status_by}
 use Rattle.lithe_call.specs.Programs.{SpellAccepted, table_plan}
-use Rattle.lithe_call.specs.Telling.{GivesAll}
+use Rattle.lithe_call.specs.Telling.{GivesWithin}
 use Rattle.picture_call.specs.Words.{audit_words, form_asked}
 
 -- a first part that spells an accepted program, and this picture of the second
@@ -21,8 +22,8 @@ pub record AreDrawn (form : Form) (harts : ℕ) (picture : Pictured) (first seco
 abbrev pub HasPicture : Form → ℕ → List ℕ → Pictured → Type 0
 HasPicture form harts bytes picture = HasParts (AreDrawn form harts picture) bytes
 
--- The text is the picture that the words ask for of the bytes that the source gave to its end, and the status is that of its
--- verdict, which is that of the audit of these bytes.
+-- The text is the picture that the words ask for of the bytes that the source gave to its end, no more than an audit may have,
+-- and the status is that of its verdict, which is that of the audit of these bytes.
 pub record IsPictureFor (words : List (List ℕ)) (left left' : Option (List ℕ)) (status : Status)
     (text : List ℕ) : Type 0 where
   pub form : Form
@@ -30,7 +31,7 @@ pub record IsPictureFor (words : List (List ℕ)) (left left' : Option (List ℕ
   pub harts : ℕ
   pub asked : form_of (audit_words words) ≡ Some (Audit harts)
   pub bytes : List ℕ
-  pub given : GivesAll left bytes left'
+  pub given : GivesWithin most_audited left bytes left'
   pub picture : Pictured
   pub has : HasPicture form harts bytes picture
   pub same : status ≡ status_by picture.verdict
