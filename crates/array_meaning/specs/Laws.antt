@@ -10,7 +10,7 @@ use Rattle.array_meaning.specs.Members.{team_works}
 use Rattle.array_meaning.specs.Sites.{branch_works, sequence_sites}
 use Rattle.array_meaning.specs.Pieces.{merged, piece_of, last_writes, HaveSameMembers}
 use Rattle.array_meaning.specs.Plans.{plan_of, sites_in, AreEarlier, AreOutside, StayInside, Parents, repeated, statement_parents, sequence_parents, branches_parents, phases_parents}
-use Rattle.array_meaning.specs.Entered.{sequence_entered, branches_entered, loop_entered, DependsOnReads, branches_alone, team_alone}
+use Rattle.array_meaning.specs.Entered.{sequence_entered, branches_entered, loop_entered, DependsOnReads, branches_alone, team_alone, sequence_part}
 
 -- What steps write depends only on what they read: from two stores that agree on the cells they read, they write the
 -- same.
@@ -104,7 +104,7 @@ MembersEnterAlone = (arrays : Arrays) → HaveCells arrays
     → (var : List ℕ) (low high : ℤ) (members : ℕ) (body : Sequence) (vars : Vars)
     (store : Store) → 0 < members →
     IsApart arrays (team_works var low high members (sequence_work body) vars)
-    → loop_entered arrays var low high (sequence_work body) (sequence_entered arrays body) vars store
+    → loop_entered arrays var low high (sequence_part arrays body) vars store
     ≡ team_alone arrays var low high members body vars store
 
 -- The sites of every part of a program are inside the construct around it or inside each other.

@@ -76,7 +76,7 @@ impl Ledger {
         }
     }
 
-    /// The word of the site, which tells of no hart on its way in; 0 for a site that isn't in the plan.
+    /// The word of the site, which shows no hart on its way in; 0 for a site that isn't in the plan.
     pub fn site_word(&self, site: u16) -> u64
         ensures inside { IsSite self.now.plan site
             → result ≡ site_word (row self.now.state site) (is_in self.now.closing site) }

@@ -147,7 +147,7 @@ fn claim<R: Wait>(
     unreachable!()
 }
 
-// The same for the Enter of a site, unless the site's word wants no hart, which is told.
+// The same for the Enter of a site. Where the site's word wants no hart, it is returned.
 fn go_in<R: Wait>(hold: &R, lock: &Mutex<Ledger>, hart: u8, site: u16, may: bool) -> Result<(), u64>
     ensures ok { OnOk result (IsTrue may) }
     ensures unwanted { IfErr result (λ shown. is_wanted shown ≡ false) }

@@ -126,7 +126,7 @@ impl Port for PlainPort {
     ghost empty_gives = { λ _ answer _. answer ≡ Empty };
 
     fn hart(&self) -> u8 {
-        // A look at a field tells what the type keeps: that the hart is 0.
+        // A read of a field gives the type's invariant: the hart is 0.
         let _ = &self.ledger;
         0
     }

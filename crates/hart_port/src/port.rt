@@ -48,8 +48,8 @@ pub trait Port {
     ghost refused: { Self → ℕ };
 
     /// Of a port, the site of a register, the answer, and the port afterwards: what the words behind the port had to do with it. So
-    /// a call over the port tells the words that the port was shown, and no others. This and the next four are exact where one hart
-    /// owns what is behind the port; of what stands behind a lock they tell nothing.
+    /// a call over the port notes the words that the port was shown, and no others. This and the next four are exact where one hart
+    /// owns what is behind the port; of lock-protected state they say nothing.
     ghost register_gives: { Self → ℕ → Result (Unit {0}) Taken → Self → Type 0 };
 
     /// The same of a skip.

@@ -1,5 +1,5 @@
-//! The kinds of step. `specs/Plays.antt` says what each tells its seat, and there the word that was
-//! found is noted: a kind can't tell another.
+//! The kinds of step. `specs/Plays.antt` says what each adds to its seat's view, and there the word that was
+//! found is noted: no kind can note another word.
 ghost use Rattle.std.specs.Prelude.{ℕ};
 
 use atomic_table::{Join, Play, Split};

@@ -17,7 +17,7 @@ pub enum Call {
     Blocked,
 }
 
-/// What a scheduler was told.
+/// A callback that a scheduler received.
 #[derive(Clone, Copy, Debug, PartialEq, Eq)]
 pub struct Told {
     pub call: Call,
@@ -32,7 +32,7 @@ pub struct Told {
 pub trait Hearing: Drop {
     ghost heard: { Self → Told };
 
-    /// What the scheduler was told.
+    /// The callback.
     fn told(&self) -> Told
         ensures { result ≡ heard self.now };
 }

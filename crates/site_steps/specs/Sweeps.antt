@@ -1,4 +1,4 @@
--- What a sweep does, of what a port tells of registers, and of the hart's view and the port's count of refusals before and after.
+-- What a sweep does, by what a port gives of registers, and by the hart's view and the port's count of refusals before and after.
 use Rattle.std.specs.Prelude.{◌≡◌, ◌⊎◌, ℕ, ◌<◌, Option, Result, Err}
 use Rattle.transfer_table.specs.Plan.{IsSite, parent}
 use Rattle.transfer_table.specs.Entry.{unregisters}
@@ -7,7 +7,7 @@ use Rattle.hart_port.specs.PortView.{PortView}
 use Rattle.hart_port.specs.declared.port.Taken.{Taken}
 use Rattle.site_steps.specs.Visits.{IsBefore}
 
--- what a port tells of a register or of a skip: the port, the site, the answer, and the port afterwards
+-- what a port gives of a register or of a skip: the port, the site, the result, and the port afterwards
 abbrev pub Gives : Type 0 → Type 1
 Gives P = P → ℕ → Result (Unit {0}) Taken → P → Type 0
 

@@ -6,7 +6,7 @@ use crossbeam_utils::Backoff;
 use hart_port::{Entered, Port, Seen, Taken};
 use std::sync::Wait;
 
-/// A port whose waits may last: each looks again and again, with a pause between two looks. It doesn't tell whether another hart
+/// A port whose waits may last: each looks again and again, with a pause between two looks. It doesn't say whether another hart
 /// shares the table, so who moves by it rests nothing on that.
 pub struct WaitingPort<'a, P, R> {
     port: P,

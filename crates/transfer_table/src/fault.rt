@@ -18,7 +18,7 @@ pub enum Why {
     /// No entry is refused, and the site, the least such, isn't gone at the end.
     Unfinished { site: u16 },
     /// No entry is refused, and every site is gone at the end. The site is the least that was
-    /// registered and isn't meant, or is meant and wasn't registered; which is told.
+    /// registered and isn't meant, or is meant and wasn't registered; the value says which.
     Unmeant { site: u16, registered: bool },
 }
 

@@ -33,7 +33,7 @@ impl Model for Plan {
     ghost invariant = { λ p. IsPlan record { harts = p.harts; parents = p.parents.items } };
 }
 
-/// Why there is no such plan. Of several causes the first in this order is told.
+/// Why there is no such plan. Of several causes it is the first in this order.
 #[derive(Clone, Copy, Debug, PartialEq, Eq)]
 pub enum PlanFault {
     /// The number of harts isn't from 1 to 16.
