@@ -31,7 +31,7 @@ pub struct LockedPort<'a, R> {
     closed: Vec<bool>,
     empty: Vec<bool>,
     gone: Vec<bool>,
-    // The sites of which the hart made Register or Request.
+    // The sites of which the hart made Register or Request. Why flags: a register searches no list.
     claimed: Vec<bool>,
     refused: u64,
     of: PhantomData<&'a R>,

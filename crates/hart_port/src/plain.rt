@@ -20,6 +20,7 @@ use transfer_table::{Entries, Entry, Plan, Stage};
 pub struct PlainPort {
     ledger: Ledger,
     // A flag for the base and for each site.
+    // Why: the ledger's marks stay set when a site is gone, so the port keeps the sites that it closed beside them.
     closed: Vec<bool>,
     empty: Vec<bool>,
     gone: Vec<bool>,

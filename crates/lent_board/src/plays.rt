@@ -38,7 +38,8 @@ impl<L: Laid> Play<(), View> for MakeSkip<L> {
     ghost then = { makes_skip L.layout };
 }
 
-/// How many harts a request asks for. Each call of `request` picks it.
+/// How many harts a request asks for. Why a ghost member, which each call of `request` picks: a step shows its seat only the
+/// operands and the view.
 pub(crate) trait Asked {
     ghost count: { ℕ };
 }

@@ -27,8 +27,8 @@ pub struct Told {
     pub count: u8,
 }
 
-/// What a callback of a scheduler gives. Only the scheduler's own callbacks make one, so who has one
-/// has called one.
+/// A receipt: what a callback of a scheduler returns. Only the scheduler's own callbacks make one, so a receipt shows that the
+/// callback was called. Why it is apart from `Scheduler`: the six calls can then only pass a receipt on.
 pub trait Hearing: Drop {
     ghost heard: { Self → Told };
 

@@ -15,7 +15,8 @@ Gives P = P → ℕ → Result (Unit {0}) Taken → P → Type 0
 abbrev pub IsRefused : {P : Type 0} → Gives P → ℕ → Type 0
 IsRefused {P} gives s = (before after : P) × (taken : Taken) × gives before s (Err taken) after
 
--- the hart has unregistered the site in the sweep, or a register of it was refused
+-- The hart has unregistered the site in the sweep, or the port refused a register of the site. Why no more: on a shared table
+-- another hart may have the site. A hart that is alone knows that each child was unregistered or skipped.
 abbrev pub IsSwept : {P : Type 0} → Gives P → PortView → ℕ → PortView → ℕ → ℕ → Type 0
 IsSwept gives h refused after refused' s = (unregisters s h.mine < unregisters s after.mine)
     ⊎ (Rose refused refused' × IsRefused gives s)

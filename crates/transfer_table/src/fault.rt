@@ -48,7 +48,8 @@ pub fn first_fault(
     Ok(fault_on(&mut board, meant, list))
 }
 
-// The first fault of the list, by a board that has admitted no entry yet.
+// The first fault of the list, by a board that has admitted no entry yet. Why: it looks for unfinished sites only if the board
+// refuses no entry, so `first_refused` carries no state for them.
 fn fault_on(board: &mut Board, meant: &[bool], list: &[Entry]) -> Option<Fault>
     requires few { length list.now < 2 ^ 32 }
     requires meant { length meant.now ≡ site_count board.old.plan }
