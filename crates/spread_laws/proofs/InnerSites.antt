@@ -16,7 +16,7 @@ use Rattle.array_meaning.proofs.MemberLemmas.{span_cut, first_of_far}
 use Rattle.spread_laws.specs.Adds.{added}
 use Rattle.spread_laws.specs.Spread.{spread_assign, spread_inside, statement_spread_inside}
 use Rattle.spread_laws.specs.Faults.{is_unshaped, unshaped, statement_unshaped, any_unshaped}
-use Rattle.spread_laws.specs.Apart.{RoundsClashOnSums}
+use Rattle.spread_laws.specs.Apart.{AreRoundsApartButForSums}
 use Rattle.spread_laws.proofs.Owing.{Tally, AreLaid}
 use Rattle.spread_laws.proofs.Free.{AreFine, AreKept, then_fine, turns_fine}
 use Rattle.spread_laws.proofs.Inside.{none_or, none_cond, sides_fine}
@@ -91,7 +91,7 @@ module _ (old new : Arrays) (end rows : ℕ) (ts : List Tally) (laid : AreLaid (
         )
 
     phases_stay : (d : ℕ) → 2 ≤ d → (bs : Sequences) (var : List ℕ) (low high : ℤ) (m : ℕ) (vars : Vars) → any_unshaped d bs ≡ None → Fine (phases_work bs var low high vars)
-        → AreRoundsApart new (phase_rounds bs var low high m vars) ↔ RoundsClashOnSums old (phase_rounds bs var low high m vars)
+        → AreRoundsApart new (phase_rounds bs var low high m vars) ↔ AreRoundsApartButForSums old (phase_rounds bs var low high m vars)
     phases_stay d deep no_more var low high m vars shape fine = (λ p. tt, λ p. tt)
     phases_stay d deep (beside first rest) var low high m vars shape fine =
         let p = none_or (unshaped d first) (any_unshaped d rest) shape in

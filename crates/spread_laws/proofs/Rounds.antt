@@ -1,9 +1,9 @@
 -- Pieces of a round in both programs: those of the spread one are apart exactly where those of the given one clash on
 -- accumulating arrays alone.
-use Rattle.std.proofs.Common.{◌≡◌, ◌≢◌, ℕ, zero, suc, ◌+◌, ◌*◌, ◌<◌, ◌≤◌, true, false, List, [], ◌∷◌, ◌++◌, Some, refl, ap, subst, arith, ◌⊎◌, inl, inr, ⊎_elim}
+use Rattle.std.proofs.Common.{◌≡◌, ◌≢◌, ℕ, zero, suc, ◌+◌, ◌*◌, ◌<◌, ◌≤◌, true, false, List, [], ◌∷◌, ◌++◌, Some, refl, subst, arith, ◌⊎◌, inl, inr, ⊎_elim}
 use Rattle.std.specs.Prelude.{◌↔◌, slice_get}
 use Rattle.std.proofs.Math.Nat.{mul-le-mul_right}
-use Rattle.std.proofs.lemmas.Bool.{both_ways}
+use Rattle.std.proofs.lemmas.Bool.{both_ways, cases_lt}
 use Rattle.array_meaning.specs.Stores.{Arrays, cells_of}
 use Rattle.array_meaning.specs.Steps.{Steps}
 use Rattle.array_meaning.specs.Touch.{walk, IsApart, reads_of, changes_of}
@@ -11,7 +11,7 @@ use Rattle.array_meaning.specs.Overlap.{overlaps, IsClash}
 use Rattle.array_meaning.specs.Sites.{Site, AreRoundsApart, AreSitesApart}
 use Rattle.array_meaning.proofs.OverlapLemmas.{is_false, apart_of_clear, clear_of_apart}
 use Rattle.array_meaning.proofs.ClashCells.{clash_of, passes_of}
-use Rattle.spread_laws.specs.Apart.{IsSumCell, ClashOnSums, RoundsClashOnSums, SitesClashOnSums}
+use Rattle.spread_laws.specs.Apart.{IsSumCell, IsApartButForSums, AreRoundsApartButForSums, AreSitesApartButForSums}
 use Rattle.spread_laws.proofs.Owing.{Tally, AreLaid, one_or_clear}
 use Rattle.spread_laws.proofs.Tracks.{IsInRow, Tracks}
 
@@ -22,14 +22,8 @@ both_sides f g = (λ p. (f.0 p.0, g.0 p.1), λ p. (f.1 p.0, g.1 p.1))
 rows_differ : (first size i j c : ℕ) → i ≢ j → first + i * size ≤ c → c < first + (i * size + size) → first + j * size ≤ c → c < first + (j * size + size) → ⊥
 rows_differ first size i j c other from below from' below' = ⊎_elim
     (λ l. let m : (i + 1) * size ≤ j * size = mul-le-mul_right size (let le : i + 1 ≤ j = omega (arith, l) in le) in omega (arith, m, below, from'))
-    (λ r. let m : (j + 1) * size ≤ i * size = mul-le-mul_right size (let le : j + 1 ≤ i = omega (arith, r) in le) in omega (arith, m, below', from))
-    (order i j other)
-  where
-    order : (i j : ℕ) → i ≢ j → (i < j) ⊎ (j < i)
-    order zero zero d = absurd (d refl)
-    order zero (suc j) d = inl (omega arith)
-    order (suc i) zero d = inr (omega arith)
-    order (suc i) (suc j) d = ⊎_elim (λ l. inl (omega (arith, l))) (λ l. inr (omega (arith, l))) (order i j (λ e. d (ap suc e)))
+    (λ r. let m : (j + 1) * size ≤ i * size = mul-le-mul_right size (let le : j + 1 ≤ i = omega (arith, r, other) in le) in omega (arith, m, below', from))
+    (cases_lt i j)
 
 module _ (old new : Arrays) (end rows : ℕ) (ts : List Tally) (laid : AreLaid (cells_of old) end rows ts) where
   -- each piece touches in the spread program what it may, from this row on
@@ -155,7 +149,7 @@ module _ (old new : Arrays) (end rows : ℕ) (ts : List Tally) (laid : AreLaid (
         (λ row. ⊎_elim (λ t. absurd (not_given (0 + clash.i) c t.low row)) (λ other. absurd (one_row (0 + clash.i) (0 + clash.j) c different row other)) touches)
         (a.tracks.to true c clash.changes)
 
-    pub round_agrees : IsApart new qs ↔ ClashOnSums old ps
+    pub round_agrees : IsApart new qs ↔ IsApartButForSums old ps
     round_agrees = (
       λ apart c clash. ⊎_elim (λ s. s)
           (λ other. absurd (both_ways (overlaps new false false qs c) (clear_of_apart new qs apart c) (passes_of new c qs other)))
@@ -173,7 +167,7 @@ module _ (old new : Arrays) where
   AreAlike [] [] = Unit {0}
   AreAlike [] (y ∷ ys) = ⊥
   AreAlike (x ∷ xs) [] = ⊥
-  AreAlike (x ∷ xs) (y ∷ ys) = (AreRoundsApart new y.rounds ↔ RoundsClashOnSums old x.rounds) × AreAlike xs ys
+  AreAlike (x ∷ xs) (y ∷ ys) = (AreRoundsApart new y.rounds ↔ AreRoundsApartButForSums old x.rounds) × AreAlike xs ys
 
   pub join_alike : (xs xs' ys ys' : List Site) → AreAlike xs xs' → AreAlike ys ys' → AreAlike (xs ++ ys) (xs' ++ ys')
   join_alike [] [] ys ys' f g = g
@@ -181,7 +175,7 @@ module _ (old new : Arrays) where
   join_alike (x ∷ xs) [] ys ys' f g = absurd f
   join_alike (x ∷ xs) (y ∷ xs') ys ys' f g = (f.0, join_alike xs xs' ys ys' f.1 g)
 
-  pub sites_agree : (xs ys : List Site) → AreAlike xs ys → AreSitesApart new ys ↔ SitesClashOnSums old xs
+  pub sites_agree : (xs ys : List Site) → AreAlike xs ys → AreSitesApart new ys ↔ AreSitesApartButForSums old xs
   sites_agree [] [] h = (λ p. tt, λ p. tt)
   sites_agree [] (y ∷ ys) h = absurd h
   sites_agree (x ∷ xs) [] h = absurd h

@@ -19,7 +19,7 @@ use Rattle.spread_laws.specs.Adds.{has_add, have_add}
 use Rattle.spread_laws.specs.Spread.{zero_loop, fold_loop, added_in, with_loops, and_rest, spread_inside, spread_branches, spread_phases, member_row, spread_sequence, spread_statement, spread_of}
 use Rattle.spread_laws.specs.Faults.{is_unshaped, unshaped, statement_unshaped, any_unshaped, spread_fault_of}
 use Rattle.spread_laws.specs.Served.{HasMeaning, IsNarrow, IsNarrowSequence, IsNarrowStatement}
-use Rattle.spread_laws.specs.Apart.{RoundsClashOnSums, IsApartButForSums}
+use Rattle.spread_laws.specs.Apart.{AreRoundsApartButForSums, HasApartSitesButForSums}
 use Rattle.spread_laws.proofs.Owing.{Tally, AreLaid}
 use Rattle.spread_laws.proofs.Free.{AreFine, AreKept, then_fine, turns_fine}
 use Rattle.spread_laws.proofs.Inside.{IsPlaced, none_or, none_cond, sides_fine}
@@ -100,7 +100,7 @@ module _ (old new : Arrays) (kept : AreKept old new) (once : AreSingle old) (end
         → IsDealt row var low high m vars taken
         → have_new_variables bs (var ∷ taken) ≡ true → any_unshaped 1 bs ≡ None → Fine (phases_work bs var low high vars)
         → ((y : List ℕ) → have_add y bs ≡ true → IsPlaced old new rows ts y)
-        → AreRoundsApart new (phase_rounds (spread_phases old row bs) var low high m vars) ↔ RoundsClashOnSums old (phase_rounds bs var low high m vars)
+        → AreRoundsApart new (phase_rounds (spread_phases old row bs) var low high m vars) ↔ AreRoundsApartButForSums old (phase_rounds bs var low high m vars)
     phases_tracked row still no_more var low high m vars taken deal names shape fine placed = (λ p. tt, λ p. tt)
     phases_tracked row still (beside first rest) var low high m vars taken deal names shape fine placed =
         let n = and_parts (has_new_variables first (var ∷ taken)) (have_new_variables rest (var ∷ taken)) names in
@@ -193,7 +193,7 @@ module _ (old new : Arrays) (kept : AreKept old new) (once : AreSingle old) (end
         ))
         m.1 shape fine built.0.placed in
         let own : AreAlike old new (statement_sites c vars) (statement_sites c' vars) = (
-          subst (λ r. AreRoundsApart new (phase_rounds (spread_phases old r phases) var low high k vars) ↔ RoundsClashOnSums old (phase_rounds phases var low high k vars)) same rounds,
+          subst (λ r. AreRoundsApart new (phase_rounds (spread_phases old r phases) var low high k vars) ↔ AreRoundsApartButForSums old (phase_rounds phases var low high k vars)) same rounds,
           phases_alike k ts laid row phases var low high vars shape fine,
         ) in
         subst (AreAlike old new (statement_sites c vars ++ sequence_sites rest vars)) (sym (loops_sites line k cs c' rest' vars))
@@ -211,7 +211,7 @@ module _ (old new : Arrays) (kept : AreKept old new) (once : AreSingle old) (end
         (sequence_alike rest vars taken narrow.1 built.1 m.1 p.1 f.1)
 
 pub rows_apart : (program : ProgramTree) → HasMeaning program → IsNarrow program → spread_fault_of program ≡ None
-    → HasApartSites (spread_of program) ↔ IsApartButForSums program
+    → HasApartSites (spread_of program) ↔ HasApartSitesButForSums program
 rows_apart program meaning narrow sound =
     let old = arrays_of program.arrays in
     let new = arrays_of (spread_of program).arrays in

@@ -20,31 +20,31 @@ pub record IsSumCell (arrays : Arrays) (cell : ℕ) : Type 0 where
   pub from : base_of arrays array.0 ≤ cell
   pub below : cell < base_of arrays array.0 + array.1
 
--- Each cell on which two different pieces clash belongs to an accumulating array.
-abbrev pub ClashOnSums : Arrays → List Steps → Type 0
-ClashOnSums arrays pieces = (cell : ℕ) → IsClash arrays pieces cell → IsSumCell arrays cell
+-- The pieces are apart but for accumulating arrays: each cell on which two different pieces clash belongs to one.
+abbrev pub IsApartButForSums : Arrays → List Steps → Type 0
+IsApartButForSums arrays pieces = (cell : ℕ) → IsClash arrays pieces cell → IsSumCell arrays cell
 
--- So it is in each of these rounds.
-abbrev pub RoundsClashOnSums : Arrays → List (List Steps) → Type 0
-RoundsClashOnSums arrays [] = Unit {0}
-RoundsClashOnSums arrays (round ∷ more) =
-    ClashOnSums arrays round × RoundsClashOnSums arrays more
+-- The pieces of each of these rounds are so.
+abbrev pub AreRoundsApartButForSums : Arrays → List (List Steps) → Type 0
+AreRoundsApartButForSums arrays [] = Unit {0}
+AreRoundsApartButForSums arrays (round ∷ more) =
+    IsApartButForSums arrays round × AreRoundsApartButForSums arrays more
 
--- So it is in each round of each of these sites.
-abbrev pub SitesClashOnSums : Arrays → List Site → Type 0
-SitesClashOnSums arrays [] = Unit {0}
-SitesClashOnSums arrays (site ∷ more) =
-    RoundsClashOnSums arrays site.rounds × SitesClashOnSums arrays more
+-- At each of these sites the pieces of each round are so.
+abbrev pub AreSitesApartButForSums : Arrays → List Site → Type 0
+AreSitesApartButForSums arrays [] = Unit {0}
+AreSitesApartButForSums arrays (site ∷ more) =
+    AreRoundsApartButForSums arrays site.rounds × AreSitesApartButForSums arrays more
 
--- At each site of the program, the pieces of each round are apart but for the cells of accumulating arrays. (In a
--- program without a spread fault, pieces touch these cells by adds alone.)
-abbrev pub IsApartButForSums : ProgramTree → Type 0
-IsApartButForSums program =
-    SitesClashOnSums (arrays_of program.arrays) (sequence_sites program.body [])
+-- At each site of the program the pieces of each round are apart but for accumulating arrays. (A program without a
+-- spread fault mentions these arrays inside constructs in adds alone.)
+abbrev pub HasApartSitesButForSums : ProgramTree → Type 0
+HasApartSitesButForSums program =
+    AreSitesApartButForSums (arrays_of program.arrays) (sequence_sites program.body [])
 
--- The sites of the spread program are apart, as the checker wants it, exactly where those of the given program are apart
--- but for accumulating cells. So rows add no overlap, and hide none.
+-- The spread program meets the checker's last condition, that the sites are apart, if and only if the sites of the given
+-- program are apart but for accumulating arrays. So the rows add no overlap and hide none.
 abbrev pub RowsAreApart : Type 0
 RowsAreApart = (program : ProgramTree) → HasMeaning program → IsNarrow program →
     spread_fault_of program ≡ None
-    → HasApartSites (spread_of program) ↔ IsApartButForSums program
+    → HasApartSites (spread_of program) ↔ HasApartSitesButForSums program
