@@ -56,6 +56,7 @@ program_in job = record { arrays = job.arrays; body = statements_of job.work }
 
 -- What a job must be to be run: with the loop variables around, no name of the work is used twice or unknown, all
 -- is in its limits, each static index is inside its array, and the pieces of each site are apart. The store has one value per cell, and the sites' numbers have room.
+-- Of the variables it is required only that no loop of the work takes the name of one of them, or of an array.
 pub record IsFit (job : JobTree) : Type 0 where
   pub single_names : IsTrue (are_declared_once job.arrays [])
   pub new_variables : IsTrue

@@ -14,6 +14,9 @@ use std::alloc::Global;
 /// Whether a program may be run in parallel, by so many harts, one to sixteen. If so, what is known of it; else the first condition
 /// that it fails, or that memory was wanting, which is answered at will.
 ///
+/// Units, sites and pieces are counted from the bounds of loops, in numbers that can't overflow. The plan is unrolled only for a
+/// program inside the limits.
+///
 /// Names, ranges and sizes take time in proportion to the text, but for names, each of which is looked for among all
 /// arrays and the loops around. The walk takes time in proportion to the units of work, and comes only where these
 /// are at most 1,048,576.

@@ -181,7 +181,7 @@ impl<'a, 'r, 'p, R: Wait + 'a> PoolHand<'a, 'r, 'p, R> {
         ready
     }
 
-    // What the pool has behind its lock.
+    // What the pool has behind its lock. A pool that no home offered hands its jobs out here.
     fn look(&mut self, rt: &R) -> Next<PoolWork<'p>>
         ensures { LooksBy self.old result self.new }
     {

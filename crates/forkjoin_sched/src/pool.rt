@@ -184,7 +184,8 @@ impl<'p> Pool<'p> {
         }
     }
 
-    /// Marks a place whose piece found no memory. The place must be open.
+    /// Marks a place whose piece found no memory. The place must be open, which a caller tests by `is_open`; a hand does so under
+    /// the lock.
     pub fn fail(&mut self, place: u8)
         requires { IsMarked self.old.book place Open }
         ensures { self.new ≡ with_book self.old (marked_book self.old.book place Failed) }
@@ -243,7 +244,7 @@ impl<'p> Pool<'p> {
     }
 }
 
-// Each job as work that isn't begun.
+// Each job as work that isn't begun. Why a copy: the book keeps the jobs, to recognise pieces that aren't its own.
 fn unbegun_work<'p>(alloc: Global, jobs: &[Job<'p>]) -> Result<VecDeque<PoolWork<'p>>, AllocError>
     ensures { IfOk result (λ work. work.items ≡ map Begin jobs.now) }
 {

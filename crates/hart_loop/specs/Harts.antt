@@ -1,4 +1,5 @@
--- How a hart of several begins and ends a run.
+-- How a hart of several begins and ends a run. Definitions and lemmas speak of lists of anything seen as a hart: seats, ports,
+-- and harts with ports.
 use Rattle.std.specs.Prelude.{◌≡◌, ◌<◌, ℕ, true, false, List, length, slice_index_or, Option, Some, IfSome, All}
 use Rattle.std.specs.List.{AllZip}
 use Rattle.transfer_table.specs.Plan.{Plan, IsSite, parent}

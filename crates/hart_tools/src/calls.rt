@@ -14,7 +14,8 @@ use sched_api::{Call, Hearing, Next, Scheduler, Told};
 use std::marker::Model;
 use std::sync::Wait;
 
-/// What a callback of a hand gives.
+/// What a callback of a hand gives. Why a type of its own: a pool, a team and a pipe each have their own contexts and receipts,
+/// so that each stands by itself, and a hand on any of them is a scheduler too.
 #[derive(Drop)]
 pub struct HandHeard {
     told: Told,
@@ -41,6 +42,7 @@ impl<'r, 's, 'b, 'p, R: Wait + 'b> Scheduler for Hand<'r, 's, 'b, 'p, R> {
 
     type Heard = HandHeard;
 
+    // The job that is to begin, or none where a context was dropped.
     type Ctx = Option<Job<'p>>;
 
     ghost use Rattle.hart_tools.specs.Places.{site_at};

@@ -337,7 +337,7 @@ impl<'t> Tools<'t> {
     }
 
     // Whether a hart has to leave though it might be told more: the base where it is shut, and the home where the work of its
-    // site is over.
+    // site is over. It is checked before each task.
     fn is_over<'b, R: Wait + 'b>(&mut self, rt: &'b R, grip: Grip<'b, '_>, is_home: bool) -> bool
         requires { Fits self.old grip }
         ensures { self.new ≡ self.old }

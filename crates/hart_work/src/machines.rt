@@ -98,7 +98,8 @@ pub trait Machines {
             (start es es' : List Entry) → awaiting nested running.old p around start es
             → ran p es es' nested → going running.new p around start es') };
 
-    /// The piece of a machine whose job is done.
+    /// The piece of a machine whose job is done. Why a bare machine: the procedure ends the context, so that no method of a trait
+    /// takes a context by value.
     fn end(machine: Self::Machine) -> Self::Piece
         requires { finished machine }
         ensures { job_in result ≡ job_of machine };

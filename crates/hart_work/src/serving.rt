@@ -74,6 +74,9 @@ pub fn run_piece<P: PatientPort, R, M: Machines, H: Schedulers<R, M>, F: Fn(u8, 
 }
 
 /// Runs a construct as a site inside the one that the hart is in, and brings the hart back.
+///
+/// It checks that the construct's site is a child of the hart's, as `register` requires; by the laws of `planned_sites` it always
+/// is. Sites have higher numbers than the site around them, so the recursion ends.
 #[cycle(serve)]
 pub fn run_construct<P: PatientPort, R, M: Machines, H: Schedulers<R, M>, F: Fn(u8, &M::Job)>(
     rt: &R,

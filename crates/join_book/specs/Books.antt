@@ -17,6 +17,8 @@ pub data Mark : Type 0 where
   Filled : Mark
   Failed : Mark
 
+-- What contracts see of a book: its jobs, and each place as open, filled or failed. Why no contents: what a place is filled with
+-- follows from the book's type.
 pub record BookParts : Type 0 where
   pub jobs : List JobParts
   pub places : List Mark

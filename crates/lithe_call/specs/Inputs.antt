@@ -13,7 +13,8 @@ limit_of (Audit harts) = most_audited
 limit_of (Make seed size harts) = 0
 limit_of command = most_bytes
 
--- the command read these bytes, which were all that the source had left, and are no more than its input may have
+-- The command read these bytes, which were all that the source had left, and are no more than its input may have. Why the bytes
+-- that it read, not those that it was to read: a clause then means something also if the source doesn't show its bytes.
 abbrev pub ReadsAll : Command → Option (List ℕ) → List ℕ → Option (List ℕ) → Type 0
 ReadsAll (Make seed size harts) left bytes left' = left' ≡ left
 ReadsAll command left bytes left' = GivesWithin (limit_of command) left bytes left'

@@ -42,7 +42,7 @@ use std::thread::Threads;
 /// arrays alone. `audit --harts N` reads a program, a line `%%` and an output of
 /// `run`, and writes whether the output is the program's; where it isn't, the status is Illegal. `make --seed X --size K
 /// --harts N`, K from 1 to 40, reads nothing: it makes a program, runs its printed text as `run` does, and writes the
-/// summary of the run. The whole output is built before its first byte is written.
+/// summary of the run. The whole output is built before its first byte is written, so a fault leaves the output empty.
 /// Whatever the status, its text was told on `err`, and a failure of `err` changes no status.
 pub fn lithe<R: Threads + Wait + Sync, A: Source, B: Sink, E: Sink, G: Gate>(
     rt: &R,
@@ -255,6 +255,7 @@ fn answer_to<R: Threads + Wait + Sync, G: Gate>(
         Command::Tally(harts) => tally_of(rt, alloc, gate, harts, bytes),
         Command::Pipe(harts) => pipe_of(rt, alloc, gate, harts, bytes),
         Command::Make { seed, size, .. } => {
+            // Why the printed text is run: a refusal then has the lines of that text.
             let text = made_text(alloc, seed, size)?;
             run_of(rt, alloc, gate, command, &text)
         }

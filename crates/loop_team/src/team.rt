@@ -66,6 +66,7 @@ pub struct Team<'p> {
     agenda: Agenda<TeamWork<'p>>,
     opened: u8,
     barrier: BarrierState<'p>,
+    // Its cells are the start of the next phase, and its marks the result of `take_all`: opening a phase merges that phase alone.
     store: MarkedStore,
     failed: bool,
 }
@@ -97,7 +98,7 @@ impl<'p> Model for Team<'p> {
 impl<'p> Team<'p> {
     /// A team whose first phase is there to be begun. The construct must be a `team`.
     ///
-    /// It makes all room. Beside it only `arrive` and `take_all` take memory.
+    /// It makes all room, for ready contexts one a member. Beside it only `arrive` and `take_all` take memory.
     pub fn new(alloc: Global, nested: Nested<'p>) -> Result<Team<'p>, AllocError>
         requires { kind_of (statement_of nested.construct) ≡ Some kind.Team }
         ensures { IfOk result (λ team. IsNew nested.entry team) }
@@ -283,7 +284,7 @@ impl<'p> Team<'p> {
     }
 
     /// Tells that the piece of a place found no memory. The place must be open. The team is then failed, and no member of a
-    /// later phase begins.
+    /// later phase begins. The team keeps no note of the place, and its other places still take pieces.
     pub fn fail(&mut self, place: u8)
         requires { IsMarked self.old.barrier place Open }
         ensures { self.new ≡ failed_team self.old }

@@ -42,7 +42,7 @@ impl<'p> PipeState<'p> {
         None
     }
 
-    // Hands out the piece that is due.
+    // Hands out the piece that is due. It allocates before it changes the state.
     fn give(&mut self, member: u8, phase: u8) -> Result<Job<'p>, AllocError>
         requires { IsDue self.old member phase }
         ensures given { IfOk result (λ job. HandsOut self.old job self.new) }
@@ -103,7 +103,8 @@ impl<'p> PipeState<'p> {
     }
 }
 
-// The job of a member in a phase, which starts from this store.
+// The job of a member in a phase, which starts from this store. Why all jobs of the phase are made for one: constructs give jobs
+// by phase.
 fn one_job<'p>(
     alloc: Global,
     nested: &Nested<'p>,
@@ -136,7 +137,8 @@ fn first_ready(slots: &[Slot], phases: usize) -> Option<usize>
     None
 }
 
-// Whether the piece at a place waits, and those are filled that come right before it.
+// Whether the piece at a place waits, and those are filled that come right before it. Two neighbours decide, since all before a
+// filled place are filled.
 fn looks_ready(slots: &[Slot], phases: usize, place: usize) -> bool
     requires phases { 0 < phases }
     requires there { place < length slots.now }

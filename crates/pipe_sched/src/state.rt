@@ -1,4 +1,4 @@
-//! Pipelines as one owner has them.
+//! Pipelines as one owner has them. The state knows no table, no port and no scheduler.
 ghost use Rattle.std.specs.Prelude.{◌≡◌, ◌↔◌, IsTrue, IfOk, IfSome, IfNone, Some, replicate};
 ghost use Rattle.array_tree.specs.Trees.{statement_of};
 ghost use Rattle.step_eval.specs.declared.shape.Kind.TheVariants as kind;
@@ -22,7 +22,7 @@ use step_eval::Nested;
 pub struct PipeState<'p> {
     pub(crate) alloc: Global,
     pub(crate) nested: Nested<'p>,
-    // Member by member, and then by phase.
+    // Member by member, and then by phase: so the first slot that is due is that of the lowest member.
     pub(crate) slots: Vec<Slot<'p>>,
 }
 

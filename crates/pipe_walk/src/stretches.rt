@@ -172,7 +172,8 @@ fn each_is_clear<'s>(
 /// member touches in a phase, array by array, is a stretch into which none above it wrote in the phases before, and it writes
 /// into none that those touched. Where it isn't seen, or memory is wanting, it may yet be so.
 ///
-/// It costs the text of the phases twice for each member, however many turns there are.
+/// It costs the text of the phases twice for each member, however many turns there are: for a member all those above it are taken
+/// together as one range of turns.
 pub(crate) fn members_are_clear<'s>(
     alloc: Global,
     layout: &Layout,

@@ -1,4 +1,5 @@
-//! Small programs for the tests of schedulers, with their constructs, jobs and pieces.
+//! Small programs for the tests of schedulers, with their constructs, jobs and pieces. What the tests of books, pools and teams
+//! share is proved once here.
 //!
 //! What goes wrong is a test's failure: a text that spells no program, one that isn't accepted, or want of memory.
 #![tactic(auto)]

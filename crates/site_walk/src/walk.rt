@@ -17,6 +17,9 @@ use std::alloc::Global;
 
 /// Walks through a program: each static index must be inside its array, and the pieces of each site must not overlap.
 ///
+/// The indices of the whole program are walked first. Then each construct is walked once, before the sites inside it, so site
+/// numbers need no second pass.
+///
 /// The fault is the first index outside its array, over the whole program, or else the first overlap. Want of memory
 /// alone is answered at will.
 ///

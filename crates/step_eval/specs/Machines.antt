@@ -21,7 +21,8 @@ use Rattle.step_eval.specs.Passes.{pass_of}
 use Rattle.step_eval.specs.Nests.{NestedTree, nested_of, nested_writes}
 
 -- What contracts see of a machine: its job, the works that are still to be run, the store as it now is with the cells
--- that were written so far, the number of the next site, and its stage.
+-- that were written so far, the number of the next site, and its stage. A work is a block or a loop with its variables; contracts
+-- see no frames.
 pub record Progress : Type 0 where
   pub job : JobParts
   pub rest : List WorkAt
@@ -84,7 +85,8 @@ is_awaiting Going = false
 is_awaiting Awaiting = true
 is_awaiting Failed = false
 
--- How many steps are left at most: the construct that is awaited takes none. A machine that is failed is never done.
+-- How many steps are left at most: the construct that is awaited takes none. A machine that is failed is never done. A construct
+-- counts for one step until it is handed out, and both sides of an `if` count.
 abbrev pub left_of : Stage → List WorkAt → ℕ
 left_of Going rest = rest_left rest
 left_of Awaiting rest = rest_left rest - 1
@@ -187,7 +189,7 @@ HasRunWhole (w ∷ more) before after =
     })
 
 -- A machine comes from the first of these to the second with nothing for its hart to see to: by steps that hand out no
--- construct and tell of no site, and by works without sites that are run whole.
+-- construct and tell of no site, and by works without sites that are run whole. Laws go over it by cases.
 pub data RunsTo (first : Progress) : Progress → Type 0 where
   stands : RunsTo first first
   moves : (mid last : Progress) → RunsTo first mid → mid.stage ≡ Going → next_nest mid ≡ None

@@ -35,8 +35,10 @@ pub struct StepMachine<'p> {
     layout: Layout<'p>,
     frames: Frames<'p>,
     store: MarkedStore,
-    // Room for all that the job may write, so that its piece takes no memory.
+    // Room for all that the job may write, a pair a cell, so that its piece takes no memory.
     room: Overlay,
+    // The next site's number. Why one for the machine, and not one for each work: a loop that begins would have to count the
+    // sites of its body. At the end of an `if` it jumps by the sites of the other side, which a `Pass` has reported.
     next: u16,
     stage: Stage,
 }
@@ -87,7 +89,7 @@ impl<'p> StepMachine<'p> {
     /// Takes what the construct that is awaited wrote, after which the machine goes on behind it.
     ///
     /// The last step must have handed the construct out, and these must be its writes, each cell with its last value.
-    /// Where memory is wanting, the machine is failed.
+    /// Where memory is wanting, the machine is failed. This body allocates nothing; the contract leaves that open.
     pub fn supply(&mut self, written: &Overlay) -> Result<(), AllocError>
         requires awaits { self.old.stage ≡ Awaiting }
         requires written { AreAwaited self.old written.now.pairs }
@@ -106,6 +108,8 @@ impl<'p> StepMachine<'p> {
 
     /// Goes on to the next construct or to the end, step by step but for the loops that come to no site: each is run to
     /// its end at once. It also stops where it has begun an `if` whose other side has sites. It never answers More.
+    ///
+    /// Why bare statements go by steps: each runs once a piece or a turn.
     pub fn go(&mut self) -> Step<Found<'p>>
         requires { is_awaiting self.old.stage ≡ false }
         ensures gone { HasGone self.old result self.new }
@@ -220,7 +224,8 @@ fn sites_in_construct(construct: Option<&Stmt>) -> u64
     }
 }
 
-// Does one step of a machine that goes on.
+// Does one step of a machine that goes on. Why it and the parts of a step are inlined: a loop of steps takes 1.4 to 3.5 times as
+// long if each is a call, since the result has room for a construct.
 #[inline(always)]
 fn advance<'p>(
     alloc: Global,

@@ -111,6 +111,8 @@ fn statement_is_settled<'s>(
 /// Whether at each site that a block enters, run for each number from `low` to before `high`, the pieces of each round are
 /// seen to be apart, whatever values the variables have between their bounds. Where they aren't seen to be, or memory is
 /// wanting, they may yet be. It costs the text, however many turns there are.
+///
+/// Pieces that are apart in each turn, but meet across turns, aren't settled. The caller looks at their rounds turn by turn.
 #[cycle(settle)]
 pub fn loop_is_settled<'s>(
     alloc: Global,

@@ -1,4 +1,7 @@
-//! What is told of the cells that statements touch.
+//! Bounds of the cells that statements touch: for each array a stretch of cells that are read and one of cells that are written.
+//!
+//! If the bounds of an index leave its array, or a name is no array's, the bounds are unknown, and the caller walks the round.
+//! So bounds need no premise.
 ghost use Rattle.std.specs.Prelude.{◌≡◌, ◌<◌, length};
 ghost use Rattle.std.specs.Bool.{OnTrue};
 ghost use Rattle.array_tree.specs.Trees.{expression_of};
