@@ -14,7 +14,7 @@ use crate::touch::{Stretch, Touch};
 use array_eval::Layout;
 use array_tree::{Expr, Name};
 
-// Adds cells to what is told of an array. Whether it is one of the program.
+// Adds cells to the recorded stretches of an array. The result is whether the array is one of the program.
 fn add_cells(number: usize, writes: bool, cells: Stretch, touches: &mut [Touch]) -> bool
     ensures wider { Widens touches.old touches.new }
     ensures known { OnTrue result (number < length touches.old) }
@@ -29,8 +29,8 @@ fn add_cells(number: usize, writes: bool, cells: Stretch, touches: &mut [Touch])
     true
 }
 
-// Tells of an index of an array. The result, here and below, is whether all could be told; if not, nothing is known of
-// what was told.
+// Records an index of an array. The result, here and below, is whether all is known; if not, nothing is known of what was
+// recorded.
 fn tell_index(
     layout: &Layout,
     writes: bool,
@@ -51,7 +51,7 @@ fn tell_index(
     }
 }
 
-/// Tells of the reads of an expression.
+/// Records the reads of an expression.
 pub(crate) fn tell_reads(
     layout: &Layout,
     expr: &Expr,
@@ -81,7 +81,7 @@ pub(crate) fn tell_reads(
     }
 }
 
-/// Tells of an assignment.
+/// Records an assignment.
 pub(crate) fn tell_assign(
     layout: &Layout,
     array: &Name,
