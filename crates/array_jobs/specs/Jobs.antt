@@ -34,6 +34,7 @@ pub record JobTree : Type 0 where
   pub vars : Vars
   pub store : Store
 
+-- The job is its parts, without where they lie in memory.
 abbrev pub job_of : JobParts → JobTree
 job_of job = record {
   arrays = declarations_of job.arrays;

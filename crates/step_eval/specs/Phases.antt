@@ -74,5 +74,6 @@ pub record IsWhole (nested : NestedTree) : Type 0 where
   pub store : store_before nested (phases_of nested.construct)
       ≡ after (nested_writes nested) nested.store
 
+-- The phases of each fit construct make up the whole construct.
 abbrev pub PhasesAreConstructs : Type 0
 PhasesAreConstructs = (nested : NestedTree) → IsFitNest nested → IsWhole nested
