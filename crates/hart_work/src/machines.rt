@@ -12,7 +12,7 @@ use std::alloc::{AllocError, Global};
 
 /// Machines that run jobs, each a step at a time.
 ///
-/// Some ghost members tell what a hart did with the sites of a job. They are of use to a hart that keeps an account of it.
+/// Some ghost members say what a hart did with the sites of a job. They are of use to a hart that keeps an account of it.
 pub trait Machines {
     /// The work of a piece, and what it comes to.
     type Job;

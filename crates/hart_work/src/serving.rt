@@ -284,8 +284,8 @@ fn be_guest<P: PatientPort, R, M: Machines, H: Schedulers<R, M>, F: Fn(u8, &M::J
     serve(rt, alloc, tree, pass, port, hold, schedulers, site, false);
 }
 
-// Skips sites that the hart is told of: each child of the owner among them, unless its skip is refused. Where the hart is alone and
-// these are whole subtrees with which nobody has done anything, they are over then as sites that nobody is to enter.
+// Skips the sites that a step passes: each child of the owner among them, unless its skip is refused. If the hart is alone and
+// these are whole subtrees in which nothing was done, they are gone then as sites that no hart is to enter.
 fn skip_span<P: PatientPort>(tree: &SiteTree, port: &mut P, hold: P::Hold, first: u16, end: u16)
     requires plan { (P.seen port.old).plan ≡ tree.now }
     requires inner { IsSettled (P.seen port.old) }

@@ -80,7 +80,7 @@ fn write_number(text: &mut String, x: usize, k: usize) -> Result<(), AllocError>
     write!(text, "<text x='{x}' y='84'>{k}</text>\n")
 }
 
-// Adds what an entry does, where there is room: its words need 40 units.
+// Adds what an entry does, where there is room.
 fn write_deed(text: &mut String, step: usize, x: usize, entry: Entry) -> Result<(), AllocError>
     ensures { OnOk result (string_bytes text.new ≡ string_bytes text.old ++ deed_text step x entry) }
 {
@@ -152,7 +152,7 @@ fn write_entry_mark(
     }
 }
 
-// Adds the mark of a request: a line, and where there is room, 48 units, how many harts it wants.
+// Adds the mark of a request: a line, and where there is room how many harts it wants.
 fn write_request(
     alloc: Global,
     text: &mut String,

@@ -17,9 +17,6 @@ use transfer_table::{Board, Entry, Plan, first_fault};
 ///
 /// It has at most 4,096 bars: if there are more stays, each lane has its first 512 and its last 512, with more than four harts as many as
 /// 4,096 bars allow, and the picture says so.
-///
-/// The height of a bar shows the depth and its outline the kind, so no colour is needed. The caller passes what is told of the
-/// list, so a picture needs no language and no audit.
 pub fn svg_picture(
     alloc: Global,
     plan: &Plan,

@@ -10,7 +10,7 @@ pub record IsPiped (harts : ℕ) (program : ProgramTree) : Type 0 where
   pub accepted : IsAcceptedFor program harts
   pub uncrossed : HasNoCrossings program
 
--- these bytes spell such a program
+-- These bytes spell such a program.
 pub record SpellPiped (harts : ℕ) (bytes : List ℕ) (program : ProgramTree) : Type 0 where
   pub short : length bytes ≤ most_bytes
   pub spelled : Spells bytes program

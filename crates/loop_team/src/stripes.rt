@@ -25,7 +25,7 @@ pub(crate) enum Seat<'p> {
     Open(Job<'p>),
     // Its piece has come.
     Came(Piece<'p>),
-    // Nobody waits for a piece of it.
+    // No piece of it is awaited.
     Gone,
 }
 

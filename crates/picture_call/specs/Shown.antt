@@ -13,14 +13,14 @@ use Rattle.picture_call.specs.Pictures.{IsPictureFor}
 use Rattle.picture_call.specs.Texts.{usage_text}
 use Rattle.picture_call.specs.Words.{audit_words}
 
--- the sink took the picture
+-- The sink took the picture.
 pub record WritesPicture (words : List (List ℕ)) (left left' : Option (List ℕ)) (status : Status)
     (taken taken' : Option (List ℕ)) : Type 0 where
   pub text : List ℕ
   pub picture : IsPictureFor words left left' status text
   pub written : Appends taken text taken'
 
--- the sink took a prefix of the picture, with whatever status
+-- The sink took a prefix of the picture, with whatever status.
 pub record WritesPart (words : List (List ℕ))
     (left left' taken taken' : Option (List ℕ)) : Type 0 where
   pub status : Status
@@ -28,12 +28,12 @@ pub record WritesPart (words : List (List ℕ))
   pub picture : IsPictureFor words left left' status text
   pub written : AppendsPrefix taken text taken'
 
--- the text is the status's, for what the source gave: that of the audit, but for the forms of the words
+-- The text is the status's, for what the source gave: that of the audit, but for the forms of the words.
 abbrev pub IsToldFor : List (List ℕ) → Status → Option (List ℕ) → Option (List ℕ) → List ℕ → Type 0
 IsToldFor words Usage left left' text = text ≡ usage_text
 IsToldFor words status left left' text = IsTextOf (audit_words words) status left left' text
 
--- the sink, with its count of faults before and after, was told the status's text
+-- The sink, with its count of faults before and after, was told the status's text.
 pub record TellsWhy (words : List (List ℕ)) (status : Status)
     (left left' taken : Option (List ℕ)) (faults : ℕ) (taken' : Option (List ℕ))
     (faults' : ℕ) : Type 0 where

@@ -29,7 +29,7 @@ impl<'p> PipeState<'p> {
         }
     }
 
-    // What `next` hands out, where a piece that is due and finds no memory fails, and the next one is asked for.
+    // What `next` hands out, where a piece that is due fails if an allocation does, and the next one is asked for.
     pub(crate) fn next_or_fail(&mut self) -> Option<Job<'p>>
         ensures { GivesAfterFailing self.old result self.new }
     {
@@ -103,8 +103,7 @@ impl<'p> PipeState<'p> {
     }
 }
 
-// The job of a member in a phase, which starts from this store. Why all jobs of the phase are made for one: constructs give jobs
-// by phase.
+// The job of a member in a phase, which starts from this store.
 fn one_job<'p>(
     alloc: Global,
     nested: &Nested<'p>,

@@ -13,7 +13,7 @@ compared_seen found = record {
   rest = lines_of found.rest.now;
 }
 
--- a fault that tells a line tells one up to this
+-- A fault that tells a line tells one up to this.
 abbrev pub IsWithin : ℕ → TextFault → Type 0
 IsWithin most (BadLine line) = line ≤ most
 IsWithin most (BadNumber line) = line ≤ most
