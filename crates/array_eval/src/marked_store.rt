@@ -87,7 +87,7 @@ impl MarkedStore {
         }
     }
 
-    /// Writes a cell, if it is there. It takes no memory.
+    /// Writes a cell, if it is there. It does not allocate.
     #[inline]
     pub(crate) fn write(&mut self, cell: usize, value: i64)
         ensures { self.new ≡ noted cell value self.old }
@@ -101,7 +101,7 @@ impl MarkedStore {
         }
     }
 
-    /// Writes an overlay's cells, those that are there, and marks them. It takes no memory, and time for the pairs alone.
+    /// Writes an overlay's cells, those that are there, and marks them. It does not allocate, and takes time for the pairs alone.
     ///
     /// So pieces are merged: where all cells are there, the overlay is laid over what is marked, and its values win. Books cite
     /// the clause `laid`.
@@ -140,7 +140,7 @@ impl MarkedStore {
         Ok(overlay)
     }
 
-    /// Lays the cells that were written, each with its value, into an overlay of no cell. It takes no memory, and one
+    /// Lays the cells that were written, each with its value, into an overlay of no cell. It does not allocate, and makes one
     /// pass over the pages that were written.
     ///
     /// The overlay must have room for as many pairs as there are cells, and there must be at most 65,535 cells.

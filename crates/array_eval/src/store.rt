@@ -76,7 +76,7 @@ impl Store {
         self.paged.page(number)
     }
 
-    /// Writes a cell, in place if no copy shares the list of pages or the page. Where memory is wanting, nothing changes.
+    /// Writes a cell, in place if no copy shares the list of pages or the page. If an allocation fails, nothing changes.
     pub fn put(&mut self, cell: u16, value: i64) -> Result<(), AllocError>
         requires { cell < length self.old }
         ensures written { OnOk result (self.new ≡ written self.old cell value) }
@@ -93,7 +93,7 @@ impl Store {
         }
     }
 
-    /// An equal store. It takes no memory of its own.
+    /// An equal store. It allocates nothing of its own.
     pub fn copy(&self) -> Result<Store, AllocError>
         ensures { IfOk result (λ store. store ≡ self.now) }
     {
@@ -115,7 +115,7 @@ impl Store {
         Ok(store)
     }
 
-    /// Writes an overlay's cells. Each of them must be there. The new store is made first, so where memory is wanting, nothing
+    /// Writes an overlay's cells. Each of them must be there. The new store is made first, so if an allocation fails, nothing
     /// changes.
     pub fn merge(&mut self, written: &Overlay) -> Result<(), AllocError>
         requires { All (λ pair. pair.0 < length self.old) written.now.pairs }

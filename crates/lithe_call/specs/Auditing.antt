@@ -44,7 +44,7 @@ status_by (verdict.Legal entries) = status.Done
 status_by (verdict.Differs line) = status.Illegal
 status_by (verdict.Illegal fault) = status.Illegal
 
--- The status of an answer, by what it tells.
+-- The status of a command, by how it ends.
 abbrev pub status_of_ending : Ending → Status
 status_of_ending ending.Written = status.Done
 status_of_ending ending.Illegal = status.Illegal

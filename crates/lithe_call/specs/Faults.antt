@@ -34,7 +34,7 @@ use Rattle.run_audit.specs.AuditText.{text_fault_text}
 use Rattle.lithe_call.specs.declared.fault.Fault.{Fault}
 use Rattle.lithe_call.specs.declared.fault.Fault.TheVariants as fault
 
--- Bytes within the limit spell no program, and the line tells their first fault, which isn't want of memory.
+-- Bytes within the limit spell no program, and the line reports their first fault, which isn't an allocation failure.
 pub record SpellNothing (bytes line : List ℕ) : Type 0 where
   pub short : length bytes ≤ most_bytes
   pub nothing : (program : ProgramTree) → Spells bytes program → ⊥
@@ -43,7 +43,7 @@ pub record SpellNothing (bytes line : List ℕ) : Type 0 where
   pub real : fault ≢ syntax.Memory
   pub told : line ≡ syntax_text fault
 
--- The line tells this fault of the program, which isn't want of memory.
+-- The line reports this fault of the program, which isn't an allocation failure.
 pub record IsToldFault (found : Option CheckFault) (program : ProgramTree) (line : List ℕ) : Type 0 where
   pub fault : CheckFault
   pub is : found ≡ Some fault
@@ -59,14 +59,14 @@ pub record SpellRefused (harts : ℕ) (bytes line : List ℕ) : Type 0 where
   pub refused : IsAcceptedFor program harts → ⊥
   pub first : IsToldFault (check_fault_of program harts) program line
 
--- The program has a meaning, but its adds can't have rows of their own, and the line tells why.
+-- The program has a meaning, but its adds can't have rows of their own, and the line reports why.
 pub record IsUnspread (harts : ℕ) (program : ProgramTree) (line : List ℕ) : Type 0 where
   pub meaning : HasMeaningFor program harts
   pub fault : SpreadFault
   pub first : spread_fault_of program ≡ Some fault
   pub told : line ≡ tally_text (told_of fault)
 
--- It has a meaning and its adds can have rows, but with them it isn't accepted, and the line tells of the program with rows.
+-- It has a meaning and its adds can have rows, but with them it isn't accepted, and the line is about the program with rows.
 pub record IsSpreadRefused (harts : ℕ) (program : ProgramTree) (line : List ℕ) : Type 0 where
   pub meaning : HasMeaningFor program harts
   pub shaped : spread_fault_of program ≡ None
@@ -78,7 +78,7 @@ IsUntallied harts program line =
     IsToldFault (meaning_fault_of program harts) program line
     ⊎ (IsUnspread harts program line ⊎ IsSpreadRefused harts program line)
 
--- Bytes within the limit spell a program that isn't tallied by so many harts, and the line tells why.
+-- Bytes within the limit spell a program that isn't tallied by so many harts, and the line reports why.
 pub record SpellUntallied (harts : ℕ) (bytes line : List ℕ) : Type 0 where
   pub short : length bytes ≤ most_bytes
   pub program : ProgramTree
@@ -86,7 +86,7 @@ pub record SpellUntallied (harts : ℕ) (bytes line : List ℕ) : Type 0 where
   pub refused : IsTallied harts program → ⊥
   pub first : IsUntallied harts program line
 
--- The program is accepted, but two pieces cross at one of its sites, and the line tells the first such site and its least cell.
+-- The program is accepted, but two pieces cross at one of its sites, and the line reports the first such site and its least cell.
 pub record IsCrossed (harts : ℕ) (program : ProgramTree) (line : List ℕ) : Type 0 where
   pub accepted : IsAcceptedFor program harts
   pub fault : PipeFault
@@ -99,7 +99,7 @@ abbrev pub IsUnpiped : ℕ → ProgramTree → List ℕ → Type 0
 IsUnpiped harts program line =
     IsToldFault (check_fault_of program harts) program line ⊎ IsCrossed harts program line
 
--- Bytes within the limit spell a program that isn't piped by so many harts, and the line tells why.
+-- Bytes within the limit spell a program that isn't piped by so many harts, and the line reports why.
 pub record SpellUnpiped (harts : ℕ) (bytes line : List ℕ) : Type 0 where
   pub short : length bytes ≤ most_bytes
   pub program : ProgramTree
@@ -112,8 +112,8 @@ pub record HasNoMark (bytes line : List ℕ) : Type 0 where
   pub none : parts_of bytes ≡ None
   pub told : line ≡ codes "syntax: no line %%" ++ 10 ∷ []
 
--- A first part that spells an accepted program, and a second that is no output's text; the line tells its first fault, which
--- isn't want of memory.
+-- A first part that spells an accepted program, and a second that is no output's text; the line reports its first fault, which
+-- isn't an allocation failure.
 pub record AreNoOutput (harts : ℕ) (line first second : List ℕ) : Type 0 where
   pub program : ProgramTree
   pub input : SpellAccepted harts first program
@@ -126,13 +126,13 @@ pub record AreNoOutput (harts : ℕ) (line first second : List ℕ) : Type 0 whe
 abbrev pub AreNoText : ℕ → List ℕ → List ℕ → List ℕ → Type 0
 AreNoText harts line first second = SpellNothing first line ⊎ AreNoOutput harts line first second
 
--- Why the command's input is no text that it takes, as the line tells.
+-- Why the command's input is no text that it takes, as the line reports.
 abbrev pub IsNoText : Command → List ℕ → List ℕ → Type 0
 IsNoText (Audit harts) bytes line = HasNoMark bytes line ⊎ HasParts (AreNoText harts line) bytes
 IsNoText (Make seed size harts) bytes line = ⊥
 IsNoText command bytes line = SpellNothing bytes line
 
--- Why its program isn't accepted, as the line tells.
+-- Why its program isn't accepted, as the line reports.
 abbrev pub IsRefused : Command → List ℕ → List ℕ → Type 0
 IsRefused (Run harts) bytes line = SpellRefused harts bytes line
 IsRefused (Tally harts) bytes line = SpellUntallied harts bytes line
@@ -147,7 +147,7 @@ IsLong (Audit harts) bytes = HasParts (λ first second. most_bytes < length firs
 IsLong command bytes = ⊥
 
 -- The cause of a fault of the command, by what the source had left before and has left after, and by its count of faults
--- before and after. Want of memory has none.
+-- before and after. An allocation failure has none.
 abbrev pub IsCause : Command → Fault → Option (List ℕ) → Option (List ℕ) → ℕ → ℕ → Type 0
 IsCause command fault.Usage left left' faults faults' = ⊥
 IsCause command fault.TooLong left left' faults faults' =
@@ -166,7 +166,7 @@ IsNoCommand words fault.Usage = form_of words ≡ None
 IsNoCommand words fault.Memory = Unit {0}
 IsNoCommand words why = ⊥
 
--- The fault is that of usage only where the words give no command, and there it is that or want of memory, which may come
+-- The fault is that of usage only where the words give no command, and there it is that or an allocation failure, which may come
 -- also while the words are read. Any other has its cause.
 abbrev pub IsFault : List (List ℕ) → Fault → Option (List ℕ) → Option (List ℕ) → ℕ → ℕ → Type 0
 IsFault words fault.Usage left left' faults faults' = form_of words ≡ None
@@ -175,20 +175,20 @@ IsFault words why left left' faults faults' =
     (command : Command) × (form_of words ≡ Some command)
     × IsCause command why left left' faults faults'
 
--- Why the program of these bytes has no output, by which lines tell that it is refused.
+-- Why the program of these bytes has no output, by which lines report that it is refused.
 abbrev pub IsNoRun : (List ℕ → List ℕ → Type 0) → List ℕ → Fault → Type 0
 IsNoRun AreRefused bytes (fault.Syntax line) = SpellNothing bytes line.items
 IsNoRun AreRefused bytes (fault.Refused line) = AreRefused bytes line.items
 IsNoRun AreRefused bytes fault.Memory = Unit {0}
 IsNoRun AreRefused bytes why = ⊥
 
--- The fault tells why the program isn't tallied, or memory ran out.
+-- The fault reports why the program isn't tallied, or memory ran out.
 abbrev pub TellsUntallied : ℕ → ProgramTree → Fault → Type 0
 TellsUntallied harts program (fault.Refused line) = IsUntallied harts program line.items
 TellsUntallied harts program fault.Memory = Unit {0}
 TellsUntallied harts program why = ⊥
 
--- The fault tells why the program isn't piped, or memory ran out.
+-- The fault reports why the program isn't piped, or memory ran out.
 abbrev pub TellsUnpiped : ℕ → ProgramTree → Fault → Type 0
 TellsUnpiped harts program (fault.Refused line) = IsUnpiped harts program line.items
 TellsUnpiped harts program fault.Memory = Unit {0}

@@ -24,7 +24,7 @@ abbrev pub GivesTooMuch : Command → Option (List ℕ) → Option (List ℕ) �
 GivesTooMuch (Make seed size harts) left left' = ⊥
 GivesTooMuch command left left' = GivesMore left (limit_of command) left'
 
--- These bytes are the command's input, as the source told beforehand; for `make` any will do.
+-- These bytes are the command's input, as the source showed beforehand; for `make` any will do.
 abbrev pub AreInput : Command → Option (List ℕ) → List ℕ → Type 0
 AreInput (Make seed size harts) left bytes = Unit {0}
 AreInput command left bytes = left ≡ Some bytes

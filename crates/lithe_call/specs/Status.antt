@@ -15,9 +15,11 @@ number_of ReadFault = 6
 number_of WriteFault = 7
 number_of NoMemory = 8
 
+-- A line is a text with a newline behind it.
 abbrev pub line : List ℕ → List ℕ
 line text = text ++ 10 ∷ []
 
+-- The text of the status Usage lists the forms of the words.
 abbrev pub usage_text : List ℕ
 usage_text =
     line (codes "usage: lithe_run run --harts N")

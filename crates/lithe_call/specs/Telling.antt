@@ -24,7 +24,7 @@ pub record GivesMore (before : Option (List ℕ)) (limit : ℕ) (after : Option 
 abbrev pub AppendsPrefix : Option (List ℕ) → List ℕ → Option (List ℕ) → Type 0
 AppendsPrefix before bytes after = (count : ℕ) × Appends before (take count bytes) after
 
--- A text was told: the sink took it whole, or a prefix of it where its count of faults rose.
+-- A text was written: the sink took it whole, or a prefix of it where its count of faults rose.
 abbrev pub Tells : Option (List ℕ) → ℕ → List ℕ → Option (List ℕ) → ℕ → Type 0
 Tells before faults text after faults' =
     Appends before text after ⊎ (Rose faults faults' × AppendsPrefix before text after)

@@ -1,4 +1,4 @@
--- The same for bytes that a source told beforehand: what was written and told for them.
+-- The same for bytes that a source showed beforehand: what was written for them.
 use Rattle.std.specs.Prelude.{◌≡◌, ℕ, List, Option}
 use Rattle.outside_io.specs.Outside.{Appends}
 use Rattle.lithe_call.specs.Telling.{AppendsPrefix, Tells}
@@ -30,7 +30,7 @@ IsLineOf command Syntax bytes text = IsNoText command bytes text
 IsLineOf command Refused bytes text = IsRefused command bytes text
 IsLineOf command status bytes text = text ≡ constant_text status
 
--- The sink was told it.
+-- The text was written to the sink.
 pub record ToldLine (command : Command) (status : Status) (bytes : List ℕ) (taken : Option (List ℕ))
     (faults : ℕ) (taken' : Option (List ℕ)) (faults' : ℕ) : Type 0 where
   pub text : List ℕ

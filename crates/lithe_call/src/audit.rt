@@ -41,7 +41,7 @@ pub fn audited(alloc: Global, harts: u8, bytes: &[u8]) -> Result<Answer, Fault>
     Ok(Answer { text, ending })
 }
 
-// What the line of a verdict tells.
+// How a command ends that writes the line of a verdict.
 fn ending(verdict: Verdict) -> Ending
     ensures { status_of_ending result ≡ status_by verdict }
 {

@@ -15,6 +15,7 @@ abbrev pub form_asked : List (List ℕ) → Option Form
 form_asked [] = None
 form_asked (word ∷ options) = form_named word
 
+-- The words of an audit with these options; there are none if the first word names no form.
 abbrev pub with_options : Option Form → List (List ℕ) → List (List ℕ)
 with_options None options = []
 with_options (Some form) options = codes "audit" ∷ options

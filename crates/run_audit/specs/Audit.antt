@@ -36,17 +36,19 @@ compared number (wanted ∷ next ∷ more) (found ∷ after ∷ others) =
 compared number (wanted ∷ next ∷ more) found = Err (BadLine (number + 1))
 compared number last found = Ok record { differs = None; lines = number; rest = found }
 
--- A fault of the journal, told by the line of the output that has it.
+-- A fault of the journal, with the line of the output that has it.
 abbrev pub told_behind : ℕ → TextFault → TextFault
 told_behind lines (BadLine line) = BadLine (line + lines)
 told_behind lines (BadNumber line) = BadNumber (line + lines)
 told_behind lines (WrongCount said found) = WrongCount said found
 told_behind lines Memory = Memory
 
+-- A fault of the text behind so many lines has their number added to its line.
 abbrev pub behind : {A : Type 0} → ℕ → Result A TextFault → Result A TextFault
 behind lines (Ok x) = Ok x
 behind lines (Err fault) = Err (told_behind lines fault)
 
+-- The verdict is Legal if the list of entries has no fault, and Illegal otherwise.
 abbrev pub of_fault : Option Fault → ℕ → Verdict
 of_fault None entries = verdict.Legal entries
 of_fault (Some fault) entries = verdict.Illegal fault
@@ -56,6 +58,7 @@ abbrev pub verdict_of : Plan → List Bool → Option ℕ → List Entry → Ver
 verdict_of plan meant (Some line) list = verdict.Differs line
 verdict_of plan meant None list = of_fault (first_fault_of plan meant list) (length list)
 
+-- The verdict on compared array lines is made by the journal behind them.
 abbrev pub audited : Plan → List Bool → Compared → Result Verdict TextFault
 audited plan meant found = and_then (λ list. Ok (verdict_of plan meant found.differs list))
     (behind found.lines (journal_in plan found.rest))

@@ -8,6 +8,7 @@ use Rattle.journal_text.specs.Reading.{lines_of, is_word}
 abbrev pub most_audited : ℕ
 most_audited = 4194304
 
+-- The first part has this text before it.
 abbrev pub with_front : List ℕ → List ℕ × List ℕ → List ℕ × List ℕ
 with_front front parts = (front ++ parts.0, parts.1)
 
@@ -20,5 +21,6 @@ parts_in (line ∷ next ∷ more) =
     if is_word (codes "%%") line then Some ([], join_with_byte 10 (next ∷ more))
     else option_map (with_front (line ++ 10 ∷ [])) (parts_in (next ∷ more))
 
+-- The parts of a text are what stands before and behind its first line `%%`.
 abbrev pub parts_of : List ℕ → Option (List ℕ × List ℕ)
 parts_of text = parts_in (lines_of text)
