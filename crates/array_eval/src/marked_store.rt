@@ -87,7 +87,7 @@ impl MarkedStore {
         }
     }
 
-    /// Writes a cell, if it is there. It takes no memory.
+    /// Writes a cell, if it is there. It does not allocate.
     #[inline]
     pub(crate) fn write(&mut self, cell: usize, value: i64)
         ensures { self.new ≡ noted cell value self.old }
@@ -101,9 +101,10 @@ impl MarkedStore {
         }
     }
 
-    /// Writes an overlay's cells, those that are there, and marks them. It takes no memory, and time for the pairs alone.
+    /// Writes an overlay's cells, those that are there, and marks them. It does not allocate, and takes time for the pairs alone.
     ///
-    /// So pieces are merged: where all cells are there, the overlay is laid over what is marked, and its values win.
+    /// So pieces are merged: where all cells are there, the overlay is laid over what is marked, and its values win. Books cite
+    /// the clause `laid`.
     pub fn merge(&mut self, written: &Overlay)
         ensures noted { self.new ≡ noted_all written.now.pairs self.old }
         ensures laid { All (λ pair. pair.0 < length self.old.cells) written.now.pairs
@@ -128,7 +129,8 @@ impl MarkedStore {
         Ok(store)
     }
 
-    /// The cells that were written, each with its value. There must be at most 65,535 cells.
+    /// The cells that were written, each with its value. There must be at most 65,535 cells, since an overlay counts its room in
+    /// 16 bits. Stores of programs have at most 4,096.
     pub fn written(&self, alloc: Global) -> Result<Overlay, AllocError>
         requires { length self.now.cells < cell_numbers }
         ensures { IfOk result (λ overlay. overlay.pairs ≡ last_writes (marked self.now)) }
@@ -138,7 +140,7 @@ impl MarkedStore {
         Ok(overlay)
     }
 
-    /// Lays the cells that were written, each with its value, into an overlay of no cell. It takes no memory, and one
+    /// Lays the cells that were written, each with its value, into an overlay of no cell. It does not allocate, and makes one
     /// pass over the pages that were written.
     ///
     /// The overlay must have room for as many pairs as there are cells, and there must be at most 65,535 cells.

@@ -19,6 +19,7 @@ use std::sync::Arc;
 #[derive(Debug, Drop)]
 pub struct Store {
     alloc: Global,
+    // Why the list of pages is behind an `Arc`, as each page is: a copy costs the same for a store of any size.
     paged: Arc<Paged>,
 }
 
@@ -75,7 +76,7 @@ impl Store {
         self.paged.page(number)
     }
 
-    /// Writes a cell. Where memory is wanting, nothing changes.
+    /// Writes a cell, in place if no copy shares the list of pages or the page. If an allocation fails, nothing changes.
     pub fn put(&mut self, cell: u16, value: i64) -> Result<(), AllocError>
         requires { cell < length self.old }
         ensures written { OnOk result (self.new ≡ written self.old cell value) }
@@ -92,7 +93,7 @@ impl Store {
         }
     }
 
-    /// An equal store. It takes no memory of its own.
+    /// An equal store. It allocates nothing of its own.
     pub fn copy(&self) -> Result<Store, AllocError>
         ensures { IfOk result (λ store. store ≡ self.now) }
     {
@@ -114,7 +115,8 @@ impl Store {
         Ok(store)
     }
 
-    /// Writes an overlay's cells. Each of them must be there. Where memory is wanting, nothing changes.
+    /// Writes an overlay's cells. Each of them must be there. The new store is made first, so if an allocation fails, nothing
+    /// changes.
     pub fn merge(&mut self, written: &Overlay) -> Result<(), AllocError>
         requires { All (λ pair. pair.0 < length self.old) written.now.pairs }
         ensures merged { OnOk result (self.new ≡ after written.now.pairs self.old) }

@@ -38,7 +38,7 @@ impl Model for Vars {
 }
 
 impl Vars {
-    /// No loop variable. It takes no memory.
+    /// No loop variable. It does not allocate.
     pub fn empty(alloc: Global) -> Vars
         ensures { result ≡ [] }
     {
@@ -80,7 +80,7 @@ impl Vars {
         None
     }
 
-    /// Equal variables, shared with these. It takes no memory of its own.
+    /// Equal variables, shared with these. It allocates nothing of its own.
     pub fn copy(&self) -> Result<Vars, AllocError>
         ensures { IfOk result (λ vars. vars ≡ self.now) }
     {

@@ -34,6 +34,7 @@ pub record JobTree : Type 0 where
   pub vars : Vars
   pub store : Store
 
+-- The job is its parts, without where they lie in memory.
 abbrev pub job_of : JobParts → JobTree
 job_of job = record {
   arrays = declarations_of job.arrays;
@@ -56,6 +57,7 @@ program_in job = record { arrays = job.arrays; body = statements_of job.work }
 
 -- What a job must be to be run: with the loop variables around, no name of the work is used twice or unknown, all
 -- is in its limits, each static index is inside its array, and the pieces of each site are apart. The store has one value per cell, and the sites' numbers have room.
+-- Of the variables it is required only that no loop of the work takes the name of one of them, or of an array.
 pub record IsFit (job : JobTree) : Type 0 where
   pub single_names : IsTrue (are_declared_once job.arrays [])
   pub new_variables : IsTrue

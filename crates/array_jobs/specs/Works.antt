@@ -13,6 +13,7 @@ pub data WorkTree : Type 0 where
   branch_of : (body : Sequence) → WorkTree
   member_of : (var : List ℕ) (low high : ℤ) (body : Sequence) → WorkTree
 
+-- The work is its parts, without where they lie in memory.
 abbrev pub work_of : Work → WorkTree
 work_of (Branch body) = branch_of (sequence_of body.now)
 work_of (Member var low high body) = member_of var.now low high (sequence_of body.now)

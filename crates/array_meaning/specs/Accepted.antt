@@ -31,6 +31,7 @@ has_indices_inside program =
 abbrev pub HasApartSites : ProgramTree → Type 0
 HasApartSites program = AreSitesApart (arrays_of program.arrays) (sequence_sites program.body [])
 
+-- A program is accepted if it meets these conditions. None of them depends on a number of harts.
 pub record IsAccepted (program : ProgramTree) : Type 0 where
   pub single_names : IsTrue (has_single_names program)
   pub known_names : IsTrue (has_only_known_names program)

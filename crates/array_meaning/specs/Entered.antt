@@ -78,12 +78,15 @@ abbrev mutual
 abbrev pub statement_part : Arrays → Statement → Vars → Part
 statement_part arrays s vars = (statement_work s vars, statement_entered arrays s vars)
 
+-- The part of a sequence is its work and the sites that it enters.
 abbrev pub sequence_part : Arrays → Sequence → Vars → Part
 sequence_part arrays s vars = (sequence_work s vars, sequence_entered arrays s vars)
 
+-- The part of branches is their work, one after another, and the sites that they enter.
 abbrev pub branches_part : Arrays → Sequences → Vars → Part
 branches_part arrays bs vars = (branches_work bs vars, branches_entered arrays bs vars)
 
+-- The part of phases is their work, phase after phase, and the sites that they enter.
 abbrev pub phases_part : Arrays → Sequences → List ℕ → ℤ → ℤ → Vars → Part
 phases_part arrays bs var low high vars =
     (phases_work bs var low high vars, phases_entered arrays bs var low high vars)

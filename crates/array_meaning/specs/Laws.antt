@@ -53,6 +53,7 @@ pub record IsApartByTest (arrays : Arrays) (pieces : List Steps) : Type 0 where
   pub clear : IsApart arrays pieces → (cell : ℕ) → overlaps arrays false false pieces cell ≡ false
   pub apart : ((cell : ℕ) → overlaps arrays false false pieces cell ≡ false) → IsApart arrays pieces
 
+-- The test decides for any pieces whether they are apart.
 abbrev pub ApartIsTested : Type 0
 ApartIsTested = (arrays : Arrays) (pieces : List Steps) → IsApartByTest arrays pieces
 
@@ -61,7 +62,7 @@ abbrev pub ClashesAreTested : Type 0
 ClashesAreTested = (arrays : Arrays) (pieces : List Steps) (cell : ℕ)
     → (overlaps arrays false false pieces cell ≡ true) ↔ IsClash arrays pieces cell
 
--- The cell that is told of an overlap is the least one on which two different pieces clash.
+-- The reported cell of an overlap is the least one on which two different pieces clash.
 abbrev pub LeastClashIsTold : Type 0
 LeastClashIsTold = (arrays : Arrays) (cells : ℕ) (pieces : List Steps)
     → IsLeastClash arrays cells pieces (overlap arrays cells pieces)
@@ -71,6 +72,7 @@ pub record IsPlanOf (program : ProgramTree) (plan : List ℕ) : Type 0 where
   pub earlier : AreEarlier 1 plan
   pub count : length plan ≡ sites_in program.body
 
+-- The computed plan of each program is a plan of it.
 abbrev pub PlansAreRight : Type 0
 PlansAreRight = (program : ProgramTree) → IsPlanOf program (plan_of program)
 
@@ -79,7 +81,7 @@ abbrev pub SitesArePlanned : Type 0
 SitesArePlanned = (body : Sequence) (vars : Vars)
     → length (sequence_sites body vars) ≡ sites_in body
 
--- Of each site of the plan it is told whether the meaning enters it.
+-- For each site of the plan, the flag says whether the meaning enters the site.
 abbrev pub EnteredSitesAreCounted : Type 0
 EnteredSitesAreCounted = (arrays : Arrays) (body : Sequence) (vars : Vars) (store : Store)
     → length (sequence_entered arrays body vars store) ≡ sites_in body

@@ -14,6 +14,7 @@ abbrev pub have_right_lengths : List Declaration → Bool
 have_right_lengths [] = true
 have_right_lengths (d ∷ more) = is_up_to (pos most_cells) d.length && have_right_lengths more
 
+-- The count is the number of branches or phases.
 abbrev pub count_of : Sequences → ℕ
 count_of no_more = 0
 count_of (beside first rest) = 1 + count_of rest

@@ -37,6 +37,7 @@ abbrev mutual
   have_new_variables (beside first rest) taken =
       has_new_variables first taken && have_new_variables rest taken
 
+-- The names are those of the declarations, in their order.
 abbrev pub names_of : List Declaration → List (List ℕ)
 names_of declarations = map (λ d. d.name) declarations
 

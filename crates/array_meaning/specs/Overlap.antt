@@ -41,7 +41,8 @@ first_from test i (suc k) = if test i then Some i else first_from test (i + 1) k
 abbrev pub overlap : Arrays → ℕ → List Steps → Option ℕ
 overlap arrays cells pieces = first_from (overlaps arrays false false pieces) 0 cells
 
--- Two different pieces clash on the cell: one changes it, and the other reads or changes it.
+-- Two different pieces clash on the cell: one changes it, and the other reads or changes it. So the reported cell is defined
+-- apart from the search for it (`overlap`).
 pub record IsClash (arrays : Arrays) (pieces : List Steps) (cell : ℕ) : Type 0 where
   pub i : ℕ
   pub j : ℕ

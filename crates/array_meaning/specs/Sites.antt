@@ -30,6 +30,7 @@ abbrev pub turn_sites : (ℤ → List Site) → ℤ → ℕ → List Site
 turn_sites body low zero = []
 turn_sites body low (suc n) = body low ++ turn_sites body (low +ℤ pos 1) n
 
+-- The sites of a loop are those of its body, turn after turn.
 abbrev pub loop_sites : List ℕ → ℤ → ℤ → (Vars → List Site) → Vars → List Site
 loop_sites var low high body vars = turn_sites (λ x. body ((var, x) ∷ vars)) low (span low high)
 

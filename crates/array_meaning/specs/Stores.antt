@@ -22,6 +22,7 @@ Store = List ℤ
 abbrev pub Write : Type 0
 Write = ℕ × ℤ
 
+-- The arrays are the declarations as pairs of a name and a length.
 abbrev pub arrays_of : List Declaration → Arrays
 arrays_of declarations = map (λ d. (d.name, unsigned_abs d.length)) declarations
 

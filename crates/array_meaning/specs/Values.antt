@@ -18,12 +18,15 @@ one_if b = if b then pos 1 else pos 0
 abbrev pub wrapping_sum : ℤ → ℤ → ℤ
 wrapping_sum a b = int_wrap w64 (a +ℤ b)
 
+-- A difference wraps to 64 bits.
 abbrev pub wrapping_difference : ℤ → ℤ → ℤ
 wrapping_difference a b = int_wrap w64 (a -ℤ b)
 
+-- A product wraps to 64 bits.
 abbrev pub wrapping_product : ℤ → ℤ → ℤ
 wrapping_product a b = int_wrap w64 (a *ℤ b)
 
+-- A negation wraps to 64 bits.
 abbrev pub wrapping_minus : ℤ → ℤ
 wrapping_minus a = int_wrap w64 (neg_ℤ a)
 

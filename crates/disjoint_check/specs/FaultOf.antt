@@ -1,4 +1,4 @@
--- The first of the nine conditions that a program fails, and what is told of it.
+-- The first of the nine conditions that a program fails, and its fault.
 use Rattle.std.specs.Prelude.{ℕ, [], ◌∷◌, Option}
 use Rattle.std.specs.Option.{option_map}
 use Rattle.array_tree.specs.Trees.{ProgramTree}
@@ -11,7 +11,7 @@ use Rattle.disjoint_check.specs.LimitFault.{limit_fault_of}
 use Rattle.disjoint_check.specs.declared.fault.CheckFault.{CheckFault}
 use Rattle.disjoint_check.specs.declared.fault.CheckFault.TheVariants.{OutOfRange, Overlap, Memory}
 
--- What is told of what the walk finds.
+-- The fault of what the walk finds.
 abbrev pub of_walk : WalkFault → CheckFault
 of_walk (walk.OutOfRange line index length) = OutOfRange line index length
 of_walk (walk.Overlap line cell) = Overlap line cell

@@ -1,7 +1,7 @@
 -- The first of several faults.
 use Rattle.std.specs.Prelude.{Bool, true, false, List, [], ◌∷◌, Option, Some, None}
 
--- What is told unless the test holds.
+-- The fault unless the test holds.
 abbrev pub unless : {A : Type 0} → Bool → A → Option A
 unless true fault = None
 unless false fault = Some fault

@@ -67,5 +67,6 @@ abbrev mutual
   unknown_among (beside first rest) arrays vars =
       first_fault (unknown_in first arrays vars ∷ unknown_among rest arrays vars ∷ [])
 
+-- The result is the line of the first unknown name of a program.
 abbrev pub unknown_name : ProgramTree → Option ℕ
 unknown_name program = unknown_in program.body (names_of program.arrays) []

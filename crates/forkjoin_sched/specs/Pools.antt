@@ -40,12 +40,13 @@ abbrev pub free_book : {C : Type 0} → Possession BookParts C → BookParts
 free_book (Free book) = book
 free_book (Held waiting) = record { jobs = []; places = [] }
 
--- What a pool does as a scheduler: it answers by its agenda, and a callback changes its wishes alone.
+-- What a pool does as a scheduler: `enter` gives what its agenda has, and a callback changes its wishes alone.
 pub record Answers (before : PoolParts) (next : Next PoolWork) (after : PoolParts) : Type 0 where
   pub handed : TakesNext before.agenda next after.agenda
   pub site : after.site ≡ before.site
   pub book : after.book ≡ before.book
 
+-- A callback changes the wishes of the pool, and nothing else.
 abbrev pub Hears : PoolParts → Told → PoolParts → Type 0
 Hears before told after =
     after ≡ record before {
@@ -54,19 +55,22 @@ Hears before told after =
       };
     }
 
+-- The pool takes a context back into its ready list, if there is room.
 pub record Takes (before : PoolParts) (c : PoolWork) (answer : Result (Unit {0}) PoolWork)
     (after : PoolParts) : Type 0 where
   pub ready : PutsReady before.agenda c answer after.agenda
   pub site : after.site ≡ before.site
   pub book : after.book ≡ before.book
 
+-- The pool has this book, and is otherwise unchanged.
 abbrev pub with_book : PoolParts → BookParts → PoolParts
 with_book pool book = record pool { book = book }
 
+-- The pool has this agenda, and is otherwise unchanged.
 abbrev pub with_agenda : PoolParts → AgendaParts PoolWork → PoolParts
 with_agenda pool agenda = record pool { agenda = agenda }
 
--- the work is a piece of this place that isn't begun
+-- The work is a piece of this place that isn't begun.
 abbrev pub IsPieceAt : ℕ → PoolWork → Type 0
 IsPieceAt place (Begin job) = job.place ≡ place
 IsPieceAt place (Ready context) = ⊥

@@ -29,7 +29,7 @@ const MOST_ON_WORDS: u8 = 4;
 /// The store is that of the one-thread meaning, and the journal, which is that of a closed board, is complete for the plan and
 /// the sites that this meaning enters: every transfer is legal, every site is gone, and exactly the entered ones came and went.
 /// That is tested, and a run whose journal isn't so is made anew. Up to four harts move on a word board, and more on a wide
-/// one. Where memory is wanting anywhere, the whole run answers that. A hart that has taken a piece passes the gate before its
+/// one. If an allocation fails anywhere, the whole run returns that. A hart that has taken a piece passes the gate before its
 /// first step.
 pub fn run_harts<R: Threads + Wait + Sync, G: Gate>(
     rt: &R,
@@ -143,7 +143,7 @@ fn run_once<R: Threads + Wait + Sync, F: Fn(u8, u16, u8, u8) + Sync>(
     }
 }
 
-// Whether a run's journal is complete for the sites that the program enters. What stands behind a lock doesn't tell which sites
+// Whether a run's journal is complete for the sites that the program enters. Lock-protected state doesn't show which sites
 // these are, so that no proof about the harts has it.
 fn is_complete(
     alloc: Global,

@@ -1,4 +1,4 @@
-//! What a scheduler tells a hart to do.
+//! What a scheduler gives a hart to do.
 ghost use Rattle.std.specs.Prelude.{◌≡◌, Option, None};
 ghost use Rattle.array_jobs.specs.Jobs.{JobParts};
 ghost use Rattle.hart_tools.specs.Told.{pool_job, team_job, pipe_job, with_job};
@@ -68,7 +68,7 @@ impl<'p> Work<'p> for PipeWork<'p> {
     }
 }
 
-/// What a scheduler tells, with the job in place of the context.
+/// What a scheduler gives, with the job in place of the context.
 pub(crate) fn with_job<'p, C: Work<'p>>(next: Next<C>) -> Next<Option<Job<'p>>>
     ensures { result ≡ with_job C.job next }
 {

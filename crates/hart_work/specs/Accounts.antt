@@ -1,5 +1,5 @@
--- The account of sites of a hart that shares the table with nobody, whose entries are so the whole journal: what is said of the plan,
--- of the site that the hart is in, and of entries.
+-- The account of sites of a hart that shares the table with no other. So its entries are the whole journal. An account is about
+-- the plan, the site that the hart is in, and entries.
 use Rattle.std.specs.Prelude.{◌≡◌, ℕ, ◌+◌, ◌-◌, ◌≤◌, true, List}
 use Rattle.transfer_table.specs.Plan.{Plan, IsSite, parent}
 use Rattle.transfer_table.specs.Entry.{unregisters, skips_over}
@@ -18,12 +18,12 @@ use Rattle.hart_work.specs.declared.schedulers.Task.TheVariants.{Piece, Visit, N
 abbrev pub Account : Type 1
 Account = Plan → ℕ → List Entry → List Entry → Type 0
 
--- The account that was in order is so, and of a construct it is told in what state it is.
+-- If the account before was in order, the one after is too.
 abbrev pub Follows : Account → Account → Type 0
 Follows before after = (p : Plan) (around : ℕ) (start es : List Entry) → before p around start es
     → after p around start es
 
--- The hart is told to skip whole subtrees with which nobody has done anything. Once they are skipped the account goes on.
+-- The hart skips whole subtrees in which nothing was done. Once they are skipped the account goes on.
 abbrev pub FollowsSkips : ℕ → ℕ → Account → Account → Type 0
 FollowsSkips first end before after =
     (p : Plan) (around : ℕ) (start es : List Entry) → before p around start es
@@ -45,7 +45,7 @@ Accounts fresh ran before after awaiting Finished =
     Follows before (λ p around start es. ran p start es)
 Accounts fresh ran before after awaiting NoMemory = Unit {0}
 
--- The site is a child of the one around, and nobody registered or skipped it.
+-- The site is a child of the one around, and no hart registered or skipped it.
 pub record IsFreshChild (p : Plan) (around : ℕ) (es : List Entry) (s : ℕ) : Type 0 where
   pub site : IsSite p s
   pub parent : parent p s ≡ around

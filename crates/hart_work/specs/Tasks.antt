@@ -1,4 +1,4 @@
--- What a hart is told to do next.
+-- What a hart does next.
 use Rattle.std.specs.Prelude.{◌≡◌, ℕ, ℤ, List, ◌<◌, ◌≤◌, Option, Some, None}
 use Rattle.hart_port.specs.PortView.{PortView, entered}
 use Rattle.contexts.specs.declared.machine.Step.{Step}
@@ -8,7 +8,7 @@ use Rattle.hart_work.specs.declared.found.Found.TheVariants as found
 use Rattle.hart_work.specs.declared.schedulers.Task.{Task}
 use Rattle.hart_work.specs.declared.schedulers.Task.TheVariants.{Piece, Visit, Nothing}
 
--- with each task what is left falls
+-- With each task what is left falls.
 abbrev pub HasNext : {J : Type 0} → ℕ → Task J → ℕ → Type 0
 HasNext before (Piece job) after = after < before
 HasNext before (Visit child) after = after < before
@@ -37,7 +37,7 @@ Goes writes (Nest (found.Pass first end)) before after ready awaits same =
 Goes writes Finished before after ready awaits same = same
 Goes writes NoMemory before after ready awaits same = Unit {0}
 
--- the hart is inside, or it was refused and is where it was
+-- The hart is inside, or it was refused and is where it was.
 abbrev pub HasEntered : {J : Type 0} → PortView → ℕ → Option (Task J) → PortView → Type 0
 HasEntered v s (Some task) after = after ≡ entered v s
 HasEntered v s None after = after ≡ v

@@ -11,16 +11,19 @@ use Rattle.join_book.specs.declared.place.Place.TheVariants as place
 use Rattle.join_book.specs.declared.book.Deposit.{Deposit}
 use Rattle.join_book.specs.declared.book.Deposit.TheVariants.{Kept, Double, Stranger}
 
--- A place is open, or it has the piece of its own job, or its piece found no memory.
+-- A place is open, or it has the piece of its own job, or it is failed, by an allocation failure.
 pub data Mark : Type 0 where
   Open : Mark
   Filled : Mark
   Failed : Mark
 
+-- What contracts see of a book: its jobs, and each place as open, filled or failed. Why no contents: what a place is filled with
+-- follows from the book's type.
 pub record BookParts : Type 0 where
   pub jobs : List JobParts
   pub places : List Mark
 
+-- The mark of a place is what became of it, without the contents.
 abbrev pub mark_of : Place → Mark
 mark_of place.Open = Open
 mark_of (place.Filled written) = Filled
@@ -52,6 +55,7 @@ abbrev pub IsPlaceOf : BookParts → ℕ → JobParts → Type 0
 IsPlaceOf book i job = (own : JobParts) × (slice_get book.jobs i ≡ Some own)
     × (job_of own ≡ job_of job)
 
+-- The book has this mark at place i, and is otherwise unchanged.
 abbrev pub marked_book : BookParts → ℕ → Mark → BookParts
 marked_book book i mark = record book { places = slice_set book.places i mark }
 
@@ -59,7 +63,7 @@ marked_book book i mark = record book { places = slice_set book.places i mark }
 abbrev pub IsFull : BookParts → Type 0
 IsFull book = (i : ℕ) → ¬ IsMarked book i Open
 
--- The piece of some place found no memory.
+-- Some place is failed.
 abbrev pub HasFailed : BookParts → Type 0
 HasFailed book = (i : ℕ) × IsMarked book i Failed
 
@@ -87,7 +91,7 @@ pub record IsBlank (book : BookParts) (store : Trace) : Type 0 where
 abbrev pub all_writes : BookParts → List Write
 all_writes book = merged (map (λ job. piece_of_job (job_of job)) book.jobs) []
 
--- Of a book and a piece, the answer and the book afterwards. A piece goes to the place of its own job, if that is open.
+-- Of a book and a piece, the result and the book afterwards. A piece goes to the place of its own job, if that is open.
 abbrev pub Deposits : BookParts → PieceParts → Deposit → BookParts → Type 0
 Deposits before piece Kept after =
     IsPlaceOf before piece.job.place piece.job × IsMarked before piece.job.place Open
@@ -110,7 +114,7 @@ with_piece book piece = record {
   places = slice_set book.places piece.job.place Filled;
 }
 
--- Of a book and a piece that isn't compared, the answer and the book afterwards. A piece goes to the place that its job names,
+-- Of a book and a piece that isn't compared, the result and the book afterwards. A piece goes to the place that its job names,
 -- if that is open, and takes its job along.
 abbrev pub Puts : BookParts → PieceParts → Deposit → BookParts → Type 0
 Puts before piece Kept after =

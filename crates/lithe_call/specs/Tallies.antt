@@ -15,7 +15,7 @@ pub record IsTallied (harts : ℕ) (program : ProgramTree) : Type 0 where
   pub shaped : spread_fault_of program ≡ None
   pub accepted : IsAcceptedFor (spread_of program) harts
 
--- these bytes spell such a program
+-- These bytes spell such a program.
 pub record SpellTallied (harts : ℕ) (bytes : List ℕ) (program : ProgramTree) : Type 0 where
   pub short : length bytes ≤ most_bytes
   pub spelled : Spells bytes program

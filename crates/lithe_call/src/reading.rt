@@ -9,7 +9,7 @@ use std::alloc::{AllocError, Global};
 /// Why an input wasn't read to its end.
 #[derive(Clone, Copy, Debug, PartialEq, Eq)]
 pub enum ReadError {
-    /// Want of memory.
+    /// An allocation failed.
     Memory,
     /// The source gave more than the limit's bytes before its end.
     TooLong,

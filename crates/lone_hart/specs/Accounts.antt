@@ -15,11 +15,11 @@ pub record Stands {C : Type 0} (begin : JobParts → C) (book : BookParts) (agen
   pub each : length book.places ≡ length book.jobs
   pub own : (i : ℕ) (job : JobParts) → slice_get book.jobs i ≡ Some job → job.place ≡ i
 
--- all jobs that were handed out came back
+-- All jobs that were handed out came back.
 abbrev pub AllCameBack : {C : Type 0} → (JobParts → C) → BookParts → AgendaParts C → Type 0
 AllCameBack begin book agenda = (k : ℕ) × Stands begin book agenda k k
 
--- all but this job, which was handed out last
+-- All but this job, which was handed out last.
 abbrev pub AllButOneCameBack : {C : Type 0} → (JobParts → C) → BookParts → AgendaParts C
     → JobParts → Type 0
 AllButOneCameBack begin book agenda job =

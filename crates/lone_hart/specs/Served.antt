@@ -76,7 +76,7 @@ is_lent (Pool nested pool) job p around start es =
     IsPlan p × LendsJob p around start es nested pool job
 is_lent (Team t) job p around start es = IsPlan p × LendsMember p around start es t job
 
--- a job of the site came back as a failure
+-- A job of the site came back as a failure.
 abbrev pub is_failed : LoneSite → Type 0
 is_failed (Base base) = ⊥
 is_failed (Pool nested pool) = HasFailed pool.book

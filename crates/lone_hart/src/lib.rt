@@ -1,4 +1,4 @@
-//! Runs of accepted programs on one hart.
+//! Runs of accepted programs on one hart. Begin with `run_alone` in `run.rt`; the tests of `harts_tests` run programs by it.
 //!
 //! `run_alone` runs a program on one hart: each `par` by a pool, each `team` by a team, each piece by a machine of its own,
 //! and each transfer by a call of the schedulers over the port of a single hart. It takes no runtime, and returns.

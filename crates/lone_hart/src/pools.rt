@@ -70,7 +70,7 @@ pub fn deposit_in_pool<'p>(pool: &mut Pool<'p>, piece: Piece<'p>)
     pool.keep(piece);
 }
 
-/// A piece found no memory.
+/// Reports that an allocation failed for a piece.
 pub fn fail_in_pool(pool: &mut Pool, place: u8)
     requires { (job : JobParts) × AllButOneCameBack Begin pool.old.book pool.old.agenda job
         × (job.place ≡ place) }
@@ -82,7 +82,7 @@ pub fn fail_in_pool(pool: &mut Pool, place: u8)
     pool.fail(place);
 }
 
-/// What the `par` of a pool writes that is full, or of which a piece failed: then the answer is want of memory.
+/// What the `par` of a pool writes that is full, or of which a piece failed: then the result is an allocation failure.
 pub fn take_from_pool<'p>(nested: &Nested<'p>, pool: Pool<'p>) -> Result<Overlay, AllocError>
     requires of { IsPoolOf nested.now pool }
     requires over { IsFull pool.book ⊎ HasFailed pool.book }

@@ -79,7 +79,7 @@ pub fn arrive_in_team<'p>(team: &mut Team<'p>, piece: Piece<'p>)
     let _ = team.keep(piece);
 }
 
-/// A piece found no memory.
+/// Reports that an allocation failed for a piece.
 pub fn fail_in_team(team: &mut Team, place: u8)
     requires { (job : JobParts) × AllButOneCameBack Begin team.old.barrier team.old.agenda job
         × (job.place ≡ place) }

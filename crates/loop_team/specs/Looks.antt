@@ -1,4 +1,4 @@
--- What a look under the lock of a shared team found, and what a hart does then, if that is the answer.
+-- What a look under the lock of a shared team found, and what a hart does then, if that is the result.
 use Rattle.std.specs.Prelude.{◌≡◌, ◌⊎◌, Option, Some, None}
 use Rattle.sched_api.specs.declared.scheduler.Next.{Next}
 use Rattle.sched_api.specs.declared.scheduler.Next.TheVariants.{Run, Lend, Nothing}

@@ -49,11 +49,13 @@ IsVacant (seat.Open job) = Unit {0}
 IsVacant (seat.Came piece) = ⊥
 IsVacant seat.Gone = ⊥
 
+-- The piece of the seat has come.
 abbrev pub HasCome : Seat → Type 0
 HasCome (seat.Open job) = ⊥
 HasCome (seat.Came piece) = Unit {0}
 HasCome seat.Gone = ⊥
 
+-- The seat is open for the piece of this job.
 abbrev pub IsOf : Seat → JobParts → Type 0
 IsOf (seat.Open own) job = job_of own ≡ job_of job
 IsOf (seat.Came piece) job = ⊥
@@ -63,16 +65,19 @@ IsOf seat.Gone job = ⊥
 abbrev pub IsOpen : StripeParts → ℕ → Type 0
 IsOpen stripe row = (s : Seat) × (slice_get stripe.seats row ≡ Some s) × IsVacant s
 
+-- The piece of the row has come.
 abbrev pub HasPiece : StripeParts → ℕ → Type 0
 HasPiece stripe row = (s : Seat) × (slice_get stripe.seats row ≡ Some s) × HasCome s
 
+-- The row is open for the piece of this job.
 abbrev pub WaitsFor : StripeParts → ℕ → JobParts → Type 0
 WaitsFor stripe row job = (s : Seat) × (slice_get stripe.seats row ≡ Some s) × IsOf s job
 
+-- The stripe has this seat in the row, and is otherwise unchanged.
 abbrev pub with_seat : StripeParts → ℕ → Seat → StripeParts
 with_seat stripe row s = record stripe { seats = slice_set stripe.seats row s }
 
--- Of a stripe and a piece for a row, the answer and the stripe afterwards. The piece stays if the row waits for it.
+-- Of a stripe and a piece for a row, the result and the stripe afterwards. The piece stays if the row waits for it.
 abbrev pub Receives : StripeParts → ℕ → PieceParts → Result (Unit {0}) PieceParts → StripeParts → Type 0
 Receives before row piece (Ok done) after =
     WaitsFor before row piece.job × (after ≡ with_seat before row (seat.Came piece))
@@ -101,7 +106,7 @@ abbrev pub AreSeatsOf : TeamParts → ℕ → List Seat → Type 0
 AreSeatsOf team number seats = (row : ℕ) (s : Seat) → slice_get seats row ≡ Some s
     → IsSeatOf team (number + row * STRIPES) s
 
--- No place of the team's phase is wanting.
+-- No place of the team's phase is missing.
 abbrev pub AreAllSeatsOf : TeamParts → ℕ → List Seat → Type 0
 AreAllSeatsOf team number seats = (row : ℕ) → row < ROWS → number + row * STRIPES < length team.barrier.jobs
     → row < length seats

@@ -39,6 +39,7 @@ pub record TeamParts : Type 0 where
 abbrev pub phases_in : NestedParts → ℕ
 phases_in nested = phases_of (statement_of nested.construct)
 
+-- The number of members is that of the construct.
 abbrev pub members_in : NestedParts → ℕ
 members_in nested = members_of (statement_of nested.construct)
 
@@ -87,12 +88,15 @@ with_phase team jobs = record team {
   barrier = open_book jobs;
 }
 
+-- The team has this barrier, and is otherwise unchanged.
 abbrev pub with_barrier : TeamParts → BookParts → TeamParts
 with_barrier team barrier = record team { barrier = barrier }
 
+-- The team has this agenda, and is otherwise unchanged.
 abbrev pub with_agenda : TeamParts → AgendaParts TeamWork → TeamParts
 with_agenda team agenda = record team { agenda = agenda }
 
+-- The team is failed, and is otherwise unchanged.
 abbrev pub failed_team : TeamParts → TeamParts
 failed_team team = record team { failed = true }
 
@@ -109,7 +113,7 @@ pub record Opens (before : TeamParts) (piece : PieceParts) (written : Laid)
   pub arrives : Arrives before.barrier piece (Opened written) full
   pub writes : written.pairs ≡ writes_in before.nested before.opened
 
--- The team goes on without the next phase, for which there was no memory.
+-- The team goes on without the next phase, for which an allocation failed.
 pub record FailsToGoOn (before : TeamParts) (piece : PieceParts) (full : BookParts)
     (after : TeamParts) : Type 0 where
   pub fills : Fills before.barrier piece full
@@ -117,7 +121,7 @@ pub record FailsToGoOn (before : TeamParts) (piece : PieceParts) (full : BookPar
   pub wanted : ¬ IsOver (opened_team (with_barrier before full))
   pub failed : after ≡ failed_team (opened_team (with_barrier before full))
 
--- Of a team and a piece, the answer and the team afterwards: the barrier's, and where it opens the team goes on. Want of memory
+-- Of a team and a piece, the result and the team afterwards: the barrier's, and where it opens the team goes on. Want of memory
 -- comes only where the next phase is to begin, and fails the team.
 abbrev pub MovesOn : {E : Type 0} → TeamParts → PieceParts → Result Arrival E → TeamParts → Type 0
 MovesOn before piece (Ok Kept) after =
@@ -133,18 +137,20 @@ MovesOn before piece (Err refused) after = (full : BookParts) × FailsToGoOn bef
 abbrev pub AreInOrder : TeamParts → Type 0
 AreInOrder team = (begun : ℕ) × (team.agenda.unbegun ≡ drop begun (map Begin team.barrier.jobs))
 
--- What a team does as a scheduler: it answers by its agenda, and a callback changes its wishes alone. So the member that it
--- hands out is the lowest that isn't begun.
+-- What a team does as a scheduler: `enter` gives what its agenda has, and a callback changes its wishes alone. So the member that
+-- it hands out is the lowest that isn't begun.
 pub record Answers (before : TeamParts) (next : Next TeamWork) (after : TeamParts) : Type 0 where
   pub handed : TakesNext before.agenda next after.agenda
   pub rest : after ≡ with_agenda before after.agenda
   pub in_order : AreInOrder before
 
+-- A callback changes the wishes of the team, and nothing else.
 abbrev pub Hears : TeamParts → Told → TeamParts → Type 0
 Hears before told after =
     after ≡ with_agenda before
     (record before.agenda { wishes = wishes_after told before.agenda.wishes })
 
+-- The team takes a context back into its ready list, if there is room.
 pub record Takes (before : TeamParts) (c : TeamWork) (answer : Result (Unit {0}) TeamWork)
     (after : TeamParts) : Type 0 where
   pub ready : PutsReady before.agenda c answer after.agenda
@@ -156,6 +162,7 @@ pub record TakesReady (before : TeamParts) (answer : Option TeamWork)
   pub given : GivesReady before.agenda answer after.agenda
   pub rest : after ≡ with_agenda before after.agenda
 
+-- The lowest member that hasn't begun is taken out, if there is one.
 abbrev pub TakesMember : TeamParts → Option JobParts → TeamParts → Type 0
 TakesMember before (Some job) after =
     GivesUnbegun before.agenda (Some (Begin job)) after.agenda

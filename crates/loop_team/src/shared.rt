@@ -200,7 +200,7 @@ impl<'p> SharedTeam<'p> {
         Ok(None)
     }
 
-    // Lays out the members of the phase that begins, and then shows its number. Where memory is wanting, the team is failed.
+    // Lays out the members of the phase that begins, and then shows its number. If an allocation fails, the team is failed.
     fn lay_out<R: Wait>(&self, rt: &R, team: &mut Team<'p>) -> Result<(), AllocError> {
         for slot in &self.slots {
             *slot.lock(rt) = team.take_member();
@@ -413,7 +413,7 @@ fn members_of<'p>(
     Ok(slots)
 }
 
-// What was found, where a team that isn't handed out answers this.
+// What was found, where a team that isn't handed out gives this.
 fn found_by(next: &Next<TeamWork>) -> Found
     ensures { TellsRest result (Some next.now) }
 {

@@ -66,6 +66,7 @@ pub struct Team<'p> {
     agenda: Agenda<TeamWork<'p>>,
     opened: u8,
     barrier: BarrierState<'p>,
+    // Its cells are the start of the next phase, and its marks the result of `take_all`: opening a phase merges that phase alone.
     store: MarkedStore,
     failed: bool,
 }
@@ -97,7 +98,7 @@ impl<'p> Model for Team<'p> {
 impl<'p> Team<'p> {
     /// A team whose first phase is there to be begun. The construct must be a `team`.
     ///
-    /// It makes all room. Beside it only `arrive` and `take_all` take memory.
+    /// It makes all room, for ready contexts one a member. Beside it only `arrive` and `take_all` allocate.
     pub fn new(alloc: Global, nested: Nested<'p>) -> Result<Team<'p>, AllocError>
         requires { kind_of (statement_of nested.construct) ≡ Some kind.Team }
         ensures { IfOk result (λ team. IsNew nested.entry team) }
@@ -189,7 +190,7 @@ impl<'p> Team<'p> {
     /// Takes a piece to the barrier of the phase that runs. Where it opens, what the phase wrote is put on the store, and
     /// the members of the next phase are there to be begun.
     ///
-    /// Where there is no memory for the next phase, the team is failed: the phase that opened was its last one.
+    /// If an allocation for the next phase fails, the team is failed: the phase that opened was its last one.
     pub fn arrive(&mut self, piece: Piece<'p>) -> Result<Arrival<'p>, AllocError>
         ensures { MovesOn self.old piece.entry result self.new }
     {
@@ -282,8 +283,8 @@ impl<'p> Team<'p> {
         self.barrier.is_free(place)
     }
 
-    /// Tells that the piece of a place found no memory. The place must be open. The team is then failed, and no member of a
-    /// later phase begins.
+    /// Reports that an allocation failed for the piece of a place. The place must be open. The team is then failed, and no member
+    /// of a later phase begins. The team keeps no note of the place, and its other places still take pieces.
     pub fn fail(&mut self, place: u8)
         requires { IsMarked self.old.barrier place Open }
         ensures { self.new ≡ failed_team self.old }
@@ -291,7 +292,7 @@ impl<'p> Team<'p> {
         self.failed = true;
     }
 
-    /// Whether some piece, or the jobs of a phase, found no memory.
+    /// Whether an allocation failed for some piece, or for the jobs of a phase.
     pub fn has_failed(&self) -> bool
         ensures { result ≡ self.now.failed }
     {
@@ -305,8 +306,8 @@ impl<'p> Team<'p> {
         self.failed || self.opened == self.nested.phases()
     }
 
-    /// What the whole construct writes: each cell with its last value. The team must be over; where it is failed, the answer
-    /// is want of memory.
+    /// What the whole construct writes: each cell with its last value. The team must be over; if it is failed, the result
+    /// is an allocation failure.
     pub fn take_all(self) -> Result<Overlay, AllocError>
         requires { IsOver self }
         ensures failed { self.entry.failed ≡ true → IsErr result }

@@ -12,6 +12,7 @@ use Rattle.pipe_sched.specs.declared.slot.Slot.TheVariants as slot
 use Rattle.pipe_sched.specs.Slots.{Mark, Waiting, Barred, Out, Filled, Lost, IsAt, IsClear, is_begun, is_settled, is_failed, phases_in, members_in}
 use Rattle.pipe_sched.specs.Pipes.{IsJobAt}
 
+-- The mark of a slot is what became of its piece, without the contents.
 abbrev pub mark_of : Slot → Mark
 mark_of slot.Waiting = Waiting
 mark_of slot.Barred = Barred
@@ -27,6 +28,7 @@ HasJob (slot.Out own) job = job_of own ≡ job_of job
 HasJob (slot.Filled own written) job = job_of own ≡ job_of job
 HasJob (slot.Lost own) job = job_of own ≡ job_of job
 
+-- A failure bars a slot that waits, and loses one that is out.
 abbrev pub failed_slot : Slot → Slot
 failed_slot slot.Waiting = slot.Barred
 failed_slot slot.Barred = slot.Barred
@@ -56,9 +58,11 @@ pub record IsKept (nested : NestedParts) (slots : List Slot) : Type 0 where
       slice_get slots (j * phases_in nested + k) ≡ Some own → IsRight (nested_of nested) j k own
   pub order : AreInOrder (phases_in nested) (map mark_of slots)
 
+-- Each slot is settled: filled, barred or lost.
 abbrev pub AreSettled : List Slot → Type 0
 AreSettled slots = (i : ℕ) (own : Slot) → slice_get slots i ≡ Some own → is_settled (mark_of own) ≡ true
 
+-- Some slot is barred or lost.
 abbrev pub HaveFailed : List Slot → Type 0
 HaveFailed slots = (i : ℕ) × (own : Slot) × (slice_get slots i ≡ Some own) × (is_failed (mark_of own) ≡ true)
 

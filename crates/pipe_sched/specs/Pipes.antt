@@ -47,12 +47,12 @@ abbrev pub GivesDue : PipeParts → Option JobParts → PipeParts → Type 0
 GivesDue before (Some job) after = HandsOut before job after
 GivesDue before None after = NoneIsDue before × (after ≡ before)
 
--- Want of memory changes nothing.
+-- An allocation failure changes nothing.
 abbrev pub Gives : {E : Type 0} → PipeParts → Result (Option JobParts) E → PipeParts → Type 0
 Gives before (Ok given) after = GivesDue before given after
 Gives before (Err refused) after = after ≡ before
 
--- Pieces that found no memory fail one after another, each when it is the one that is due.
+-- Pieces for which an allocation failed fail one after another, each when it is the one that is due.
 abbrev pub FailWhenDue : PipeParts → List (ℕ × ℕ) → PipeParts → Type 0
 FailWhenDue before [] after = after ≡ before
 FailWhenDue before ((j, k) ∷ pieces) after =
@@ -66,7 +66,7 @@ pub record GivesAfterFailing (before : PipeParts) (given : Option JobParts)
   pub fail : FailWhenDue before failed left
   pub gives : GivesDue left given after
 
--- Of a pipeline and a piece, the answer and the pipeline afterwards.
+-- Of a pipeline and a piece, the result and the pipeline afterwards.
 abbrev pub Deposits : PipeParts → PieceParts → Deposit → PipeParts → Type 0
 Deposits before piece Kept after =
     WasHandedOut before piece.job × IsMarked before piece.job.place piece.job.phase Out

@@ -17,9 +17,11 @@ pub record SchedulerParts : Type 0 where
   pub state : PipeParts
   pub agenda : AgendaParts PipeWork
 
+-- The pipe has this state, and is otherwise unchanged.
 abbrev pub with_state : SchedulerParts → PipeParts → SchedulerParts
 with_state pipe state = record pipe { state = state }
 
+-- The pipe has this agenda, and is otherwise unchanged.
 abbrev pub with_agenda : SchedulerParts → AgendaParts PipeWork → SchedulerParts
 with_agenda pipe agenda = record pipe { agenda = agenda }
 
@@ -52,7 +54,7 @@ BeginsDue before (Lend child) after =
     × (after ≡ with_agenda before after.agenda)
 BeginsDue before Nothing after = NoneIsDue before.state × IsIdle before.agenda × (after ≡ before)
 
--- Where no context is ready, pieces that are due and find no memory fail one after another, and then the pipe answers.
+-- Where no context is ready, pieces that are due fail one after another if an allocation fails, and then the call returns.
 pub record AnswersDue (before : SchedulerParts) (next : Next PipeWork)
     (after : SchedulerParts) : Type 0 where
   pub none_ready : before.agenda.ready ≡ []
@@ -61,15 +63,17 @@ pub record AnswersDue (before : SchedulerParts) (next : Next PipeWork)
   pub fail : FailWhenDue before.state failed left
   pub answer : BeginsDue (with_state before left) next after
 
--- What a pipe does as a scheduler: it answers by its lists, and a callback changes its wishes alone.
+-- What a pipe does as a scheduler: `enter` gives what its lists have, and a callback changes its wishes alone.
 abbrev pub Answers : SchedulerParts → Next PipeWork → SchedulerParts → Type 0
 Answers before next after = GoesOn before next after ⊎ AnswersDue before next after
 
+-- A callback changes the wishes of the pipe, and nothing else.
 abbrev pub Hears : SchedulerParts → Told → SchedulerParts → Type 0
 Hears before told after =
     after ≡ with_agenda before
     (record before.agenda { wishes = wishes_after told before.agenda.wishes })
 
+-- The pipe takes a context back into its ready list, if there is room.
 pub record Takes (before : SchedulerParts) (c : PipeWork) (answer : Result (Unit {0}) PipeWork)
     (after : SchedulerParts) : Type 0 where
   pub ready : PutsReady before.agenda c answer after.agenda

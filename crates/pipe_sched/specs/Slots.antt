@@ -4,8 +4,8 @@ use Rattle.array_tree.specs.Trees.{statement_of}
 use Rattle.step_eval.specs.Nests.{NestedParts, phases_of}
 use Rattle.step_eval.specs.Shapes.{members_of}
 
--- A piece waits until it is handed out, and then it is out until it is filled with what it writes, or lost for want of memory.
--- One that comes after a piece that failed is barred: it is never handed out.
+-- A piece waits until it is handed out, and then it is out until it is filled with what it writes, or lost by an allocation
+-- failure. One that comes after a piece that failed is barred: it is never handed out.
 pub data Mark : Type 0 where
   Waiting : Mark
   Barred : Mark
@@ -22,6 +22,7 @@ pub record PipeParts : Type 0 where
 abbrev pub phases_in : NestedParts → ℕ
 phases_in nested = phases_of (statement_of nested.construct)
 
+-- The number of members is that of the construct.
 abbrev pub members_in : NestedParts → ℕ
 members_in nested = members_of (statement_of nested.construct)
 
@@ -50,6 +51,7 @@ pub record IsFirst (phases : ℕ) (marks : List Mark) (j k : ℕ) : Type 0 where
   pub ready : IsReady phases marks j k
   pub least : (i h : ℕ) → IsReady phases marks i h → (j < i) ⊎ ((j ≡ i) × (k ≤ h))
 
+-- The piece of member j in phase k has this mark.
 abbrev pub IsMarked : PipeParts → ℕ → ℕ → Mark → Type 0
 IsMarked pipe j k mark = IsAt (phases_in pipe.nested) pipe.marks j k mark
 
@@ -69,6 +71,7 @@ is_begun Out = true
 is_begun Filled = true
 is_begun Lost = true
 
+-- A piece is settled if it is filled, barred or lost.
 abbrev pub is_settled : Mark → Bool
 is_settled Waiting = false
 is_settled Barred = true
@@ -76,6 +79,7 @@ is_settled Out = false
 is_settled Filled = true
 is_settled Lost = true
 
+-- A piece has failed if it is barred or lost.
 abbrev pub is_failed : Mark → Bool
 is_failed Waiting = false
 is_failed Barred = true
@@ -104,7 +108,7 @@ marked_pipe pipe j k mark = record pipe {
   marks = slice_set pipe.marks (j * phases_in pipe.nested + k) mark;
 }
 
--- What becomes of a piece where it, or one that comes before it, finds no memory.
+-- What becomes of a piece where it, or one that comes before it, fails.
 abbrev pub failed_mark : Mark → Mark
 failed_mark Waiting = Barred
 failed_mark Barred = Barred

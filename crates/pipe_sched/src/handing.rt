@@ -29,7 +29,7 @@ impl<'p> PipeState<'p> {
         }
     }
 
-    // What `next` hands out, where a piece that is due and finds no memory fails, and the next one is asked for.
+    // What `next` hands out, where a piece that is due fails if an allocation does, and the next one is asked for.
     pub(crate) fn next_or_fail(&mut self) -> Option<Job<'p>>
         ensures { GivesAfterFailing self.old result self.new }
     {
@@ -42,7 +42,7 @@ impl<'p> PipeState<'p> {
         None
     }
 
-    // Hands out the piece that is due.
+    // Hands out the piece that is due. It allocates before it changes the state.
     fn give(&mut self, member: u8, phase: u8) -> Result<Job<'p>, AllocError>
         requires { IsDue self.old member phase }
         ensures given { IfOk result (λ job. HandsOut self.old job self.new) }
@@ -136,7 +136,8 @@ fn first_ready(slots: &[Slot], phases: usize) -> Option<usize>
     None
 }
 
-// Whether the piece at a place waits, and those are filled that come right before it.
+// Whether the piece at a place waits, and those are filled that come right before it. Two neighbours decide, since all before a
+// filled place are filled.
 fn looks_ready(slots: &[Slot], phases: usize, place: usize) -> bool
     requires phases { 0 < phases }
     requires there { place < length slots.now }

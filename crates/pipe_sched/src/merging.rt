@@ -15,7 +15,7 @@ use step_eval::Nested;
 
 impl<'p> PipeState<'p> {
     /// What the whole construct writes where no two of its pieces cross, each cell with its last value, in whatever order the
-    /// pieces came. Every piece must be filled or failed; where one has failed, the answer is want of memory.
+    /// pieces came. Every piece must be filled or failed; where one has failed, the result is an allocation failure.
     pub fn take_all(self) -> Result<Overlay, AllocError>
         requires { IsFull self }
         ensures failed { HasFailed self.entry → IsErr result }

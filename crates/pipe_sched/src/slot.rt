@@ -12,13 +12,13 @@ use std::mem;
 pub(crate) enum Slot<'p> {
     // It hasn't been handed out.
     Waiting,
-    // It never will be, since one that must come before it found no memory.
+    // It never will be, since one that must come before it failed.
     Barred,
     // It was handed out with this job.
     Out(Job<'p>),
     // What the job writes.
     Filled(Job<'p>, Overlay),
-    // It was handed out and found no memory.
+    // It was handed out and failed.
     Lost(Job<'p>),
 }
 

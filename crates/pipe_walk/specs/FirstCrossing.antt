@@ -9,7 +9,7 @@ use Rattle.phase_order.specs.Tests.{crossing}
 use Rattle.pipe_walk.specs.declared.fault.PipeFault.{PipeFault}
 use Rattle.pipe_walk.specs.declared.fault.PipeFault.TheVariants.{Crossing, Memory}
 
--- What a fault tells of a program. Want of memory tells nothing.
+-- What a fault says of a program. An allocation failure says nothing.
 abbrev pub IsFaultOf : ProgramTree → PipeFault → Type 0
 IsFaultOf program (Crossing line cell) = IsFirstCrossing program line cell
 IsFaultOf program Memory = Unit {0}

@@ -151,6 +151,7 @@ fn walked_crossing<'s>(
 }
 
 /// The least cell on which two pieces of a `team` cross. Where the text shows that there is none, nothing is walked through.
+/// A loop around the `team` takes one look a turn.
 pub(crate) fn crossing_in<'s>(
     alloc: Global,
     layout: &Layout,

@@ -63,7 +63,7 @@ fn add_refusal(line: &mut String, refusal: NotAdmitted) -> Result<(), AllocError
     }
 }
 
-/// The line that tells a fault of the second part, which isn't want of memory.
+/// The line that reports a fault of the second part, which isn't an allocation failure.
 pub fn text_fault_line(alloc: Global, fault: TextFault) -> Result<Vec<u8>, AllocError>
     requires { fault ≢ TextFault.Memory }
     ensures { IfOk result (λ line. line.items ≡ text_fault_text fault) }

@@ -1,4 +1,4 @@
--- Counts as they are told.
+-- Counts as they are reported.
 use Rattle.std.specs.Prelude.{ℕ, ◌-◌, ◌^◌, min}
 
 -- The greatest number of 64 bits, where a number is above that.

@@ -1,4 +1,5 @@
--- Parts of two programs side by side: from related stores they lead to related ones, and enter the same sites.
+-- Parts of two programs side by side: from related stores they lead to related ones, and enter the same sites. One lemma shows
+-- both, since a part is its steps together with the sites that it enters.
 use Rattle.std.proofs.Common.{◌≡◌, ℕ, zero, suc, ◌<◌, Bool, true, false, cond, [], ◌∷◌, ◌++◌, replicate, ℤ, pos, ◌+ℤ◌, refl, sym, ap, ◌∙◌, subst, arith}
 use Rattle.std.proofs.lemmas.Int.{ints}
 use Rattle.array_tree.specs.Trees.{Expression}

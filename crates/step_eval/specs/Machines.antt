@@ -21,7 +21,8 @@ use Rattle.step_eval.specs.Passes.{pass_of}
 use Rattle.step_eval.specs.Nests.{NestedTree, nested_of, nested_writes}
 
 -- What contracts see of a machine: its job, the works that are still to be run, the store as it now is with the cells
--- that were written so far, the number of the next site, and its stage.
+-- that were written so far, the number of the next site, and its stage. A work is a block or a loop with its variables; contracts
+-- see no frames.
 pub record Progress : Type 0 where
   pub job : JobParts
   pub rest : List WorkAt
@@ -84,13 +85,14 @@ is_awaiting Going = false
 is_awaiting Awaiting = true
 is_awaiting Failed = false
 
--- How many steps are left at most: the construct that is awaited takes none. A machine that is failed is never done.
+-- How many steps are left at most: the construct that is awaited takes none. A machine that is failed is never done. A construct
+-- counts for one step until it is handed out, and both sides of an `if` count.
 abbrev pub left_of : Stage → List WorkAt → ℕ
 left_of Going rest = rest_left rest
 left_of Awaiting rest = rest_left rest - 1
 left_of Failed rest = 1
 
--- What a machine has still to do, as any machine tells it.
+-- What a machine has still to do, as contracts see it of any machine.
 abbrev pub to_do : Progress → Work
 to_do machine = record {
   rest = rest_writes machine;
@@ -109,6 +111,7 @@ handed_out machine w (Some construct) = Some record {
   store = machine.store.cells;
 }
 
+-- The first of these works gives the construct that is handed out.
 abbrev pub nest_in : Progress → List WorkAt → Option NestedTree
 nest_in machine [] = None
 nest_in machine (w ∷ more) = handed_out machine w (construct_of w.work)
@@ -117,7 +120,7 @@ nest_in machine (w ∷ more) = handed_out machine w (construct_of w.work)
 abbrev pub next_nest : Progress → Option NestedTree
 next_nest machine = nest_in machine machine.rest
 
--- The sites that the hart is told to skip with the next step: those of the side of an `if` that isn't run.
+-- The sites that the hart has to skip with the next step: those of the side of an `if` that isn't run.
 abbrev pub next_pass : Progress → Option (ℕ × ℕ)
 next_pass machine =
     pass_of (arrays_of (declarations_of machine.job.arrays)) machine.store.cells machine.next
@@ -136,9 +139,9 @@ HasMoved (w ∷ more) before after =
       stage = Going;
     }
 
--- What a step does, by its answer. More: no construct is next, and no `if` whose other side has sites, and the first work has
+-- What a step does, by its result. More: no construct is next, and no `if` whose other side has sites, and the first work has
 -- moved. A construct: the one that is next is handed out, with its site's number, the variables and the store at this place,
--- and the machine awaits what it writes. A pass: the `if` that is next has begun, and the hart is told of the sites of the
+-- and the machine awaits what it writes. A pass: the `if` that is next has begun, and the hart gets the sites of the
 -- side that isn't run; nothing is awaited. Finished: nothing is left. NoMemory: the machine is failed.
 abbrev pub Advances : Progress → Step Found → Progress → Type 0
 Advances before step.More after =
@@ -159,6 +162,7 @@ Advances before (step.Nest (found.Nest nested)) after =
 Advances before step.Finished after = (before.stage ≡ Going) × (before.rest ≡ []) × (after ≡ before)
 Advances before step.NoMemory after = after.stage ≡ Failed
 
+-- These are the writes of the construct, if there is one.
 abbrev pub AreAwaitedBy : Option NestedTree → List Write → Type 0
 AreAwaitedBy None written = ⊥
 AreAwaitedBy (Some nested) written = written ≡ nested_writes nested
@@ -187,7 +191,7 @@ HasRunWhole (w ∷ more) before after =
     })
 
 -- A machine comes from the first of these to the second with nothing for its hart to see to: by steps that hand out no
--- construct and tell of no site, and by works without sites that are run whole.
+-- construct and pass no site, and by works without sites that are run whole. Laws go over it by cases.
 pub data RunsTo (first : Progress) : Progress → Type 0 where
   stands : RunsTo first first
   moves : (mid last : Progress) → RunsTo first mid → mid.stage ≡ Going → next_nest mid ≡ None
@@ -204,9 +208,9 @@ pub record HasJustPassed (start : Progress) (first end : ℕ) (after : Progress)
   pub told : next_pass before ≡ Some (first, end)
   pub moved : HasMoved before.rest before after
 
--- Where a machine has gone, by the answer. Each time it is the same job, and the type keeps that the machine writes what
+-- Where a machine has gone, by the result. Each time it is the same job, and the type keeps that the machine writes what
 -- the job writes. More: it goes on, with less left. A construct: it has come to the one that is handed out, and awaits
--- what that writes. A pass: it has begun an `if`, and the hart is told of the sites of the side that isn't run. Finished:
+-- what that writes. A pass: it has begun an `if`, and the hart gets the sites of the side that isn't run. Finished:
 -- nothing is left. NoMemory: the machine is failed. On the way there was nothing for its hart to see to.
 abbrev pub HasGone : Progress → Step Found → Progress → Type 0
 HasGone before step.More after =

@@ -33,6 +33,7 @@ work_moved arrays store (member_of var low high body) vars n =
     ∷ before (member_of var (low +ℤ pos 1) high body) vars n ∷ [])
     else []
 
+-- After one step of a work these works stand in its place.
 abbrev pub moved : Arrays → Store → WorkAt → List WorkAt
 moved arrays store w = work_moved arrays store w.work w.vars w.after
 
@@ -76,6 +77,7 @@ work_passes arrays store (branch_of (followed first rest)) vars n =
     begun_sites arrays store first vars
 work_passes arrays store (member_of var low high body) vars n = if int_lt low high then 0 else n
 
+-- A step of a work passes so many sites.
 abbrev pub moved_sites : Arrays → Store → WorkAt → ℕ
 moved_sites arrays store w = work_passes arrays store w.work w.vars w.after
 

@@ -45,6 +45,6 @@ nested_same a b h =
 pub nested_refl : (a : NestedTree) → nested_eq a a ≡ true
 nested_refl a = (parts_decide a a).1 (refl, (refl, (refl, (refl, refl))))
 
--- So the test tells whether two are equal.
+-- So the test decides whether two are equal.
 pub nested_decides : (a b : NestedTree) → Decides (nested_eq a b) (a ≡ b)
 nested_decides a b = (λ h. nested_same a b h, λ e. rw e (nested_refl b))

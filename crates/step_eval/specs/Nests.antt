@@ -30,6 +30,7 @@ pub record NestedTree : Type 0 where
   pub vars : Vars
   pub store : Store
 
+-- The construct is its parts, without where they lie in memory.
 abbrev pub nested_of : NestedParts → NestedTree
 nested_of nested = record {
   arrays = declarations_of nested.arrays;

@@ -20,7 +20,8 @@ round_at (round ∷ more) (suc phase) = round_at more phase
 abbrev pub round_of : NestedTree → ℕ → List Steps
 round_of nested phase = round_at (rounds_of nested.construct nested.vars) phase
 
--- What a phase writes from a store, its pieces one after another: each cell with its last value.
+-- What a phase writes from a store, its pieces one after another: each cell with its last value. That they merge in any order
+-- is a law, `PhasesAreMerged`.
 abbrev pub phase_writes : NestedTree → ℕ → Store → List Write
 phase_writes nested phase store =
     piece_of (arrays_of nested.arrays) (join (round_of nested phase)) store
@@ -73,5 +74,6 @@ pub record IsWhole (nested : NestedTree) : Type 0 where
   pub store : store_before nested (phases_of nested.construct)
       ≡ after (nested_writes nested) nested.store
 
+-- The phases of each fit construct make up the whole construct.
 abbrev pub PhasesAreConstructs : Type 0
 PhasesAreConstructs = (nested : NestedTree) → IsFitNest nested → IsWhole nested

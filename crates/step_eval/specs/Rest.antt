@@ -14,6 +14,7 @@ pub record WorkAt : Type 0 where
   -- this is
   pub after : ℕ
 
+-- The work stands by itself, with no site behind it.
 abbrev pub at : WorkTree → Vars → WorkAt
 at work vars = record { work = work; vars = vars; after = 0 }
 

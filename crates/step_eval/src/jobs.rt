@@ -19,7 +19,8 @@ use std::alloc::{AllocError, Global};
 /// The jobs of the pieces of a phase, counted from 0, in the order of their places: one for each branch or member. They
 /// are a group.
 ///
-/// They start from this store, which has as many cells as the one before the construct. A `par` has one phase.
+/// They start from this store, which has as many cells as the one before the construct. A `par` has one phase. The sites inside
+/// the jobs have consecutive numbers, after those of earlier phases in all iterations.
 pub fn jobs_of<'p>(
     alloc: Global,
     nested: &Nested<'p>,

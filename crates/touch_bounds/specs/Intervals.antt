@@ -7,7 +7,7 @@ pub record LiesIn (within : Interval) (value : ℤ) : Type 0 where
   pub low : within.least ≤ℤ value
   pub high : value ≤ℤ within.greatest
 
--- Whatever lies in an interval, what comes of it lies in the one that is told.
+-- Whatever lies in an interval, what comes of it lies in the reported one.
 abbrev pub LeadsInto : (ℤ → ℤ) → Interval → Interval → Type 0
 LeadsInto f within told = (x : ℤ) → LiesIn within x → LiesIn told (f x)
 

@@ -1,4 +1,4 @@
--- Pieces of which is told what they touch.
+-- Pieces with recorded stretches of the cells that they touch.
 use Rattle.std.specs.Prelude.{ℕ, ◌<◌, List, [], ◌∷◌, length, map}
 use Rattle.array_meaning.specs.Stores.{Arrays, Vars}
 use Rattle.array_meaning.specs.Steps.{Steps}
@@ -9,11 +9,11 @@ use Rattle.touch_bounds.specs.declared.touch.Touch.{Touch}
 use Rattle.touch_bounds.specs.Ranges.{Bounds, AreWithin}
 use Rattle.touch_bounds.specs.Touches.{DoClash, touch_at, AreVisitsTold}
 
--- What is told of each piece, array by array.
+-- The recorded stretches of each piece, array by array.
 abbrev pub tables_of : List Piece → List (List Touch)
 tables_of pieces = map (λ p. p.touches.items) pieces
 
--- What is told of each piece is true.
+-- The recorded stretches of each piece are true.
 abbrev pub ArePiecesTold : Arrays → List (List Touch) → List Steps → Type 0
 ArePiecesTold arrays [] [] = Unit {0}
 ArePiecesTold arrays [] (piece ∷ more) = ⊥
@@ -25,7 +25,7 @@ ArePiecesTold arrays (t ∷ rest) (piece ∷ more) =
 abbrev pub Round : Type 0
 Round = Vars → List Steps
 
--- What is told of each piece is true, whatever values the variables have between their bounds.
+-- The recorded stretches of each piece are true, whatever values the variables have between their bounds.
 abbrev pub IsRoundTold : Arrays → List (List Touch) → Bounds → Round → Type 0
 IsRoundTold arrays tables bounds round =
     (vars : Vars) → AreWithin bounds vars → ArePiecesTold arrays tables (round vars)
@@ -40,6 +40,7 @@ abbrev pub AreAllRoundsApart : Arrays → Bounds → (Vars → List (List Steps)
 AreAllRoundsApart arrays bounds rounds =
     (vars : Vars) → AreWithin bounds vars → AreRoundsApart arrays (rounds vars)
 
+-- At each site the pieces are apart, whatever values the variables have between their bounds.
 abbrev pub AreAllSitesApart : Arrays → Bounds → (Vars → List Site) → Type 0
 AreAllSitesApart arrays bounds sites =
     (vars : Vars) → AreWithin bounds vars → AreSitesApart arrays (sites vars)
@@ -55,7 +56,7 @@ abbrev pub AreClear : ℕ → List (List Touch) → Type 0
 AreClear number [] = Unit {0}
 AreClear number (t ∷ more) = IsClearOf number (touch_at t number) more × AreClear number more
 
--- Pieces are apart where what is told of them is true, and clashes on no array.
+-- Pieces are apart if their recorded stretches are true and clash on no array.
 abbrev pub ClearPiecesAreApart : Type 0
 ClearPiecesAreApart = (arrays : Arrays) (tables : List (List Touch)) (pieces : List Steps)
     → ArePiecesTold arrays tables pieces →

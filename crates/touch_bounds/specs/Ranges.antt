@@ -16,6 +16,7 @@ Bounds = List (List ℕ × Interval)
 abbrev pub fixed : Vars → Bounds
 fixed vars = map (λ v. (v.0, exactly v.1)) vars
 
+-- The bounds of ranges are those of each loop around, and of the fixed variables.
 abbrev pub bounds_of : Ranges → Bounds
 bounds_of (Fixed scope) = fixed (vars_of scope.now)
 bounds_of (Loop' name within place outer) = (name.now, within) ∷ bounds_of outer
@@ -33,7 +34,7 @@ interval_of [] name = exactly (pos 0)
 interval_of (b ∷ more) name = cond (name_eq b.0 name) b.1 (interval_of more name)
 
 -- Whatever the arrays and the store, and whatever values the variables have between their bounds, the value of the
--- expression lies between the bounds that are told.
+-- expression lies between the reported bounds.
 abbrev pub IsTold : Bounds → Expression → Interval → Type 0
 IsTold bounds expr told = (arrays : Arrays) (vars : Vars) (store : Store) → AreWithin bounds vars
     → LiesIn told (value_of arrays vars expr store)

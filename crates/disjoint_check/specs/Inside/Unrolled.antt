@@ -7,15 +7,19 @@ use Rattle.array_meaning.specs.Limits.{count_of}
 use Rattle.disjoint_check.specs.Shapes.{Shape}
 use Rattle.disjoint_check.specs.declared.unroll.Site.{Site}
 
+-- The unrolled sites stand in a list, one row for each site.
 abbrev pub Rows : Type 0
 Rows = List Site
 
+-- The parents are those of the rows, in their order.
 abbrev pub parents_in : Rows → List ℕ
 parents_in rows = map (λ r. r.parent) rows
 
+-- The shape of a row is its members and its phases.
 abbrev pub shape : Site → Shape
 shape site = (site.members, site.phases)
 
+-- The shapes are those of the rows, in their order.
 abbrev pub shapes_in : Rows → List Shape
 shapes_in rows = map shape rows
 
@@ -27,6 +31,7 @@ last_site rows = min (length rows) 65535
 abbrev pub parts : ℕ → ℕ
 parts n = min n 255
 
+-- A row has a site's parent, its members and its phases.
 abbrev pub row : ℕ → ℕ → ℕ → Site
 row parent members phases = record { parent = parent; members = members; phases = phases }
 

@@ -25,6 +25,7 @@ last_of (Between first last) = last
 abbrev pub joined : Touch → Touch → Touch
 joined a b = record { read = joined_members a.read b.read; changed = joined_members a.changed b.changed }
 
+-- No member reads or changes the cell.
 abbrev pub untouched : Touch
 untouched = record { read = Nobody; changed = Nobody }
 

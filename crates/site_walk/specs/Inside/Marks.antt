@@ -22,6 +22,7 @@ nothing_done cells arrays = record {
   suspect = false;
 }
 
+-- A cleared table has the same size, and nothing is marked in it.
 abbrev pub cleared : Table → Table
 cleared table = record {
   cells = replicate (length table.cells) untouched;

@@ -13,6 +13,7 @@ joined_pieces (One p) (One q) = cond (nat_eq p q) (One p) Several
 joined_pieces (One p) Several = Several
 joined_pieces Several other = Several
 
+-- The test is true if more than one piece touched.
 abbrev pub are_several : Pieces → Bool
 are_several Nobody = false
 are_several (One p) = false
@@ -26,7 +27,7 @@ joined a b = record { by = joined_pieces a.by b.by; written = a.written || b.wri
 abbrev pub clashes : Touched → Bool
 clashes t = t.written && are_several t.by
 
--- Nobody touched it.
+-- No piece touched it.
 abbrev pub untouched : Touched
 untouched = record { by = Nobody; written = false }
 

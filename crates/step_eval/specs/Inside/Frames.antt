@@ -42,6 +42,7 @@ abbrev pub on_top : Option Frame → List Frame → List Frame
 on_top None below = []
 on_top (Some frame) below = frame ∷ below
 
+-- The frames stand in a list, the top one first.
 abbrev pub frames_in : Frames → List Frame
 frames_in frames = on_top frames.top (reverse frames.below.items)
 
@@ -95,12 +96,12 @@ HaveMoved arrays (w ∷ more) store next after store_after next_after =
     × (store_after ≡ noted_all (moved_writes arrays store.cells w.work w.vars) store)
     × (next_after ≡ next + moved_sites arrays store.cells w)
 
--- The sites that a hart is told to skip.
+-- The sites that a hart has to skip.
 abbrev pub span_told : Told → Option (ℕ × ℕ)
 span_told Nothing = None
 span_told (Skips first end) = Some (first, end)
 
--- So they have moved, and the hart is told what it has to skip.
+-- So they have moved, and this is what the hart has to skip.
 abbrev pub HaveTold : Arrays → Told → List WorkAt → Trace → ℕ → List WorkAt → Trace → ℕ → Type 0
 HaveTold arrays told works store next after store_after next_after =
     (pass_of arrays store.cells next works ≡ span_told told)
@@ -136,6 +137,7 @@ abbrev pub HasPassed : Frames → Frames → Type 0
 HasPassed before after = (arrays : Arrays) (around : Vars) (store : Trace)
     → IsPast arrays store (works_of before around) (works_of after around)
 
+-- Contracts see a construct as a tree.
 abbrev pub seen : Option (Bor Stmt) → Option Statement
 seen None = None
 seen (Some construct) = Some (statement_of construct.now)

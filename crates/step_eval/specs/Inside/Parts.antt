@@ -53,7 +53,7 @@ while_going job rest store next = record {
   stage = Going;
 }
 
--- What a step that found memory does to the rest, to the store and to the number of the next site.
+-- What a step in which no allocation failed does to the rest, to the store and to the number of the next site.
 abbrev pub Advanced : Progress → Step Found → List WorkAt → Trace → ℕ → Type 0
 Advanced before step.More rest store next =
     (next_nest before ≡ None) × (next_pass before ≡ None)
@@ -78,7 +78,7 @@ IsHandedOut machine nested = next_nest machine ≡ Some (nested_of nested)
 abbrev pub IsConstructNext : Statement → List WorkAt → Type 0
 IsConstructNext construct rest = next_construct rest ≡ Some construct
 
--- How a machine stands after a step that found memory.
+-- How a machine stands after a step in which no allocation failed.
 abbrev pub stage_by : Step Found → Stage
 stage_by step.More = Going
 stage_by (step.Nest (found.Pass first end)) = Going
