@@ -26,7 +26,7 @@ rows_differ first size i j c other from below from' below' = ⊎_elim
     (cases_lt i j)
 
 module _ (old new : Arrays) (end rows : ℕ) (ts : List Tally) (laid : AreLaid (cells_of old) end rows ts) where
-  -- each piece touches in the spread program what it may, from this row on
+  -- piece i of the spread program tracks piece i of the given one, in row k + i
   abbrev pub AreTracked : ℕ → List Steps → List Steps → Type 0
   AreTracked k [] [] = Unit {0}
   AreTracked k [] (q ∷ qs) = ⊥
@@ -87,7 +87,7 @@ module _ (old new : Arrays) (end rows : ℕ) (ts : List Tally) (laid : AreLaid (
       ⊎_elim (λ l. omega (arith, l, mine, below, from')) (λ r. omega (arith, r, yours, below', from)) clear.cells)
       (one_or_clear rows ts laid.clear a b x.member y.member)
 
-  -- nor is it of a row and of the given program
+  -- a cell of a row is no cell of the given program
   not_given : (k c : ℕ) → c < cells_of old → IsInRow old new rows ts k c → ⊥
   not_given k c low x = let high = laid.above x.tally x.member in let from = x.from in omega (arith, low, high, from)
 

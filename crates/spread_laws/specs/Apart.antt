@@ -1,4 +1,4 @@
--- Which programs have pieces that overlap on accumulating arrays alone.
+-- Programs whose pieces overlap on accumulating arrays alone, if at all.
 use Rattle.std.specs.Prelude.{◌≡◌, ◌↔◌, ℕ, ◌+◌, ◌<◌, ◌≤◌, List, [], ◌∷◌, None, IsTrue}
 use Rattle.array_tree.specs.Trees.{ProgramTree}
 use Rattle.array_meaning.specs.Stores.{Arrays, arrays_of, base_of}
