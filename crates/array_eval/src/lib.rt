@@ -7,6 +7,7 @@
 mod array_text;
 mod cells;
 mod copies;
+mod fixed;
 mod laws;
 mod layout;
 mod marked_store;
