@@ -9,7 +9,7 @@ use Rattle.array_eval.specs.declared.vars.Binding.{Binding}
 abbrev pub pair_of : Binding → List ℕ × ℤ
 pair_of binding = (binding.name, binding.value)
 
--- Those of each.
+-- The pairs are those of each variable.
 abbrev pub pairs_of : List Binding → Vars
 pairs_of bindings = map pair_of bindings
 

@@ -6,7 +6,7 @@ use Rattle.std.specs.Prelude.{◌≡◌, ℕ, ◌+◌, ◌-◌, ◌*◌, ◌<◌
 abbrev pub cells_on_page : ℕ
 cells_on_page = 64
 
--- Cells with zeros behind them, to the end of a page.
+-- The cells have zeros behind them, to the end of a page.
 abbrev pub padded : List ℤ → List ℤ
 padded cells = cells ++ replicate (cells_on_page - length cells) (pos 0)
 
@@ -35,7 +35,7 @@ IsPageOf cells number page = (place : ℕ) → place < cells_on_page
     → cells_on_page * number + place < length cells
     → slice_index_or page place (pos 0) ≡ slice_index_or cells (cells_on_page * number + place) (pos 0)
 
--- Cells that were changed, and for each page whether one of its cells may have been: those of the other pages are as before.
+-- The flags say for each page whether one of its cells may have changed: the other pages are as before.
 pub record AreChanged (changed : List Bool) (before after : List ℤ) : Type 0 where
   pub as_many : length before ≡ length after
   pub marks : length changed ≡ pages_for (length after)

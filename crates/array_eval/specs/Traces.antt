@@ -14,7 +14,7 @@ pub record Trace : Type 0 where
 abbrev pub fresh : Store → Trace
 fresh store = record { cells = store; marks = replicate (length store) false }
 
--- One write.
+-- One write is noted.
 abbrev pub noted : ℕ → ℤ → Trace → Trace
 noted cell value trace = record {
   cells = written trace.cells cell value;
@@ -37,7 +37,7 @@ marked_from cell (value ∷ more) [] = []
 marked_from cell (value ∷ more) (true ∷ marks) = (cell, value) ∷ marked_from (suc cell) more marks
 marked_from cell (value ∷ more) (false ∷ marks) = marked_from (suc cell) more marks
 
--- All cells that are marked, each with its value.
+-- The pairs are all cells that are marked, each with its value.
 abbrev pub marked : Trace → List Write
 marked trace = marked_from 0 trace.cells trace.marks
 

@@ -54,7 +54,7 @@ pub record IsClash (arrays : Arrays) (pieces : List Steps) (cell : ℕ) : Type 0
   pub changes : changes_of arrays one cell
   pub touches : reads_of arrays other cell ⊎ changes_of arrays other cell
 
--- It is the least of so many cells on which two different pieces clash, or they clash on none.
+-- The reported cell is the least of so many cells on which two different pieces clash; none is reported if they clash on none.
 abbrev pub IsLeastClash : Arrays → ℕ → List Steps → Option ℕ → Type 0
 IsLeastClash arrays cells pieces None = (cell : ℕ) → cell < cells → ¬ IsClash arrays pieces cell
 IsLeastClash arrays cells pieces (Some told) =

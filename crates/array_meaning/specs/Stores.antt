@@ -77,7 +77,7 @@ abbrev pub after : List Write → Store → Store
 after [] store = store
 after (w ∷ more) store = after more (written store w.0 w.1)
 
--- Where an index leads in an array of this length: a dynamic one to its Euclidean remainder.
+-- An index leads to this place in an array of this length: a dynamic one to its Euclidean remainder.
 abbrev pub place_of : ℕ → Bool → ℤ → ℕ
 place_of length true index = unsigned_abs (int_rem_euclid index (pos length))
 place_of length false index = unsigned_abs index

@@ -9,20 +9,20 @@ use Rattle.forkjoin_sched.specs.declared.looks.Found.TheVariants.{HandedOut, Non
 use Rattle.forkjoin_sched.specs.declared.hand.PoolHand.{PoolHand}
 use Rattle.forkjoin_sched.specs.Hands.{Sees, Keeps, IsFoundBare, HasTaken, PushesCodes, IsFalling, code_of}
 
--- The same hand: of the same pool and row, by the same sight of the rows.
+-- The hand is the same: of the same pool and row, by the same sight of the rows.
 pub record IsSame {R : Type 0} (before after : PoolHand R) : Type 0 where
   pub shared : after.shared ≡ before.shared
   pub home : after.home ≡ before.home
   pub level : after.level ≡ before.level
   pub name : after.rows.ghost_name ≡ before.rows.ghost_name
 
--- Nothing was done with the rows, and no look was taken that asks for work.
+-- Nothing was done with the rows, and no look for work was taken.
 pub record IsStill {R : Type 0} (before after : PoolHand R) : Type 0 where
   pub same : IsSame before after
   pub rows : after.rows.now ≡ before.rows.now
   pub looks : after.looks ≡ before.looks
 
--- The same hand, and a further look under the lock found this.
+-- The hand is the same, and a further look under the lock found this.
 abbrev pub HasSeen : {R : Type 0} → PoolHand R → Found → PoolHand R → Type 0
 HasSeen before found after =
     IsSame before after × (after.rows.now ≡ before.rows.now) × Sees before.looks found after.looks

@@ -51,7 +51,7 @@ GivesReadyUnder (Some pool) ready (Some after) =
 
 -- The rows --
 
--- The same rows, to which nothing was pushed; no count of moments at which one was found bare fell.
+-- The rows are the same, to which nothing was pushed; no count of moments at which one was found bare fell.
 pub record Keeps (before after : HartRows) : Type 0 where
   pub kin : kin after ≡ kin before
   pub pushed : map (λ (v : Log). v.pushed) (home_logs after)

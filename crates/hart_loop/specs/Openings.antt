@@ -30,7 +30,7 @@ kept_in (Base base) = None
 kept_in (Published shared) = Some shared.now
 kept_in (Kept shared) = Some shared.value
 
--- It was made for the construct; the base was made for none.
+-- The keeper was made for the construct; that of the base was made for none.
 abbrev pub IsMadeFor : Option SharedSite → NestedParts → Type 0
 IsMadeFor None nested = ⊥
 IsMadeFor (Some shared) nested = IsMadeOf nested shared

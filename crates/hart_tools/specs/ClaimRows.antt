@@ -10,7 +10,7 @@ use Rattle.hart_tools.specs.declared.claims.SiteRows.{SiteRows}
 abbrev pub rows_of_shape : Shape → List ℕ
 rows_of_shape shape = replicate shape.1 shape.0
 
--- Those of all sites, in the order of the sites and then of the phases.
+-- The rows of all sites stand in the order of the sites and then of the phases.
 abbrev pub rows_of_shapes : List Shape → List ℕ
 rows_of_shapes [] = []
 rows_of_shapes (shape ∷ more) = rows_of_shape shape ++ rows_of_shapes more

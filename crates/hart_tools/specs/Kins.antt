@@ -9,6 +9,6 @@ pub record ToolKins : Type 0 where
   pub rows : rows.Kin
   pub seat : seats.SeatKin
 
--- Of rows and a seat.
+-- The identities are those of rows and of a seat.
 abbrev pub kins_of : HartRows → ClaimSeat → ToolKins
 kins_of own seat = record { rows = rows.kin own; seat = seats.kin seat }

@@ -31,7 +31,7 @@ abbrev pub pipe_job : PipeWork → Option JobParts
 pipe_job (pipe.Begin job) = Some job
 pipe_job (pipe.Ready context) = None
 
--- The same, with the job in place of the context.
+-- The task is the same, with the job in place of the context.
 abbrev pub with_job : {C : Type 0} → (C → Option JobParts) → Next C → Next (Option JobParts)
 with_job job_of (Run work) = Run (job_of work)
 with_job job_of (Lend child) = Lend child

@@ -91,7 +91,7 @@ pub record IsBlank (book : BookParts) (store : Trace) : Type 0 where
 abbrev pub all_writes : BookParts → List Write
 all_writes book = merged (map (λ job. piece_of_job (job_of job)) book.jobs) []
 
--- Of a book and a piece, the result and the book afterwards. A piece goes to the place of its own job, if that is open.
+-- A deposit of a piece has this result and leaves this book. A piece goes to the place of its own job, if that is open.
 abbrev pub Deposits : BookParts → PieceParts → Deposit → BookParts → Type 0
 Deposits before piece Kept after =
     IsPlaceOf before piece.job.place piece.job × IsMarked before piece.job.place Open
@@ -114,8 +114,8 @@ with_piece book piece = record {
   places = slice_set book.places piece.job.place Filled;
 }
 
--- Of a book and a piece that isn't compared, the result and the book afterwards. A piece goes to the place that its job names,
--- if that is open, and takes its job along.
+-- A piece that isn't compared has this result and leaves this book. It goes to the place that its job names, if that is open,
+-- and takes its job along.
 abbrev pub Puts : BookParts → PieceParts → Deposit → BookParts → Type 0
 Puts before piece Kept after =
     HasPlaceFor before piece.job × IsMarked before piece.job.place Open

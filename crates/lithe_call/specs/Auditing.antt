@@ -15,7 +15,7 @@ use Rattle.lithe_call.specs.declared.answer.Ending.TheVariants as ending
 use Rattle.lithe_call.specs.declared.status.Status.{Status}
 use Rattle.lithe_call.specs.declared.status.Status.TheVariants as status
 
--- These bytes have two parts, which are so.
+-- These bytes have two parts, for which this holds.
 pub record HasParts (AreSo : List ℕ → List ℕ → Type 0) (bytes : List ℕ) : Type 0 where
   pub first : List ℕ
   pub second : List ℕ

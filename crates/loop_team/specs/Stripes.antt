@@ -61,7 +61,7 @@ IsOf (seat.Open own) job = job_of own ≡ job_of job
 IsOf (seat.Came piece) job = ⊥
 IsOf seat.Gone job = ⊥
 
--- The same of the place in a row.
+-- The place in the row is open.
 abbrev pub IsOpen : StripeParts → ℕ → Type 0
 IsOpen stripe row = (s : Seat) × (slice_get stripe.seats row ≡ Some s) × IsVacant s
 
@@ -77,14 +77,14 @@ WaitsFor stripe row job = (s : Seat) × (slice_get stripe.seats row ≡ Some s) 
 abbrev pub with_seat : StripeParts → ℕ → Seat → StripeParts
 with_seat stripe row s = record stripe { seats = slice_set stripe.seats row s }
 
--- Of a stripe and a piece for a row, the result and the stripe afterwards. The piece stays if the row waits for it.
+-- A piece for a row has this result and leaves this stripe. The piece stays if the row waits for it.
 abbrev pub Receives : StripeParts → ℕ → PieceParts → Result (Unit {0}) PieceParts → StripeParts → Type 0
 Receives before row piece (Ok done) after =
     WaitsFor before row piece.job × (after ≡ with_seat before row (seat.Came piece))
 Receives before row piece (Err back) after =
     (¬ WaitsFor before row piece.job) × (back ≡ piece) × (after ≡ before)
 
--- Of a stripe, what a row gives and the stripe afterwards: its piece, once, exactly if that has come.
+-- A row gives its piece and leaves this stripe: once, exactly if the piece has come.
 abbrev pub Gives : StripeParts → ℕ → Option PieceParts → StripeParts → Type 0
 Gives before row (Some piece) after =
     (slice_get before.seats row ≡ Some (seat.Came piece)) × (piece.job.store ≡ before.start)

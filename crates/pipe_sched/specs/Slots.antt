@@ -26,7 +26,7 @@ phases_in nested = phases_of (statement_of nested.construct)
 abbrev pub members_in : NestedParts → ℕ
 members_in nested = members_of (statement_of nested.construct)
 
--- Where marks are those of so many phases: member j is marked so in phase k.
+-- Member j is marked so in phase k, where marks are those of so many phases.
 abbrev pub IsAt : ℕ → List Mark → ℕ → ℕ → Mark → Type 0
 IsAt phases marks j k mark = (k < phases) × (slice_get marks (j * phases + k) ≡ Some mark)
 
@@ -46,7 +46,7 @@ pub record IsReady (phases : ℕ) (marks : List Mark) (j k : ℕ) : Type 0 where
   pub waits : IsAt phases marks j k Waiting
   pub clear : IsClear phases marks j k
 
--- It is the first of those that are ready, by member and then by phase.
+-- The piece is the first of those that are ready, by member and then by phase.
 pub record IsFirst (phases : ℕ) (marks : List Mark) (j k : ℕ) : Type 0 where
   pub ready : IsReady phases marks j k
   pub least : (i h : ℕ) → IsReady phases marks i h → (j < i) ⊎ ((j ≡ i) × (k ≤ h))
@@ -120,7 +120,7 @@ failed_mark Lost = Lost
 abbrev pub follows : ℕ → ℕ → ℕ → ℕ → Bool
 follows phases j k place = nat_le j (place / phases) && nat_le k (place % phases)
 
--- Those of the elements from this place on are changed whose place passes.
+-- The elements from this place on are changed whose place passes.
 abbrev pub changed_where : {A : Type 0} → (ℕ → Bool) → (A → A) → ℕ → List A → List A
 changed_where test change place [] = []
 changed_where test change place (x ∷ more) =

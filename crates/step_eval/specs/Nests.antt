@@ -22,7 +22,7 @@ pub record NestedParts : Type 0 where
   pub vars : Vars
   pub store : Store
 
--- The same without where its parts lie in memory. Two are equal where these are.
+-- A construct that is handed out, without where its parts lie in memory. Two constructs are equal if these are.
 pub record NestedTree : Type 0 where
   pub arrays : List Declaration
   pub site : ℕ

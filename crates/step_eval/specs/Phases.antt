@@ -49,13 +49,13 @@ JobsAreRounds = (nested : NestedTree) (phase : ℕ) (store : Store)
     → phase < phases_of nested.construct →
     map steps_of_job (jobs_in nested phase store) ≡ round_of nested phase
 
--- They are as many as the construct has branches or members.
+-- The jobs of a phase are as many as the construct has branches or members.
 abbrev pub JobsAreCounted : Type 0
 JobsAreCounted = (nested : NestedTree) (phase : ℕ) (store : Store)
     → phase < phases_of nested.construct →
     length (jobs_in nested phase store) ≡ members_of nested.construct
 
--- They are a group.
+-- The jobs of a phase are a group.
 abbrev pub JobsAreGroups : Type 0
 JobsAreGroups = (nested : NestedTree) → IsFitNest nested → (phase : ℕ) (store : Store)
     → phase < phases_of nested.construct →

@@ -18,7 +18,7 @@ pub record WorkAt : Type 0 where
 abbrev pub at : WorkTree → Vars → WorkAt
 at work vars = record { work = work; vars = vars; after = 0 }
 
--- With so many sites behind it.
+-- The work stands with so many sites behind it.
 abbrev pub before : WorkTree → Vars → ℕ → WorkAt
 before work vars n = record { work = work; vars = vars; after = n }
 

@@ -5,7 +5,7 @@ use Rattle.array_meaning.specs.Limits.{count_of}
 use Rattle.step_eval.specs.declared.shape.Kind.{Kind}
 use Rattle.step_eval.specs.declared.shape.Kind.TheVariants as kind
 
--- Which construct it is, if it is one.
+-- The kind says which construct a statement is, if it is one.
 abbrev pub kind_of : Statement → Option Kind
 kind_of (Assign line array index value) = None
 kind_of (For line var low high body) = None

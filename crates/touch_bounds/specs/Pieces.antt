@@ -51,7 +51,7 @@ IsClearOf number touch [] = Unit {0}
 IsClearOf number touch (other ∷ more) =
     (¬ DoClash touch (touch_at other number)) × IsClearOf number touch more
 
--- No two of them clash on an array.
+-- No two of the pieces clash on an array.
 abbrev pub AreClear : ℕ → List (List Touch) → Type 0
 AreClear number [] = Unit {0}
 AreClear number (t ∷ more) = IsClearOf number (touch_at t number) more × AreClear number more

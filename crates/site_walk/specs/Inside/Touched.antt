@@ -27,7 +27,7 @@ joined a b = record { by = joined_pieces a.by b.by; written = a.written || b.wri
 abbrev pub clashes : Touched → Bool
 clashes t = t.written && are_several t.by
 
--- No piece touched it.
+-- No piece touched the cell.
 abbrev pub untouched : Touched
 untouched = record { by = Nobody; written = false }
 
