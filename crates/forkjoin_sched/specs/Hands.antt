@@ -36,7 +36,7 @@ found_by (Some pool) Nothing = NoneLeft
 found_by (Some pool) (Run work) = Work
 found_by (Some pool) (Lend site) = Work
 
--- The pool answers, and of one that was handed out nothing is left.
+-- The pool gives what `enter` of it does, and a pool that was handed out gives nothing.
 abbrev pub AnswersUnder : Option PoolParts → Next PoolWork → Option PoolParts → Type 0
 AnswersUnder None next after = (next ≡ Nothing) × (after ≡ None)
 AnswersUnder (Some pool) next None = ⊥

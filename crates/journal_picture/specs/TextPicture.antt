@@ -101,13 +101,13 @@ numbers_line faulty last at shown =
 abbrev pub deeds_line : List Entry → List ℕ
 deeds_line shown = codes "         " ++ deeds_text shown ++ codes "\n"
 
--- The band of the entry at a place and the 13 that follow.
+-- the band of the entry at a place and the 13 that follow
 abbrev pub band_text : Bool → List Entry → List (List ℕ) → ℕ → List ℕ
 band_text faulty es lanes at =
     numbers_line faulty (nat_le (length es) (at + 14)) at (take 14 (drop at es))
     ++ deeds_line (take 14 (drop at es)) ++ lanes_text at 0 lanes ++ codes "\n"
 
--- So many bands, from one on.
+-- so many bands, from one on
 abbrev pub bands_text : Bool → List Entry → List (List ℕ) → ℕ → ℕ → List ℕ
 bands_text faulty es lanes band zero = []
 bands_text faulty es lanes band (suc n) =

@@ -121,8 +121,8 @@ pub record FailsToGoOn (before : TeamParts) (piece : PieceParts) (full : BookPar
   pub wanted : ¬ IsOver (opened_team (with_barrier before full))
   pub failed : after ≡ failed_team (opened_team (with_barrier before full))
 
--- Of a team and a piece, the result and the team afterwards: the barrier's, and where it opens the team goes on. Want of memory
--- comes only where the next phase is to begin, and fails the team.
+-- A piece has this result and leaves this team: the result is the barrier's, and if the barrier opens the team goes on. An
+-- allocation failure comes only if the next phase is to begin, and fails the team.
 abbrev pub MovesOn : {E : Type 0} → TeamParts → PieceParts → Result Arrival E → TeamParts → Type 0
 MovesOn before piece (Ok Kept) after =
     Arrives before.barrier piece Kept after.barrier × (after ≡ with_barrier before after.barrier)
