@@ -2,7 +2,7 @@
 use Rattle.std.specs.Int.{div_ceil}
 use Rattle.std.specs.Prelude.{◌≡◌, ℕ, ◌+◌, ◌-◌, ◌*◌, ◌<◌, List, [], ◌∷◌, ◌++◌, ℤ, pos, All, length, replicate, take, drop, Bool, true, false, slice_index_or}
 
--- How many cells a page has.
+-- The number says how many cells a page has.
 abbrev pub cells_on_page : ℕ
 cells_on_page = 64
 
@@ -15,7 +15,7 @@ abbrev pub cells_on : List (List ℤ) → List ℤ
 cells_on [] = []
 cells_on (page ∷ more) = page ++ cells_on more
 
--- How many pages so many cells take.
+-- The number says how many pages so many cells take.
 abbrev pub pages_for : ℕ → ℕ
 pages_for count = div_ceil count cells_on_page
 

@@ -103,13 +103,13 @@ DependsOnReads arrays steps entering = (a b : Store) → length a ≡ length b
     → ((cell : ℕ) → reads_of arrays steps cell → at_cell a cell ≡ at_cell b cell)
     → entering a ≡ entering b
 
--- What the branches enter, each from the one store.
+-- This is what the branches enter, each from the one store.
 abbrev pub branches_alone : Arrays → Sequences → Vars → Entering
 branches_alone arrays no_more vars store = []
 branches_alone arrays (beside first rest) vars store =
     sequence_entered arrays first vars store ++ branches_alone arrays rest vars store
 
--- What so many of the m members enter in a phase, from member j on: each from the one store, over its own iterations.
+-- This is what so many of the m members enter in a phase, from member j on: each from the one store, over its own iterations.
 abbrev pub members_alone : Arrays → List ℕ → ℤ → ℤ → ℕ → Sequence → ℕ → ℕ → Vars → Entering
 members_alone arrays var low high m body j zero vars store = []
 members_alone arrays var low high m body j (suc k) vars store =
@@ -117,7 +117,7 @@ members_alone arrays var low high m body j (suc k) vars store =
     (sequence_part arrays body) vars store
     ++ members_alone arrays var low high m body (j + 1) k vars store
 
--- What all members enter in a phase.
+-- This is what all members enter in a phase.
 abbrev pub team_alone : Arrays → List ℕ → ℤ → ℤ → ℕ → Sequence → Vars → Entering
 team_alone arrays var low high m body vars store =
     members_alone arrays var low high m body 0 m vars store

@@ -20,7 +20,7 @@ lays (w ∷ more) laid = lays more (lay w.0 w.1 laid)
 abbrev pub last_writes : List Write → List Write
 last_writes writes = lays writes []
 
--- What steps write from a store: each cell with its last value, in rising order.
+-- This is what steps write from a store: each cell with its last value, in rising order.
 abbrev pub piece_of : Arrays → Steps → Store → List Write
 piece_of arrays steps store = last_writes (writes_of arrays steps store)
 
@@ -29,12 +29,12 @@ abbrev pub merged : List (List Write) → List Write → List Write
 merged [] laid = laid
 merged (piece ∷ more) laid = merged more (lays piece laid)
 
--- What a list that has each cell once has at a cell.
+-- This is what a list that has each cell once has at a cell.
 abbrev pub value_at : List Write → ℕ → Option ℤ
 value_at [] cell = None
 value_at (w ∷ more) cell = cond (nat_eq w.0 cell) (Some w.1) (value_at more cell)
 
--- What writes leave at a cell: the last value written there.
+-- This is what writes leave at a cell: the last value written there.
 abbrev pub last_value : List Write → ℕ → Option ℤ
 last_value [] cell = None
 last_value (w ∷ more) cell =

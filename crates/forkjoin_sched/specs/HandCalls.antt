@@ -32,15 +32,15 @@ abbrev pub TakesReadyBy : {R : Type 0} → PoolHand R → Option PoolWork → Po
 TakesReadyBy before (Some work) after = HasSeen before Work after
 TakesReadyBy before None after = IsStill before after
 
--- What is found under the lock.
+-- A look under the lock found the cause of this result.
 abbrev pub LooksBy : {R : Type 0} → PoolHand R → Next PoolWork → PoolHand R → Type 0
 LooksBy before (Run work) after = HasSeen before Work after
 LooksBy before (Lend site) after = HasSeen before Work after
 LooksBy before Nothing after = HasSeen before HandedOut after ⊎ HasSeen before NoneLeft after
 
--- What `enter` returns, and its cause: a job of the hand's site, whose code was taken in this call, or what a look of this call
--- found under the lock. It returns Nothing only if this call found the row bare, and a look of this call found the pool handed
--- out, or nothing left in it.
+-- The result of `enter` has a cause: a job of the hand's site, whose code was taken in this call, or what a look of this call
+-- found under the lock. It is Nothing only if this call found the row bare, and a look of this call found the pool handed out,
+-- or nothing left in it.
 abbrev pub Tells : {R : Type 0} → PoolHand R → Next PoolWork → PoolHand R → Type 0
 Tells before (Run (Begin job)) after =
     ((job.site ≡ before.shared.now.site)
@@ -52,14 +52,14 @@ Tells before Nothing after =
     IsFoundBare before.home before.level before.rows.now after.rows.now
     × (Sees before.looks HandedOut after.looks ⊎ Sees before.looks NoneLeft after.looks)
 
--- What `enter` of a hand does: it pushes nothing to the rows.
+-- The call `enter` of a hand pushes nothing to the rows, and its result has its cause.
 pub record AnswersHand {R : Type 0} (before : PoolHand R) (next : Next PoolWork)
     (after : PoolHand R) : Type 0 where
   pub same : IsSame before after
   pub keeps : Keeps before.rows.now after.rows.now
   pub tells : Tells before next after
 
--- What `offer` does. Of a pool that wasn't handed out it pushes codes, the last place first, no place twice.
+-- The call `offer` pushes codes for a pool that wasn't handed out, the last place first, no place twice.
 pub record Offers {R : Type 0} (before after : PoolHand R) : Type 0 where
   pub same : IsSame before after
   pub offers :

@@ -29,7 +29,7 @@ code_of job = code_at job.site job.place
 abbrev pub Sees : Looks → Found → Looks → Type 0
 Sees before found after = Rose before.count after.count × (after.last ≡ Some found)
 
--- What is found by a hart that asks for work.
+-- A look of a hart that asks for work finds this.
 abbrev pub found_by : Option PoolParts → Next PoolWork → Found
 found_by None next = HandedOut
 found_by (Some pool) Nothing = NoneLeft

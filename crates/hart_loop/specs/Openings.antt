@@ -24,7 +24,7 @@ IsMadeOf nested (Team shared) = shared ≡ nested
 IsMadeOf nested (Pipe shared) = (shared ≡ nested) × IsUncrossed (nested_of nested)
 IsMadeOf nested Alone = Unit {0}
 
--- What a keeper has of a site that isn't the base.
+-- A keeper has this of a site that isn't the base.
 abbrev pub kept_in : {S : Type 0} → Keeper S → Option S
 kept_in (Base base) = None
 kept_in (Published shared) = Some shared.now

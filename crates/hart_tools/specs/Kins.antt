@@ -4,7 +4,7 @@ use Rattle.deque_rows.specs.Rows as rows
 use Rattle.claim_words.specs.declared.seat.ClaimSeat.{ClaimSeat}
 use Rattle.claim_words.specs.Seats as seats
 
--- What no call changes of a hart's tools: the identities of its deques and of its seat.
+-- No call changes these identities of a hart's tools, of its deques and of its seat.
 pub record ToolKins : Type 0 where
   pub rows : rows.Kin
   pub seat : seats.SeatKin

@@ -37,7 +37,7 @@ with_job job_of (Run work) = Run (job_of work)
 with_job job_of (Lend child) = Lend child
 with_job job_of Nothing = Nothing
 
--- What a scheduler receives by a callback.
+-- A scheduler receives this by a callback.
 abbrev pub told_by : Call → ℕ → ℕ → Told
 told_by Registered child count = registered_told child
 told_by Unregistered child count = unregistered_told child
@@ -45,7 +45,7 @@ told_by Requested child count = requested_told child count
 told_by Yielded child count = yielded_told child
 told_by Blocked child count = blocked_told
 
--- What a hart gets that is inside.
+-- A hart that is inside gets this to do; one that isn't gets nothing.
 abbrev pub inside : {C : Type 0} → Lent C → Option (Next C)
 inside (Inside next) = Some next
 inside (NotWanted shown) = None

@@ -22,7 +22,7 @@ pub record HasParts (AreSo : List ℕ → List ℕ → Type 0) (bytes : List ℕ
   pub parts : parts_of bytes ≡ Some (first, second)
   pub are : AreSo first second
 
--- What an audit finds in an output of the program's run on so many harts.
+-- This is what an audit finds in an output of the program's run on so many harts.
 abbrev pub found_in : ℕ → ProgramTree → List ℕ → Result Verdict TextFault
 found_in harts program output =
     audit_of (table_plan program harts) (entered_of program)

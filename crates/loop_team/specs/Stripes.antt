@@ -22,7 +22,7 @@ pub record IsAwaited (team : TeamParts) (place : ℕ) (job : JobParts) : Type 0 
   pub waits : IsMarked team.barrier place Open
   pub own : slice_get team.barrier.jobs place ≡ Some job
 
--- What contracts see of a stripe: its number, the store from which its jobs start, and what it knows of its places.
+-- Contracts see these parts of a stripe: its number, the store from which its jobs start, and what it knows of its places.
 pub record StripeParts : Type 0 where
   pub number : ℕ
   pub start : Store
@@ -38,7 +38,7 @@ Starts start seat.Gone = Unit {0}
 abbrev pub StartFrom : Store → List Seat → Type 0
 StartFrom start seats = (row : ℕ) (s : Seat) → slice_get seats row ≡ Some s → Starts start s
 
--- What the type keeps: its number is below that of the most stripes, and all its jobs start from its store.
+-- The type has this invariant: its number is below that of the most stripes, and all its jobs start from its store.
 pub record IsKeptStripe (stripe : StripeParts) : Type 0 where
   pub few : stripe.number < STRIPES
   pub starts : StartFrom stripe.start stripe.seats

@@ -10,7 +10,7 @@ use Rattle.phase_order.specs.Crossings.{HasNoCrossing}
 use Rattle.phase_order.specs.Pipes.{written_before, piped}
 use Rattle.pipe_sched.specs.Slots.{Mark, Out, Filled, PipeParts, IsMarked, IsDue, NoneIsDue, is_begun, marked_pipe, failed_pipe}
 
--- What the pieces of a construct write in a pipeline, phase after phase.
+-- This is what the pieces of a construct write in a pipeline, phase after phase.
 abbrev pub piped_writes : NestedTree → List (List (List Write))
 piped_writes nested =
     piped (arrays_of nested.arrays) (rounds_of nested.construct nested.vars) nested.store
@@ -58,7 +58,7 @@ FailWhenDue before [] after = after ≡ before
 FailWhenDue before ((j, k) ∷ pieces) after =
     IsDue before j k × FailWhenDue (failed_pipe before j k) pieces after
 
--- What is handed out once pieces have failed so.
+-- Some pieces fail one after another, and then the pipeline hands out what is due.
 pub record GivesAfterFailing (before : PipeParts) (given : Option JobParts)
     (after : PipeParts) : Type 0 where
   pub failed : List (ℕ × ℕ)

@@ -13,7 +13,7 @@ kind_of (If line cond then_block else_block) = None
 kind_of (Par line branches) = Some kind.Par
 kind_of (Team line var low high members phases) = Some kind.Team
 
--- How many pieces each of its phases has.
+-- The number says how many pieces each phase of a construct has.
 abbrev pub members_of : Statement → ℕ
 members_of (Assign line array index value) = 0
 members_of (For line var low high body) = 0

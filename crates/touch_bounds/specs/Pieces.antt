@@ -45,7 +45,7 @@ abbrev pub AreAllSitesApart : Arrays → Bounds → (Vars → List Site) → Typ
 AreAllSitesApart arrays bounds sites =
     (vars : Vars) → AreWithin bounds vars → AreSitesApart arrays (sites vars)
 
--- What one piece does to an array clashes with what none of these do to it.
+-- One piece clashes with none of these on an array.
 abbrev pub IsClearOf : ℕ → Touch → List (List Touch) → Type 0
 IsClearOf number touch [] = Unit {0}
 IsClearOf number touch (other ∷ more) =

@@ -24,7 +24,7 @@ no_cells = record { from = 18446744073709551615; to = 0 }
 abbrev pub hull : Stretch → Stretch → Stretch
 hull a b = record { from = min a.from b.from; to = max a.to b.to }
 
--- What is written, or what is read.
+-- The side of a touch is what is written, or what is read.
 abbrev pub side : Touch → Bool → Stretch
 side touch true = touch.written
 side touch false = touch.read

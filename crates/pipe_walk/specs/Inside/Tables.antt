@@ -20,8 +20,8 @@ passed past touch = record {
       || (starts_below past.toucher touch.changed || starts_below past.changer touch.read);
 }
 
--- What contracts see of a table. Of the phase at hand: for each cell what is done to it by static indexes, and for each
--- array what is done to all its cells by dynamic ones. Of those before: what they did to each cell. And the array of each
+-- Contracts see these parts of a table. For the phase at hand it has what static indexes do to each cell, and what dynamic
+-- indexes do to all cells of each array. For the phases before it has what they did to each cell. It also has the array of each
 -- cell.
 pub record TableParts : Type 0 where
   pub cells : List Touch
@@ -33,7 +33,7 @@ pub record TableParts : Type 0 where
 abbrev pub past_in : List Past → ℕ → Past
 past_in list cell = slice_index_or list cell no_past
 
--- What is done to a cell in the phase at hand, by static and by dynamic indexes.
+-- This is what is done to a cell in the phase at hand, by static and by dynamic indexes.
 abbrev pub touch_at : TableParts → ℕ → Touch
 touch_at table cell =
     joined (touch_in table.cells cell) (touch_in table.everywhere (slice_index_or table.owners cell 0))

@@ -98,7 +98,7 @@ with_pieces arrays piece [] table = table
 with_pieces arrays piece (steps ∷ more) table =
     with_pieces arrays (piece + 1) more (with_piece arrays piece steps table)
 
--- What was done to a cell, by static and by dynamic indexes.
+-- This is what was done to a cell, by static and by dynamic indexes.
 abbrev pub done_at : Arrays → Table → ℕ → Touched
 done_at arrays table cell =
     joined (touched_at table.cells cell) (touched_at table.everywhere (array_at arrays cell))

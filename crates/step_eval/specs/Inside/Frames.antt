@@ -59,7 +59,7 @@ abbrev pub IsMore : List WorkAt → Type 0
 IsMore [] = ⊥
 IsMore (w ∷ more) = Unit {0}
 
--- How many loops have begun.
+-- The number says how many loops have begun.
 abbrev pub loops_in : List Frame → ℕ
 loops_in [] = 0
 loops_in (Statements block from after ∷ below) = loops_in below
