@@ -8,7 +8,7 @@ use Rattle.array_meaning.specs.Stores.{Vars}
 abbrev pub loop_var : LoopVar → List ℕ × ℤ
 loop_var v = (v.name.now, v.value)
 
--- Variables that lie one after another, the innermost last.
+-- The variables lie one after another, the innermost last.
 abbrev pub stacked : List LoopVar → Vars
 stacked vars = reverse (map loop_var vars)
 

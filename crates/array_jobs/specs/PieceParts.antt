@@ -5,12 +5,12 @@ use Rattle.array_meaning.specs.Pieces.{piece_of}
 use Rattle.array_jobs.specs.Works.{steps_of}
 use Rattle.array_jobs.specs.Jobs.{JobParts, JobTree, job_of}
 
--- What contracts see of a piece.
+-- Contracts see these parts of a piece.
 pub record PieceParts : Type 0 where
   pub job : JobParts
   pub written : List Write
 
--- What a job writes: each cell with its last value, in rising order.
+-- This is what a job writes: each cell with its last value, in rising order.
 abbrev pub piece_of_job : JobTree → List Write
 piece_of_job job = piece_of (arrays_of job.arrays) (steps_of job.work job.vars) job.store
 

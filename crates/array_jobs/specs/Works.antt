@@ -28,7 +28,7 @@ abbrev pub statements_of : WorkTree → Sequence
 statements_of (branch_of body) = body
 statements_of (member_of var low high body) = followed (For 0 var low high body) ended
 
--- How many sites a work has, those on both sides of each `if` among them.
+-- The number says how many sites a work has, those on both sides of each `if` among them.
 abbrev pub sites_of : WorkTree → ℕ
 sites_of (branch_of body) = sites_in body
 sites_of (member_of var low high body) = span low high * sites_in body

@@ -1,7 +1,7 @@
 -- The limits of a program, each under its one name: so many are the most that a program may have.
 use Rattle.std.specs.Prelude.{ℕ}
 
--- Bytes of its text.
+-- The text of a program has at most so many bytes.
 abbrev pub most_bytes : ℕ
 most_bytes = 65536
 
@@ -9,7 +9,7 @@ most_bytes = 65536
 abbrev pub most_arrays : ℕ
 most_arrays = 64
 
--- Cells of an array, and of all arrays together.
+-- An array, and all arrays together, have at most so many cells.
 abbrev pub most_cells : ℕ
 most_cells = 4096
 
@@ -33,6 +33,6 @@ most_units = 1048576
 abbrev pub most_sites : ℕ
 most_sites = 4095
 
--- Pieces of all sites.
+-- All sites of a program have at most so many pieces.
 abbrev pub most_pieces : ℕ
 most_pieces = 16384

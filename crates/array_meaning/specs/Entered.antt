@@ -9,7 +9,7 @@ use Rattle.array_meaning.specs.Plans.{sites_in}
 use Rattle.array_meaning.specs.Touch.{reads_of}
 use Rattle.array_meaning.specs.Members.{start_of}
 
--- Of each site of a part of a program, in the order of the plan, whether the meaning enters it from a store.
+-- An entering has for each site of a part, in the order of the plan, whether the meaning enters it from a store.
 abbrev pub Entering : Type 0
 Entering = Store → List Bool
 
@@ -17,22 +17,22 @@ Entering = Store → List Bool
 abbrev pub Part : Type 0
 Part = Steps × Entering
 
--- Of one part, and then of the next from the store that the first one leaves.
+-- One part enters its sites, and then the next its own from the store that the first one leaves.
 abbrev pub entered_then : Arrays → Part → Entering → Entering
 entered_then arrays first rest store = first.1 store ++ rest (exec arrays first.0 store)
 
--- Of so many turns.
+-- So many turns enter their sites, one after another.
 abbrev pub turns_entered : Arrays → (ℤ → Part) → ℤ → ℕ → Entering
 turns_entered arrays turn low zero store = []
 turns_entered arrays turn low (suc n) store =
     entered_then arrays (turn low) (turns_entered arrays turn (low +ℤ pos 1) n) store
 
--- Of a loop, whose turns are a part with its variable.
+-- The turns of a loop enter their sites, each with the value of the variable.
 abbrev pub loop_entered : Arrays → List ℕ → ℤ → ℤ → (Vars → Part) → Vars → Entering
 loop_entered arrays var low high body vars store =
     turns_entered arrays (λ x. body ((var, x) ∷ vars)) low (span low high) store
 
--- A loop as a part.
+-- A loop is a part: its work and the sites that its turns enter.
 abbrev pub loop_part : Arrays → List ℕ → ℤ → ℤ → (Vars → Part) → Vars → Part
 loop_part arrays var low high body vars =
     (loop var low high (λ there. (body there).0) vars, loop_entered arrays var low high body vars)
@@ -91,25 +91,25 @@ abbrev pub phases_part : Arrays → Sequences → List ℕ → ℤ → ℤ → V
 phases_part arrays bs var low high vars =
     (phases_work bs var low high vars, phases_entered arrays bs var low high vars)
 
--- Of each site of a program, that of site s at place s - 1.
+-- The flags of a program have for each site whether the meaning enters it, that of site s at place s - 1.
 abbrev pub entered_of : ProgramTree → List Bool
 entered_of program =
     let arrays = arrays_of program.arrays in
     sequence_entered arrays program.body [] (first_store arrays)
 
--- It takes nothing of a store but the cells that steps read.
+-- An entering takes nothing of a store but the cells that steps read.
 abbrev pub DependsOnReads : Arrays → Steps → Entering → Type 0
 DependsOnReads arrays steps entering = (a b : Store) → length a ≡ length b
     → ((cell : ℕ) → reads_of arrays steps cell → at_cell a cell ≡ at_cell b cell)
     → entering a ≡ entering b
 
--- What the branches enter, each from the one store.
+-- This is what the branches enter, each from the one store.
 abbrev pub branches_alone : Arrays → Sequences → Vars → Entering
 branches_alone arrays no_more vars store = []
 branches_alone arrays (beside first rest) vars store =
     sequence_entered arrays first vars store ++ branches_alone arrays rest vars store
 
--- What so many of the m members enter in a phase, from member j on: each from the one store, over its own iterations.
+-- This is what so many of the m members enter in a phase, from member j on: each from the one store, over its own iterations.
 abbrev pub members_alone : Arrays → List ℕ → ℤ → ℤ → ℕ → Sequence → ℕ → ℕ → Vars → Entering
 members_alone arrays var low high m body j zero vars store = []
 members_alone arrays var low high m body j (suc k) vars store =
@@ -117,7 +117,7 @@ members_alone arrays var low high m body j (suc k) vars store =
     (sequence_part arrays body) vars store
     ++ members_alone arrays var low high m body (j + 1) k vars store
 
--- What all members enter in a phase.
+-- This is what all members enter in a phase.
 abbrev pub team_alone : Arrays → List ℕ → ℤ → ℤ → ℕ → Sequence → Vars → Entering
 team_alone arrays var low high m body vars store =
     members_alone arrays var low high m body 0 m vars store

@@ -28,7 +28,7 @@ ArePiecesIndependent = (arrays : Arrays) → HaveCells arrays
     merged (map (λ piece. piece_of arrays piece store) order) []
     ≡ last_writes (writes_of arrays (join pieces) store)
 
--- So do the branches of a `par`: they give what the `par` writes.
+-- The branches of a `par`, if they are apart, give what the `par` writes, merged in any order.
 abbrev pub AreBranchesIndependent : Type 0
 AreBranchesIndependent =
     (arrays : Arrays) → HaveCells arrays
@@ -38,7 +38,7 @@ AreBranchesIndependent =
     merged (map (λ piece. piece_of arrays piece store) order) []
     ≡ last_writes (writes_of arrays (statement_work (Par line branches) vars) store)
 
--- And so do the members of one phase: they give what the loop over all iterations writes.
+-- The members of one phase, if they are apart, give what the loop over all iterations writes, merged in any order.
 abbrev pub AreMembersIndependent : Type 0
 AreMembersIndependent = (arrays : Arrays) → HaveCells arrays
     → (var : List ℕ) (low high : ℤ) (members : ℕ) (body : Work) (vars : Vars)
@@ -93,14 +93,14 @@ EnteredDependsOnReads =
     (arrays : Arrays) → HaveCells arrays → (body : Sequence) (vars : Vars)
     → DependsOnReads arrays (sequence_work body vars) (sequence_entered arrays body vars)
 
--- So branches that are apart enter, each from the store of the `par`, what they enter one after another.
+-- Branches that are apart enter, each from the store of the `par`, what they enter one after another.
 abbrev pub BranchesEnterAlone : Type 0
 BranchesEnterAlone =
     (arrays : Arrays) → HaveCells arrays → (branches : Sequences) (vars : Vars) (store : Store) →
     IsApart arrays (branch_works branches vars)
     → branches_entered arrays branches vars store ≡ branches_alone arrays branches vars store
 
--- And so do the members of one phase: what the loop over all iterations enters.
+-- Members of one phase that are apart enter, each from the one store, what the loop over all iterations enters.
 abbrev pub MembersEnterAlone : Type 0
 MembersEnterAlone = (arrays : Arrays) → HaveCells arrays
     → (var : List ℕ) (low high : ℤ) (members : ℕ) (body : Sequence) (vars : Vars)
@@ -117,7 +117,7 @@ pub record StayInsideParts : Type 0 where
   pub branches : (bs : Sequences) → StayInside (branches_parents bs)
   pub phases : (bs : Sequences) (n : ℕ) → StayInside (phases_parents bs n)
 
--- So where parts follow one another, no site of a later one is inside one of an earlier.
+-- If parts follow one another, no site of a later part is inside a site of an earlier one.
 abbrev pub LaterPartsAreOutside : Type 0
 LaterPartsAreOutside = (part : Parents) → StayInside part → (around first n : ℕ) → around < first
     → AreOutside first n (part around (first + n))

@@ -5,11 +5,11 @@ use Rattle.array_meaning.specs.Bounds.{most_arrays, most_cells, most_members, mo
 use Rattle.array_meaning.specs.Stores.{arrays_of, cells_of}
 use Rattle.array_meaning.specs.Work.{span}
 
--- Whether a number is at least 1 and at most this.
+-- The test decides whether a number is at least 1 and at most this.
 abbrev pub is_up_to : ℤ → ℤ → Bool
 is_up_to most n = int_le (pos 1) n && int_le n most
 
--- Whether each array has 1 to 4,096 cells.
+-- The test decides whether each array has 1 to 4,096 cells.
 abbrev pub have_right_lengths : List Declaration → Bool
 have_right_lengths [] = true
 have_right_lengths (d ∷ more) = is_up_to (pos most_cells) d.length && have_right_lengths more
@@ -41,7 +41,7 @@ abbrev mutual
   have_right_ranges no_more = true
   have_right_ranges (beside first rest) = has_right_ranges first && have_right_ranges rest
 
--- Whether all of these are inside their limits, and the arrays at most 64, with at most 4,096 cells in all.
+-- The test decides whether all of these are inside their limits, and the arrays at most 64, with at most 4,096 cells in all.
 abbrev pub is_in_range : ProgramTree → Bool
 is_in_range program =
     (have_right_lengths program.arrays

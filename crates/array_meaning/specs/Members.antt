@@ -8,7 +8,7 @@ use Rattle.array_meaning.specs.Work.{Work, span, loop}
 abbrev pub first_of : ℕ → ℕ → ℕ → ℕ
 first_of n m j = n * j / m
 
--- Where the iterations of member j of m begin; they end where those of the next begin.
+-- The iterations of member j of m begin here; they end where those of the next begin.
 abbrev pub start_of : ℤ → ℤ → ℕ → ℕ → ℤ
 start_of low high m j = low +ℤ pos (first_of (span low high) m j)
 

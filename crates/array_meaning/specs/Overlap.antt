@@ -4,26 +4,26 @@ use Rattle.array_meaning.specs.Stores.{Arrays, base_of, length_of, cell_of}
 use Rattle.array_meaning.specs.Steps.{Steps}
 use Rattle.array_meaning.specs.Touch.{Visit, walk, reads_of, changes_of}
 
--- Whether an index of an array touches the cell.
+-- The test decides whether an index of an array touches the cell.
 abbrev pub covers : Arrays → List ℕ → Option ℤ → ℕ → Bool
 covers arrays array (Some index) cell = nat_eq cell (cell_of arrays array false index)
 covers arrays array None cell =
     nat_le (base_of arrays array) cell
     && nat_lt cell (base_of arrays array + length_of arrays array)
 
--- Whether some visit writes the cell.
+-- The test decides whether some visit writes the cell.
 abbrev pub changed : Arrays → List Visit → ℕ → Bool
 changed arrays [] cell = false
 changed arrays (v ∷ more) cell =
     (v.writes && covers arrays v.array v.index cell) || changed arrays more cell
 
--- Whether some visit reads the cell.
+-- The test decides whether some visit reads the cell.
 abbrev pub read : Arrays → List Visit → ℕ → Bool
 read arrays [] cell = false
 read arrays (v ∷ more) cell =
     (not v.writes && covers arrays v.array v.index cell) || read arrays more cell
 
--- Whether a piece overlaps with an earlier one, of which some changed the cell, or read it.
+-- The test decides whether a piece overlaps with an earlier one, of which some changed the cell, or read it.
 abbrev pub overlaps : Arrays → Bool → Bool → List Steps → ℕ → Bool
 overlaps arrays was_changed was_read [] cell = false
 overlaps arrays was_changed was_read (piece ∷ more) cell =
@@ -54,7 +54,7 @@ pub record IsClash (arrays : Arrays) (pieces : List Steps) (cell : ℕ) : Type 0
   pub changes : changes_of arrays one cell
   pub touches : reads_of arrays other cell ⊎ changes_of arrays other cell
 
--- It is the least of so many cells on which two different pieces clash, or they clash on none.
+-- The reported cell is the least of so many cells on which two different pieces clash; none is reported if they clash on none.
 abbrev pub IsLeastClash : Arrays → ℕ → List Steps → Option ℕ → Type 0
 IsLeastClash arrays cells pieces None = (cell : ℕ) → cell < cells → ¬ IsClash arrays pieces cell
 IsLeastClash arrays cells pieces (Some told) =

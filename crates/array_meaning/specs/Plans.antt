@@ -8,17 +8,17 @@ use Rattle.array_meaning.specs.Work.{span}
 abbrev pub Parents : Type 0
 Parents = ℕ → ℕ → List ℕ
 
--- Those of one part and then those of the next.
+-- The sites of one part come first, and then those of the next.
 abbrev pub and_then : Parents → Parents → Parents
 and_then first rest around next =
     let sites = first around next in sites ++ rest around (next + length sites)
 
--- Those of so many turns.
+-- The sites of so many turns follow one another.
 abbrev pub repeated : ℕ → Parents → Parents
 repeated zero body around next = []
 repeated (suc n) body around next = and_then body (repeated n body) around next
 
--- Those of a construct: itself, and then those inside it.
+-- A construct is a site, and those inside it follow.
 abbrev pub construct : Parents → Parents
 construct inside around next = around ∷ inside next (next + 1)
 

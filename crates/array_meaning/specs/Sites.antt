@@ -13,12 +13,12 @@ pub record Site : Type 0 where
   pub line : ℕ
   pub rounds : List (List Steps)
 
--- What each branch does.
+-- Each branch does these steps.
 abbrev pub branch_works : Sequences → Vars → List Steps
 branch_works no_more vars = []
 branch_works (beside first rest) vars = sequence_work first vars ∷ branch_works rest vars
 
--- What the members do in each phase.
+-- The members do these steps in each phase.
 abbrev pub phase_rounds : Sequences → List ℕ → ℤ → ℤ → ℕ → Vars → List (List Steps)
 phase_rounds no_more var low high members vars = []
 phase_rounds (beside first rest) var low high members vars =

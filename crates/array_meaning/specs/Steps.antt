@@ -11,7 +11,7 @@ pub data Steps : Type 0 where
   Set : (line : ℕ) (vars : Vars) (array : List ℕ) (index value : Expression) (rest : Steps) → Steps
   Choose : (line : ℕ) (vars : Vars) (test : Expression) (left right rest : Steps) → Steps
 
--- One after the other.
+-- Some steps follow others.
 abbrev pub followed_by : Steps → Steps → Steps
 followed_by Done next = next
 followed_by (Set line vars array index value rest) next =

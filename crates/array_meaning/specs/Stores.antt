@@ -26,7 +26,7 @@ Write = ℕ × ℤ
 abbrev pub arrays_of : List Declaration → Arrays
 arrays_of declarations = map (λ d. (d.name, unsigned_abs d.length)) declarations
 
--- How many cells the arrays have.
+-- The number says how many cells the arrays have.
 abbrev pub cells_of : Arrays → ℕ
 cells_of [] = 0
 cells_of (a ∷ more) = a.1 + cells_of more
@@ -64,7 +64,7 @@ is_dynamic (Read name index) = true
 is_dynamic (Neg e) = is_dynamic e
 is_dynamic (Binary op a b) = is_dynamic a || is_dynamic b
 
--- What a cell has.
+-- A cell has this value; behind the last it is 0.
 abbrev pub at_cell : Store → ℕ → ℤ
 at_cell store cell = slice_index_or store cell (pos 0)
 
@@ -77,7 +77,7 @@ abbrev pub after : List Write → Store → Store
 after [] store = store
 after (w ∷ more) store = after more (written store w.0 w.1)
 
--- Where an index leads in an array of this length: a dynamic one to its Euclidean remainder.
+-- An index leads to this place in an array of this length: a dynamic one to its Euclidean remainder.
 abbrev pub place_of : ℕ → Bool → ℤ → ℕ
 place_of length true index = unsigned_abs (int_rem_euclid index (pos length))
 place_of length false index = unsigned_abs index

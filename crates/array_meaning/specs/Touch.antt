@@ -4,7 +4,7 @@ use Rattle.array_tree.specs.Trees.{Expression, Number, Var, Read, Neg, Binary}
 use Rattle.array_meaning.specs.Stores.{Arrays, Vars, is_dynamic, base_of, length_of, cell_of, value_of}
 use Rattle.array_meaning.specs.Steps.{Steps, Done, Set, Choose}
 
--- One visit of the walk: on which line, whether it writes, which array, and the index where it is static.
+-- A visit of the walk has its line, whether it writes, the array, and the index if it is static.
 pub record Visit : Type 0 where
   pub line : ℕ
   pub writes : Bool

@@ -38,7 +38,7 @@ quotient a b = if holds b then int_wrapping_div w64 a b else pos 0
 abbrev pub remainder : ℤ → ℤ → ℤ
 remainder a b = if holds b then int_rem a b else pos 0
 
--- What an operator gives.
+-- An operator gives this value.
 abbrev pub applied : Op → ℤ → ℤ → ℤ
 applied Add a b = wrapping_sum a b
 applied Sub a b = wrapping_difference a b

@@ -5,7 +5,7 @@ use Rattle.array_tree.specs.Trees.{Statement, Assign, For, If, Par, Team, Sequen
 use Rattle.array_meaning.specs.Stores.{Arrays, Vars, Store, arrays_of, cells_of}
 use Rattle.array_meaning.specs.Steps.{Steps, Done, Set, Choose, followed_by, exec}
 
--- What loop variables make of a part of a program.
+-- A work is what a part of a program does with the values of the loop variables around it.
 abbrev pub Work : Type 0
 Work = Vars → Steps
 
@@ -14,7 +14,7 @@ abbrev pub turns : (ℤ → Steps) → ℤ → ℕ → Steps
 turns body low zero = Done
 turns body low (suc n) = followed_by (body low) (turns body (low +ℤ pos 1) n)
 
--- How many numbers lie from low to before high.
+-- The number says how many numbers lie from low to before high.
 abbrev pub span : ℤ → ℤ → ℕ
 span low high = if int_lt low high then unsigned_abs (high -ℤ low) else 0
 

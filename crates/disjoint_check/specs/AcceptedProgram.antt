@@ -15,7 +15,7 @@ pub record AcceptedProgram : Type 0 where
   pub pieces : ℕ
   pub shapes : List Shape
 
--- It meets the conditions, and what is said of it is true.
+-- The program meets the conditions, and its plan, pieces and shapes are right.
 pub record IsAcceptedProgram (a : AcceptedProgram) : Type 0 where
   pub accepted : IsAccepted (program_of a.program)
   pub parents : a.plan.parents ≡ plan_of (program_of a.program)

@@ -18,7 +18,7 @@ use Rattle.disjoint_check.specs.declared.fault.CheckFault.TheVariants.{Duplicate
 abbrev pub told_depth : ℕ → ℕ
 told_depth depth = min depth (2 ^ 32 - 1)
 
--- How many entries the journal of a run with so many sites and harts may have.
+-- The number says how many entries the journal of a run with so many sites and harts may have.
 abbrev pub room_for : ℕ → ℕ → ℕ
 room_for sites harts = sites * (3 * harts - 1)
 

@@ -10,7 +10,7 @@ use Rattle.array_meaning.specs.Limits.{count_of}
 abbrev pub Shape : Type 0
 Shape = ℕ × ℕ
 
--- Those of so many turns.
+-- The shapes of so many turns follow one another.
 abbrev pub turns_of_shapes : ℕ → List Shape → List Shape
 turns_of_shapes zero body = []
 turns_of_shapes (suc n) body = body ++ turns_of_shapes n body

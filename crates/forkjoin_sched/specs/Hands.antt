@@ -29,14 +29,14 @@ code_of job = code_at job.site job.place
 abbrev pub Sees : Looks → Found → Looks → Type 0
 Sees before found after = Rose before.count after.count × (after.last ≡ Some found)
 
--- What is found by a hart that asks for work.
+-- A look of a hart that asks for work finds this.
 abbrev pub found_by : Option PoolParts → Next PoolWork → Found
 found_by None next = HandedOut
 found_by (Some pool) Nothing = NoneLeft
 found_by (Some pool) (Run work) = Work
 found_by (Some pool) (Lend site) = Work
 
--- The pool answers, and of one that was handed out nothing is left.
+-- The pool gives what `enter` of it does, and a pool that was handed out gives nothing.
 abbrev pub AnswersUnder : Option PoolParts → Next PoolWork → Option PoolParts → Type 0
 AnswersUnder None next after = (next ≡ Nothing) × (after ≡ None)
 AnswersUnder (Some pool) next None = ⊥
@@ -51,7 +51,7 @@ GivesReadyUnder (Some pool) ready (Some after) =
 
 -- The rows --
 
--- The same rows, to which nothing was pushed; no count of moments at which one was found bare fell.
+-- The rows are the same, to which nothing was pushed; no count of moments at which one was found bare fell.
 pub record Keeps (before after : HartRows) : Type 0 where
   pub kin : kin after ≡ kin before
   pub pushed : map (λ (v : Log). v.pushed) (home_logs after)

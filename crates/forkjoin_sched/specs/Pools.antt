@@ -11,7 +11,7 @@ use Rattle.join_book.specs.Books.{BookParts, open_book}
 use Rattle.forkjoin_sched.specs.declared.work.PoolWork.{PoolWork}
 use Rattle.forkjoin_sched.specs.declared.work.PoolWork.TheVariants.{Begin, Ready}
 
--- What contracts see of a pool: its site, what it has for harts, and the book of its pieces.
+-- Contracts see these parts of a pool: its site, what it has for harts, and the book of its pieces.
 pub record PoolParts : Type 0 where
   pub site : ℕ
   pub agenda : AgendaParts PoolWork
@@ -40,7 +40,7 @@ abbrev pub free_book : {C : Type 0} → Possession BookParts C → BookParts
 free_book (Free book) = book
 free_book (Held waiting) = record { jobs = []; places = [] }
 
--- What a pool does as a scheduler: `enter` gives what its agenda has, and a callback changes its wishes alone.
+-- The call `enter` of a pool gives what its agenda has, and changes its agenda alone.
 pub record Answers (before : PoolParts) (next : Next PoolWork) (after : PoolParts) : Type 0 where
   pub handed : TakesNext before.agenda next after.agenda
   pub site : after.site ≡ before.site

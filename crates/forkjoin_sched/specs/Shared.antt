@@ -15,7 +15,7 @@ abbrev pub HasJob : SharedParts → JobParts → Type 0
 HasJob shared job = (own : JobParts) × (slice_get shared.jobs job.place ≡ Some own)
     × (job_of own ≡ job_of job)
 
--- What is known of a deposit without what the lock holds: a piece is kept, or is a Double, only where its job is that of its
+-- A deposit has these results whatever the lock holds: a piece is kept, or is a Double, only where its job is that of its
 -- place, and what isn't kept is given back.
 abbrev pub Receives : SharedParts → PieceParts → Deposit → Type 0
 Receives shared piece Kept = HasJob shared piece.job

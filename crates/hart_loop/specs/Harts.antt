@@ -17,13 +17,13 @@ pub record StartsIn (p : Plan) (v : PortView) : Type 0 where
   pub base : v.owner ≡ 0
   pub inner : IsSettled v
 
--- It is this hart, of the table of this name and of the plan.
+-- The view is of this hart, of the table of this name and of the plan.
 pub record IsAt (name : List ℕ) (p : Plan) (h : ℕ) (v : PortView) : Type 0 where
   pub plan : v.plan ≡ p
   pub hart : v.hart ≡ h
   pub table : v.table ≡ name
 
--- It is a hart of the same number, of the same table and plan.
+-- The view is of a hart of the same number, of the same table and plan.
 pub record IsSameHart (v after : PortView) : Type 0 where
   pub plan : after.plan ≡ v.plan
   pub hart : after.hart ≡ v.hart
@@ -52,7 +52,7 @@ AllStart seen p = All (λ q. StartsIn p (seen q))
 abbrev pub AreSame : {Q : Type 0} → (Q → PortView) → List Q → List Q → Type 0
 AreSame seen = AllZip (λ before after. IsSameHart (seen before) (seen after))
 
--- They have done their parts, on the table of this name: that of hart h is at place h.
+-- The harts have done their parts, on the table of this name: that of hart h is at place h.
 pub record AreBack {Q : Type 0} (seen : Q → PortView) (name : List ℕ) (p : Plan)
     (qs : List Q) : Type 0 where
   pub count : length qs ≡ p.harts

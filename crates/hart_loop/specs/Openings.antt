@@ -24,13 +24,13 @@ IsMadeOf nested (Team shared) = shared ≡ nested
 IsMadeOf nested (Pipe shared) = (shared ≡ nested) × IsUncrossed (nested_of nested)
 IsMadeOf nested Alone = Unit {0}
 
--- What a keeper has of a site that isn't the base.
+-- A keeper has this of a site that isn't the base.
 abbrev pub kept_in : {S : Type 0} → Keeper S → Option S
 kept_in (Base base) = None
 kept_in (Published shared) = Some shared.now
 kept_in (Kept shared) = Some shared.value
 
--- It was made for the construct; the base was made for none.
+-- The keeper was made for the construct; that of the base was made for none.
 abbrev pub IsMadeFor : Option SharedSite → NestedParts → Type 0
 IsMadeFor None nested = ⊥
 IsMadeFor (Some shared) nested = IsMadeOf nested shared

@@ -10,7 +10,7 @@ use Rattle.hart_tools.specs.declared.claims.SiteRows.{SiteRows}
 abbrev pub rows_of_shape : Shape → List ℕ
 rows_of_shape shape = replicate shape.1 shape.0
 
--- Those of all sites, in the order of the sites and then of the phases.
+-- The rows of all sites stand in the order of the sites and then of the phases.
 abbrev pub rows_of_shapes : List Shape → List ℕ
 rows_of_shapes [] = []
 rows_of_shapes (shape ∷ more) = rows_of_shape shape ++ rows_of_shapes more
@@ -28,7 +28,7 @@ abbrev pub AreBehind : List SiteRows → Type 0
 AreBehind sites = (i : ℕ) (rows : SiteRows) → slice_get sites i ≡ Some rows
     → rows.first ≡ length (claim_rows (take i (map shape_of sites)))
 
--- What stands at a site's place, which is that before its number.
+-- This is what stands at a site's place, which is that before its number.
 abbrev pub at_site : {X : Type 0} → List X → ℕ → Option X
 at_site list site = if site == 0 then None else slice_get list (site - 1)
 

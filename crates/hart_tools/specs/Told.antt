@@ -31,13 +31,13 @@ abbrev pub pipe_job : PipeWork → Option JobParts
 pipe_job (pipe.Begin job) = Some job
 pipe_job (pipe.Ready context) = None
 
--- The same, with the job in place of the context.
+-- The task is the same, with the job in place of the context.
 abbrev pub with_job : {C : Type 0} → (C → Option JobParts) → Next C → Next (Option JobParts)
 with_job job_of (Run work) = Run (job_of work)
 with_job job_of (Lend child) = Lend child
 with_job job_of Nothing = Nothing
 
--- What a scheduler receives by a callback.
+-- A scheduler receives this by a callback.
 abbrev pub told_by : Call → ℕ → ℕ → Told
 told_by Registered child count = registered_told child
 told_by Unregistered child count = unregistered_told child
@@ -45,7 +45,7 @@ told_by Requested child count = requested_told child count
 told_by Yielded child count = yielded_told child
 told_by Blocked child count = blocked_told
 
--- What a hart gets that is inside.
+-- A hart that is inside gets this to do; one that isn't gets nothing.
 abbrev pub inside : {C : Type 0} → Lent C → Option (Next C)
 inside (Inside next) = Some next
 inside (NotWanted shown) = None

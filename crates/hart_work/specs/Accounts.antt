@@ -14,7 +14,7 @@ use Rattle.hart_work.specs.declared.found.Found.TheVariants as found
 use Rattle.hart_work.specs.declared.schedulers.Task.{Task}
 use Rattle.hart_work.specs.declared.schedulers.Task.TheVariants.{Piece, Visit, Nothing}
 
--- Of a machine in a site, between the entries with which it began its job and those of now.
+-- An account is about a machine in a site, between the entries with which it began its job and those of now.
 abbrev pub Account : Type 1
 Account = Plan → ℕ → List Entry → List Entry → Type 0
 
@@ -30,7 +30,7 @@ FollowsSkips first end before after =
     → IsSpan p around first (end - first) × AreFresh p es first (end - first)
     × ((es' : List Entry) → IsSkippedSpan p es es' first (end - first) → after p around start es')
 
--- With a step a machine's account goes on. A construct that it hands out is fresh, and the account waits for it; where it is
+-- A machine's account goes on with each step. A construct that it hands out is fresh, and the account waits for it; where it is
 -- finished, its job was run.
 abbrev pub Accounts : {N : Type 0} → (Plan → ℕ → List Entry → N → Type 0)
     → (Plan → List Entry → List Entry → Type 0) → Account → Account → (N → Account)
@@ -51,7 +51,7 @@ pub record IsFreshChild (p : Plan) (around : ℕ) (es : List Entry) (s : ℕ) : 
   pub parent : parent p s ≡ around
   pub fresh : IsFresh p es s
 
--- With a task that is a job, the site's account waits for it. There is no task to visit a site: no other hart opens one.
+-- The site's account waits for a task that is a job. There is no task to visit a site: no other hart opens one.
 abbrev pub HasServing : {J : Type 0} → Type 0 → (J → Type 0) → Task J → Type 0
 HasServing serving lent (Piece job) = lent job
 HasServing serving lent (Visit child) = ⊥
@@ -67,6 +67,6 @@ abbrev pub HaveEnded : Plan → ℕ → List Entry → Type 0
 HaveEnded p around es = (c : ℕ) → IsSite p c → parent p c ≡ around
     → 1 ≤ unregisters c es + skips_over p c es
 
--- Of a hart's view: where it is alone, this is so of its plan, its site and its entries.
+-- If the hart is alone, this holds of its plan, its site and its entries.
 abbrev pub WhereAlone : PortView → (Plan → ℕ → List Entry → Type 0) → Type 0
 WhereAlone v told = v.alone ≡ true → told v.plan v.owner v.mine

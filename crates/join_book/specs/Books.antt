@@ -17,8 +17,8 @@ pub data Mark : Type 0 where
   Filled : Mark
   Failed : Mark
 
--- What contracts see of a book: its jobs, and each place as open, filled or failed. Why no contents: what a place is filled with
--- follows from the book's type.
+-- Contracts see these parts of a book: its jobs, and each place as open, filled or failed. Why no contents: what a place is
+-- filled with follows from the book's type.
 pub record BookParts : Type 0 where
   pub jobs : List JobParts
   pub places : List Mark
@@ -29,8 +29,8 @@ mark_of place.Open = Open
 mark_of (place.Filled written) = Filled
 mark_of place.Failed = Failed
 
--- What the type keeps: there are jobs, each is fit and names its place, and they start from stores of one size; each has a place,
--- and what a place is filled with is what its job writes.
+-- The type has this invariant: there are jobs, each is fit and names its place, and they start from stores of one size; each
+-- has a place, and what a place is filled with is what its job writes.
 pub record IsKept (jobs : List JobParts) (places : List Place) : Type 0 where
   pub some : 0 < length jobs
   pub fit : (i : ℕ) (job : JobParts) → slice_get jobs i ≡ Some job → IsFit (job_of job)
@@ -67,7 +67,7 @@ IsFull book = (i : ℕ) → ¬ IsMarked book i Open
 abbrev pub HasFailed : BookParts → Type 0
 HasFailed book = (i : ℕ) × IsMarked book i Failed
 
--- What the jobs of the filled places write, in the order of their places.
+-- This is what the jobs of the filled places write, in the order of their places.
 abbrev pub filled_pieces : List JobParts → List Mark → List (List Write)
 filled_pieces [] marks = []
 filled_pieces (job ∷ jobs) [] = []
@@ -87,11 +87,11 @@ pub record IsBlank (book : BookParts) (store : Trace) : Type 0 where
   pub marks : length store.marks ≡ length store.cells
   pub unmarked : marked store ≡ []
 
--- What all jobs write, merged in the order of their places.
+-- This is what all jobs write, merged in the order of their places.
 abbrev pub all_writes : BookParts → List Write
 all_writes book = merged (map (λ job. piece_of_job (job_of job)) book.jobs) []
 
--- Of a book and a piece, the result and the book afterwards. A piece goes to the place of its own job, if that is open.
+-- A deposit of a piece has this result and leaves this book. A piece goes to the place of its own job, if that is open.
 abbrev pub Deposits : BookParts → PieceParts → Deposit → BookParts → Type 0
 Deposits before piece Kept after =
     IsPlaceOf before piece.job.place piece.job × IsMarked before piece.job.place Open
@@ -114,8 +114,8 @@ with_piece book piece = record {
   places = slice_set book.places piece.job.place Filled;
 }
 
--- Of a book and a piece that isn't compared, the result and the book afterwards. A piece goes to the place that its job names,
--- if that is open, and takes its job along.
+-- A piece that isn't compared has this result and leaves this book. It goes to the place that its job names, if that is open,
+-- and takes its job along.
 abbrev pub Puts : BookParts → PieceParts → Deposit → BookParts → Type 0
 Puts before piece Kept after =
     HasPlaceFor before piece.job × IsMarked before piece.job.place Open

@@ -15,14 +15,14 @@ use Rattle.lithe_call.specs.declared.answer.Ending.TheVariants as ending
 use Rattle.lithe_call.specs.declared.status.Status.{Status}
 use Rattle.lithe_call.specs.declared.status.Status.TheVariants as status
 
--- These bytes have two parts, which are so.
+-- These bytes have two parts, for which this holds.
 pub record HasParts (AreSo : List ℕ → List ℕ → Type 0) (bytes : List ℕ) : Type 0 where
   pub first : List ℕ
   pub second : List ℕ
   pub parts : parts_of bytes ≡ Some (first, second)
   pub are : AreSo first second
 
--- What an audit finds in an output of the program's run on so many harts.
+-- This is what an audit finds in an output of the program's run on so many harts.
 abbrev pub found_in : ℕ → ProgramTree → List ℕ → Result Verdict TextFault
 found_in harts program output =
     audit_of (table_plan program harts) (entered_of program)

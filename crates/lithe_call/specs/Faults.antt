@@ -66,7 +66,8 @@ pub record IsUnspread (harts : ℕ) (program : ProgramTree) (line : List ℕ) : 
   pub first : spread_fault_of program ≡ Some fault
   pub told : line ≡ tally_text (told_of fault)
 
--- It has a meaning and its adds can have rows, but with them it isn't accepted, and the line is about the program with rows.
+-- The program has a meaning and its adds can have rows, but with them it isn't accepted, and the line is about the program with
+-- rows.
 pub record IsSpreadRefused (harts : ℕ) (program : ProgramTree) (line : List ℕ) : Type 0 where
   pub meaning : HasMeaningFor program harts
   pub shaped : spread_fault_of program ≡ None
@@ -126,13 +127,13 @@ pub record AreNoOutput (harts : ℕ) (line first second : List ℕ) : Type 0 whe
 abbrev pub AreNoText : ℕ → List ℕ → List ℕ → List ℕ → Type 0
 AreNoText harts line first second = SpellNothing first line ⊎ AreNoOutput harts line first second
 
--- Why the command's input is no text that it takes, as the line reports.
+-- The command's input is no text that it takes, as the line reports.
 abbrev pub IsNoText : Command → List ℕ → List ℕ → Type 0
 IsNoText (Audit harts) bytes line = HasNoMark bytes line ⊎ HasParts (AreNoText harts line) bytes
 IsNoText (Make seed size harts) bytes line = ⊥
 IsNoText command bytes line = SpellNothing bytes line
 
--- Why its program isn't accepted, as the line reports.
+-- The command's program isn't accepted, as the line reports.
 abbrev pub IsRefused : Command → List ℕ → List ℕ → Type 0
 IsRefused (Run harts) bytes line = SpellRefused harts bytes line
 IsRefused (Tally harts) bytes line = SpellUntallied harts bytes line
@@ -175,7 +176,7 @@ IsFault words why left left' faults faults' =
     (command : Command) × (form_of words ≡ Some command)
     × IsCause command why left left' faults faults'
 
--- Why the program of these bytes has no output, by which lines report that it is refused.
+-- The program of these bytes has no output, by which lines report that it is refused.
 abbrev pub IsNoRun : (List ℕ → List ℕ → Type 0) → List ℕ → Fault → Type 0
 IsNoRun AreRefused bytes (fault.Syntax line) = SpellNothing bytes line.items
 IsNoRun AreRefused bytes (fault.Refused line) = AreRefused bytes line.items
@@ -194,7 +195,7 @@ TellsUnpiped harts program (fault.Refused line) = IsUnpiped harts program line.i
 TellsUnpiped harts program fault.Memory = Unit {0}
 TellsUnpiped harts program why = ⊥
 
--- Why the command has no output for these bytes.
+-- The command has no output for these bytes, for this cause.
 abbrev pub IsNoOutput : Command → List ℕ → Fault → Type 0
 IsNoOutput command bytes fault.Usage = ⊥
 IsNoOutput command bytes fault.TooLong = IsLong command bytes
@@ -203,7 +204,7 @@ IsNoOutput command bytes (fault.Syntax line) = IsNoText command bytes line.items
 IsNoOutput command bytes (fault.Refused line) = IsRefused command bytes line.items
 IsNoOutput command bytes fault.Memory = Unit {0}
 
--- Why these parts have no verdict.
+-- These parts have no verdict, for this cause.
 abbrev pub HaveNoVerdict : ℕ → List ℕ → List ℕ → Fault → Type 0
 HaveNoVerdict harts first second (fault.Syntax line) = AreNoText harts line.items first second
 HaveNoVerdict harts first second (fault.Refused line) = SpellRefused harts first line.items

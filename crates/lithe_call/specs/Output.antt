@@ -94,7 +94,7 @@ EndsMade harts text Refused =
     (program : ProgramTree) × Spells text program × (IsAcceptedFor program harts → ⊥)
 EndsMade harts text status = ⊥
 
--- These bytes are for the command, and it has this status with them; `make` has it with any.
+-- The command has this status with these bytes; `make` has it with any.
 abbrev pub EndsWith : Command → List ℕ → Status → Type 0
 EndsWith (Run harts) bytes status =
     (status ≡ Done) × ((program : ProgramTree) × SpellAccepted harts bytes program)

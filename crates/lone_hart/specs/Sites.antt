@@ -27,7 +27,7 @@ abbrev pub team_jobs_left : TeamParts → ℕ
 team_jobs_left t = length t.agenda.unbegun + (phases_in t.nested - suc t.opened)
     * members_in t.nested
 
--- How many jobs a site still hands out.
+-- The number says how many jobs a site still hands out.
 abbrev pub jobs_left : LoneSite → ℕ
 jobs_left (Base base) = 0
 jobs_left (Pool nested p) = length p.agenda.unbegun
@@ -62,7 +62,7 @@ IsOverSite (Base base) = Unit {0}
 IsOverSite (Pool nested p) = IsPoolOf nested p × (IsFull p.book ⊎ HasFailed p.book)
 IsOverSite (Team t) = IsOver t
 
--- What a callback of the site's scheduler did, by what it received.
+-- A callback of the site's scheduler did this, by what it received.
 abbrev pub HearsAt : LoneSite → Told → LoneSite → Type 0
 HearsAt (Base b) told (Base b') = base.HearsOf b told b'
 HearsAt (Pool nested p) told (Pool nested' p') = (nested' ≡ nested) × pools.Hears p told p'

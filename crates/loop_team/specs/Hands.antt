@@ -16,7 +16,7 @@ use Rattle.loop_team.specs.declared.work.TeamWork.{TeamWork}
 use Rattle.loop_team.specs.declared.work.TeamWork.TheVariants.{Begin, Ready}
 use Rattle.loop_team.specs.Teams.{phases_in, members_in}
 
--- What no call of a hand changes: its team and the rows, and whose seat it has.
+-- No call of a hand changes its team, its rows, and whose seat it has.
 pub record IsSameHand {R : Type 0} (before after : TeamHand R) : Type 0 where
   pub team : after.shared ≡ before.shared
   pub claims : after.claims ≡ before.claims

@@ -23,7 +23,7 @@ use Rattle.loop_team.specs.declared.team.Phase.{Phase}
 use Rattle.loop_team.specs.declared.work.TeamWork.{TeamWork}
 use Rattle.loop_team.specs.declared.work.TeamWork.TheVariants.{Begin}
 
--- What contracts see of a team.
+-- Contracts see these parts of a team.
 pub record TeamParts : Type 0 where
   -- its construct, with the variables and the store before it
   pub nested : NestedParts
@@ -43,7 +43,7 @@ phases_in nested = phases_of (statement_of nested.construct)
 abbrev pub members_in : NestedParts → ℕ
 members_in nested = members_of (statement_of nested.construct)
 
--- What a phase writes from the store that those before it leave.
+-- This is what a phase writes from the store that those before it leave.
 abbrev pub writes_in : NestedParts → ℕ → List Write
 writes_in nested phase =
     phase_writes (nested_of nested) phase (store_before (nested_of nested) phase)
@@ -121,8 +121,8 @@ pub record FailsToGoOn (before : TeamParts) (piece : PieceParts) (full : BookPar
   pub wanted : ¬ IsOver (opened_team (with_barrier before full))
   pub failed : after ≡ failed_team (opened_team (with_barrier before full))
 
--- Of a team and a piece, the result and the team afterwards: the barrier's, and where it opens the team goes on. Want of memory
--- comes only where the next phase is to begin, and fails the team.
+-- A piece has this result and leaves this team: the result is the barrier's, and if the barrier opens the team goes on. An
+-- allocation failure comes only if the next phase is to begin, and fails the team.
 abbrev pub MovesOn : {E : Type 0} → TeamParts → PieceParts → Result Arrival E → TeamParts → Type 0
 MovesOn before piece (Ok Kept) after =
     Arrives before.barrier piece Kept after.barrier × (after ≡ with_barrier before after.barrier)
@@ -137,8 +137,8 @@ MovesOn before piece (Err refused) after = (full : BookParts) × FailsToGoOn bef
 abbrev pub AreInOrder : TeamParts → Type 0
 AreInOrder team = (begun : ℕ) × (team.agenda.unbegun ≡ drop begun (map Begin team.barrier.jobs))
 
--- What a team does as a scheduler: `enter` gives what its agenda has, and a callback changes its wishes alone. So the member that
--- it hands out is the lowest that isn't begun.
+-- The call `enter` of a team gives what its agenda has, and changes its agenda alone. So the member that it hands out is the
+-- lowest that isn't begun.
 pub record Answers (before : TeamParts) (next : Next TeamWork) (after : TeamParts) : Type 0 where
   pub handed : TakesNext before.agenda next after.agenda
   pub rest : after ≡ with_agenda before after.agenda
@@ -169,8 +169,8 @@ TakesMember before (Some job) after =
     × (after ≡ with_agenda before after.agenda)
 TakesMember before None after = GivesUnbegun before.agenda None after.agenda × (after ≡ before)
 
--- What the type keeps: the store has what the phases that have opened wrote; while a place is free, the places are those of
--- the next phase's jobs; and the members are handed out in order.
+-- The type has this invariant: the store has what the phases that have opened wrote; while a place is free, the places are
+-- those of the next phase's jobs; and the members are handed out in order.
 pub record IsKept (team : TeamParts) (store : Trace) : Type 0 where
   pub fit : IsFitNest (nested_of team.nested)
   pub reached : HasReached (nested_of team.nested) team.opened store

@@ -23,14 +23,14 @@ use Rattle.pipe_sched.specs.Schedulers.{SchedulerParts, Answers, Hears, Takes, w
 abbrev pub Sees : Looks → Found → Looks → Type 0
 Sees before what after = Rose before.count after.count × (after.last ≡ Some what)
 
--- What a pipe has for a hart that gets this.
+-- The kind of a look's result is that of what the pipe gives.
 abbrev pub found_in : Next PipeWork → Found
 found_in (Run (Begin job)) = found.Due job.place job.phase
 found_in (Run (Ready context)) = found.Ready
 found_in (Lend child) = found.Wish child
 found_in Nothing = found.NoneLeft
 
--- What is found there.
+-- A look under the lock finds what the pipe has for the hart, or that the pipe was handed out.
 abbrev pub found_by : Option SchedulerParts → Next PipeWork → Found
 found_by None next = found.HandedOut
 found_by (Some pipe) next = found_in next

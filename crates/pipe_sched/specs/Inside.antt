@@ -20,7 +20,7 @@ mark_of (slot.Out job) = Out
 mark_of (slot.Filled job written) = Filled
 mark_of (slot.Lost job) = Lost
 
--- It was handed out with this job.
+-- The slot was handed out with this job.
 abbrev pub HasJob : Slot → JobParts → Type 0
 HasJob slot.Waiting job = ⊥
 HasJob slot.Barred job = ⊥
@@ -36,7 +36,7 @@ failed_slot (slot.Out job) = slot.Lost job
 failed_slot (slot.Filled job written) = slot.Filled job written
 failed_slot (slot.Lost job) = slot.Lost job
 
--- Where it was handed out, its job is that of member j in phase k, and it is filled with what this job writes.
+-- The slot is right: if it was handed out, its job is that of member j in phase k, and it is filled with what this job writes.
 abbrev pub IsRight : NestedTree → ℕ → ℕ → Slot → Type 0
 IsRight nested j k slot.Waiting = Unit {0}
 IsRight nested j k slot.Barred = Unit {0}

@@ -12,7 +12,7 @@ use Rattle.pipe_sched.specs.declared.work.PipeWork.TheVariants.{Begin, Ready}
 use Rattle.pipe_sched.specs.Slots.{PipeParts, NoneIsDue, phases_in, members_in, new_pipe}
 use Rattle.pipe_sched.specs.Pipes.{HandsOut, FailWhenDue}
 
--- What contracts see of a pipe: its pieces, and what it has for harts beside them.
+-- Contracts see these parts of a pipe: its pieces, and what it has for harts beside them.
 pub record SchedulerParts : Type 0 where
   pub state : PipeParts
   pub agenda : AgendaParts PipeWork
@@ -63,7 +63,7 @@ pub record AnswersDue (before : SchedulerParts) (next : Next PipeWork)
   pub fail : FailWhenDue before.state failed left
   pub answer : BeginsDue (with_state before left) next after
 
--- What a pipe does as a scheduler: `enter` gives what its lists have, and a callback changes its wishes alone.
+-- The call `enter` of a pipe gives what its lists have.
 abbrev pub Answers : SchedulerParts → Next PipeWork → SchedulerParts → Type 0
 Answers before next after = GoesOn before next after ⊎ AnswersDue before next after
 

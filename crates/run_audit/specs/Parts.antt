@@ -12,8 +12,8 @@ most_audited = 4194304
 abbrev pub with_front : List ℕ → List ℕ × List ℕ → List ℕ × List ℕ
 with_front front parts = (front ++ parts.0, parts.1)
 
--- What stands before the first such line that a newline ends, and what stands behind it, in a text that is cut into these
--- lines.
+-- This is what stands before the first such line that a newline ends, and what stands behind it, in a text that is cut into
+-- these lines.
 abbrev pub parts_in : List (List ℕ) → Option (List ℕ × List ℕ)
 parts_in [] = None
 parts_in (last ∷ []) = None

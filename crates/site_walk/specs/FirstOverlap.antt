@@ -33,6 +33,6 @@ first_overlap arrays (site ∷ more) =
 abbrev pub overlap_of : ProgramTree → Option WalkFault
 overlap_of program = first_overlap (arrays_of program.arrays) (sequence_sites program.body [])
 
--- What the walk finds: an index outside its array, or else an overlap.
+-- This is what the walk finds: an index outside its array, or else an overlap.
 abbrev pub walk_fault_of : ProgramTree → Option WalkFault
 walk_fault_of program = option_or (out_of_range_of program) (overlap_of program)

@@ -9,7 +9,7 @@ use Rattle.array_meaning.specs.Accepted.{is_inside}
 use Rattle.site_walk.specs.declared.fault.WalkFault.{WalkFault}
 use Rattle.site_walk.specs.declared.fault.WalkFault.TheVariants.{OutOfRange}
 
--- What is wrong with an index of an array of this length.
+-- An index outside an array of this length has this fault.
 abbrev pub index_fault : ℕ → ℕ → Option ℤ → Option WalkFault
 index_fault line length None = None
 index_fault line length (Some index) =

@@ -20,9 +20,9 @@ use Rattle.step_eval.specs.Moves.{moved, moved_writes, moved_sites, rest_left}
 use Rattle.step_eval.specs.Passes.{pass_of}
 use Rattle.step_eval.specs.Nests.{NestedTree, nested_of, nested_writes}
 
--- What contracts see of a machine: its job, the works that are still to be run, the store as it now is with the cells
--- that were written so far, the number of the next site, and its stage. A work is a block or a loop with its variables; contracts
--- see no frames.
+-- Contracts see these parts of a machine: its job, the works that are still to be run, the store as it now is with the cells
+-- that were written so far, the number of the next site, and its stage. A work is a block or a loop with its variables;
+-- contracts see no frames.
 pub record Progress : Type 0 where
   pub job : JobParts
   pub rest : List WorkAt
@@ -58,7 +58,7 @@ abbrev pub next_construct : List WorkAt → Option Statement
 next_construct [] = None
 next_construct (w ∷ more) = construct_of w.work
 
--- What a machine's type keeps: unless it is failed it is right, and what it awaits is the next construct.
+-- A machine's type has this invariant: unless the machine is failed it is right, and what it awaits is the next construct.
 abbrev pub IsKept : Stage → JobTree → List WorkAt → Trace → ℕ → Type 0
 IsKept Going job rest store next = IsRight job rest store next
 IsKept Awaiting job rest store next = IsRight job rest store next × IsSome (next_construct rest)
@@ -74,25 +74,25 @@ fresh_machine job = record {
   stage = Going;
 }
 
--- What is still to be written.
+-- This is what is still to be written.
 abbrev pub rest_writes : Progress → List Write
 rest_writes machine = writes_of (arrays_of (declarations_of machine.job.arrays))
     (rest_steps machine.rest) machine.store.cells
 
--- Whether a machine awaits what a construct writes.
+-- The test decides whether a machine awaits what a construct writes.
 abbrev pub is_awaiting : Stage → Bool
 is_awaiting Going = false
 is_awaiting Awaiting = true
 is_awaiting Failed = false
 
--- How many steps are left at most: the construct that is awaited takes none. A machine that is failed is never done. A construct
--- counts for one step until it is handed out, and both sides of an `if` count.
+-- The number says how many steps are left at most: the construct that is awaited takes none. A machine that is failed is never
+-- done. A construct counts for one step until it is handed out, and both sides of an `if` count.
 abbrev pub left_of : Stage → List WorkAt → ℕ
 left_of Going rest = rest_left rest
 left_of Awaiting rest = rest_left rest - 1
 left_of Failed rest = 1
 
--- What a machine has still to do, as contracts see it of any machine.
+-- A machine has this still to do, as contracts see it of any machine.
 abbrev pub to_do : Progress → Work
 to_do machine = record {
   rest = rest_writes machine;
@@ -139,9 +139,9 @@ HasMoved (w ∷ more) before after =
       stage = Going;
     }
 
--- What a step does, by its result. More: no construct is next, and no `if` whose other side has sites, and the first work has
--- moved. A construct: the one that is next is handed out, with its site's number, the variables and the store at this place,
--- and the machine awaits what it writes. A pass: the `if` that is next has begun, and the hart gets the sites of the
+-- This is what a step does, by its result. More: no construct is next, and no `if` whose other side has sites, and the first
+-- work has moved. A construct: the one that is next is handed out, with its site's number, the variables and the store at this
+-- place, and the machine awaits what it writes. A pass: the `if` that is next has begun, and the hart gets the sites of the
 -- side that isn't run; nothing is awaited. Finished: nothing is left. NoMemory: the machine is failed.
 abbrev pub Advances : Progress → Step Found → Progress → Type 0
 Advances before step.More after =

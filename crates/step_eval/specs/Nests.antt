@@ -14,7 +14,7 @@ use Rattle.array_meaning.specs.Pieces.{piece_of}
 use Rattle.array_jobs.specs.Works.{WorkTree, branch_of, member_of, sites_of}
 use Rattle.array_jobs.specs.Jobs.{JobTree, IsFit}
 
--- What contracts see of a construct that is handed out.
+-- Contracts see these parts of a construct that is handed out.
 pub record NestedParts : Type 0 where
   pub arrays : Arrays
   pub site : ℕ
@@ -22,7 +22,7 @@ pub record NestedParts : Type 0 where
   pub vars : Vars
   pub store : Store
 
--- The same without where its parts lie in memory. Two are equal where these are.
+-- A construct that is handed out, without where its parts lie in memory. Two constructs are equal if these are.
 pub record NestedTree : Type 0 where
   pub arrays : List Declaration
   pub site : ℕ
@@ -40,7 +40,7 @@ nested_of nested = record {
   store = nested.store;
 }
 
--- How many phases a construct has: a `par` one, a `team` its own.
+-- The number says how many phases a construct has: a `par` one, a `team` its own.
 abbrev pub phases_of : Statement → ℕ
 phases_of (Assign line array index value) = 0
 phases_of (For line var low high body) = 0
@@ -48,7 +48,7 @@ phases_of (If line cond then_block else_block) = 0
 phases_of (Par line branches) = 1
 phases_of (Team line var low high members phases) = count_of phases
 
--- What the pieces of each phase do.
+-- This is what the pieces of each phase do.
 abbrev pub rounds_of : Statement → Vars → List (List Steps)
 rounds_of (Assign line array index value) vars = []
 rounds_of (For line var low high body) vars = []
@@ -85,13 +85,13 @@ piece_trees (Team line var low high members phases) phase =
     member_trees var low high (unsigned_abs members) (phase_at phases phase) 0
     (unsigned_abs members)
 
--- How many sites the bodies of the phases before this one have.
+-- The number says how many sites the bodies of the phases before this one have.
 abbrev pub sites_before : Sequences → ℕ → ℕ
 sites_before no_more phase = 0
 sites_before (beside first rest) zero = 0
 sites_before (beside first rest) (suc phase) = sites_in first + sites_before rest phase
 
--- How many sites the phases before this one have, each in all its iterations.
+-- The number says how many sites the phases before this one have, each in all its iterations.
 abbrev pub earlier_sites : Statement → ℕ → ℕ
 earlier_sites (Assign line array index value) phase = 0
 earlier_sites (For line var low high body) phase = 0
@@ -125,7 +125,7 @@ abbrev pub AreFitJobs : List JobTree → Type 0
 AreFitJobs [] = Unit {0}
 AreFitJobs (job ∷ more) = IsFit job × AreFitJobs more
 
--- Whether a statement is a `par` or a `team`.
+-- The test decides whether a statement is a `par` or a `team`.
 abbrev pub is_construct : Statement → Bool
 is_construct (Assign line array index value) = false
 is_construct (For line var low high body) = false
@@ -133,8 +133,8 @@ is_construct (If line cond then_block else_block) = false
 is_construct (Par line branches) = true
 is_construct (Team line var low high members phases) = true
 
--- What is kept of a construct that is handed out: it is a `par` or a `team` with no more branches, members and phases
--- than there may be, its pieces are apart in each phase, and each of them is a fit job.
+-- A construct that is handed out is fit: it is a `par` or a `team` with no more branches, members and phases than there may be,
+-- its pieces are apart in each phase, and each of them is a fit job.
 pub record IsFitNest (nested : NestedTree) : Type 0 where
   pub construct : IsTrue (is_construct nested.construct)
   pub limits : IsTrue (statement_has_right_ranges nested.construct)
@@ -142,7 +142,7 @@ pub record IsFitNest (nested : NestedTree) : Type 0 where
   pub jobs : (phase : ℕ) → phase < phases_of nested.construct
       → AreFitJobs (jobs_in nested phase nested.store)
 
--- What the construct writes: each cell with its last value.
+-- This is what the construct writes: each cell with its last value.
 abbrev pub nested_writes : NestedTree → List Write
 nested_writes nested = piece_of (arrays_of nested.arrays)
     (statement_work nested.construct nested.vars) nested.store

@@ -12,7 +12,7 @@ abbrev pub some_span : ℕ → ℕ → Option (ℕ × ℕ)
 some_span first zero = None
 some_span first (suc n) = Some (first, first + suc n)
 
--- Of the `if` that is the first statement of a work, where the next site has this number.
+-- The sites that the first statement of a work passes are those of an `if`, where the next site has this number.
 abbrev pub statement_pass : Arrays → Store → ℕ → Statement → Vars → Option (ℕ × ℕ)
 statement_pass arrays store next (Assign line array index value) vars = None
 statement_pass arrays store next (For line var low high body) vars = None

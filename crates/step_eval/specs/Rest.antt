@@ -18,7 +18,7 @@ pub record WorkAt : Type 0 where
 abbrev pub at : WorkTree → Vars → WorkAt
 at work vars = record { work = work; vars = vars; after = 0 }
 
--- With so many sites behind it.
+-- The work stands with so many sites behind it.
 abbrev pub before : WorkTree → Vars → ℕ → WorkAt
 before work vars n = record { work = work; vars = vars; after = n }
 
@@ -27,7 +27,7 @@ abbrev pub rest_steps : List WorkAt → Steps
 rest_steps [] = Done
 rest_steps (w ∷ more) = followed_by (steps_of w.work w.vars) (rest_steps more)
 
--- How many sites the walk has in them, and behind each of them.
+-- The number says how many sites the walk has in these works, and behind each of them.
 abbrev pub rest_sites : List WorkAt → ℕ
 rest_sites [] = 0
 rest_sites (w ∷ more) = sites_of w.work + w.after + rest_sites more

@@ -45,13 +45,13 @@ abbrev pub AreAllSitesApart : Arrays → Bounds → (Vars → List Site) → Typ
 AreAllSitesApart arrays bounds sites =
     (vars : Vars) → AreWithin bounds vars → AreSitesApart arrays (sites vars)
 
--- What one piece does to an array clashes with what none of these do to it.
+-- One piece clashes with none of these on an array.
 abbrev pub IsClearOf : ℕ → Touch → List (List Touch) → Type 0
 IsClearOf number touch [] = Unit {0}
 IsClearOf number touch (other ∷ more) =
     (¬ DoClash touch (touch_at other number)) × IsClearOf number touch more
 
--- No two of them clash on an array.
+-- No two of the pieces clash on an array.
 abbrev pub AreClear : ℕ → List (List Touch) → Type 0
 AreClear number [] = Unit {0}
 AreClear number (t ∷ more) = IsClearOf number (touch_at t number) more × AreClear number more

@@ -12,7 +12,7 @@ use Rattle.touch_bounds.specs.Intervals.{LiesIn, exactly}
 abbrev pub Bounds : Type 0
 Bounds = List (List ℕ × Interval)
 
--- Variables that have these values and no others.
+-- The variables have these values and no others.
 abbrev pub fixed : Vars → Bounds
 fixed vars = map (λ v. (v.0, exactly v.1)) vars
 

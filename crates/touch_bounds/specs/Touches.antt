@@ -16,7 +16,7 @@ use Rattle.touch_bounds.specs.Ranges.{Bounds, AreWithin}
 abbrev pub Includes : Stretch → ℕ → Type 0
 Includes cells cell = (cells.from ≤ cell) × (cell < cells.to)
 
--- No cell.
+-- The stretch has no cell.
 abbrev pub no_cells : Stretch
 no_cells = record { from = 18446744073709551615; to = 0 }
 
@@ -24,7 +24,7 @@ no_cells = record { from = 18446744073709551615; to = 0 }
 abbrev pub hull : Stretch → Stretch → Stretch
 hull a b = record { from = min a.from b.from; to = max a.to b.to }
 
--- What is written, or what is read.
+-- The side of a touch is what is written, or what is read.
 abbrev pub side : Touch → Bool → Stretch
 side touch true = touch.written
 side touch false = touch.read
@@ -82,28 +82,28 @@ AreVisitsTold arrays touches [] = Unit {0}
 AreVisitsTold arrays touches (v ∷ more) =
     IsVisitTold arrays touches v × AreVisitsTold arrays touches more
 
--- They hold for a visit under an index, whatever values the variables have between their bounds.
+-- The recorded stretches hold for a visit under an index, whatever values the variables have between their bounds.
 abbrev pub IsIndexTold : Arrays → List Touch → Bounds → Bool → List ℕ → Expression → Type 0
 IsIndexTold arrays touches bounds writes array index =
     (line : ℕ) (vars : Vars) → AreWithin bounds vars
     → IsVisitTold arrays touches (visit arrays line writes vars array index)
 
--- Of the reads of an expression.
+-- The recorded stretches hold for the reads of an expression.
 abbrev pub AreReadsTold : Arrays → List Touch → Bounds → Expression → Type 0
 AreReadsTold arrays touches bounds expr = (line : ℕ) (vars : Vars) → AreWithin bounds vars
     → AreVisitsTold arrays touches (reads_in arrays line vars expr)
 
--- Of a work.
+-- The recorded stretches hold for a work.
 abbrev pub IsWorkTold : Arrays → List Touch → Bounds → Work → Type 0
 IsWorkTold arrays touches bounds work =
     (vars : Vars) → AreWithin bounds vars → AreVisitsTold arrays touches (walk arrays (work vars))
 
--- Of an assignment, on whatever line.
+-- The recorded stretches hold for an assignment, on whatever line.
 abbrev pub IsAssignTold : Arrays → List Touch → Bounds → List ℕ → Expression → Expression → Type 0
 IsAssignTold arrays touches bounds array index value =
     (line : ℕ) → IsWorkTold arrays touches bounds (statement_work (Assign line array index value))
 
--- Of an `if`, on whatever line.
+-- The recorded stretches hold for an `if`, on whatever line.
 abbrev pub IsChoiceTold : Arrays → List Touch → Bounds → Expression → Sequence → Sequence → Type 0
 IsChoiceTold arrays touches bounds test then_block else_block =
     (line : ℕ) → IsWorkTold arrays touches bounds

@@ -35,7 +35,7 @@ parts n = min n 255
 abbrev pub row : ℕ → ℕ → ℕ → Site
 row parent members phases = record { parent = parent; members = members; phases = phases }
 
--- So many times the same.
+-- The rows have the same added so many times.
 abbrev pub repeat : ℕ → (Rows → Rows) → Rows → Rows
 repeat zero more rows = rows
 repeat (suc n) more rows = repeat n more (more rows)

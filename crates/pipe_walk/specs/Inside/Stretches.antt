@@ -27,7 +27,7 @@ IsMemberClear arrays member rounds =
     (high early late : ℕ) (one other : Steps) → member < high → early < late →
     IsPiece rounds member late one → IsPiece rounds high early other → IsSeparate arrays one other
 
--- So it is whatever values the variables have between their bounds, and so no two pieces cross.
+-- The member is clear whatever values the variables have between their bounds.
 abbrev pub IsMemberAlwaysClear : Arrays → Bounds → ℕ → (Vars → List (List Steps)) → Type 0
 IsMemberAlwaysClear arrays bounds member rounds =
     (vars : Vars) → AreWithin bounds vars → IsMemberClear arrays member (rounds vars)

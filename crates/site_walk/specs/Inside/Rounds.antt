@@ -5,7 +5,7 @@ use Rattle.site_walk.specs.declared.layer.Mark.{Mark}
 use Rattle.site_walk.specs.declared.touched.Touched.{Touched}
 use Rattle.site_walk.specs.Inside.Touched.{untouched}
 
--- What a mark says was done in a round.
+-- This is what a mark says was done in a round.
 abbrev pub done_in : ℕ → Mark → Touched
 done_in round mark = cond (nat_eq mark.round round) mark.touched untouched
 

@@ -19,18 +19,18 @@ are_several Nobody = false
 are_several (One p) = false
 are_several Several = true
 
--- What was done here or there.
+-- The touch has what was done in either.
 abbrev pub joined : Touched → Touched → Touched
 joined a b = record { by = joined_pieces a.by b.by; written = a.written || b.written }
 
--- Whether two pieces touched it, of which one wrote.
+-- The test decides whether two pieces touched the cell, of which one wrote.
 abbrev pub clashes : Touched → Bool
 clashes t = t.written && are_several t.by
 
--- No piece touched it.
+-- No piece touched the cell.
 abbrev pub untouched : Touched
 untouched = record { by = Nobody; written = false }
 
--- What was done at a place of a list, nothing behind its end.
+-- The touch is what was done at a place of a list, nothing behind its end.
 abbrev pub touched_at : List Touched → ℕ → Touched
 touched_at layer place = slice_index_or layer place untouched
