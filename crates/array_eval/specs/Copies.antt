@@ -5,7 +5,7 @@ use Rattle.array_meaning.specs.Stores.{Store, at_cell}
 use Rattle.array_eval.specs.Pages.{cells_on_page}
 use Rattle.array_eval.specs.Traces.{Trace}
 
--- The copy that a slot leads to: none at 0, and else that at the place before it.
+-- A slot leads to this copy: none at 0, and else that at the place before it.
 abbrev pub copy_at : {A : Type 0} → List A → ℕ → Option A
 copy_at copies zero = None
 copy_at copies (suc place) = slice_get copies place
@@ -48,7 +48,7 @@ abbrev pub seen : {A : Type 0} → (Trace → ℕ → A) → (ℕ → A) → Lis
 seen own below copies count = map (λ cell. seen_in (λ page. own page (cell % cells_on_page))
     (below cell) (slice_index_or copies (cell / cells_on_page) None)) (range_with_len 0 count)
 
--- The values over a store, and which of the cells are marked.
+-- The copies give values over a store, and which of the cells are marked.
 abbrev pub over_store : Store → List (Option Trace) → Trace
 over_store store copies = record {
   cells = seen (λ page. at_cell page.cells) (at_cell store) copies (length store);

@@ -18,7 +18,7 @@ slot_count = 256
 abbrev pub slot_of : List ℕ → ℕ
 slot_of name = digest_of name % slot_count
 
--- The place of the first array in a slot; the number of arrays where there is none.
+-- A slot has its first array at this place, and the number of arrays if there is none.
 abbrev pub first_in : ℕ → Arrays → ℕ
 first_in slot [] = 0
 first_in slot (a ∷ more) = cond (nat_eq (slot_of a.0) slot) 0 (suc (first_in slot more))

@@ -10,7 +10,7 @@ cells_on_page = 64
 abbrev pub padded : List ℤ → List ℤ
 padded cells = cells ++ replicate (cells_on_page - length cells) (pos 0)
 
--- The cells of pages, one page after another.
+-- Pages have these cells, one page after another.
 abbrev pub cells_on : List (List ℤ) → List ℤ
 cells_on [] = []
 cells_on (page ∷ more) = page ++ cells_on more
@@ -25,7 +25,7 @@ pub record ArePages (count : ℕ) (pages : List (List ℤ)) : Type 0 where
   pub fewest : length pages ≡ pages_for count
   pub zeros : drop count (cells_on pages) ≡ replicate (cells_on_page * length pages - count) (pos 0)
 
--- The cells of the page with this number.
+-- The page with this number has these cells.
 abbrev pub page_at : ℕ → List ℤ → List ℤ
 page_at number cells = take cells_on_page (drop (cells_on_page * number) cells)
 

@@ -21,7 +21,7 @@ noted cell value trace = record {
   marks = slice_set trace.marks cell true;
 }
 
--- Writes, one after another.
+-- Writes are noted, one after another.
 abbrev pub noted_all : List Write → Trace → Trace
 noted_all [] trace = trace
 noted_all (w ∷ more) trace = noted_all more (noted w.0 w.1 trace)
@@ -30,7 +30,7 @@ noted_all (w ∷ more) trace = noted_all more (noted w.0 w.1 trace)
 abbrev pub traced : Arrays → Steps → Trace → Trace
 traced arrays steps trace = noted_all (writes_of arrays steps trace.cells) trace
 
--- The cells that are marked, from one on, each with its value.
+-- The pairs are the cells that are marked, from one on, each with its value.
 abbrev pub marked_from : ℕ → List ℤ → List Bool → List Write
 marked_from cell [] marks = []
 marked_from cell (value ∷ more) [] = []

@@ -12,7 +12,7 @@ loop_var v = (v.name.now, v.value)
 abbrev pub stacked : List LoopVar → Vars
 stacked vars = reverse (map loop_var vars)
 
--- The loop variables around, the innermost first.
+-- The scope has these loop variables around, the innermost first.
 abbrev pub vars_of : Scope → Vars
 vars_of Outermost = []
 vars_of (Kept vars) = vars.now

@@ -61,6 +61,10 @@ impl<'p> Model for Layout<'p> {
 
 impl<'p> Layout<'p> {
     /// The layout of these arrays. Each must have a cell, and all at most 4,096.
+    ///
+    /// # Errors
+    ///
+    /// `AllocError` if an allocation fails.
     pub fn new(alloc: Global, arrays: &'p Arrays) -> Result<Layout<'p>, AllocError>
         requires { AreSized (arrays_of (declarations_of arrays.now)) }
         ensures { IfOk result (λ layout. layout ≡ arrays_of (declarations_of arrays.now)) }

@@ -49,6 +49,10 @@ impl Model for MarkedStore {
 
 impl MarkedStore {
     /// What a store has, of which no cell is written yet. No cell is copied.
+    ///
+    /// # Errors
+    ///
+    /// `AllocError` if an allocation fails.
     pub fn new(alloc: Global, store: &Store) -> Result<MarkedStore, AllocError>
         ensures { IfOk result (λ marked. marked ≡ fresh store.now) }
     {
@@ -119,6 +123,10 @@ impl MarkedStore {
 
     /// A store of these values. It shares with the one that was taken before, or else with the one that this was made
     /// from, each page of which no cell was written since.
+    ///
+    /// # Errors
+    ///
+    /// `AllocError` if an allocation fails.
     pub fn to_store(&mut self, alloc: Global) -> Result<Store, AllocError>
         ensures values { IfOk result (λ store. store ≡ self.old.cells) }
         ensures same { self.new ≡ self.old }
@@ -131,6 +139,10 @@ impl MarkedStore {
 
     /// The cells that were written, each with its value. There must be at most 65,535 cells, since an overlay counts its room in
     /// 16 bits. Stores of programs have at most 4,096.
+    ///
+    /// # Errors
+    ///
+    /// `AllocError` if an allocation fails.
     pub fn written(&self, alloc: Global) -> Result<Overlay, AllocError>
         requires { length self.now.cells < cell_numbers }
         ensures { IfOk result (λ overlay. overlay.pairs ≡ last_writes (marked self.now)) }

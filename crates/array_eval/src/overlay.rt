@@ -38,6 +38,10 @@ impl Overlay {
     }
 
     /// An overlay of no cell, with room for so many.
+    ///
+    /// # Errors
+    ///
+    /// `AllocError` if an allocation fails.
     pub fn roomy(alloc: Global, room: u16) -> Result<Overlay, AllocError>
         ensures pairs { IfOk result (λ overlay. overlay.pairs ≡ []) }
         ensures room { IfOk result (λ overlay. overlay.room ≡ room) }

@@ -20,6 +20,10 @@ use std::alloc::{AllocError, Global};
 ///
 /// Each array must have a cell, and all at most 4,096. That the names are known and the indexes inside their arrays
 /// is not needed: a read behind the last cell gives 0, and a write there does nothing.
+///
+/// # Errors
+///
+/// `AllocError` if an allocation fails.
 #[tactic(auto, using(array_meaning::proofs::StepLemmas::length_after, crate::proofs::TraceLemmas::cells_after))]
 pub fn run_one(alloc: Global, program: &Program) -> Result<Store, AllocError>
     requires { AreSized (arrays_of (declarations_of program.now.arrays)) }

@@ -34,6 +34,10 @@ impl Model for Store {
 
 impl Store {
     /// A store of so many cells, each 0.
+    ///
+    /// # Errors
+    ///
+    /// `AllocError` if an allocation fails.
     pub fn zero(alloc: Global, cells: u16) -> Result<Store, AllocError>
         ensures { IfOk result (λ store. store ≡ replicate cells (pos 0)) }
     {
@@ -104,6 +108,10 @@ impl Store {
     }
 
     /// The store after an overlay's cells are written. Each of them must be there.
+    ///
+    /// # Errors
+    ///
+    /// `AllocError` if an allocation fails.
     #[tactic(auto, using(array_meaning::proofs::StepLemmas::length_after))]
     pub fn with(&self, written: &Overlay) -> Result<Store, AllocError>
         requires { All (λ pair. pair.0 < length self.now) written.now.pairs }

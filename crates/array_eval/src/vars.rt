@@ -49,6 +49,10 @@ impl Vars {
     }
 
     /// The variables of a scope.
+    ///
+    /// # Errors
+    ///
+    /// `AllocError` if an allocation fails.
     pub fn of_scope(alloc: Global, scope: &Scope) -> Result<Vars, AllocError>
         ensures { IfOk result (λ vars. vars ≡ vars_of scope.now) }
     {
@@ -58,6 +62,10 @@ impl Vars {
     }
 
     /// These variables with one more, the innermost.
+    ///
+    /// # Errors
+    ///
+    /// `AllocError` if an allocation fails.
     pub fn with(&self, name: &Name, value: i64) -> Result<Vars, AllocError>
         ensures { IfOk result (λ vars. vars ≡ (name.now, value) ∷ self.now) }
     {

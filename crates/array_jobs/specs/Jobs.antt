@@ -23,7 +23,7 @@ pub record JobParts : Type 0 where
   pub vars : Vars
   pub store : Store
 
--- A job, without where its parts lie in memory. Two jobs are equal where these are.
+-- A job is seen without where its parts lie in memory. Two jobs are equal if these parts are.
 pub record JobTree : Type 0 where
   pub arrays : List Declaration
   pub site : ℕ
@@ -51,7 +51,7 @@ job_of job = record {
 abbrev pub names_around : Vars → List (List ℕ)
 names_around vars = map (λ v. v.0) vars
 
--- The job's arrays, and its work as the body.
+-- The program has the job's arrays, and its work as the body.
 abbrev pub program_in : JobTree → ProgramTree
 program_in job = record { arrays = job.arrays; body = statements_of job.work }
 

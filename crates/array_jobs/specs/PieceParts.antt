@@ -14,6 +14,6 @@ pub record PieceParts : Type 0 where
 abbrev pub piece_of_job : JobTree → List Write
 piece_of_job job = piece_of (arrays_of job.arrays) (steps_of job.work job.vars) job.store
 
--- Exactly that is written.
+-- A piece has exactly what its job writes.
 abbrev pub IsRight : PieceParts → Type 0
 IsRight piece = piece.written ≡ piece_of_job (job_of piece.job)

@@ -13,7 +13,7 @@ use Rattle.array_meaning.specs.Members.{start_of}
 abbrev pub Entering : Type 0
 Entering = Store → List Bool
 
--- A part of a program: its steps, and which of its sites they enter.
+-- A part of a program has its steps, and which of its sites they enter.
 abbrev pub Part : Type 0
 Part = Steps × Entering
 
@@ -74,7 +74,7 @@ abbrev mutual
       (λ there. (sequence_work first there, sequence_entered arrays first there)) vars)
       (phases_entered arrays rest var low high vars) store
 
--- Statements, sequences, branches and phases as parts.
+-- A statement is a part: its work and the sites that it enters.
 abbrev pub statement_part : Arrays → Statement → Vars → Part
 statement_part arrays s vars = (statement_work s vars, statement_entered arrays s vars)
 

@@ -67,7 +67,7 @@ abbrev mutual
   branches_depth_of no_more = 0
   branches_depth_of (beside first rest) = max (depth_of first) (branches_depth_of rest)
 
--- The units of work of an expression: its nodes.
+-- The units of work of an expression are its nodes.
 abbrev pub expression_units_of : Expression → ℕ
 expression_units_of (Number n) = 1
 expression_units_of (Var name) = 1

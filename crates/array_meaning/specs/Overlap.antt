@@ -32,12 +32,12 @@ overlaps arrays was_changed was_read (piece ∷ more) cell =
     || overlaps arrays (was_changed || changed arrays (walk arrays piece) cell) (was_read
     || read arrays (walk arrays piece) cell) more cell
 
--- The first of so many numbers, from one on, that passes.
+-- The result is the first of so many numbers, from one on, that passes.
 abbrev pub first_from : (ℕ → Bool) → ℕ → ℕ → Option ℕ
 first_from test i zero = None
 first_from test i (suc k) = if test i then Some i else first_from test (i + 1) k
 
--- The least of so many cells on which two pieces overlap.
+-- The result is the least of so many cells on which two pieces overlap.
 abbrev pub overlap : Arrays → ℕ → List Steps → Option ℕ
 overlap arrays cells pieces = first_from (overlaps arrays false false pieces) 0 cells
 

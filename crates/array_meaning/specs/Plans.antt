@@ -4,7 +4,7 @@ use Rattle.std.specs.Prelude.{◌≡◌, ℕ, zero, suc, ◌+◌, ◌*◌, ◌<�
 use Rattle.array_tree.specs.Trees.{Statement, Assign, For, If, Par, Team, Sequence, ended, followed, Sequences, no_more, beside, ProgramTree}
 use Rattle.array_meaning.specs.Work.{span}
 
--- The parents of the sites of a part of a program, given the construct around it and the number of the next site.
+-- A part of a program has these parents of its sites, given the construct around it and the number of the next site.
 abbrev pub Parents : Type 0
 Parents = ℕ → ℕ → List ℕ
 
@@ -51,7 +51,7 @@ abbrev mutual
       and_then (repeated iterations (sequence_parents first))
       (phases_parents rest iterations) around next
 
--- The plan: no construct is around the body, and the first site is 1.
+-- In the plan no construct is around the body, and the first site is 1.
 abbrev pub plan_of : ProgramTree → List ℕ
 plan_of program = sequence_parents program.body 0 1
 

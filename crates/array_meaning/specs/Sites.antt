@@ -25,7 +25,7 @@ phase_rounds (beside first rest) var low high members vars =
     team_works var low high members (sequence_work first) vars
     ∷ phase_rounds rest var low high members vars
 
--- The sites of so many turns.
+-- The sites are those of so many turns, one after another.
 abbrev pub turn_sites : (ℤ → List Site) → ℤ → ℕ → List Site
 turn_sites body low zero = []
 turn_sites body low (suc n) = body low ++ turn_sites body (low +ℤ pos 1) n

@@ -10,15 +10,15 @@ use Rattle.array_meaning.specs.Values.{wrapping_minus, applied}
 abbrev pub Arrays : Type 0
 Arrays = List (List ℕ × ℕ)
 
--- Each loop variable around and its value, the innermost first.
+-- The variables are those of the loops around, each with its value, the innermost first.
 abbrev pub Vars : Type 0
 Vars = List (List ℕ × ℤ)
 
--- The value of each cell. Cells are numbered from 0 in order of declaration.
+-- A store has the value of each cell. Cells are numbered from 0 in order of declaration.
 abbrev pub Store : Type 0
 Store = List ℤ
 
--- A cell, and what is written to it.
+-- A write is a cell and what is written to it.
 abbrev pub Write : Type 0
 Write = ℕ × ℤ
 
@@ -41,17 +41,17 @@ pub record AreSized (arrays : Arrays) : Type 0 where
   pub each : HaveCells arrays
   pub whole : cells_of arrays ≤ most_cells
 
--- The value of a variable: of the innermost loop with the name.
+-- The value of a variable is that of the innermost loop with the name.
 abbrev pub var_of : Vars → List ℕ → ℤ
 var_of [] name = pos 0
 var_of (v ∷ more) name = cond (name_eq v.0 name) v.1 (var_of more name)
 
--- The first cell of an array.
+-- An array has this first cell.
 abbrev pub base_of : Arrays → List ℕ → ℕ
 base_of [] name = 0
 base_of (a ∷ more) name = cond (name_eq a.0 name) 0 (a.1 + base_of more name)
 
--- The length of an array, 1 where there is none of the name.
+-- An array has this length, and 1 if there is none of the name.
 abbrev pub length_of : Arrays → List ℕ → ℕ
 length_of [] name = 1
 length_of (a ∷ more) name = cond (name_eq a.0 name) a.1 (length_of more name)
@@ -82,12 +82,12 @@ abbrev pub place_of : ℕ → Bool → ℤ → ℕ
 place_of length true index = unsigned_abs (int_rem_euclid index (pos length))
 place_of length false index = unsigned_abs index
 
--- The cell that an index of an array leads to.
+-- An index of an array leads to this cell.
 abbrev pub cell_of : Arrays → List ℕ → Bool → ℤ → ℕ
 cell_of arrays name dynamic index =
     base_of arrays name + place_of (length_of arrays name) dynamic index
 
--- The value of an expression.
+-- An expression has this value.
 abbrev pub value_of : Arrays → Vars → Expression → Store → ℤ
 value_of arrays vars (Number n) store = n
 value_of arrays vars (Var name) store = var_of vars name

@@ -35,7 +35,7 @@ abbrev mutual
   duplicate_among (beside first rest) taken =
       first_fault (duplicate_in first taken ∷ duplicate_among rest taken ∷ [])
 
--- The line of the first declaration or loop whose name is already an array's, or a loop variable's around it.
+-- The result is the line of the first declaration or loop whose name is already an array's, or a loop variable's around it.
 abbrev pub duplicate_name : ProgramTree → Option ℕ
 duplicate_name program =
     first_fault (duplicate_declaration program.arrays []

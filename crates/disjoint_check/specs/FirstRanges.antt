@@ -12,7 +12,7 @@ use Rattle.disjoint_check.specs.declared.fault.Limit.TheVariants as limit
 abbrev pub told : ℕ → ℤ
 told count = pos (min count (2 ^ 63 - 1))
 
--- The limits of a declaration, with so many arrays and so many cells before it.
+-- The fault of a declaration is the first limit that it passes, with so many arrays and so many cells before it.
 abbrev pub declaration_fault : Declaration → ℕ → ℕ → Option CheckFault
 declaration_fault d arrays cells = first_fault
     (unless (is_up_to (pos most_cells) d.length) (BadRange d.line limit.Length d.length)
@@ -29,7 +29,7 @@ declarations_fault (d ∷ more) arrays cells =
     first_fault (declaration_fault d arrays cells
     ∷ declarations_fault more (arrays + 1) (cells + unsigned_abs d.length) ∷ [])
 
--- The limits of a `team` of so many phases.
+-- The fault of a `team` of so many phases is the first limit that it passes.
 abbrev pub team_fault : ℕ → ℤ → ℤ → ℤ → ℕ → Option CheckFault
 team_fault line low high members phases = first_fault
     (unless (int_le low high) (BadRange line limit.Bounds high)

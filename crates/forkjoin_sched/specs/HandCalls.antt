@@ -27,7 +27,7 @@ abbrev pub HasSeen : {R : Type 0} → PoolHand R → Found → PoolHand R → Ty
 HasSeen before found after =
     IsSame before after × (after.rows.now ≡ before.rows.now) × Sees before.looks found after.looks
 
--- A context that is ready, found under the lock.
+-- A context that is ready was found under the lock, and is taken.
 abbrev pub TakesReadyBy : {R : Type 0} → PoolHand R → Option PoolWork → PoolHand R → Type 0
 TakesReadyBy before (Some work) after = HasSeen before Work after
 TakesReadyBy before None after = IsStill before after

@@ -15,7 +15,7 @@ use Rattle.forkjoin_sched.specs.declared.looks.Found.{Found}
 use Rattle.forkjoin_sched.specs.declared.looks.Found.TheVariants.{HandedOut, NoneLeft, Work}
 use Rattle.forkjoin_sched.specs.declared.looks.Looks.{Looks}
 
--- The code of a job.
+-- A job has this code, by its site and its place.
 abbrev pub code_at : ℕ → ℕ → ℕ
 code_at site place = 64 * site + place
 
@@ -42,7 +42,7 @@ AnswersUnder None next after = (next ≡ Nothing) × (after ≡ None)
 AnswersUnder (Some pool) next None = ⊥
 AnswersUnder (Some pool) next (Some after) = Answers pool next after
 
--- The first context that is ready.
+-- The first context that is ready is taken.
 abbrev pub GivesReadyUnder : Option PoolParts → Option PoolWork → Option PoolParts → Type 0
 GivesReadyUnder None ready after = (ready ≡ None) × (after ≡ None)
 GivesReadyUnder (Some pool) ready None = ⊥
@@ -83,7 +83,7 @@ abbrev pub TakesCode : ℕ → ℕ → HartRows → Option ℕ → HartRows → 
 TakesCode home level before (Some code) after = HasTaken home level code before after
 TakesCode home level before None after = IsFoundBare home level before after
 
--- A job of the site whose code was taken, or none, and the row was found bare.
+-- A job of the site is taken whose code was taken, or none, and the row was found bare.
 abbrev pub TakesPiece : ℕ → ℕ → ℕ → HartRows → Option JobParts → HartRows → Type 0
 TakesPiece site home level before (Some job) after =
     (job.site ≡ site) × HasTaken home level (code_of job) before after

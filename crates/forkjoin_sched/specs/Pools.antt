@@ -17,7 +17,7 @@ pub record PoolParts : Type 0 where
   pub agenda : AgendaParts PoolWork
   pub book : BookParts
 
--- The site of the jobs.
+-- The jobs have this site.
 abbrev pub site_of_jobs : List JobParts → ℕ
 site_of_jobs [] = 0
 site_of_jobs (job ∷ jobs) = job.site

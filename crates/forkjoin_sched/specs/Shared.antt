@@ -5,7 +5,7 @@ use Rattle.array_jobs.specs.PieceParts.{PieceParts}
 use Rattle.join_book.specs.declared.book.Deposit.{Deposit}
 use Rattle.join_book.specs.declared.book.Deposit.TheVariants.{Kept, Double, Stranger}
 
--- The site and the jobs of the pool that it was made of.
+-- Contracts see of a shared pool the site and the jobs of the pool that it was made of.
 pub record SharedParts : Type 0 where
   pub site : ℕ
   pub jobs : List JobParts

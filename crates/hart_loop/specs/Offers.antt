@@ -5,7 +5,7 @@ use Rattle.sched_api.specs.declared.scheduler.Next.TheVariants.{Run, Lend, Nothi
 use Rattle.hart_work.specs.declared.schedulers.Task.{Task}
 use Rattle.hart_work.specs.declared.schedulers.Task.TheVariants as task
 
--- The task in what a hart gets.
+-- The task is the one in what a hart gets.
 abbrev pub task_told : Next JobParts → Task JobParts
 task_told (Run job) = task.Piece job
 task_told (Lend child) = task.Visit child

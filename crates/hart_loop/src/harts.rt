@@ -94,7 +94,7 @@ impl<'a, 'p, S: InDirectory<'p>, R: Wait> Schedulers<R, JobMachines<'p>>
 
     ghost construct = { λ site. site.opened };
 
-    // What stands behind a lock may have changed with every look. So a site owes nothing, and is settled as soon as the
+    // Lock-protected state may have changed with every look. So a site owes nothing, and is settled as soon as the
     // scheduler was made for its construct.
     ghost settled = { λ site. IsOpened S.held site };
 

@@ -6,7 +6,7 @@ use Rattle.step_eval.specs.Nests.{NestedParts}
 use Rattle.loop_team.specs.Teams.{phases_in}
 use Rattle.hart_tools.specs.declared.claims.SiteRows.{SiteRows}
 
--- The members of a site's claim rows: one row for each phase of a `team`, none of a `par`.
+-- A site's claim rows have these members: one row for each phase of a `team`, none of a `par`.
 abbrev pub rows_of_shape : Shape → List ℕ
 rows_of_shape shape = replicate shape.1 shape.0
 
@@ -19,7 +19,7 @@ rows_of_shapes (shape ∷ more) = rows_of_shape shape ++ rows_of_shapes more
 abbrev pub claim_rows : List Shape → List ℕ
 claim_rows shapes = take MOST_ROWS (rows_of_shapes shapes)
 
--- The shape of a site, by its rows.
+-- A site has this shape, by its rows.
 abbrev pub shape_of : SiteRows → Shape
 shape_of rows = (rows.members, rows.phases)
 

@@ -26,7 +26,7 @@ Fits k (Team place) = TeamFits k.seat place
 Fits k (Pipe pipe) = Unit {0}
 Fits k Nobody = Unit {0}
 
--- The scheduler's site; that of `Nobody` is the base's.
+-- The grip has its scheduler's site; that of `Nobody` is the base's.
 abbrev pub site_at : Grip → ℕ
 site_at (Base base) = 0
 site_at (Pool place) = place.pool.now.site

@@ -16,7 +16,7 @@ use Rattle.loop_team.specs.declared.work.TeamWork.TheVariants as team
 use Rattle.pipe_sched.specs.declared.work.PipeWork.{PipeWork}
 use Rattle.pipe_sched.specs.declared.work.PipeWork.TheVariants as pipe
 
--- The job that a context is to begin; one that waits to go on has none.
+-- The job of a pool's context is the one that it begins, if it begins one.
 abbrev pub pool_job : PoolWork → Option JobParts
 pool_job (pool.Begin job) = Some job
 pool_job (pool.Ready context) = None

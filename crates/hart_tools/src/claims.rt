@@ -39,6 +39,10 @@ impl Claims {
     /// for which a table has no further row have none, and the home of such a site computes its construct.
     ///
     /// The sites' shapes are those that the check found.
+    ///
+    /// # Errors
+    ///
+    /// `AllocError` if an allocation fails.
     pub fn new(
         alloc: Global,
         accepted: &Accepted<'_>,

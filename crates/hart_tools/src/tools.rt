@@ -160,6 +160,10 @@ impl<'t> Tools<'t> {
     }
 
     /// Registers the child, and makes the callback of the scheduler.
+    ///
+    /// # Errors
+    ///
+    /// `Taken` if the child was claimed before.
     pub fn register<'b, P: Port, R: Wait + 'b>(
         &mut self,
         rt: &'b R,
@@ -361,7 +365,7 @@ impl<'t> Tools<'t> {
         }
     }
 
-    /// A piece is done. One that is a stranger there is let go.
+    /// A piece is done. A piece that is a stranger to the scheduler is dropped.
     pub fn deposit<'b, 'p, R: Wait + 'b>(&mut self, rt: &'b R, grip: Grip<'b, 'p>, piece: Piece<'p>)
         requires { Fits self.old grip }
         ensures { self.new ≡ self.old }
@@ -394,7 +398,7 @@ impl<'t> Tools<'t> {
         }
     }
 
-    /// Whether a piece failed, so that the sites inside don't come. Nor do they where the hart computes the
+    /// Whether a piece failed, so that the sites inside don't come. They don't come either where the hart computes the
     /// construct by itself.
     pub fn has_failed<'b, R: Wait + 'b>(&mut self, rt: &'b R, grip: Grip<'b, '_>) -> bool
         requires { Fits self.old grip }
@@ -443,6 +447,10 @@ fn is_level(level: u8) -> bool
 
 /// The tools of all harts of a run, by their rows and their seats of the claim words, in the opposite order: who pops them
 /// gets those of the first hart first.
+///
+/// # Errors
+///
+/// `AllocError` if an allocation fails.
 pub fn tools_of<'x>(
     alloc: Global,
     words: &'x Claims,

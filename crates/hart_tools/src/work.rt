@@ -14,7 +14,7 @@ pub trait Work<'p> {
     /// The job that it is to begin. One that waits to go on has none.
     ghost job: { Self → Option JobParts };
 
-    /// The job. A context that waits to go on is let go.
+    /// The job. A context that waits to go on is dropped.
     fn into_job(self) -> Option<Job<'p>>
         ensures { result ≡ job self };
 }

@@ -20,6 +20,10 @@ use site_steps::{PatientPort, SiteTree, finish_site, skip_sites, sweep_if};
 use std::alloc::{AllocError, Global};
 
 /// Runs a job of the site that the hart is in, and brings the hart back to it.
+///
+/// # Errors
+///
+/// `AllocError` if an allocation fails.
 #[cycle(serve)]
 pub fn run_piece<P: PatientPort, R, M: Machines, H: Schedulers<R, M>, F: Fn(u8, &M::Job)>(
     rt: &R,
@@ -77,6 +81,10 @@ pub fn run_piece<P: PatientPort, R, M: Machines, H: Schedulers<R, M>, F: Fn(u8, 
 ///
 /// It checks that the construct's site is a child of the hart's, as `register` requires; by the laws of `planned_sites` it always
 /// is. Sites have higher numbers than the site around them, so the recursion ends.
+///
+/// # Errors
+///
+/// `AllocError` if an allocation fails.
 #[cycle(serve)]
 pub fn run_construct<P: PatientPort, R, M: Machines, H: Schedulers<R, M>, F: Fn(u8, &M::Job)>(
     rt: &R,

@@ -42,7 +42,7 @@ pub record IsKept (jobs : List JobParts) (places : List Place) : Type 0 where
       → slice_get places i ≡ Some (place.Filled written) →
       written.pairs ≡ piece_of_job (job_of job)
 
--- The book of jobs none of which is done.
+-- The book has these jobs, none of which is done.
 abbrev pub open_book : List JobParts → BookParts
 open_book jobs = record { jobs = jobs; places = replicate (length jobs) Open }
 
@@ -80,7 +80,7 @@ abbrev pub HaveCells : BookParts → ℕ → Type 0
 HaveCells book cells = (i : ℕ) (job : JobParts) → slice_get book.jobs i ≡ Some job
     → length job.store ≡ cells
 
--- A store of the jobs' cells, of which none is marked.
+-- The store has the jobs' cells, of which none is marked.
 pub record IsBlank (book : BookParts) (store : Trace) : Type 0 where
   pub cells : HaveCells book (length store.cells)
   pub few : length store.cells < cell_numbers

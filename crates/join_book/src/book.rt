@@ -170,6 +170,10 @@ impl<'p> Book<'p> {
     }
 
     /// A store of the jobs' cells, of which none is marked, for the pieces to be merged into.
+    ///
+    /// # Errors
+    ///
+    /// `AllocError` if an allocation fails.
     pub fn blank_store(&self) -> Result<MarkedStore, AllocError>
         ensures { IfOk result (λ store. IsBlank self.now store) }
     {

@@ -9,7 +9,7 @@ use Rattle.transfer_table.specs.declared.entry.Entry.{Entry}
 use Rattle.transfer_table.specs.declared.entry.NotAdmitted.{NotAdmitted}
 use Rattle.transfer_table.specs.declared.fault.Fault.{Fault}
 
--- The entries before the fault.
+-- The entries are those before the fault.
 abbrev pub before : Option Fault → List Entry → List Entry
 before None es = es
 before (Some fault) es = take fault.place es
@@ -22,12 +22,12 @@ drawn p meant es = before (first_fault_of p meant es) es
 abbrev pub has_fault : Plan → List Bool → List Entry → Bool
 has_fault p meant es = is_some (first_fault_of p meant es)
 
--- The state after an entry; a refused one would change nothing.
+-- The state is that after an entry; a refused one changes nothing.
 abbrev pub or_same : TableState → Result TableState NotAdmitted → TableState
 or_same t (Ok u) = u
 or_same t (Err why) = t
 
--- The state after the entries, from a state on.
+-- The state is that after the entries, from a state on.
 abbrev pub state_from : Plan → TableState → List Entry → TableState
 state_from p t [] = t
 state_from p t (e ∷ es) = state_from p (or_same t (admit_of p t e)) es

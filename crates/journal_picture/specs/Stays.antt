@@ -7,7 +7,7 @@ use Rattle.transfer_table.specs.declared.entry.Entry.{Entry}
 use Rattle.transfer_table.specs.declared.entry.Entry.TheVariants.{Register, Request, Enter, Yield, Unregister, Skip}
 use Rattle.journal_picture.specs.declared.stay.Stay.{Stay}
 
--- The site to which the entry takes the hart, if it moves it.
+-- The entry takes the hart to this site, if it moves it.
 abbrev pub goes_to : Plan → ℕ → Entry → Option ℕ
 goes_to p h (Register g s) = cause_if (g == h) s
 goes_to p h (Request g s k) = None

@@ -28,7 +28,7 @@ found_in harts program output =
     audit_of (table_plan program harts) (entered_of program)
     (array_text program (final_store program)) output
 
--- A first part that spells an accepted program, and this verdict on the second.
+-- The first part spells an accepted program, and this is the verdict on the second.
 pub record AreFound (harts : ℕ) (verdict : Verdict) (first second : List ℕ) : Type 0 where
   pub program : ProgramTree
   pub input : SpellAccepted harts first program
@@ -38,7 +38,7 @@ pub record AreFound (harts : ℕ) (verdict : Verdict) (first second : List ℕ) 
 abbrev pub HasVerdict : ℕ → List ℕ → Verdict → Type 0
 HasVerdict harts bytes verdict = HasParts (AreFound harts verdict) bytes
 
--- The status by a verdict.
+-- A verdict has this status.
 abbrev pub status_by : Verdict → Status
 status_by (verdict.Legal entries) = status.Done
 status_by (verdict.Differs line) = status.Illegal

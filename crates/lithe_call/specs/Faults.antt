@@ -108,7 +108,7 @@ pub record SpellUnpiped (harts : ℕ) (bytes line : List ℕ) : Type 0 where
   pub refused : IsPiped harts program → ⊥
   pub first : IsUnpiped harts program line
 
--- An input without a line `%%`, and the line that says so.
+-- The input has no line `%%`, and the line says so.
 pub record HasNoMark (bytes line : List ℕ) : Type 0 where
   pub none : parts_of bytes ≡ None
   pub told : line ≡ codes "syntax: no line %%" ++ 10 ∷ []
@@ -123,7 +123,7 @@ pub record AreNoOutput (harts : ℕ) (line first second : List ℕ) : Type 0 whe
   pub real : fault ≢ text.Memory
   pub told : line ≡ text_fault_text fault
 
--- A first part that spells no program, or a second that is no output's text.
+-- The first part spells no program, or the second is no output's text.
 abbrev pub AreNoText : ℕ → List ℕ → List ℕ → List ℕ → Type 0
 AreNoText harts line first second = SpellNothing first line ⊎ AreNoOutput harts line first second
 

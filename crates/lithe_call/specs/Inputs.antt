@@ -7,7 +7,7 @@ use Rattle.lithe_call.specs.Telling.{GivesWithin, GivesMore}
 use Rattle.command_words.specs.declared.command.Command.{Command}
 use Rattle.command_words.specs.declared.command.Command.TheVariants.{Audit, Make}
 
--- The greatest length of a command's input, in bytes.
+-- A command's input has at most so many bytes.
 abbrev pub limit_of : Command → ℕ
 limit_of (Audit harts) = most_audited
 limit_of (Make seed size harts) = 0

@@ -25,7 +25,7 @@ use Rattle.lithe_call.specs.Auditing.{HasVerdict, status_by}
 use Rattle.lithe_call.specs.declared.status.Status.{Status}
 use Rattle.lithe_call.specs.declared.status.Status.TheVariants.{Done, Refused}
 
--- The array lines, and then the journal.
+-- The output has the array lines, and then the journal.
 abbrev pub output_text : ProgramTree → Plan → Store → List Entry → List ℕ
 output_text program plan store journal = array_text program store ++ journal_text plan journal
 

@@ -9,11 +9,11 @@ use Rattle.array_meaning.specs.Plans.{plan_of}
 use Rattle.disjoint_check.specs.Meaning.{IsAcceptedFor}
 use Rattle.program_maker.specs.Made.{made_program}
 
--- The program's plan for so many harts.
+-- A program has this plan for so many harts.
 abbrev pub table_plan : ProgramTree → ℕ → Plan
 table_plan program harts = record { harts = harts; parents = plan_of program }
 
--- The text of the program that `make` makes, as it is printed.
+-- The command `make` makes this text of a program, as it is printed.
 abbrev pub made_text : ℕ → ℕ → List ℕ
 made_text seed size = printed (made_program seed size)
 

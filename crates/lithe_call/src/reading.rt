@@ -31,6 +31,11 @@ impl From<AllocError> for ReadError {
 const BUFFER: usize = 4096;
 
 /// All bytes that the source has left, if they are at most `limit`.
+///
+/// # Errors
+///
+/// `ReadError::TooLong` if the source has more bytes, `ReadError::Failed` if it fails, and `ReadError::Memory` if an allocation
+/// fails.
 pub fn read_all<A: Source>(
     alloc: Global,
     source: &mut A,

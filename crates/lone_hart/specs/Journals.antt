@@ -10,17 +10,17 @@ entries_in (Listed entries) = entries
 entries_in (Board entries) = entries
 entries_in (Wide entries) = entries
 
--- The list that a single hart kept.
+-- The journal is the list that a single hart kept.
 abbrev pub IsListed : Journal → Type 0
 IsListed (Listed entries) = Unit {0}
 IsListed journal = ⊥
 
--- The journal of a closed word board.
+-- The journal is that of a closed word board.
 abbrev pub IsBoard : Journal → Type 0
 IsBoard (Board entries) = Unit {0}
 IsBoard journal = ⊥
 
--- The journal of a closed wide board.
+-- The journal is that of a closed wide board.
 abbrev pub IsWide : Journal → Type 0
 IsWide (Wide entries) = Unit {0}
 IsWide journal = ⊥

@@ -16,7 +16,7 @@ use Rattle.lone_hart.specs.Accounts.{AllCameBack, AllButOneCameBack}
 use Rattle.lone_hart.specs.declared.site.LoneSite.{LoneSite}
 use Rattle.lone_hart.specs.declared.site.LoneSite.TheVariants.{Base, Pool, Team}
 
--- The construct that the site runs; the base runs none.
+-- The site runs this construct; the base runs none.
 abbrev pub construct_in : LoneSite → Option NestedParts
 construct_in (Base base) = None
 construct_in (Pool nested p) = Some nested
@@ -50,7 +50,7 @@ IsSettledSite (Base base) = Unit {0}
 IsSettledSite (Pool nested p) = IsPoolOf nested p × AllCameBack pool.Begin p.book p.agenda
 IsSettledSite (Team t) = IsOver t ⊎ IsRunning t
 
--- Every job but this one; the base hands none out.
+-- Every job that the site handed out came back but this one; the base hands none out.
 abbrev pub IsOwed : LoneSite → JobParts → Type 0
 IsOwed (Base base) job = ⊥
 IsOwed (Pool nested p) job = IsPoolOf nested p × AllButOneCameBack pool.Begin p.book p.agenda job

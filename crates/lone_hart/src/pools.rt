@@ -23,6 +23,10 @@ use std::alloc::{AllocError, Global};
 use step_eval::{Nested, jobs_of};
 
 /// The pool of a `par`.
+///
+/// # Errors
+///
+/// `AllocError` if an allocation fails.
 pub fn open_pool<'p>(alloc: Global, nested: &Nested<'p>) -> Result<Pool<'p>, AllocError>
     requires { phases_of (statement_of nested.now.construct) ≡ 1 }
     ensures of { IfOk result (IsPoolOf nested.now) }

@@ -87,6 +87,10 @@ fn run_body<'p>(
 }
 
 /// The store after the piece of a program's body.
+///
+/// # Errors
+///
+/// `AllocError` if an allocation fails.
 pub fn store_after(piece: Piece<'_>) -> Result<Store, AllocError>
     ensures { IfOk result (λ store. (program : ProgramTree)
         → job_of piece.entry.job ≡ body_of program → store ≡ final_store program) }

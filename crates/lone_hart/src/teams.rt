@@ -23,6 +23,10 @@ use std::alloc::{AllocError, Global};
 use step_eval::{Kind, Nested};
 
 /// The team of a `team`.
+///
+/// # Errors
+///
+/// `AllocError` if an allocation fails.
 pub fn open_team<'p>(alloc: Global, nested: Nested<'p>) -> Result<Team<'p>, AllocError>
     requires { kind_of (statement_of nested.construct) ≡ Some Kind.Team }
     ensures nested { IfOk result (λ team. team.nested ≡ nested.entry) }

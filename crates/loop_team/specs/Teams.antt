@@ -100,7 +100,7 @@ with_agenda team agenda = record team { agenda = agenda }
 abbrev pub failed_team : TeamParts → TeamParts
 failed_team team = record team { failed = true }
 
--- Of a team whose phase has just opened: it is over, or its next phase is there to be begun.
+-- A team whose phase has just opened is over, or its next phase is there to be begun.
 pub record GoesOn (team after : TeamParts) : Type 0 where
   pub over : IsOver team → after ≡ team
   pub next : ¬ IsOver team
@@ -178,7 +178,7 @@ pub record IsKept (team : TeamParts) (store : Trace) : Type 0 where
       → AreJobsIn team.nested team.opened team.barrier.jobs
   pub in_order : AreInOrder team
 
--- A phase that is to begin: no piece has come, and no member has begun.
+-- A phase is to begin: no piece has come, and no member has begun.
 pub record IsPhase (nested : NestedParts) (phase : ℕ) (next : Phase) : Type 0 where
   pub jobs : AreJobsIn nested phase next.barrier.jobs
   pub barrier : next.barrier ≡ open_book next.barrier.jobs

@@ -93,6 +93,10 @@ impl<'a, 'r, 'p, R: Wait + 'a> TeamHand<'a, 'r, 'p, R> {
     ghost use Rattle.loop_team.specs.Teams.{IsOver, phases_in};
 
     /// What `arrive` of the team does. Where the team was handed out, each piece is a Stranger.
+    ///
+    /// # Errors
+    ///
+    /// `AllocError` if an allocation fails.
     pub fn arrive(&self, rt: &R, piece: Piece<'p>) -> Result<Arrival<'p>, AllocError>
         ensures { IfOk result (λ arrival. GivesBack piece.entry arrival) }
     {

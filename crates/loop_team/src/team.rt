@@ -205,6 +205,10 @@ impl<'p> Team<'p> {
     }
 
     /// What `arrive` does with a piece whose place is known: that of its job, which must be open. No jobs are compared.
+    ///
+    /// # Errors
+    ///
+    /// `AllocError` if an allocation fails.
     pub fn keep(&mut self, piece: Piece<'p>) -> Result<Arrival<'p>, AllocError>
         requires own { IsPlaceOf self.old.barrier piece.job.place piece.job }
         requires open { IsMarked self.old.barrier piece.job.place Open }

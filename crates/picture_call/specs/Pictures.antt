@@ -12,7 +12,7 @@ use Rattle.lithe_call.specs.Programs.{SpellAccepted, table_plan}
 use Rattle.lithe_call.specs.Telling.{GivesWithin}
 use Rattle.picture_call.specs.Words.{audit_words, form_asked}
 
--- A first part that spells an accepted program, and this picture of the second.
+-- The first part spells an accepted program, and this is the picture of the second.
 pub record AreDrawn (form : Form) (harts : ℕ) (picture : Pictured) (first second : List ℕ) : Type 0 where
   pub program : ProgramTree
   pub input : SpellAccepted harts first program

@@ -13,12 +13,12 @@ usage_text =
     line (codes "usage: lithe_picture text --harts N")
     ++ line (codes "       lithe_picture svg --harts N")
 
--- The text of a status, where it is always the same.
+-- A status has this text, if it is always the same.
 abbrev pub own_text : Status → List ℕ
 own_text Usage = usage_text
 own_text status = constant_text status
 
--- The text of a fault.
+-- A fault has this text.
 abbrev pub fault_text : Fault → List ℕ
 fault_text fault.Usage = usage_text
 fault_text why = line_of why

@@ -66,7 +66,7 @@ AreSettled slots = (i : ℕ) (own : Slot) → slice_get slots i ≡ Some own →
 abbrev pub HaveFailed : List Slot → Type 0
 HaveFailed slots = (i : ℕ) × (own : Slot) × (slice_get slots i ≡ Some own) × (is_failed (mark_of own) ≡ true)
 
--- The mark at a place.
+-- A place has this mark.
 abbrev pub mark_at : List Slot → ℕ → Mark
 mark_at slots i = mark_of (slice_index_or slots i slot.Barred)
 

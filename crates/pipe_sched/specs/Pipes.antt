@@ -15,7 +15,7 @@ abbrev pub piped_writes : NestedTree → List (List (List Write))
 piped_writes nested =
     piped (arrays_of nested.arrays) (rounds_of nested.construct nested.vars) nested.store
 
--- The store that the pieces leave that come before that of member j in phase k.
+-- The pieces that come before that of member j in phase k leave this store.
 abbrev pub piped_store : NestedTree → ℕ → ℕ → Store
 piped_store nested j k = after (written_before (piped_writes nested) j k) nested.store
 

@@ -95,7 +95,7 @@ IsFull pipe = (i : ℕ) (mark : Mark) → slice_get pipe.marks i ≡ Some mark �
 abbrev pub HasFailed : PipeParts → Type 0
 HasFailed pipe = (i : ℕ) × (mark : Mark) × (slice_get pipe.marks i ≡ Some mark) × (is_failed mark ≡ true)
 
--- A pipeline of which no piece was handed out.
+-- No piece of the pipeline was handed out.
 abbrev pub new_pipe : NestedParts → PipeParts
 new_pipe nested = record {
   nested = nested;

@@ -20,6 +20,10 @@ impl<'p> PipeState<'p> {
     /// Hands out the piece that is due: of those that wait and after none that isn't filled, the one of the lowest member, and
     /// of its phases the first. It is None exactly where there is none. The job starts from the construct's store with what
     /// the pieces wrote that come before it.
+    ///
+    /// # Errors
+    ///
+    /// `AllocError` if an allocation fails.
     pub fn next(&mut self) -> Result<Option<Job<'p>>, AllocError>
         ensures { Gives self.old result self.new }
     {

@@ -14,12 +14,12 @@ abbrev pub IsFaultOf : ProgramTree → PipeFault → Type 0
 IsFaultOf program (Crossing line cell) = IsFirstCrossing program line cell
 IsFaultOf program Memory = Unit {0}
 
--- The fault of a site: its construct's line, and the least cell on which two of its pieces cross.
+-- A site's fault has its construct's line, and the least cell on which two of its pieces cross.
 abbrev pub site_crossing : Arrays → Site → Option PipeFault
 site_crossing arrays site =
     option_map (Crossing site.line) (crossing arrays (cells_of arrays) site.rounds)
 
--- The fault of the first of the sites that has one.
+-- The result is the fault of the first of the sites that has one.
 abbrev pub first_crossing : Arrays → List Site → Option PipeFault
 first_crossing arrays [] = None
 first_crossing arrays (site ∷ more) = option_or (site_crossing arrays site) (first_crossing arrays more)

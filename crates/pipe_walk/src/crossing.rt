@@ -176,6 +176,10 @@ pub(crate) fn crossing_in<'s>(
 
 /// The least cell on which two pieces cross of a `team` of so many members, if it has these phases and the variables of this
 /// scope around it.
+///
+/// # Errors
+///
+/// `AllocError` if an allocation fails.
 pub fn crossing_of<'s>(
     alloc: Global,
     layout: &Layout,

@@ -32,7 +32,7 @@ cause_text (Unfinished site) = codes "s" ++ decimal site ++ codes " is unfinishe
 cause_text (Unmeant site true) = codes "s" ++ decimal site ++ codes " isn't skipped"
 cause_text (Unmeant site false) = codes "s" ++ decimal site ++ codes " is skipped"
 
--- The line of a verdict.
+-- A verdict has this line.
 abbrev pub verdict_text : Verdict → List ℕ
 verdict_text (verdict.Legal entries) = codes "legal " ++ decimal entries ++ 10 ∷ []
 verdict_text (verdict.Differs line) =
@@ -40,7 +40,7 @@ verdict_text (verdict.Differs line) =
 verdict_text (verdict.Illegal found) =
     codes "illegal: entry " ++ decimal found.place ++ codes ", " ++ cause_text found.why ++ 10 ∷ []
 
--- The line that reports a fault of the second part; an allocation failure has none.
+-- A fault of the second part has this line; an allocation failure has none.
 abbrev pub text_fault_text : TextFault → List ℕ
 text_fault_text (fault.BadLine line) =
     codes "syntax: bad line " ++ decimal line ++ codes " after %%" ++ 10 ∷ []

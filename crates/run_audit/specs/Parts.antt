@@ -4,7 +4,7 @@ use Rattle.std.specs.List.{join_with_byte}
 use Rattle.std.specs.Option.{option_map}
 use Rattle.journal_text.specs.Reading.{lines_of, is_word}
 
--- The greatest length of the input, in bytes.
+-- The input has at most so many bytes.
 abbrev pub most_audited : ℕ
 most_audited = 4194304
 

@@ -8,6 +8,10 @@ use std::alloc::{AllocError, Global};
 use transfer_table::{NotAdmitted, Why};
 
 /// The line of a verdict.
+///
+/// # Errors
+///
+/// `AllocError` if an allocation fails.
 pub fn verdict_line(alloc: Global, verdict: Verdict) -> Result<Vec<u8>, AllocError>
     ensures { IfOk result (λ line. line.items ≡ verdict_text verdict) }
 {

@@ -15,7 +15,7 @@ abbrev pub cell_fault : ℕ → Option ℕ → Option WalkFault
 cell_fault line None = None
 cell_fault line (Some cell) = Some (Overlap line cell)
 
--- The first of the rounds in which two pieces overlap, and the least cell on which they do.
+-- The fault is the first of the rounds in which two pieces overlap, and the least cell on which they do.
 abbrev pub rounds_fault : Arrays → ℕ → List (List Steps) → Option WalkFault
 rounds_fault arrays line [] = None
 rounds_fault arrays line (round ∷ more) =

@@ -42,7 +42,7 @@ pub record IsRight (job : JobTree) (rest : List WorkAt) (store : Trace) (next : 
   pub cells : length store.cells ≡ length job.store
   pub marks : length store.marks ≡ length job.store
 
--- The construct that is the first statement of a work.
+-- The construct is the first statement of a work.
 abbrev pub construct_of : WorkTree → Option Statement
 construct_of (branch_of ended) = None
 construct_of (branch_of (followed (Assign line array index value) rest)) = None
@@ -53,7 +53,7 @@ construct_of (branch_of (followed (Team line var low high members phases) rest))
     Some (Team line var low high members phases)
 construct_of (member_of var low high body) = None
 
--- The construct that is to be run next.
+-- The construct is the one that is to be run next.
 abbrev pub next_construct : List WorkAt → Option Statement
 next_construct [] = None
 next_construct (w ∷ more) = construct_of w.work
@@ -100,7 +100,7 @@ to_do machine = record {
   left = left_of machine.stage machine.rest;
 }
 
--- A construct, handed out at this place of a machine.
+-- A construct is handed out at this place of a machine.
 abbrev pub handed_out : Progress → WorkAt → Option Statement → Option NestedTree
 handed_out machine w None = None
 handed_out machine w (Some construct) = Some record {
@@ -116,11 +116,11 @@ abbrev pub nest_in : Progress → List WorkAt → Option NestedTree
 nest_in machine [] = None
 nest_in machine (w ∷ more) = handed_out machine w (construct_of w.work)
 
--- The construct that is to be run next, handed out.
+-- The construct that is to be run next is handed out so.
 abbrev pub next_nest : Progress → Option NestedTree
 next_nest machine = nest_in machine machine.rest
 
--- The sites that the hart has to skip with the next step: those of the side of an `if` that isn't run.
+-- The hart has to skip these sites with the next step: those of the side of an `if` that isn't run.
 abbrev pub next_pass : Progress → Option (ℕ × ℕ)
 next_pass machine =
     pass_of (arrays_of (declarations_of machine.job.arrays)) machine.store.cells machine.next

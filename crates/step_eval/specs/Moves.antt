@@ -59,7 +59,7 @@ moved_writes arrays store (branch_of (followed first rest)) vars =
     begun_writes arrays store first vars
 moved_writes arrays store (member_of var low high body) vars = []
 
--- The sites that are passed when a statement begins: all of a construct, and of an `if` whose second side is run those of the
+-- The beginning of a statement passes these sites: all of a construct, and of an `if` whose second side is run those of the
 -- first.
 abbrev pub begun_sites : Arrays → Store → Statement → Vars → ℕ
 begun_sites arrays store (Assign line array index value) vars = 0
@@ -70,7 +70,7 @@ begun_sites arrays store (Par line branches) vars = statement_sites_in (Par line
 begun_sites arrays store (Team line var low high members phases) vars =
     statement_sites_in (Team line var low high members phases)
 
--- The sites that one step of a work passes. Where the work ends these are the ones behind it.
+-- One step of a work passes these sites. Where the work ends these are the ones behind it.
 abbrev pub work_passes : Arrays → Store → WorkTree → Vars → ℕ → ℕ
 work_passes arrays store (branch_of ended) vars n = n
 work_passes arrays store (branch_of (followed first rest)) vars n =

@@ -11,7 +11,7 @@ use Rattle.array_eval.specs.Equal.{store_eq, vars_eq}
 use Rattle.array_eval.specs.EqualLaws.{store_decides, vars_decides}
 use Rattle.step_eval.specs.Nests.{NestedTree}
 
--- The test, part by part.
+-- The test compares two constructs part by part.
 abbrev pub nested_eq : NestedTree → NestedTree → Bool
 nested_eq a b =
     nat_eq a.site b.site && (vars_eq a.vars b.vars && (store_eq a.store b.store

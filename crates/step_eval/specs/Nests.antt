@@ -57,25 +57,25 @@ rounds_of (Par line branches) vars = branch_works branches vars ∷ []
 rounds_of (Team line var low high members phases) vars =
     phase_rounds phases var low high (unsigned_abs members) vars
 
--- The works of branches.
+-- The works are those of the branches.
 abbrev pub branch_trees : Sequences → List WorkTree
 branch_trees no_more = []
 branch_trees (beside first rest) = branch_of first ∷ branch_trees rest
 
--- The works of so many members, from member j on.
+-- The works are those of so many members, from member j on.
 abbrev pub member_trees : List ℕ → ℤ → ℤ → ℕ → Sequence → ℕ → ℕ → List WorkTree
 member_trees var low high m body j zero = []
 member_trees var low high m body j (suc k) =
     member_of var (start_of low high m j) (start_of low high m (j + 1)) body
     ∷ member_trees var low high m body (j + 1) k
 
--- The body of a phase.
+-- A phase has this body.
 abbrev pub phase_at : Sequences → ℕ → Sequence
 phase_at no_more phase = ended
 phase_at (beside first rest) zero = first
 phase_at (beside first rest) (suc phase) = phase_at rest phase
 
--- The works of the pieces of a phase, in the order of their places.
+-- The works are those of the pieces of a phase, in the order of their places.
 abbrev pub piece_trees : Statement → ℕ → List WorkTree
 piece_trees (Assign line array index value) phase = []
 piece_trees (For line var low high body) phase = []
@@ -114,7 +114,7 @@ numbered nested phase store place first (work ∷ more) = record {
   store = store;
 } ∷ numbered nested phase store (place + 1) (first + sites_of work) more
 
--- The jobs of the pieces of a phase, in the order of their places. The sites inside come after the construct's own.
+-- The jobs are those of the pieces of a phase, in the order of their places. The sites inside come after the construct's own.
 abbrev pub jobs_in : NestedTree → ℕ → Store → List JobTree
 jobs_in nested phase store =
     numbered nested phase store 0 (nested.site + 1 + earlier_sites nested.construct phase)

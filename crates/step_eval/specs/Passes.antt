@@ -7,7 +7,7 @@ use Rattle.array_meaning.specs.Plans.{sites_in}
 use Rattle.array_jobs.specs.Works.{WorkTree, branch_of, member_of}
 use Rattle.step_eval.specs.Rest.{WorkAt}
 
--- The first of so many sites and the one behind the last, if there is any.
+-- The span has the first of so many sites and the one behind the last, if there is any.
 abbrev pub some_span : ℕ → ℕ → Option (ℕ × ℕ)
 some_span first zero = None
 some_span first (suc n) = Some (first, first + suc n)

@@ -26,7 +26,7 @@ abbrev pub phase_writes : NestedTree → ℕ → Store → List Write
 phase_writes nested phase store =
     piece_of (arrays_of nested.arrays) (join (round_of nested phase)) store
 
--- The store that the phases before this one leave.
+-- The phases before this one leave this store.
 abbrev pub store_before : NestedTree → ℕ → Store
 store_before nested zero = nested.store
 store_before nested (suc phase) =
@@ -68,7 +68,8 @@ PhasesAreMerged = (nested : NestedTree) → IsFitNest nested → (phase : ℕ) (
     (order : List JobTree) → HaveSameJobs order (jobs_in nested phase store) →
     merged (map piece_of_job order) [] ≡ phase_writes nested phase store
 
--- Phase after phase, each from the store that the one before left, they are what the construct writes and leaves.
+-- The pieces of a construct, phase after phase, each from the store that the one before left, make up what the construct writes
+-- and leaves.
 pub record IsWhole (nested : NestedTree) : Type 0 where
   pub writes : writes_before nested (phases_of nested.construct) ≡ nested_writes nested
   pub store : store_before nested (phases_of nested.construct)

@@ -6,7 +6,7 @@ use Rattle.array_meaning.specs.Steps.{Steps, Done, followed_by}
 use Rattle.array_jobs.specs.Works.{WorkTree, steps_of, sites_of}
 use Rattle.array_jobs.specs.Jobs.{JobTree, IsFit}
 
--- A work with the loop variables around it, the innermost first.
+-- A work stands with the loop variables around it, the innermost first.
 pub record WorkAt : Type 0 where
   pub work : WorkTree
   pub vars : Vars
@@ -22,7 +22,7 @@ at work vars = record { work = work; vars = vars; after = 0 }
 abbrev pub before : WorkTree → Vars → ℕ → WorkAt
 before work vars n = record { work = work; vars = vars; after = n }
 
--- The steps of all works, one after another.
+-- The works do these steps, one after another.
 abbrev pub rest_steps : List WorkAt → Steps
 rest_steps [] = Done
 rest_steps (w ∷ more) = followed_by (steps_of w.work w.vars) (rest_steps more)
@@ -32,7 +32,7 @@ abbrev pub rest_sites : List WorkAt → ℕ
 rest_sites [] = 0
 rest_sites (w ∷ more) = sites_of w.work + w.after + rest_sites more
 
--- The job that has this work in the place of its own, and this number for the next site.
+-- The job has this work in the place of its own, and this number for the next site.
 abbrev pub instead : JobTree → ℕ → WorkAt → JobTree
 instead job next w = record {
   arrays = job.arrays;

@@ -15,6 +15,10 @@ use std::alloc::{AllocError, Global};
 /// What a construct writes, each cell with its last value: the pieces of each phase, merged, phase after phase.
 ///
 /// At the end it takes one pass over the written pages.
+///
+/// # Errors
+///
+/// `AllocError` if an allocation fails.
 pub fn compute(alloc: Global, nested: &Nested) -> Result<Overlay, AllocError>
     ensures { IfOk result (λ written. written.pairs ≡ nested_writes (nested_of nested.now)) }
 {

@@ -21,6 +21,10 @@ use std::alloc::{AllocError, Global};
 ///
 /// They start from this store, which has as many cells as the one before the construct. A `par` has one phase. The sites inside
 /// the jobs have consecutive numbers, after those of earlier phases in all iterations.
+///
+/// # Errors
+///
+/// `AllocError` if an allocation fails.
 pub fn jobs_of<'p>(
     alloc: Global,
     nested: &Nested<'p>,

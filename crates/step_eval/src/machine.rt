@@ -66,6 +66,10 @@ impl<'p> Model for StepMachine<'p> {
 
 impl<'p> StepMachine<'p> {
     /// A machine that has all of a job to run.
+    ///
+    /// # Errors
+    ///
+    /// `AllocError` if an allocation fails.
     pub fn new(alloc: Global, job: Job<'p>) -> Result<StepMachine<'p>, AllocError>
         ensures { IfOk result (λ machine. machine ≡ fresh_machine job.entry) }
     {

@@ -15,6 +15,6 @@ LeadsInto f within told = (x : ℤ) → LiesIn within x → LiesIn told (f x)
 abbrev pub LeadInto : (ℤ → ℤ → ℤ) → Interval → Interval → Interval → Type 0
 LeadInto f left right told = (x y : ℤ) → LiesIn left x → LiesIn right y → LiesIn told (f x y)
 
--- A value alone.
+-- The interval has one value alone.
 abbrev pub exactly : ℤ → Interval
 exactly value = record { least = value; greatest = value }

@@ -21,7 +21,7 @@ ArePiecesTold arrays (t ∷ rest) [] = ⊥
 ArePiecesTold arrays (t ∷ rest) (piece ∷ more) =
     AreVisitsTold arrays t (walk arrays piece) × ArePiecesTold arrays rest more
 
--- The pieces of a round, by the values of the variables around.
+-- A round has its pieces, by the values of the variables around.
 abbrev pub Round : Type 0
 Round = Vars → List Steps
 

@@ -8,7 +8,7 @@ use Rattle.touch_bounds.specs.declared.interval.Interval.{Interval}
 use Rattle.touch_bounds.specs.declared.ranges.Ranges.{Ranges, Fixed, Loop'}
 use Rattle.touch_bounds.specs.Intervals.{LiesIn, exactly}
 
--- Each loop variable around and its bounds, the innermost first.
+-- The bounds are those of each loop variable around, the innermost first.
 abbrev pub Bounds : Type 0
 Bounds = List (List ℕ × Interval)
 
@@ -28,7 +28,7 @@ AreWithin [] (v ∷ more) = ⊥
 AreWithin (b ∷ rest) [] = ⊥
 AreWithin (b ∷ rest) (v ∷ more) = (v.0 ≡ b.0) × LiesIn b.1 v.1 × AreWithin rest more
 
--- The bounds of a variable: of the innermost loop with the name.
+-- The bounds of a variable are those of the innermost loop with the name.
 abbrev pub interval_of : Bounds → List ℕ → Interval
 interval_of [] name = exactly (pos 0)
 interval_of (b ∷ more) name = cond (name_eq b.0 name) b.1 (interval_of more name)

@@ -20,7 +20,7 @@ Includes cells cell = (cells.from ≤ cell) × (cell < cells.to)
 abbrev pub no_cells : Stretch
 no_cells = record { from = 18446744073709551615; to = 0 }
 
--- The least stretch that has the cells of both.
+-- The result is the least stretch that has the cells of both.
 abbrev pub hull : Stretch → Stretch → Stretch
 hull a b = record { from = min a.from b.from; to = max a.to b.to }
 
@@ -40,7 +40,7 @@ pub record DoClash (one other : Touch) : Type 0 where
       ⊎ (Includes one.written cell × Includes other.written cell
       ⊎ Includes one.read cell × Includes other.written cell)
 
--- The recorded stretches of an array, by its place among the arrays.
+-- An array has these recorded stretches, by its place among the arrays.
 abbrev pub touch_at : List Touch → ℕ → Touch
 touch_at touches number = slice_index_or touches number untouched
 

@@ -23,11 +23,11 @@ shape site = (site.members, site.phases)
 abbrev pub shapes_in : Rows → List Shape
 shapes_in rows = map shape rows
 
--- The number of the last site: the greatest of 16 bits, where it is above that.
+-- The number of the last site is the greatest of 16 bits, if it is above that.
 abbrev pub last_site : Rows → ℕ
 last_site rows = min (length rows) 65535
 
--- A number of parts: the greatest of 8 bits, where it is above that.
+-- A number of parts is the greatest of 8 bits, if it is above that.
 abbrev pub parts : ℕ → ℕ
 parts n = min n 255
 

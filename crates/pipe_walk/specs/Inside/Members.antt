@@ -5,7 +5,7 @@ use Rattle.pipe_walk.specs.declared.members.Members.{Members}
 use Rattle.pipe_walk.specs.declared.members.Members.TheVariants.{Nobody, Between}
 use Rattle.pipe_walk.specs.declared.touch.Touch.{Touch}
 
--- The members of one set or another.
+-- The set has the members of one set or another.
 abbrev pub joined_members : Members → Members → Members
 joined_members Nobody other = other
 joined_members (Between first last) Nobody = Between first last
@@ -16,7 +16,7 @@ abbrev pub starts_below : ℕ → Members → Bool
 starts_below member Nobody = false
 starts_below member (Between first last) = nat_lt first member
 
--- The last of them; 0 also where there is none.
+-- The result is the last of the members, and 0 also if there is none.
 abbrev pub last_of : Members → ℕ
 last_of Nobody = 0
 last_of (Between first last) = last

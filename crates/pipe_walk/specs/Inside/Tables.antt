@@ -29,7 +29,7 @@ pub record TableParts : Type 0 where
   pub past : List Past
   pub owners : List ℕ
 
--- The phases before, at a cell.
+-- A cell has this past, from the phases before.
 abbrev pub past_in : List Past → ℕ → Past
 past_in list cell = slice_index_or list cell no_past
 

@@ -5,7 +5,7 @@ use Rattle.site_walk.specs.declared.touched.Pieces.{Pieces}
 use Rattle.site_walk.specs.declared.touched.Pieces.TheVariants.{Nobody, One, Several}
 use Rattle.site_walk.specs.declared.touched.Touched.{Touched}
 
--- The pieces of one set or another.
+-- The set has the pieces of one set or another.
 abbrev pub joined_pieces : Pieces → Pieces → Pieces
 joined_pieces Nobody other = other
 joined_pieces (One p) Nobody = One p

@@ -19,7 +19,7 @@ use Rattle.step_eval.specs.Moves.{moved, moved_writes, moved_sites}
 use Rattle.step_eval.specs.Passes.{pass_of}
 use Rattle.step_eval.specs.Machines.{construct_of, next_construct}
 
--- The statements of a block from one on.
+-- The statements are those of a block from one on.
 abbrev pub statements_from : Block → ℕ → Sequence
 statements_from block from = sequence (map statement_of (drop from block.statements.items))
 
@@ -46,11 +46,11 @@ on_top (Some frame) below = frame ∷ below
 abbrev pub frames_in : Frames → List Frame
 frames_in frames = on_top frames.top (reverse frames.below.items)
 
--- The works that are still to be run, given the loop variables around the whole.
+-- The works are still to be run, given the loop variables around the whole.
 abbrev pub works_of : Frames → Vars → List WorkAt
 works_of frames around = works_in (frames_in frames) (vars_in frames around)
 
--- The works with this frame on top.
+-- The works are those with this frame on top.
 abbrev pub works_with : Frame → Frames → Vars → List WorkAt
 works_with top frames around = works_in (top ∷ reverse frames.below.items) (vars_in frames around)
 
@@ -96,7 +96,7 @@ HaveMoved arrays (w ∷ more) store next after store_after next_after =
     × (store_after ≡ noted_all (moved_writes arrays store.cells w.work w.vars) store)
     × (next_after ≡ next + moved_sites arrays store.cells w)
 
--- The sites that a hart has to skip.
+-- A hart has to skip these sites.
 abbrev pub span_told : Told → Option (ℕ × ℕ)
 span_told Nothing = None
 span_told (Skips first end) = Some (first, end)

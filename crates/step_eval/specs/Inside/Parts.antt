@@ -43,7 +43,7 @@ IsSound Failed job frames store room next = Unit {0}
 abbrev pub IsLayoutOf : Arrays → JobParts → Type 0
 IsLayoutOf layout job = layout ≡ arrays_of (declarations_of job.arrays)
 
--- A machine that goes on.
+-- A machine that goes on stands so.
 abbrev pub while_going : JobParts → List WorkAt → Trace → ℕ → Progress
 while_going job rest store next = record {
   job = job;
