@@ -22,18 +22,22 @@ abbrev pub site_of_jobs : List JobParts → ℕ
 site_of_jobs [] = 0
 site_of_jobs (job ∷ jobs) = job.site
 
--- The pool of jobs none of which is begun, in the order of their places.
-abbrev pub new_pool : List JobParts → PoolParts
-new_pool jobs = record {
+-- The pool of jobs none of which is begun, in the order of their places, with room for so many wishes.
+abbrev pub roomy_pool : List JobParts → ℕ → PoolParts
+roomy_pool jobs wishes = record {
   site = site_of_jobs jobs;
   agenda = record {
     ready = [];
     room = length jobs;
     unbegun = map Begin jobs;
-    wishes = record { sites = []; room = MOST_WISHES };
+    wishes = record { sites = []; room = wishes };
   };
   book = open_book jobs;
 }
+
+-- The pool with room for the wishes of as many sites as a plan may have.
+abbrev pub new_pool : List JobParts → PoolParts
+new_pool jobs = roomy_pool jobs MOST_WISHES
 
 -- The book that nobody has taken.
 abbrev pub free_book : {C : Type 0} → Possession BookParts C → BookParts

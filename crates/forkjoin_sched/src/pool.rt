@@ -8,7 +8,7 @@ ghost use Rattle.array_jobs.specs.Groups.{IsGroup};
 ghost use Rattle.work_agenda.specs.Agenda.{GivesReady};
 ghost use Rattle.join_book.specs.Books.{Open, Filled, Failed, IsMarked, IsPlaceOf, IsFull, HasFailed, Deposits, Puts, marked_book, all_writes};
 ghost use Rattle.forkjoin_sched.specs.declared.work.PoolWork.TheVariants.{Begin};
-ghost use Rattle.forkjoin_sched.specs.Pools.{new_pool, Answers, Hears, Takes, with_book, with_agenda, GivesJob};
+ghost use Rattle.forkjoin_sched.specs.Pools.{new_pool, roomy_pool, Answers, Hears, Takes, with_book, with_agenda, GivesJob};
 
 use crate::work::PoolWork;
 use array_eval::Overlay;
@@ -87,10 +87,22 @@ impl<'p> Pool<'p> {
         requires { IsGroup (map job_of jobs.items) }
         ensures { IfOk result (λ pool. pool ≡ new_pool jobs.entry.items) }
     {
+        Pool::with_wishes(alloc, jobs, MOST_WISHES)
+    }
+
+    /// The pool that `new` makes, with room for `wishes` wishes. A wish beyond the room is dropped.
+    pub fn with_wishes(
+        alloc: Global,
+        jobs: Vec<Job<'p>>,
+        wishes: usize,
+    ) -> Result<Pool<'p>, AllocError>
+        requires { IsGroup (map job_of jobs.items) }
+        ensures { IfOk result (λ pool. pool ≡ roomy_pool jobs.entry.items wishes) }
+    {
         let site = jobs[0].site;
         let count = jobs.len();
         let unbegun = unbegun_work(alloc, &jobs)?;
-        let agenda = Agenda::new(alloc, count, MOST_WISHES, unbegun)?;
+        let agenda = Agenda::new(alloc, count, wishes, unbegun)?;
         let book = MutexState::new(alloc, 0, Book::new(alloc, jobs)?)?;
         Ok(Pool { site, agenda, book })
     }

@@ -1,10 +1,12 @@
 -- The schedulers of the sites, as the only hart has them.
-use Rattle.std.specs.Prelude.{◌≡◌, ◌⊎◌, ℕ, suc, ◌+◌, ◌-◌, ◌*◌, length, map, Option, Some, None}
+use Rattle.std.specs.Prelude.{◌≡◌, ◌⊎◌, ℕ, suc, ◌+◌, ◌-◌, ◌*◌, min, length, map, Option, Some, None}
 use Rattle.array_tree.specs.Trees.{statement_of}
+use Rattle.array_meaning.specs.Plans.{statement_sites_in}
 use Rattle.array_jobs.specs.Jobs.{JobParts, job_of}
 use Rattle.join_book.specs.Books.{IsFull, HasFailed}
 use Rattle.step_eval.specs.Nests.{NestedParts, nested_of, phases_of, jobs_in, IsFitNest}
 use Rattle.sched_api.specs.declared.hearing.Told.{Told}
+use Rattle.work_agenda.specs.declared.agenda.TheConstants.{MOST_WISHES}
 use Rattle.base_sched.specs.Oldest as base
 use Rattle.forkjoin_sched.specs.Pools as pools
 use Rattle.forkjoin_sched.specs.Pools.{PoolParts}
@@ -21,6 +23,10 @@ abbrev pub construct_in : LoneSite → Option NestedParts
 construct_in (Base base) = None
 construct_in (Pool nested p) = Some nested
 construct_in (Team t) = Some t.nested
+
+-- how many wishes the sites inside a construct, which is a site itself, can have: fifteen each, and no more than a plan's sites
+abbrev pub wishes_inside : NestedParts → ℕ
+wishes_inside nested = min (15 * (statement_sites_in (statement_of nested.construct) - 1)) MOST_WISHES
 
 -- how many jobs a team still hands out, with those of the phases to come
 abbrev pub team_jobs_left : TeamParts → ℕ

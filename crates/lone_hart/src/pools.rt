@@ -12,8 +12,9 @@ ghost use Rattle.hart_work.specs.Tasks.{HasNext, HasAccount};
 ghost use Rattle.hart_work.specs.Accounts.{HasServing};
 ghost use Rattle.lone_hart.specs.Accounts.{Stands, AllCameBack, AllButOneCameBack};
 ghost use Rattle.lone_hart.specs.Served.{serves_pool, LendsJob};
-ghost use Rattle.lone_hart.specs.Sites.{IsPoolOf};
+ghost use Rattle.lone_hart.specs.Sites.{IsPoolOf, wishes_inside};
 
+use crate::wishes::room_for_wishes;
 use array_eval::Overlay;
 use array_jobs::{Job, Piece};
 use forkjoin_sched::{Pool, PoolWork};
@@ -31,8 +32,10 @@ pub fn open_pool<'p>(alloc: Global, nested: &Nested<'p>) -> Result<Pool<'p>, All
     requires { phases_of (statement_of nested.now.construct) ≡ 1 }
     ensures of { IfOk result (IsPoolOf nested.now) }
     ensures none { IfOk result (λ pool. Stands Begin pool.book pool.agenda 0 0) }
+    ensures room { IfOk result (λ pool. pool.agenda.wishes.room ≡ wishes_inside nested.now) }
 {
-    Pool::new(alloc, jobs_of(alloc, nested, 0, &nested.store)?)
+    let jobs = jobs_of(alloc, nested, 0, &nested.store)?;
+    Pool::with_wishes(alloc, jobs, room_for_wishes(nested))
 }
 
 /// What the hart does next in the pool: the next job, or nothing where every job came back or one failed.

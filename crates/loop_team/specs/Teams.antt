@@ -58,24 +58,28 @@ pub record AreJobsIn (nested : NestedParts) (phase : ℕ) (jobs : List JobParts)
 abbrev pub IsOver : TeamParts → Type 0
 IsOver team = (team.opened ≡ phases_in team.nested) ⊎ (team.failed ≡ true)
 
--- The team before its first phase, whose members have these jobs.
-abbrev pub new_team : NestedParts → List JobParts → TeamParts
-new_team nested jobs = record {
+-- The team before its first phase, whose members have these jobs, with room for so many wishes.
+abbrev pub roomy_team : NestedParts → List JobParts → ℕ → TeamParts
+roomy_team nested jobs wishes = record {
   nested = nested;
   agenda = record {
     ready = [];
     room = members_in nested;
     unbegun = map Begin jobs;
-    wishes = record { sites = []; room = MOST_WISHES };
+    wishes = record { sites = []; room = wishes };
   };
   opened = 0;
   barrier = open_book jobs;
   failed = false;
 }
 
-pub record IsNew (nested : NestedParts) (team : TeamParts) : Type 0 where
+pub record IsRoomy (nested : NestedParts) (wishes : ℕ) (team : TeamParts) : Type 0 where
   pub jobs : AreJobsIn nested 0 team.barrier.jobs
-  pub rest : team ≡ new_team nested team.barrier.jobs
+  pub rest : team ≡ roomy_team nested team.barrier.jobs wishes
+
+-- The team with room for the wishes of as many sites as a plan may have.
+abbrev pub IsNew : NestedParts → TeamParts → Type 0
+IsNew nested team = IsRoomy nested MOST_WISHES team
 
 -- One more phase has opened.
 abbrev pub opened_team : TeamParts → TeamParts

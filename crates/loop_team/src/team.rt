@@ -12,7 +12,7 @@ ghost use Rattle.step_eval.specs.Shapes.{kind_of};
 ghost use Rattle.loop_team.specs.declared.work.TeamWork.TheVariants.{Begin};
 ghost use Rattle.array_jobs.specs.Jobs.{job_of};
 ghost use Rattle.loop_team.specs.Stripes.{StartsFrom, IsAwaited, IsNotAwaited};
-ghost use Rattle.loop_team.specs.Teams.{IsNew, IsOver, MovesOn, GoesOn, Answers, Hears, Takes, TakesReady, TakesMember, IsPhase, phases_in, writes_in, opened_team, failed_team};
+ghost use Rattle.loop_team.specs.Teams.{IsNew, IsRoomy, IsOver, MovesOn, GoesOn, Answers, Hears, Takes, TakesReady, TakesMember, IsPhase, phases_in, writes_in, opened_team, failed_team};
 
 use crate::work::TeamWork;
 use array_eval::{MarkedStore, Overlay, Store};
@@ -103,11 +103,23 @@ impl<'p> Team<'p> {
         requires { kind_of (statement_of nested.construct) ≡ Some kind.Team }
         ensures { IfOk result (λ team. IsNew nested.entry team) }
     {
+        Team::with_wishes(alloc, nested, MOST_WISHES)
+    }
+
+    /// The team that `new` makes, with room for `wishes` wishes. A wish beyond the room is dropped.
+    pub fn with_wishes(
+        alloc: Global,
+        nested: Nested<'p>,
+        wishes: usize,
+    ) -> Result<Team<'p>, AllocError>
+        requires { kind_of (statement_of nested.construct) ≡ Some kind.Team }
+        ensures { IfOk result (λ team. IsRoomy nested.entry wishes team) }
+    {
         let mut store = MarkedStore::new(alloc, &nested.store)?;
         let _phases = nested.phases();
         let members = usize::from(nested.members());
         let Phase { barrier, unbegun } = phase_of(alloc, &nested, 0, &mut store)?;
-        let agenda = Agenda::new(alloc, members, MOST_WISHES, unbegun)?;
+        let agenda = Agenda::new(alloc, members, wishes, unbegun)?;
         Ok(Team {
             alloc,
             nested,

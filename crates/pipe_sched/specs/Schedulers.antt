@@ -25,17 +25,21 @@ with_state pipe state = record pipe { state = state }
 abbrev pub with_agenda : SchedulerParts → AgendaParts PipeWork → SchedulerParts
 with_agenda pipe agenda = record pipe { agenda = agenda }
 
--- The pipe of which no piece was handed out, with room for one ready context of each piece.
-abbrev pub new_scheduler : NestedParts → SchedulerParts
-new_scheduler nested = record {
+-- The pipe of which no piece was handed out, with room for one ready context of each piece, and for so many wishes.
+abbrev pub roomy_scheduler : NestedParts → ℕ → SchedulerParts
+roomy_scheduler nested wishes = record {
   state = new_pipe nested;
   agenda = record {
     ready = [];
     room = members_in nested * phases_in nested;
     unbegun = [];
-    wishes = record { sites = []; room = MOST_WISHES };
+    wishes = record { sites = []; room = wishes };
   };
 }
+
+-- The pipe with room for the wishes of as many sites as a plan may have.
+abbrev pub new_scheduler : NestedParts → SchedulerParts
+new_scheduler nested = roomy_scheduler nested MOST_WISHES
 
 -- The oldest context that is ready goes on.
 abbrev pub GoesOn : SchedulerParts → Next PipeWork → SchedulerParts → Type 0

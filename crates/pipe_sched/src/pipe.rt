@@ -9,7 +9,7 @@ ghost use Rattle.step_eval.specs.Nests.{nested_of, nested_writes, IsFitNest};
 ghost use Rattle.step_eval.specs.Shapes.{kind_of};
 ghost use Rattle.pipe_sched.specs.Slots.{MayFail, IsFull, HasFailed, FailsFrom, failed_pipe};
 ghost use Rattle.pipe_sched.specs.Pipes.{Deposits, IsUncrossed};
-ghost use Rattle.pipe_sched.specs.Schedulers.{new_scheduler, with_state, Answers, Hears, Takes};
+ghost use Rattle.pipe_sched.specs.Schedulers.{new_scheduler, roomy_scheduler, with_state, Answers, Hears, Takes};
 
 use crate::state::PipeState;
 use crate::work::PipeWork;
@@ -93,11 +93,23 @@ impl<'p> Pipe<'p> {
         requires { kind_of (statement_of nested.construct) ≡ Some kind.Team }
         ensures { IfOk result (λ pipe. pipe ≡ new_scheduler nested.entry) }
     {
+        Pipe::with_wishes(alloc, nested, MOST_WISHES)
+    }
+
+    /// The pipe that `new` makes, with room for `wishes` wishes. A wish beyond the room is dropped.
+    pub fn with_wishes(
+        alloc: Global,
+        nested: Nested<'p>,
+        wishes: usize,
+    ) -> Result<Pipe<'p>, AllocError>
+        requires { kind_of (statement_of nested.construct) ≡ Some kind.Team }
+        ensures { IfOk result (λ pipe. pipe ≡ roomy_scheduler nested.entry wishes) }
+    {
         // A look at a field tells what the type of a construct keeps.
         let _site = nested.site;
         let room = usize::from(nested.members()) * usize::from(nested.phases());
         let unbegun = VecDeque::new(alloc);
-        let agenda = Agenda::new(alloc, room, MOST_WISHES, unbegun)?;
+        let agenda = Agenda::new(alloc, room, wishes, unbegun)?;
         let state = PipeState::new(alloc, nested)?;
         Ok(Pipe { state, agenda })
     }

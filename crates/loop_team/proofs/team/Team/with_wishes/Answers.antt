@@ -4,7 +4,7 @@ use Rattle.step_eval.specs.Inside.Computed.{HasReached}
 use Rattle.step_eval.specs.Nests.{NestedParts, nested_of, IsFitNest}
 use Rattle.step_eval.proofs.ComputeLemmas.{reached_none}
 use Rattle.loop_team.specs.Teams.{IsPhase}
-use Rattle.loop_team.proofs.team.Team.new.Goals as goal
+use Rattle.loop_team.proofs.team.Team.with_wishes.Goals as goal
 
 pub phase_of-requires-clause-reached : goal.phase_of-requires-clause-reached
 phase_of-requires-clause-reached c =
