@@ -1,0 +1,75 @@
+/* What the calls cost: `speed` prints nanoseconds of one thread, and of three threads at sites of their own. */
+#define _POSIX_C_SOURCE 200809L
+#include "lithe.h"
+#include "must.h"
+#include <pthread.h>
+#include <time.h>
+
+enum { THREADS = 3, ROUNDS = 500000, TRIES = 8 };
+
+static lithe_hart harts[THREADS];
+
+static double now_ns(void) {
+    struct timespec t;
+    clock_gettime(CLOCK_THREAD_CPUTIME_ID, &t);
+    return (double)t.tv_sec * 1e9 + (double)t.tv_nsec;
+}
+
+/* Nanoseconds of processor time for register, request, close, unregister: five entries, two loads more. */
+static double cycle(lithe_hart *hart) {
+    uint16_t site;
+    double start = now_ns();
+    for (int i = 0; i < ROUNDS; i++) {
+        lithe_register(hart, &site);
+        lithe_request(hart, 1);
+        lithe_close(hart);
+        lithe_unregister(hart);
+    }
+    return (now_ns() - start) / ROUNDS;
+}
+
+/* Nanoseconds of processor time for enter and yield. */
+static double lend(lithe_hart *home, lithe_hart *guest) {
+    uint16_t site;
+    double spent = 0;
+    for (int i = 0; i < ROUNDS / 100; i++) {
+        MUST(lithe_register(home, &site) == LITHE_DONE);
+        MUST(lithe_request(home, THREADS - 1) == LITHE_DONE);
+        double start = now_ns();
+        MUST(lithe_enter(guest, site) == LITHE_DONE && lithe_yield(guest) == LITHE_DONE);
+        MUST(lithe_enter(guest, site) == LITHE_DONE && lithe_yield(guest) == LITHE_DONE);
+        spent += now_ns() - start;
+        MUST(lithe_close(home) == LITHE_DONE && lithe_unregister(home) == LITHE_DONE);
+    }
+    return spent / (ROUNDS / 100 * 2);
+}
+
+static double least(double a, double b) { return a < b ? a : b; }
+
+static void *best_cycle(void *arg) {
+    static double results[THREADS];
+    int h = (int)((lithe_hart *)arg - harts);
+    double best = 1e30;
+    for (int t = 0; t < TRIES; t++) best = least(best, cycle(&harts[h]));
+    results[h] = best;
+    return &results[h];
+}
+
+int main(void) {
+    double one = 1e30, worst = 0, visit = 1e30;
+    pthread_t threads[THREADS];
+    MUST(lithe_make(2, harts, THREADS) == LITHE_DONE);
+    for (int t = 0; t < TRIES; t++) one = least(one, cycle(&harts[0]));
+    for (int t = 0; t < TRIES; t++) visit = least(visit, lend(&harts[0], &harts[1]));
+    for (int h = 0; h < THREADS; h++) MUST(pthread_create(&threads[h], NULL, best_cycle, &harts[h]) == 0);
+    for (int h = 0; h < THREADS; h++) {
+        void *result;
+        pthread_join(threads[h], &result);
+        if (*(double *)result > worst) worst = *(double *)result;
+    }
+    printf("register, request, close, unregister: %.1f ns, %.1f ns a changing step\n", one, one / 4);
+    printf("enter and yield, with the clock: %.1f ns\n", visit);
+    printf("three threads at own sites: %.1f ns, %.2f of one\n", worst, worst / one);
+    MUST(lithe_end(harts, THREADS) == LITHE_DONE);
+    return 0;
+}
