@@ -52,27 +52,37 @@ typedef enum lithe_status {
     LITHE_NO_HART = 14         /* the hart has ended, or was never made */
 } lithe_status;
 
-/* One hart of a board. A program sets `at` to null before lithe_make, if at all, and never afterwards. */
+/* One hart of a board. A program sets `at` to null before lithe_make, if at all, and never afterwards. Each call writes
+ * `at`, to what it was; so a hart takes 64 bytes, and neighbours in an array share no such line. */
 typedef struct lithe_hart {
     void *at;
+    char apart[64 - sizeof(void *)];
 } lithe_hart;
 
 /* What the library exports. Programs use the calls below these, which also test that the hart hasn't ended. */
-uint32_t lithe_hart_register(lithe_hart *hart, uint16_t *site);
-uint32_t lithe_hart_request(lithe_hart *hart, uint8_t count);
-uint32_t lithe_hart_enter(lithe_hart *hart, uint16_t site);
-uint32_t lithe_hart_yield(lithe_hart *hart);
-uint32_t lithe_hart_close(lithe_hart *hart);
-uint32_t lithe_hart_see_empty(lithe_hart *hart);
-uint32_t lithe_hart_unregister(lithe_hart *hart);
-uint16_t lithe_hart_owner(lithe_hart *hart);
-void lithe_hart_drop(lithe_hart hart);
+uint32_t lithe_hart_make(uint8_t levels, void **harts, size_t count);
+uint32_t lithe_hart_register(void **hart, uint16_t *site);
+uint32_t lithe_hart_request(void **hart, uint8_t count);
+uint32_t lithe_hart_enter(void **hart, uint16_t site);
+uint32_t lithe_hart_yield(void **hart);
+uint32_t lithe_hart_close(void **hart);
+uint32_t lithe_hart_see_empty(void **hart);
+uint32_t lithe_hart_unregister(void **hart);
+uint16_t lithe_hart_owner(void **hart);
+void lithe_hart_drop(void *hart);
 
-/* Makes a board, and writes its harts to harts[0] to harts[count - 1]. Each is at the base. What stood there is
- * overwritten; after another status than LITHE_DONE it is as it was, and nothing stays allocated.
+/* Makes a board, and writes the `at` of harts[0] to harts[count - 1]. Each hart is at the base. After another status than
+ * LITHE_DONE what stood there is as it was, and nothing stays allocated.
  * LITHE_BAD_SIZE exactly unless count and levels are 1 to 64; LITHE_NO_MEMORY.
  * levels: the number of sites that one hart may be the home of at the same time. */
-uint32_t lithe_make(uint8_t levels, lithe_hart *harts, size_t count);
+static inline uint32_t lithe_make(uint8_t levels, lithe_hart *harts, size_t count) {
+    void *made[64];
+    size_t i;
+    uint32_t status = count > 64 ? (uint32_t)LITHE_BAD_SIZE : lithe_hart_make(levels, made, count);
+    if (status != LITHE_DONE) return status;
+    for (i = 0; i < count; i++) harts[i].at = made[i];
+    return status;
+}
 
 /* Writes one line for the status to text, with a final 0, and returns the number of bytes before the 0. A line that has
  * no room is cut off; where room is 0 nothing is written. 80 bytes are room for each line. */
@@ -83,14 +93,14 @@ size_t lithe_status_text(uint32_t status, char *text, size_t room);
  * LITHE_TOO_DEEP exactly if the hart is the home of as many sites as the board has levels; *site is then as it was.
  * One store. */
 static inline uint32_t lithe_register(lithe_hart *hart, uint16_t *site) {
-    return hart->at ? lithe_hart_register(hart, site) : (uint32_t)LITHE_NO_HART;
+    return hart->at ? lithe_hart_register(&hart->at, site) : (uint32_t)LITHE_NO_HART;
 }
 
 /* Entry Request. The owner asks for `count` more harts; 0 is allowed. A site asks in all, from its register on, for at
  * most the other harts of the board.
  * Tested in this order: LITHE_NOT_HOME, LITHE_IS_CLOSED, LITHE_TOO_MANY_WISHED. A load and an addition. */
 static inline uint32_t lithe_request(lithe_hart *hart, uint8_t count) {
-    return hart->at ? lithe_hart_request(hart, count) : (uint32_t)LITHE_NO_HART;
+    return hart->at ? lithe_hart_request(&hart->at, count) : (uint32_t)LITHE_NO_HART;
 }
 
 /* Entry Enter. The hart is a guest of the site, which is a live child of the hart's owner, isn't closed and has asked
@@ -99,19 +109,19 @@ static inline uint32_t lithe_request(lithe_hart *hart, uint8_t count) {
  * doesn't let the hart in; LITHE_MOVED if it does and another hart changed the word before the exchange.
  * A load, and one compare-and-exchange if the loaded word lets the hart in. */
 static inline uint32_t lithe_enter(lithe_hart *hart, uint16_t site) {
-    return hart->at ? lithe_hart_enter(hart, site) : (uint32_t)LITHE_NO_HART;
+    return hart->at ? lithe_hart_enter(&hart->at, site) : (uint32_t)LITHE_NO_HART;
 }
 
 /* Entry Yield. The hart leaves its owner, in which it is a guest, for the owner's parent.
  * LITHE_NOT_GUEST if it isn't a guest of its owner. One subtraction. */
 static inline uint32_t lithe_yield(lithe_hart *hart) {
-    return hart->at ? lithe_hart_yield(hart) : (uint32_t)LITHE_NO_HART;
+    return hart->at ? lithe_hart_yield(&hart->at) : (uint32_t)LITHE_NO_HART;
 }
 
 /* Entry Close. No further hart enters the owner.
  * LITHE_NOT_HOME, else LITHE_IS_CLOSED. A load and an addition. */
 static inline uint32_t lithe_close(lithe_hart *hart) {
-    return hart->at ? lithe_hart_close(hart) : (uint32_t)LITHE_NO_HART;
+    return hart->at ? lithe_hart_close(&hart->at) : (uint32_t)LITHE_NO_HART;
 }
 
 /* Entry SeeEmpty. LITHE_DONE if the closed owner has no guest, LITHE_NOT_EMPTY if it has one. A guest that is in a site
@@ -119,18 +129,18 @@ static inline uint32_t lithe_close(lithe_hart *hart) {
  * none will come.
  * LITHE_NOT_HOME, else LITHE_NOT_CLOSED. Two loads. */
 static inline uint32_t lithe_see_empty(lithe_hart *hart) {
-    return hart->at ? lithe_hart_see_empty(hart) : (uint32_t)LITHE_NO_HART;
+    return hart->at ? lithe_hart_see_empty(&hart->at) : (uint32_t)LITHE_NO_HART;
 }
 
 /* Entries SeeEmpty and Unregister. The closed owner, which has no guest, ends; its parent is then the hart's owner.
  * Tested in this order: LITHE_NOT_HOME, LITHE_NOT_CLOSED, LITHE_NOT_EMPTY. Two loads and a swap. */
 static inline uint32_t lithe_unregister(lithe_hart *hart) {
-    return hart->at ? lithe_hart_unregister(hart) : (uint32_t)LITHE_NO_HART;
+    return hart->at ? lithe_hart_unregister(&hart->at) : (uint32_t)LITHE_NO_HART;
 }
 
 /* The site that the hart is in; 0 for the base, and for a hart that has ended. No step: the hart's own seat tells. */
 static inline uint16_t lithe_owner(lithe_hart *hart) {
-    return hart->at ? lithe_hart_owner(hart) : (uint16_t)0;
+    return hart->at ? lithe_hart_owner(&hart->at) : (uint16_t)0;
 }
 
 /* Ends the harts, and sets each `at` to null. The last hart of a board takes the board with it, so after all harts of a
@@ -141,10 +151,10 @@ static inline uint32_t lithe_end(lithe_hart *harts, size_t count) {
     size_t i;
     for (i = 0; i < count; i++) {
         if (!harts[i].at) return (uint32_t)LITHE_NO_HART;
-        if (lithe_hart_owner(&harts[i]) != 0) return (uint32_t)LITHE_IN_SITE;
+        if (lithe_hart_owner(&harts[i].at) != 0) return (uint32_t)LITHE_IN_SITE;
     }
     for (i = 0; i < count; i++) {
-        lithe_hart_drop(harts[i]);
+        lithe_hart_drop(harts[i].at);
         harts[i].at = NULL;
     }
     return (uint32_t)LITHE_DONE;

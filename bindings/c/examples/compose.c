@@ -37,6 +37,11 @@ static void one_round(void *arg) {
     forkjoin(s->me, OUTER, outer, &s->all);
 }
 
+static void alone(void *arg) {
+    setting *s = arg;
+    for (int i = 0; i < LEAVES; i++) leaf(&s->all, i);
+}
+
 static void program(hart *me, void *arg) {
     setting *s = arg;
     s->me = me;
@@ -49,6 +54,7 @@ int main(int count, char **words) {
     s.all.grain = count > 2 ? atol(words[2]) : 64;
     s.rounds = count > 3 ? atol(words[3]) : 200;
     s.tries = count > 4 ? atoi(words[4]) : 20;
+    if (report("plain calls", alone, &s, &s.all, s.tries, s.rounds) != 0) return 1;
     uint32_t status = lend_run(harts, 3, program, &s);
     if (status != LITHE_DONE) {
         char text[80];

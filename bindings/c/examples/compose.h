@@ -1,5 +1,6 @@
 /* The composition that each program of this folder computes: `rounds` times, 2 tasks of fork-join, each with a loop over
- * 4 indices, each with 4 tasks of fork-join. The leaf is `grain` steps of a linear congruence. */
+ * 4 indices, each with 4 tasks of fork-join. The leaf is `grain` steps of a
+ * random number generator. */
 #ifndef COMPOSE_H
 #define COMPOSE_H
 #ifndef _GNU_SOURCE
@@ -23,7 +24,10 @@ typedef struct leaves {
 
 static inline void leaf(leaves *all, int index) {
     uint64_t x = all->at[index].value;
-    for (long i = 0; i < all->grain; i++) x = x * 6364136223846793005u + 1442695040888963407u;
+    for (long i = 0; i < all->grain; i++) {
+        x = x * 6364136223846793005u + 1442695040888963407u;
+        x ^= x >> 29;
+    }
     all->at[index].value = x;
 }
 

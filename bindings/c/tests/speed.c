@@ -3,9 +3,10 @@
 #include "lithe.h"
 #include "must.h"
 #include <pthread.h>
+#include <stdatomic.h>
 #include <time.h>
 
-enum { THREADS = 3, ROUNDS = 500000, TRIES = 8 };
+enum { THREADS = 3, MOST = 64, ROUNDS = 500000, TRIES = 8 };
 
 static lithe_hart harts[THREADS];
 
@@ -15,7 +16,7 @@ static double now_ns(void) {
     return (double)t.tv_sec * 1e9 + (double)t.tv_nsec;
 }
 
-/* Nanoseconds of processor time for register, request, close, unregister: five entries, two loads more. */
+/* Nanoseconds of processor time for register, request, close, unregister: four changing steps, four loads more. */
 static double cycle(lithe_hart *hart) {
     uint16_t site;
     double start = now_ns();
@@ -28,20 +29,39 @@ static double cycle(lithe_hart *hart) {
     return (now_ns() - start) / ROUNDS;
 }
 
-/* Nanoseconds of processor time for enter and yield. */
+/* Nanoseconds of processor time for enter and yield: two changing steps, one load more. */
 static double lend(lithe_hart *home, lithe_hart *guest) {
     uint16_t site;
     double spent = 0;
-    for (int i = 0; i < ROUNDS / 100; i++) {
-        MUST(lithe_register(home, &site) == LITHE_DONE);
-        MUST(lithe_request(home, THREADS - 1) == LITHE_DONE);
+    for (int i = 0; i < ROUNDS / MOST; i++) {
+        MUST(lithe_register(home, &site) == LITHE_DONE && lithe_request(home, MOST - 1) == LITHE_DONE);
         double start = now_ns();
-        MUST(lithe_enter(guest, site) == LITHE_DONE && lithe_yield(guest) == LITHE_DONE);
-        MUST(lithe_enter(guest, site) == LITHE_DONE && lithe_yield(guest) == LITHE_DONE);
+        for (int k = 1; k < MOST; k++)
+            if (lithe_enter(guest, site) != LITHE_DONE || lithe_yield(guest) != LITHE_DONE) MUST(0);
         spent += now_ns() - start;
         MUST(lithe_close(home) == LITHE_DONE && lithe_unregister(home) == LITHE_DONE);
     }
-    return spent / (ROUNDS / 100 * 2);
+    return spent / (ROUNDS / MOST * (MOST - 1));
+}
+
+/* The same loads and changes as those of `cycle`, on a word of this program and with no test. */
+static double bare(void) {
+    static _Atomic uint64_t word;
+    uint64_t seen = 0;
+    double start = now_ns();
+    for (int i = 0; i < ROUNDS; i++) {
+        atomic_store(&word, 1);
+        seen += atomic_load(&word);
+        atomic_fetch_add(&word, 256);
+        seen += atomic_load(&word);
+        atomic_fetch_add(&word, 2);
+        seen += atomic_load(&word);
+        seen += atomic_load(&word);
+        seen += atomic_exchange(&word, 0);
+    }
+    double each = (now_ns() - start) / ROUNDS;
+    MUST(seen != 0);
+    return each;
 }
 
 static double least(double a, double b) { return a < b ? a : b; }
@@ -56,11 +76,15 @@ static void *best_cycle(void *arg) {
 }
 
 int main(void) {
-    double one = 1e30, worst = 0, visit = 1e30;
+    double one = 1e30, worst = 0, visit = 1e30, alone = 1e30;
     pthread_t threads[THREADS];
+    lithe_hart many[MOST];
+    MUST(lithe_make(1, many, MOST) == LITHE_DONE);
+    for (int t = 0; t < TRIES; t++) visit = least(visit, lend(&many[0], &many[1]));
+    MUST(lithe_end(many, MOST) == LITHE_DONE);
     MUST(lithe_make(2, harts, THREADS) == LITHE_DONE);
+    for (int t = 0; t < TRIES; t++) alone = least(alone, bare());
     for (int t = 0; t < TRIES; t++) one = least(one, cycle(&harts[0]));
-    for (int t = 0; t < TRIES; t++) visit = least(visit, lend(&harts[0], &harts[1]));
     for (int h = 0; h < THREADS; h++) MUST(pthread_create(&threads[h], NULL, best_cycle, &harts[h]) == 0);
     for (int h = 0; h < THREADS; h++) {
         void *result;
@@ -68,7 +92,8 @@ int main(void) {
         if (*(double *)result > worst) worst = *(double *)result;
     }
     printf("register, request, close, unregister: %.1f ns, %.1f ns a changing step\n", one, one / 4);
-    printf("enter and yield, with the clock: %.1f ns\n", visit);
+    printf("the same loads and changes, bare: %.1f ns\n", alone);
+    printf("enter, yield: %.1f ns, %.1f ns a changing step\n", visit, visit / 2);
     printf("three threads at own sites: %.1f ns, %.2f of one\n", worst, worst / one);
     MUST(lithe_end(harts, THREADS) == LITHE_DONE);
     return 0;

@@ -106,7 +106,7 @@ struct Raw {
 }
 
 extern "C" {
-    fn lithe_make(levels: u8, harts: *mut Raw, count: usize) -> u32;
+    fn lithe_hart_make(levels: u8, harts: *mut Raw, count: usize) -> u32;
     fn lithe_hart_register(hart: *mut Raw, site: *mut u16) -> u32;
     fn lithe_hart_request(hart: *mut Raw, count: u8) -> u32;
     fn lithe_hart_enter(hart: *mut Raw, site: u16) -> u32;
@@ -119,10 +119,12 @@ extern "C" {
     fn lithe_status_text(status: u32, text: *mut u8, room: usize) -> usize;
 }
 
-/// One hart of a board. It may be sent to another thread, and is in one call at a time.
+/// One hart of a board. It may be sent to another thread, and is in one call at a time. It takes a cache line of its own,
+/// since each call writes to it.
 ///
 /// A hart that is dropped in a site leaves the site as it is: live for ever if the hart is its home, never empty if it is
 /// its guest. [`Hart::end`] refuses that.
+#[repr(align(64))]
 pub struct Hart {
     raw: ManuallyDrop<Raw>,
     /// Not `Sync`.
@@ -143,7 +145,7 @@ pub fn board(harts: usize, levels: u8) -> Result<Vec<Hart>, Status> {
         return Err(Status::BadSize);
     }
     let mut raw: Vec<Raw> = (0..harts).map(|_| Raw { at: ptr::null_mut() }).collect();
-    outcome(unsafe { lithe_make(levels, raw.as_mut_ptr(), harts) })?;
+    outcome(unsafe { lithe_hart_make(levels, raw.as_mut_ptr(), harts) })?;
     let hart = |raw| Hart {
         raw: ManuallyDrop::new(raw),
         alone: PhantomData,

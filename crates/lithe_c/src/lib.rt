@@ -1,11 +1,12 @@
 //! The open board for C, a static library. `bindings/c/lithe.h` declares it.
 //!
-//! A `lithe_hart` of C is one pointer, to a block with the hart's seat and its share of the board. Each call tests its own
+//! C has of each hart one pointer, to a block with the hart's seat and its share of the board. Each call tests its own
 //! condition and returns a status. The contracts say what each call makes of the hart's view, and which status it returns.
+//! A call takes the hart from the pointer and puts it back: it writes the pointer, to what it was.
 //!
-//! Left to C: a `lithe_hart` is one that `lithe_make` wrote and `lithe_drop` hasn't taken, without a change by C. Each hart
-//! is given to one call at a time. A hart may go from thread to thread by a lock, by the start or the join of a thread, or
-//! by a sequentially consistent atomic. No call is made in a signal handler, or in a forked child of a process with threads.
+//! Left to C: a hart's pointer is one that `lithe_hart_make` wrote and `lithe_hart_drop` hasn't taken. Each hart is given to
+//! one call at a time. A hart may go from thread to thread by a lock, by the start or the join of a thread, or by a
+//! sequentially consistent atomic. No call is made in a signal handler, or in a forked child of a process with threads.
 #![tactic(auto)]
 
 ghost use Rattle.std.specs.Prelude.{◌≡◌, ◌⊎◌, ◌<◌, ◌≢◌, length};
@@ -38,11 +39,11 @@ use std::sync::Arc;
 /// # Memory
 ///
 /// A block of 64 bytes for each site and one for the base, one of 128 bytes for each hart, and one for the board.
-/// `lithe_drop` of the last hart frees the board.
+/// `lithe_hart_drop` of the last hart frees the board.
 ///
 /// Left to the caller: that a pointer is one of a hart, which no clause says, is so for each that this call writes.
 #[unsafe(no_mangle)]
-pub extern "C" fn lithe_make(alloc: Global, levels: u8, harts: &mut [*mut u8]) -> u32
+pub extern "C" fn lithe_hart_make(alloc: Global, levels: u8, harts: &mut [*mut u8]) -> u32
     ensures { MakesOrKeeps levels harts.old result harts.new }
 {
     if harts.len() == 0 || harts.len() > 64 || levels == 0 || levels > 64 {

@@ -16,6 +16,7 @@ fn leaf(all: &[Leaf], index: usize, grain: u64) {
         x = x
             .wrapping_mul(6364136223846793005)
             .wrapping_add(1442695040888963407);
+        x ^= x >> 29;
     }
     all[index].0.store(x, Relaxed);
 }
