@@ -1,19 +1,22 @@
 /* Lithe for C and C++: harts lent among parallel libraries that call each other.
  *
- * A hart is a hardware thread; a program has one thread of its own for each. A site is a place at which harts are
+ * A hart is a hardware thread; a program usually has one thread of its own for each. A site is a place at which harts are
  * lent. One hart, its home, registers the site below the site that it is in, its owner, and requests more harts. Harts
  * that are in the parent may then enter the site as guests, and yield when they are done. The home closes the site,
  * waits until it is empty and unregisters it. A hart's owner is 0, the base, when the board is made.
  *
- * Each call tests its own condition, and returns a status. A call that returns another status than LITHE_DONE has made
- * no entry of the table: owner, homes and wishes are as they were. No call blocks, waits, tries again or locks. Only
- * lithe_make allocates.
+ * Each call but lithe_owner and lithe_status_text tests its own condition, and returns a status. A call that returns
+ * another status than LITHE_DONE has made no entry of the table: owner, homes and wishes are as they were. No call waits
+ * or tries again. Only lithe_make allocates, only lithe_end frees, and no other call locks.
  *
  * A board has sites 1 to harts * levels. Hart h (from 0), as the home of k sites, registers number 1 + h * levels + k.
  * So the numbers of the sites that a hart may register are known beforehand. A number is free again after unregister.
  *
- * What the library doesn't test, and is left to the program:
- *   - A lithe_hart was written by lithe_make, and the program neither changes nor copies it.
+ * The exported functions are proved (crates/lithe_c). The inline functions, which test for null and end harts, are not.
+ *
+ * What no call tests, and is left to the program:
+ *   - The `at` of a lithe_hart was written by lithe_make, or is null, and the program doesn't change it. A lithe_hart may
+ *     be moved by a copy; then the copy alone is used.
  *   - Each hart is given to one call at a time. Harts of one board may be in calls at the same time.
  *   - A hart goes from one thread to another by a lock, by the start or the join of a thread, or by a sequentially
  *     consistent atomic.
@@ -21,7 +24,7 @@
  *   - No call is made in a signal handler, or in a forked child of a process that had threads.
  *   - malloc, realloc and free are of one allocator, and align as C11 says.
  *
- * Link the library made by `make`, the kit's liblibc_c.a and, for threads, -lpthread: `make flags` prints the line.
+ * Link liblithe.a, which `make` builds; `make flags` prints the flags.
  */
 #ifndef LITHE_H
 #define LITHE_H
@@ -46,7 +49,7 @@ typedef enum lithe_status {
     LITHE_TOO_DEEP = 8,        /* the hart is the home of as many sites as the board has levels */
     LITHE_NOT_WANTED = 9,      /* the site isn't live, is closed, wants no hart, or isn't a child of the hart's owner */
     LITHE_MOVED = 10,          /* another hart changed the site's word during the call */
-    LITHE_NO_MEMORY = 11,      /* malloc returned null */
+    LITHE_NO_MEMORY = 11,      /* malloc or realloc returned null */
     LITHE_BAD_SIZE = 12,       /* a board has 1 to 64 harts and 1 to 64 levels */
     LITHE_IN_SITE = 13,        /* a hart is in a site: it isn't at the base */
     LITHE_NO_HART = 14         /* the hart has ended, or was never made */
@@ -73,7 +76,7 @@ void lithe_hart_drop(void *hart);
 
 /* Makes a board, and writes the `at` of harts[0] to harts[count - 1]. Each hart is at the base. After another status than
  * LITHE_DONE what stood there is as it was, and nothing stays allocated.
- * LITHE_BAD_SIZE exactly unless count and levels are 1 to 64; LITHE_NO_MEMORY.
+ * LITHE_BAD_SIZE exactly unless count and levels are 1 to 64; LITHE_NO_MEMORY if there is no memory.
  * levels: the number of sites that one hart may be the home of at the same time. */
 static inline uint32_t lithe_make(uint8_t levels, lithe_hart *harts, size_t count) {
     void *made[64];
