@@ -46,7 +46,7 @@ static double lend(lithe_hart *home, lithe_hart *guest) {
 
 /* The same loads and changes as those of `cycle`, on a word of this program and with no test. */
 static double bare(void) {
-    static _Atomic uint64_t word;
+    _Alignas(64) _Atomic uint64_t word;
     uint64_t seen = 0;
     double start = now_ns();
     for (int i = 0; i < ROUNDS; i++) {
@@ -66,35 +66,46 @@ static double bare(void) {
 
 static double least(double a, double b) { return a < b ? a : b; }
 
-static void *best_cycle(void *arg) {
-    static double results[THREADS];
-    int h = (int)((lithe_hart *)arg - harts);
-    double best = 1e30;
-    for (int t = 0; t < TRIES; t++) best = least(best, cycle(&harts[h]));
-    results[h] = best;
-    return &results[h];
+/* What one thread measured: the least of some tries each. */
+typedef struct times {
+    lithe_hart *hart;
+    double cycle, bare;
+} times;
+
+static void *measure(void *arg) {
+    times *best = arg;
+    best->cycle = best->bare = 1e30;
+    for (int t = 0; t < TRIES; t++) {
+        best->cycle = least(best->cycle, cycle(best->hart));
+        best->bare = least(best->bare, bare());
+    }
+    return NULL;
 }
 
 int main(void) {
-    double one = 1e30, worst = 0, visit = 1e30, alone = 1e30;
+    double visit = 1e30, worst = 0, worst_bare = 0;
     pthread_t threads[THREADS];
     lithe_hart many[MOST];
+    times all[THREADS], one = {.hart = &harts[0]};
     MUST(lithe_make(1, many, MOST) == LITHE_DONE);
     for (int t = 0; t < TRIES; t++) visit = least(visit, lend(&many[0], &many[1]));
     MUST(lithe_end(many, MOST) == LITHE_DONE);
     MUST(lithe_make(2, harts, THREADS) == LITHE_DONE);
-    for (int t = 0; t < TRIES; t++) alone = least(alone, bare());
-    for (int t = 0; t < TRIES; t++) one = least(one, cycle(&harts[0]));
-    for (int h = 0; h < THREADS; h++) MUST(pthread_create(&threads[h], NULL, best_cycle, &harts[h]) == 0);
+    measure(&one);
     for (int h = 0; h < THREADS; h++) {
-        void *result;
-        pthread_join(threads[h], &result);
-        if (*(double *)result > worst) worst = *(double *)result;
+        all[h].hart = &harts[h];
+        MUST(pthread_create(&threads[h], NULL, measure, &all[h]) == 0);
     }
-    printf("register, request, close, unregister: %.1f ns, %.1f ns a changing step\n", one, one / 4);
-    printf("the same loads and changes, bare: %.1f ns\n", alone);
+    for (int h = 0; h < THREADS; h++) {
+        pthread_join(threads[h], NULL);
+        if (all[h].cycle > worst) worst = all[h].cycle;
+        if (all[h].bare > worst_bare) worst_bare = all[h].bare;
+    }
+    printf("register, request, close, unregister: %.1f ns, %.1f ns a changing step\n", one.cycle, one.cycle / 4);
+    printf("the same loads and changes, bare: %.1f ns\n", one.bare);
     printf("enter, yield: %.1f ns, %.1f ns a changing step\n", visit, visit / 2);
-    printf("three threads at own sites: %.1f ns, %.2f of one\n", worst, worst / one);
+    printf("three threads at own sites, the slowest: %.1f ns, %.2f of one; bare: %.1f ns, %.2f of one\n", worst,
+           worst / one.cycle, worst_bare, worst_bare / one.bare);
     MUST(lithe_end(harts, THREADS) == LITHE_DONE);
     return 0;
 }

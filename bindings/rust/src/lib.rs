@@ -144,7 +144,11 @@ pub fn board(harts: usize, levels: u8) -> Result<Vec<Hart>, Status> {
     if !(1..=64).contains(&harts) {
         return Err(Status::BadSize);
     }
-    let mut raw: Vec<Raw> = (0..harts).map(|_| Raw { at: ptr::null_mut() }).collect();
+    let mut raw: Vec<Raw> = (0..harts)
+        .map(|_| Raw {
+            at: ptr::null_mut(),
+        })
+        .collect();
     outcome(unsafe { lithe_hart_make(levels, raw.as_mut_ptr(), harts) })?;
     let hart = |raw| Hart {
         raw: ManuallyDrop::new(raw),
@@ -237,6 +241,7 @@ impl Hart {
     /// # Errors
     ///
     /// Gives the hart back with [`Status::InSite`] if it is in a site.
+    #[allow(clippy::result_large_err)]
     pub fn end(mut self) -> Result<(), (Hart, Status)> {
         if self.owner() != 0 {
             return Err((self, Status::InSite));
