@@ -30,6 +30,8 @@
 mod fold;
 mod loops;
 mod sums;
+#[cfg(test)]
+mod tests;
 
 pub use fold::{Fold, Leaf, Part, run_fold};
 pub use loops::{Body, Each, Map, Mapped, for_each, run_map};
