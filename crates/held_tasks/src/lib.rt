@@ -22,6 +22,8 @@
 
 mod holds;
 mod run;
+#[cfg(test)]
+mod tests;
 
 pub use holds::Holds;
 pub use run::{fork_join_as, join_as};
