@@ -2,3 +2,5 @@ pub mod Places
 pub mod LawsHold
 pub mod Turns
 pub mod Written
+pub mod StripHolds
+pub mod EscapedHolds

@@ -1,5 +1,4 @@
 pub mod Stays
-pub mod Laws
 pub mod Drawn
 pub mod Strip
 pub mod TextPicture
@@ -7,3 +6,4 @@ pub mod Scale
 pub mod SvgBars
 pub mod SvgMarks
 pub mod SvgPicture
+pub mod Laws

@@ -1,6 +1,6 @@
 -- The picture as SVG 1.1: rows of places, in each a lane for each hart, a bar for each stay, and the strip. All numbers are whole.
-use Rattle.std.specs.Prelude.{◌≡◌, ◌≢◌, ℕ, ◌+◌, ◌==◌, nat_le, nat_lt, Bool, true, false, if◌then◌else◌, List, [], ◌∷◌, ◌++◌, codes, length}
-use Rattle.std.specs.List.{All, concat, flat_map}
+use Rattle.std.specs.Prelude.{ℕ, ◌+◌, ◌==◌, nat_le, nat_lt, Bool, true, false, if◌then◌else◌, List, [], ◌∷◌, ◌++◌, codes, length}
+use Rattle.std.specs.List.{concat, flat_map}
 use Rattle.std.specs.Fmt.{decimal}
 use Rattle.transfer_table.specs.Plan.{Plan, site_count}
 use Rattle.transfer_table.specs.Table.{TableState, first_state}
@@ -130,9 +130,3 @@ svg_of p shapes es faulty told =
 abbrev pub svg_picture : Plan → List Bool → List Shape → List Entry → List ℕ → List ℕ
 svg_picture p meant shapes es told =
     svg_of p shapes (drawn p meant es) (has_fault p meant es) told
-
--- ---- a law
-
--- Whatever is told, what is put into the XML has no `<`.
-abbrev pub EscapedHasNoMarkup : Type 0
-EscapedHasNoMarkup = (told : List ℕ) → All (λ byte. byte ≢ 60) (escaped told)

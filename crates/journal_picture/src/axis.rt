@@ -28,12 +28,7 @@ pub(crate) fn write_rows(
 }
 
 // Adds the names at the left of a row, if it is shown.
-fn write_row_names(
-    text: &mut String,
-    plan: &Plan,
-    end: usize,
-    row: usize,
-) -> Result<(), AllocError>
+fn write_row_names(text: &mut String, plan: &Plan, end: usize, row: usize) -> Result<(), AllocError>
     requires few { end ≤ most_entries }
     requires low { row ≤ 65536 }
     ensures { OnOk result (string_bytes text.new ≡ string_bytes text.old

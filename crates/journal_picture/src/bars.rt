@@ -64,7 +64,16 @@ fn write_bar(
         ++ bar_text plan.now shapes.now end stay) }
 {
     let first = row_of(end, stay.first as usize);
-    write_parts(alloc, text, plan, shapes, end, stay, first, row_count(end, stay))
+    write_parts(
+        alloc,
+        text,
+        plan,
+        shapes,
+        end,
+        stay,
+        first,
+        row_count(end, stay),
+    )
 }
 
 // In how many rows the stay has places.

@@ -53,7 +53,15 @@ fn write_entry_mark(
             write_mark(alloc, text, board.plan(), end, k, entry, words.as_str())
         }
         Entry::Unregister { site, .. } => {
-            write_unmet(alloc, text, board.plan(), end, k, entry, unmet_at(board, site))
+            write_unmet(
+                alloc,
+                text,
+                board.plan(),
+                end,
+                k,
+                entry,
+                unmet_at(board, site),
+            )
         }
         Entry::Skip { site, .. } => {
             let words = format!(in alloc; "skip s{site}")?;
@@ -186,7 +194,10 @@ fn write_line(
     ensures { OnOk result (string_bytes text.new ≡ string_bytes text.old
         ++ line_svg x y look.now title.now) }
 {
-    write!(text, "<path d='M{x} {y}{look}'><title>{title}</title></path>\n")
+    write!(
+        text,
+        "<path d='M{x} {y}{look}'><title>{title}</title></path>\n"
+    )
 }
 
 // Adds words with a title.
@@ -201,7 +212,10 @@ fn write_titled(
     ensures { OnOk result (string_bytes text.new ≡ string_bytes text.old
         ++ titled_svg x y words.now title.now) }
 {
-    write!(text, "<text x='{x}' y='{y}'>{words}<title>{title}</title></text>\n")
+    write!(
+        text,
+        "<text x='{x}' y='{y}'>{words}<title>{title}</title></text>\n"
+    )
 }
 
 // What a mark looks like where there is no room for words.
@@ -224,13 +238,7 @@ pub(crate) fn entry_words(alloc: Global, k: usize, entry: Entry) -> Result<Strin
 }
 
 // What a hart does at a site, in words.
-fn entry_by(
-    alloc: Global,
-    k: usize,
-    hart: u8,
-    does: &str,
-    site: u16,
-) -> Result<String, AllocError>
+fn entry_by(alloc: Global, k: usize, hart: u8, does: &str, site: u16) -> Result<String, AllocError>
     ensures { IfOk result (λ words. string_bytes words ≡ entry_by k hart does.now site) }
 {
     format!(in alloc; "entry {k}: h{hart} {does} s{site}")
@@ -327,7 +335,14 @@ fn write_red(
         return Ok(());
     }
     let title = figures_words(alloc, k, figures)?;
-    write_rect(text, x, y, width, "#f6b3b9' stroke='#b00020", title.as_str())
+    write_rect(
+        text,
+        x,
+        y,
+        width,
+        "#f6b3b9' stroke='#b00020",
+        title.as_str(),
+    )
 }
 
 // The figures of a place in words.

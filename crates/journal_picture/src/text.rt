@@ -80,7 +80,9 @@ fn write_shown(
 {
     write_bands(alloc, text, list, lanes, strip, faulty)?;
     write_tree(text, board, shapes)?;
-    text.push_str("\nreg registers a site, req requests harts, unreg unregisters the site\nunm unmet wishes, idl idle harts, ! a child of the base has an unmet wish while a hart is idle\n")
+    text.push_str(
+        "\nreg registers a site, req requests harts, unreg unregisters the site\nunm unmet wishes, idl idle harts, ! a child of the base has an unmet wish while a hart is idle\n",
+    )
 }
 
 // Adds all bands.
