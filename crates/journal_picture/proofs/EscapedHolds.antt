@@ -11,7 +11,7 @@ pick true x y first second = first
 pick false x y first second = second
 
 single : (b : ℕ) → (b == 60) ≡ false → list_all is_plain (b ∷ []) ≡ true
-single b no = rw no refl
+single b other_byte = rw other_byte refl
 
 abbrev other : ℕ → List ℕ
 other b = cond (b == 38) (codes "&amp;") (cond (b == 10) (b ∷ []) (cond (nat_le 32 b) (cond (nat_le b 126) (b ∷ []) (codes "?")) (codes "?")))
@@ -21,10 +21,10 @@ byte_plain b = go (b == 60) refl
   where
     go : (a : Bool) → (b == 60) ≡ a → list_all is_plain (cond a (codes "&lt;") (other b)) ≡ true
     go true is = refl
-    go false no =
+    go false other_byte =
         pick (b == 38) (codes "&amp;") (cond (b == 10) (b ∷ []) (cond (nat_le 32 b) (cond (nat_le b 126) (b ∷ []) (codes "?")) (codes "?"))) refl
-        (pick (b == 10) (b ∷ []) (cond (nat_le 32 b) (cond (nat_le b 126) (b ∷ []) (codes "?")) (codes "?")) (single b no)
-        (pick (nat_le 32 b) (cond (nat_le b 126) (b ∷ []) (codes "?")) (codes "?") (pick (nat_le b 126) (b ∷ []) (codes "?") (single b no) refl) refl))
+        (pick (b == 10) (b ∷ []) (cond (nat_le 32 b) (cond (nat_le b 126) (b ∷ []) (codes "?")) (codes "?")) (single b other_byte)
+        (pick (nat_le 32 b) (cond (nat_le b 126) (b ∷ []) (codes "?")) (codes "?") (pick (nat_le b 126) (b ∷ []) (codes "?") (single b other_byte) refl) refl))
 
 join : (a b : Bool) → a ≡ true → b ≡ true → (a && b) ≡ true
 join a b first second = subst (λ (x : Bool). (x && b) ≡ true) (sym first) second

@@ -35,25 +35,26 @@ strip_tells p es k t short leads = strip_at p es k (first_state p) t short leads
 -- ---- idle harts
 idle_some : (t : TableState) (n : ℕ) → 1 ≤ idle_up_to t n → (h : ℕ) × (1 ≤ h) × (h ≤ n) × (owner t h ≡ 0)
 idle_some t zero some = absurd (omega arith)
-idle_some t (suc n) some = go (owner t (suc n) == 0) refl some
+idle_some t (suc n) some = go (owner t (suc n) == 0) refl some (λ before. idle_some t n before)
   where
-    go : (b : Bool) → (owner t (suc n) == 0) ≡ b → 1 ≤ idle_up_to t n + one_if b → (h : ℕ) × (1 ≤ h) × (h ≤ suc n) × (owner t h ≡ 0)
-    go true here some = (suc n, omega arith, omega arith, grind (arith, nat_tests))
-    go false here some = let more = idle_some t n (omega arith) in (more.0, more.1, omega (arith, more.2), more.3)
+    go : (b : Bool) → (owner t (suc n) == 0) ≡ b → 1 ≤ idle_up_to t n + one_if b → (1 ≤ idle_up_to t n → (h : ℕ) × (1 ≤ h) × (h ≤ n) × (owner t h ≡ 0))
+        → (h : ℕ) × (1 ≤ h) × (h ≤ suc n) × (owner t h ≡ 0)
+    go true here some next = (suc n, omega arith, omega arith, grind (arith, nat_tests))
+    go false here some next = let more = next (omega arith) in (more.0, more.1, omega (arith, more.2), more.3)
 
 idle_any : (t : TableState) (n h : ℕ) → 1 ≤ h → h ≤ n → owner t h ≡ 0 → 1 ≤ idle_up_to t n
 idle_any t zero h low high is = absurd (omega arith)
-idle_any t (suc n) h low high is = go (h == suc n) refl
+idle_any t (suc n) h low high is = go (h == suc n) refl (λ less. idle_any t n h low less is)
   where
-    go : (b : Bool) → (h == suc n) ≡ b → 1 ≤ idle_up_to t (suc n)
-    go true same =
+    go : (b : Bool) → (h == suc n) ≡ b → (h ≤ n → 1 ≤ idle_up_to t n) → 1 ≤ idle_up_to t (suc n)
+    go true same next =
         let here : h ≡ suc n = grind (arith, nat_tests) in
         let base : owner t (suc n) ≡ 0 = subst (λ (g : ℕ). owner t g ≡ 0) here is in
         let one : one_if (owner t (suc n) == 0) ≡ 1 = rw base refl in
         omega (arith, one)
-    go false same =
+    go false same next =
         let less : h ≤ n = grind (arith, nat_tests) in
-        let more = idle_any t n h low less is in
+        let more = next less in
         omega (arith, more)
 
 -- ---- wishes of children of the base
@@ -79,12 +80,13 @@ both q u is = go (q == 0) refl (nat_le 1 u) refl is
 wishing_some : (p : Plan) (t : TableState) (n : ℕ) → wishing_up_to p t n ≡ true
     → (s : ℕ) × (1 ≤ s) × (s ≤ n) × (parent p s ≡ 0) × ((row t s).stage ≡ Live) × (1 ≤ (row t s).wishes)
 wishing_some p t zero is = absurd (cc)
-wishing_some p t (suc n) is = go (wishing_up_to p t n) refl is
+wishing_some p t (suc n) is = go (wishing_up_to p t n) refl is (λ before. wishing_some p t n before)
   where
     go : (b : Bool) → wishing_up_to p t n ≡ b → (b || is_wishing p t (suc n)) ≡ true
+        → (wishing_up_to p t n ≡ true → (s : ℕ) × (1 ≤ s) × (s ≤ n) × (parent p s ≡ 0) × ((row t s).stage ≡ Live) × (1 ≤ (row t s).wishes))
         → (s : ℕ) × (1 ≤ s) × (s ≤ suc n) × (parent p s ≡ 0) × ((row t s).stage ≡ Live) × (1 ≤ (row t s).wishes)
-    go true before is = let more = wishing_some p t n before in (more.0, more.1, omega (arith, more.2), more.3, more.4, more.5)
-    go false before is =
+    go true before is next = let more = next before in (more.0, more.1, omega (arith, more.2), more.3, more.4, more.5)
+    go false before is next =
         let here = both (parent p (suc n)) (unmet_of (row t (suc n))) is in
         let live = unmet_live (row t (suc n)) here.1 in
         (suc n, omega arith, omega arith, here.0, live.0, live.1)
@@ -98,17 +100,17 @@ is_true q u base some = grind (arith, nat_tests)
 
 wishing_any : (p : Plan) (t : TableState) (n s : ℕ) → 1 ≤ s → s ≤ n → parent p s ≡ 0 → (row t s).stage ≡ Live → 1 ≤ (row t s).wishes → wishing_up_to p t n ≡ true
 wishing_any p t zero s low high base live some = absurd (omega arith)
-wishing_any p t (suc n) s low high base live some = go (s == suc n) refl
+wishing_any p t (suc n) s low high base live some = go (s == suc n) refl (λ less. wishing_any p t n s low less base live some)
   where
-    go : (b : Bool) → (s == suc n) ≡ b → wishing_up_to p t (suc n) ≡ true
-    go true same =
+    go : (b : Bool) → (s == suc n) ≡ b → (s ≤ n → wishing_up_to p t n ≡ true) → wishing_up_to p t (suc n) ≡ true
+    go true same next =
         let here : s ≡ suc n = grind (arith, nat_tests) in
         let unmet : 1 ≤ unmet_of (row t s) = subst (λ (n : ℕ). 1 ≤ n) (sym (live_unmet (row t s) live)) some in
         let is : is_wishing p t (suc n) ≡ true = subst (λ (g : ℕ). is_wishing p t g ≡ true) here (is_true (parent p s) (unmet_of (row t s)) base unmet) in
         subst (λ (b : Bool). (wishing_up_to p t n || b) ≡ true) (sym is) (or_true (wishing_up_to p t n))
-    go false same =
+    go false same next =
         let less : s ≤ n = grind (arith, nat_tests) in
-        let before = wishing_any p t n s low less base live some in
+        let before = next less in
         subst (λ (b : Bool). (b || is_wishing p t (suc n)) ≡ true) (sym before) refl
 
 -- ---- the strip is red exactly where a wish is missed

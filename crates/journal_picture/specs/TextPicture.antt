@@ -67,10 +67,14 @@ numbers_text k (e ∷ es) = cell (decimal k) ++ numbers_text (k + 1) es
 abbrev pub deeds_text : List Entry → List ℕ
 deeds_text es = flat_map (λ e. cell (deed e)) es
 
+-- a hart and how many harts it asks for
+abbrev pub asking : ℕ → ℕ → List ℕ
+asking h k = concat (codes "h" ∷ decimal h ∷ codes "+" ∷ decimal k ∷ [])
+
 -- whose entry it is, and how many harts it asks for
 abbrev pub doer : Entry → List ℕ
 doer (Register h s) = codes "h" ++ decimal h
-doer (Request h s k) = concat (codes "h" ∷ decimal h ∷ codes "+" ∷ decimal k ∷ [])
+doer (Request h s k) = asking h k
 doer (Enter h s) = codes "h" ++ decimal h
 doer (Yield h s) = codes "h" ++ decimal h
 doer (Unregister h s) = codes "h" ++ decimal h

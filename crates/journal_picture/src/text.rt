@@ -2,7 +2,7 @@
 ghost use Rattle.std.specs.Prelude.{◌≡◌, ◌≤◌, ◌++◌, ◌*◌, ◌+◌, IfOk, OnOk, length, take, drop, string_bytes, true};
 ghost use Rattle.transfer_table.specs.Entry.{hart_of, site_of};
 ghost use Rattle.transfer_table.specs.Plan.{site_count, most_entries};
-ghost use Rattle.journal_picture.specs.TextPicture.{at_sites_line, at_sites_text, band_count, band_text, bands_text, deed, deed_lines, deeds_line, deeds_text, doer, doers_line, doers_text, hart_name, idle_line, idle_words, idles_text, lanes_text, mark_text, numbers_line, numbers_text, shown_text, sites_text, strip_lines, text_of, text_picture, unmet_line, unmets_text};
+ghost use Rattle.journal_picture.specs.TextPicture.{asking, at_sites_line, at_sites_text, band_count, band_text, bands_text, deed, deed_lines, deeds_line, deeds_text, doer, doers_line, doers_text, hart_name, idle_line, idle_words, idles_text, lanes_text, mark_text, numbers_line, numbers_text, shown_text, sites_text, strip_lines, text_of, text_picture, unmet_line, unmets_text};
 ghost use Rattle.journal_picture.specs.Drawn.{state_after};
 
 use crate::drawn::{before, board_after};
@@ -335,15 +335,21 @@ fn write_doers(alloc: Global, text: &mut String, shown: &[Entry]) -> Result<(), 
 fn doer(alloc: Global, entry: Entry) -> Result<String, AllocError>
     ensures { IfOk result (λ name. string_bytes name ≡ doer entry) }
 {
-    let hart = hart_of(entry);
     match entry {
-        Entry::Request { count, .. } => format!(in alloc; "h{hart}+{count}"),
-        Entry::Register { .. }
-        | Entry::Enter { .. }
-        | Entry::Yield { .. }
-        | Entry::Unregister { .. }
-        | Entry::Skip { .. } => format!(in alloc; "h{hart}"),
+        Entry::Request { hart, count, .. } => asking(alloc, hart, count),
+        Entry::Register { hart, .. }
+        | Entry::Enter { hart, .. }
+        | Entry::Yield { hart, .. }
+        | Entry::Unregister { hart, .. }
+        | Entry::Skip { hart, .. } => format!(in alloc; "h{hart}"),
     }
+}
+
+// A hart and how many harts it asks for.
+fn asking(alloc: Global, hart: u8, count: u8) -> Result<String, AllocError>
+    ensures { IfOk result (λ name. string_bytes name ≡ asking hart count) }
+{
+    format!(in alloc; "h{hart}+{count}")
 }
 
 // Adds the sites that the entries are of.
