@@ -1,7 +1,9 @@
 -- One turn of a loop that counts.
-use Rattle.std.proofs.Common.{◌≡◌, ◌∙◌, ℕ, zero, suc, ◌+◌, ◌-◌, ◌*◌, ◌<◌, ◌==◌, cond, Bool, true, false, List, ◌∷◌, ◌++◌, length, drop, replicate, refl, ap, arith}
+use Rattle.std.proofs.Common.{◌≡◌, ◌∙◌, ℕ, zero, suc, ◌+◌, ◌-◌, ◌*◌, ◌<◌, ◌==◌, cond, Bool, true, false, List, ◌∷◌, ◌++◌, length, drop, replicate, get_or, refl, ap, arith}
 use Rattle.transfer_table.specs.Plan.{Plan, parent}
+use Rattle.transfer_table.specs.Table.{TableState, admit_of}
 use Rattle.transfer_table.specs.declared.entry.Entry.{Entry}
+use Rattle.journal_picture.specs.Drawn.{or_same}
 use Rattle.journal_picture.specs.Stays.{stays_of}
 use Rattle.std.specs.Fmt.{decimal}
 use Rattle.std.proofs.lemmas.List.{drop_more}
@@ -11,7 +13,7 @@ use Rattle.journal_picture.specs.declared.stay.Stay.{Stay}
 use Rattle.journal_picture.specs.declared.strip.Figures.{Figures}
 use Rattle.journal_picture.specs.Scale.{lane_y}
 use Rattle.journal_picture.specs.SvgBars.{bars_text, lanes_svg, part_text, parts_text}
-use Rattle.journal_picture.specs.SvgMarks.{hart_at, harts_svg, row_names, rows_svg}
+use Rattle.journal_picture.specs.SvgMarks.{figures_svg, hart_at, harts_svg, row_names, rows_svg, strip_svg}
 use Rattle.journal_picture.specs.TextPicture.{band_text, bands_text, cell, lanes_of, numbers_text, sites_of, steps_up}
 
 -- what a function of what is left gives, where one more is left
@@ -66,3 +68,7 @@ pub parts_more : (p : Plan) (shapes : List Shape) (end : ℕ) (stay : Stay) (row
 parts_more p shapes end stay row n i lt =
     one_more (λ k. parts_text p shapes end stay (row + i) k) n i lt
     ∙ ap (λ r. part_text p shapes end stay (row + i) ++ parts_text p shapes end stay r (n - (i + 1))) (omega arith)
+
+pub strip_more : (p : Plan) (end : ℕ) (t : TableState) (i : ℕ) (es : List Entry) (other : Entry) → i < length es
+    → strip_svg p end t i (drop i es) ≡ figures_svg p end t i ++ strip_svg p end (or_same t (admit_of p t (get_or es i other))) (i + 1) (drop (i + 1) es)
+strip_more p end t i es other lt = ap (strip_svg p end t i) (drop_more es i other lt)
