@@ -10,31 +10,31 @@ use Rattle.transfer_table.specs.declared.entry.Entry.{Entry}
 use Rattle.journal_picture.specs.Drawn.{or_same}
 use Rattle.journal_picture.specs.declared.strip.Figures.{Figures}
 
--- the unmet wishes of a site; one that isn't live has none
+-- The unmet wishes of a site; one that isn't live has none.
 abbrev pub unmet_of : Row → ℕ
 unmet_of found = if is_live found.stage then found.wishes else 0
 
--- the unmet wishes of the live sites up to this one
+-- The unmet wishes of the live sites up to this one.
 abbrev pub unmet_up_to : TableState → ℕ → ℕ
 unmet_up_to t zero = 0
 unmet_up_to t (suc s) = unmet_up_to t s + unmet_of (row t (suc s))
 
--- how many of the harts from 1 up to this one are in the base
+-- How many of the harts from 1 up to this one are in the base.
 abbrev pub idle_up_to : TableState → ℕ → ℕ
 idle_up_to t zero = 0
 idle_up_to t (suc h) = idle_up_to t h + one_if (owner t (suc h) == 0)
 
--- the site is a live child of the base and has an unmet wish
+-- The site is a live child of the base and has an unmet wish.
 abbrev pub is_wishing : Plan → TableState → ℕ → Bool
 is_wishing p t s =
     (parent p s == 0) && nat_le 1 (unmet_of (row t s))
 
--- one of the sites up to this one is
+-- One of the sites up to this one is.
 abbrev pub wishing_up_to : Plan → TableState → ℕ → Bool
 wishing_up_to p t zero = false
 wishing_up_to p t (suc s) = wishing_up_to p t s || is_wishing p t (suc s)
 
--- all unmet wishes of the live sites
+-- All unmet wishes of the live sites.
 abbrev pub unmet_in : Plan → TableState → ℕ
 unmet_in p t = unmet_up_to t (site_count p)
 
@@ -42,16 +42,17 @@ unmet_in p t = unmet_up_to t (site_count p)
 abbrev pub idle_in : Plan → TableState → ℕ
 idle_in p t = idle_up_to t (p.harts - 1)
 
--- a hart is idle while a live child of the base has an unmet wish
+-- A hart is idle while a live child of the base has an unmet wish. Only the base can lend an idle hart, so wishes of other sites don't
+-- count here.
 abbrev pub is_missed : Plan → TableState → Bool
 is_missed p t = nat_le 1 (idle_in p t) && wishing_up_to p t (site_count p)
 
--- what the strip has for a state
+-- What the strip has for a state.
 abbrev pub figures_of : Plan → TableState → Figures
 figures_of p t =
     record { unmet = unmet_in p t; idle = idle_in p t; missed = is_missed p t }
 
--- for a state, and for those to which the entries lead one after another
+-- For a state, and for those to which the entries lead one after another.
 abbrev pub strip_from : Plan → TableState → List Entry → List Figures
 strip_from p t [] = figures_of p t ∷ []
 strip_from p t (e ∷ es) = figures_of p t ∷ strip_from p (or_same t (admit_of p t e)) es
@@ -67,11 +68,11 @@ StripTellsStates = (p : Plan) (es : List Entry) (k : ℕ) (t : TableState)
     → k ≤ length es → Reaches p (take k es) t
     → slice_get (strip_of p es) k ≡ Some (figures_of p t)
 
--- a hart other than the body's is in the base
+-- A hart other than the body's is in the base.
 abbrev pub SomeIdle : Plan → TableState → Type 0
 SomeIdle p t = (h : ℕ) × IsHart p h × (h ≢ 0) × (owner t h ≡ 0)
 
--- a live child of the base has an unmet wish
+-- A live child of the base has an unmet wish.
 abbrev pub SomeWish : Plan → TableState → Type 0
 SomeWish p t = (s : ℕ) × IsSite p s × (parent p s ≡ 0) × ((row t s).stage ≡ Live)
     × (1 ≤ (row t s).wishes)

@@ -12,7 +12,7 @@ use Rattle.journal_picture.specs.Stays.{stays_of}
 use Rattle.journal_picture.specs.Scale.{step_of, per_row, row_of, is_shown, place_x, row_y, level_of, bar_y}
 use Rattle.journal_picture.specs.TextPicture.{kind_text, last_or, site_name}
 
--- what the program says of the site; the base has no shape
+-- What the program says of the site; the base has no shape.
 abbrev pub shape_of : List Shape → ℕ → Option Shape
 shape_of shapes s = if s == 0 then None else slice_get shapes (s - 1)
 
@@ -92,7 +92,7 @@ placed_bar x y width title stay shape level =
 
 -- ---- the parts of a stay, in a list whose last place is this
 
--- its first place in a row, and its last
+-- Its first place in a row, and its last.
 abbrev pub first_in : ℕ → Stay → ℕ → ℕ
 first_in end stay row = max stay.first (per_row end * row)
 
@@ -110,13 +110,13 @@ abbrev pub part_text : Plan → List Shape → ℕ → Stay → ℕ → List ℕ
 part_text p shapes end stay row =
     if is_shown end row then shown_part p shapes end stay row else []
 
--- those in so many rows, from this one on
+-- Those in so many rows, from this one on.
 abbrev pub parts_text : Plan → List Shape → ℕ → Stay → ℕ → ℕ → List ℕ
 parts_text p shapes end stay row zero = []
 parts_text p shapes end stay row (suc n) =
     part_text p shapes end stay row ++ parts_text p shapes end stay (row + 1) n
 
--- in how many rows a stay has places
+-- In how many rows a stay has places.
 abbrev pub row_count : ℕ → Stay → ℕ
 row_count end stay = row_of end (last_or end stay.last) + 1 - row_of end stay.first
 
@@ -127,7 +127,7 @@ bar_text p shapes end stay =
 abbrev pub bars_text : Plan → List Shape → ℕ → List Stay → List ℕ
 bars_text p shapes end stays = flat_map (λ stay. bar_text p shapes end stay) stays
 
--- the bars of so many harts, from this one on
+-- The bars of so many harts, from this one on.
 abbrev pub lanes_svg : Plan → List Shape → List Entry → ℕ → ℕ → List ℕ
 lanes_svg p shapes es h zero = []
 lanes_svg p shapes es h (suc n) =

@@ -15,7 +15,7 @@ use Rattle.journal_picture.specs.Scale.{step_of, per_row, row_of, is_shown, entr
 use Rattle.journal_picture.specs.SvgBars.{rect_text}
 use Rattle.journal_picture.specs.TextPicture.{deed, site_name}
 
--- words at a place
+-- Words at a place.
 unfoldable pub mark_svg : ℕ → ℕ → List ℕ → List ℕ
 mark_svg x y words =
     concat (codes "<text x='" ∷ decimal x ∷ codes "' y='" ∷ decimal y ∷ codes "'>" ∷ words ∷
@@ -28,12 +28,12 @@ hart_at y h =
     concat (codes "<text x='28' y='" ∷ decimal y ∷
     codes "' font-size='13' font-weight='bold'>h" ∷ decimal h ∷ codes "</text>\n" ∷ [])
 
--- the names of so many harts, from this one on
+-- The names of so many harts, from this one on.
 abbrev pub harts_svg : ℕ → ℕ → ℕ → List ℕ
 harts_svg top h zero = []
 harts_svg top h (suc n) = hart_at (lane_y top h + 34) h ++ harts_svg top (h + 1) n
 
--- the upper end of the strip
+-- The upper end of the strip.
 abbrev pub strip_y : Plan → ℕ → ℕ
 strip_y p top = top + 44 + 44 * p.harts
 
@@ -47,14 +47,14 @@ names_svg p top = harts_svg top 0 p.harts ++ strip_names (strip_y p top)
 abbrev pub row_names : Plan → ℕ → ℕ → List ℕ
 row_names p end row = if is_shown end row then names_svg p (row_y p end row) else []
 
--- those of so many rows, from this one on
+-- Those of so many rows, from this one on.
 abbrev pub rows_svg : Plan → ℕ → ℕ → ℕ → List ℕ
 rows_svg p end row zero = []
 rows_svg p end row (suc n) = row_names p end row ++ rows_svg p end (row + 1) n
 
 -- ---- the axis: an entry's number, and where there is room what it does, whose it is and of which site
 
--- whose entry it is, and of which site
+-- Whose entry it is, and of which site.
 abbrev pub who_by : ℕ → ℕ → List ℕ
 who_by h s = concat (codes "h" ∷ decimal h ∷ codes " s" ∷ decimal s ∷ [])
 
@@ -66,7 +66,7 @@ deed_text step x top e =
     if nat_lt step 40 then []
     else mark_svg x (top + 24) (deed e) ++ mark_svg x (top + 36) (who_text e)
 
--- a line across the lanes
+-- A line across the lanes.
 unfoldable pub guide_text : ℕ → ℕ → ℕ → List ℕ
 guide_text x upper height =
     concat (codes "<path d='M" ∷ decimal x ∷ codes " " ∷ decimal upper ∷ codes "v" ∷ decimal height ∷
@@ -103,7 +103,7 @@ verb (Yield h s) = codes "yield"
 verb (Unregister h s) = codes "unregister"
 verb (Skip h s) = codes "skip"
 
--- an entry in words
+-- An entry in words.
 abbrev pub entry_by : ℕ → ℕ → List ℕ → ℕ → List ℕ
 entry_by k h does s =
     concat (codes "entry " ∷ decimal k ∷ codes ": h" ∷ decimal h ∷ codes " " ∷ does ∷ codes " s" ∷
@@ -122,7 +122,7 @@ line_svg x y look title =
     concat (codes "<path d='M" ∷ decimal x ∷ codes " " ∷ decimal y ∷ look ∷ codes "'><title>" ∷
     title ∷ codes "</title></path>\n" ∷ [])
 
--- a request is a line, unmet wishes are a dot, a skip is a slanted line
+-- A request is a line, unmet wishes are a dot, a skip is a slanted line.
 abbrev pub look_of : Entry → List ℕ
 look_of (Register h s) = []
 look_of (Request h s k) = codes "v-8' stroke='#000000"
@@ -131,7 +131,7 @@ look_of (Yield h s) = []
 look_of (Unregister h s) = codes "v-4' stroke='#000000' stroke-width='4"
 look_of (Skip h s) = codes "l-5 -8' stroke='#b00020"
 
--- the foot of the marks of a lane
+-- The foot of the marks of a lane.
 abbrev pub mark_y : ℕ → ℕ → ℕ
 mark_y top h = lane_y top h + 6
 
@@ -148,7 +148,7 @@ abbrev pub mark_text : Plan → ℕ → ℕ → Entry → List ℕ → List ℕ
 mark_text p end k e words =
     if is_shown end (row_of end k) then shown_mark p end k e words else []
 
--- the wishes of a site that nobody met; 0 for what is no site
+-- The wishes of a site that nobody met; 0 for what is no site.
 abbrev pub unmet_at : Plan → TableState → ℕ → ℕ
 unmet_at p t s = if no_such_site p s then 0 else (row t s).wishes
 
@@ -172,7 +172,7 @@ marks_text p t end k (e ∷ es) = entry_mark p t end k e ++ marks_text p t end (
 
 -- ---- the strip: for each place the unmet wishes and the idle harts, red where a lender missed a wish
 
--- the figures of a place in words
+-- The figures of a place in words.
 abbrev pub figures_words : ℕ → Figures → List ℕ
 figures_words k f =
     concat (codes "before entry " ∷ decimal k ∷ codes ": unmet " ∷ decimal f.unmet ∷ codes ", idle " ∷
@@ -199,7 +199,7 @@ abbrev pub figures_svg : Plan → ℕ → TableState → ℕ → List ℕ
 figures_svg p end t k =
     if is_shown end (row_of end k) then shown_figures p end k (figures_of p t) else []
 
--- the strip from place k on, where the table has this state
+-- The strip from place k on, where the table has this state.
 abbrev pub strip_svg : Plan → ℕ → TableState → ℕ → List Entry → List ℕ
 strip_svg p end t k [] = figures_svg p end t k
 strip_svg p end t k (e ∷ es) =

@@ -43,7 +43,7 @@ rows_note rows =
 abbrev pub note_svg : ℕ → List ℕ
 note_svg rows = if nat_le rows 32 then [] else rows_note rows
 
--- a colour and what it means
+-- A colour and what it means.
 abbrev pub swatch_svg : ℕ → ℕ → List ℕ → List ℕ → List ℕ
 swatch_svg x y fill words = rect_text x y 24 fill words ++ mark_svg (x + 32) (y + 11) words
 
@@ -58,7 +58,7 @@ site_swatches y =
     ++ swatch_svg 456 y (kind_fill Team 1) (codes "a team")
     ++ swatch_svg 556 y red (codes "a missed wish")
 
--- what the marks mean
+-- What the marks mean.
 abbrev pub marks_note : ℕ → List ℕ
 marks_note step =
     if nat_lt step 40
@@ -96,7 +96,7 @@ escaped told = flat_map escaped_byte told
 unfoldable pub end_svg : List ℕ → List ℕ
 end_svg told = escaped told ++ codes "</text>\n</svg>\n"
 
--- head, title and note, and the legend
+-- Head, title and note, and the legend.
 abbrev pub frame_svg : Plan → ℕ → List ℕ
 frame_svg p end =
     head_svg p end ++ title_svg p end ++ note_svg (rows_of end)
@@ -104,12 +104,12 @@ frame_svg p end =
 
 -- ---- the whole, with a line that tells whether the list is legal
 
--- what lies under the bars
+-- What lies under the bars.
 abbrev pub under_svg : Plan → List Entry → List ℕ
 under_svg p es =
     rows_svg p (length es) 0 (rows_of (length es)) ++ ticks_text p (length es) 0 es
 
--- what lies over the bars
+-- What lies over the bars.
 abbrev pub over_svg : Plan → TableState → List Entry → Bool → List ℕ
 over_svg p t es faulty =
     marks_text p t (length es) 0 es ++ strip_svg p (length es) (first_state p) 0 es

@@ -1,6 +1,5 @@
-//! The laws of stays and of the strip, each the contract of a function that does nothing. They hold for every plan and every list of entries;
-//! `specs/Laws.antt` and `specs/Strip.antt`
-//! say them.
+//! The laws of stays, of the strip and of escaped texts, each the contract of a function that does nothing. They hold for every plan
+//! and every list of entries; `specs/Laws.antt` and `specs/Strip.antt` say them.
 ghost use Rattle.journal_picture.specs.Laws.{EscapedHasNoMarkup, OneStayAtEachPlace, StaysFollowOneAnother, GuestsAreWithTheHome};
 ghost use Rattle.journal_picture.specs.Strip.{RedIsMissed, StripTellsStates};
 

@@ -162,7 +162,7 @@ fn mark_y(top: usize, hart: u8) -> usize
     lane_y(top, hart) + 6
 }
 
-// Adds a mark: its words where there is room, else a line.
+// Adds a mark: its words where there are 40 units for them, else a line.
 fn write_placed(
     text: &mut String,
     step: usize,
