@@ -1,6 +1,6 @@
 -- What is told has no markup when it is escaped.
 use Rattle.std.proofs.Common.{◌≡◌, ◌∙◌, ℕ, ◌==◌, cond, Bool, true, false, List, [], ◌∷◌, refl, sym, subst}
-use Rattle.std.specs.Prelude.{codes, nat_le, not, ◌&&◌}
+use Rattle.std.specs.Prelude.{codes, nat_le, ◌&&◌}
 use Rattle.std.specs.List.{list_all}
 use Rattle.std.proofs.lemmas.List.Folds.{list_all-append}
 use Rattle.journal_picture.specs.SvgPicture.{escaped, escaped_byte}

@@ -1,19 +1,18 @@
 -- The laws of the strip hold.
-use Rattle.std.proofs.Common.{◌≡◌, ◌≢◌, ◌∙◌, ◌↔◌, ℕ, zero, suc, ◌+◌, ◌-◌, ◌≤◌, ◌<◌, ◌==◌, cond, Bool, true, false, List, [], ◌∷◌, length, take, Some, Result, Ok, Err, refl, sym, ap, subst, arith}
+use Rattle.std.proofs.Common.{◌≡◌, ◌≢◌, ℕ, zero, suc, ◌+◌, ◌-◌, ◌≤◌, ◌==◌, cond, Bool, true, false, List, [], ◌∷◌, length, take, Some, Result, Ok, Err, refl, sym, ap, subst, arith}
 use Rattle.std.specs.Prelude.{slice_get, nat_le, ◌&&◌, ◌||◌}
 use Rattle.std.proofs.lemmas.Bool.Decides.{nat_tests}
-use Rattle.transfer_table.specs.Plan.{Plan, IsHart, IsSite, parent, site_count}
+use Rattle.transfer_table.specs.Plan.{Plan, parent, site_count}
 use Rattle.transfer_table.specs.Counts.{one_if}
 use Rattle.transfer_table.specs.Table.{TableState, admit_of, first_state, is_live, owner, row}
-use Rattle.transfer_table.specs.Journal.{Reaches, replay_from, and_then}
+use Rattle.transfer_table.specs.Journal.{replay_from, and_then}
 use Rattle.transfer_table.specs.declared.entry.Row.{Row}
 use Rattle.transfer_table.specs.declared.entry.Stage.{Stage}
 use Rattle.transfer_table.specs.declared.entry.Stage.TheVariants.{New, Live, Gone}
 use Rattle.transfer_table.specs.declared.entry.Entry.{Entry}
 use Rattle.transfer_table.specs.declared.entry.NotAdmitted.{NotAdmitted}
 use Rattle.journal_picture.specs.Drawn.{or_same}
-use Rattle.journal_picture.specs.declared.strip.Figures.{Figures}
-use Rattle.journal_picture.specs.Strip.{unmet_of, idle_up_to, is_wishing, wishing_up_to, idle_in, figures_of, strip_from, strip_of, StripTellsStates, RedIsMissed, SomeIdle, SomeWish}
+use Rattle.journal_picture.specs.Strip.{unmet_of, idle_up_to, is_wishing, wishing_up_to, idle_in, figures_of, strip_from, StripTellsStates, RedIsMissed, SomeIdle, SomeWish}
 
 -- ---- the strip has the figures of each state
 strip_at : (p : Plan) (es : List Entry) (k : ℕ) (t u : TableState) → k ≤ length es → replay_from p t (take k es) ≡ Ok u

@@ -1,6 +1,6 @@
 -- Where things stand in the picture, in its units. The places of a list follow one another in rows; a row is at most 1,500 units
 -- wide.
-use Rattle.std.specs.Prelude.{ℕ, ◌+◌, ◌-◌, ◌*◌, ◌/◌, ◌%◌, nat_le, nat_lt, min, max, Bool, true, if◌then◌else◌, ◌||◌}
+use Rattle.std.specs.Prelude.{ℕ, ◌+◌, ◌-◌, ◌*◌, ◌/◌, ◌%◌, nat_le, nat_lt, min, max, Bool, if◌then◌else◌, ◌||◌}
 use Rattle.transfer_table.specs.Plan.{Plan}
 use Rattle.journal_picture.specs.TextPicture.{depth_of}
 

@@ -1,7 +1,7 @@
 -- The strip: for each place how many wishes are unmet, how many harts are idle, and whether a lender missed a wish.
 use Rattle.std.specs.Prelude.{◌≡◌, ◌≢◌, ◌↔◌, ℕ, zero, suc, ◌+◌, ◌-◌, ◌≤◌, ◌==◌, nat_le, Bool, true, false, if◌then◌else◌, ◌&&◌, ◌||◌, List, [], ◌∷◌, length, take, slice_get, Some}
 use Rattle.transfer_table.specs.Counts.{one_if}
-use Rattle.transfer_table.specs.Plan.{Plan, IsPlan, IsHart, IsSite, parent, site_count}
+use Rattle.transfer_table.specs.Plan.{Plan, IsHart, IsSite, parent, site_count}
 use Rattle.transfer_table.specs.Table.{TableState, admit_of, first_state, is_live, owner, row}
 use Rattle.transfer_table.specs.Journal.{Reaches}
 use Rattle.transfer_table.specs.declared.entry.Row.{Row}

@@ -1,6 +1,6 @@
 -- What stands around the bars: the names of the lanes, the axis, the marks of requests, unmet wishes and skips, the strip, and the
 -- fault.
-use Rattle.std.specs.Prelude.{ℕ, zero, suc, ◌+◌, ◌*◌, ◌%◌, ◌==◌, nat_lt, Bool, true, false, if◌then◌else◌, List, [], ◌∷◌, ◌++◌, codes, length}
+use Rattle.std.specs.Prelude.{ℕ, zero, suc, ◌+◌, ◌*◌, ◌%◌, ◌==◌, nat_lt, Bool, true, false, if◌then◌else◌, List, [], ◌∷◌, ◌++◌, codes}
 use Rattle.std.specs.List.{concat}
 use Rattle.std.specs.Fmt.{decimal}
 use Rattle.transfer_table.specs.Plan.{Plan}
@@ -11,9 +11,9 @@ use Rattle.transfer_table.specs.declared.entry.Entry.TheVariants.{Register, Requ
 use Rattle.journal_picture.specs.declared.strip.Figures.{Figures}
 use Rattle.journal_picture.specs.Drawn.{or_same}
 use Rattle.journal_picture.specs.Strip.{figures_of}
-use Rattle.journal_picture.specs.Scale.{step_of, per_row, row_of, is_shown, entry_x, place_x, row_y, lane_y, every}
+use Rattle.journal_picture.specs.Scale.{step_of, row_of, is_shown, entry_x, place_x, row_y, lane_y, every}
 use Rattle.journal_picture.specs.SvgBars.{rect_text}
-use Rattle.journal_picture.specs.TextPicture.{deed, site_name}
+use Rattle.journal_picture.specs.TextPicture.{deed}
 
 -- Words at a place.
 unfoldable pub mark_svg : ℕ → ℕ → List ℕ → List ℕ

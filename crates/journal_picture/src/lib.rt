@@ -2,8 +2,9 @@
 //! are idle.
 //!
 //! `run_picture` draws the journal of a run with it. The height of a bar shows how deep its site is and the outline shows the
-//! kind, so no colour is needed. A long journal is drawn in rows. The caller passes the verdict as text, so a picture needs no language and no audit. Begin with
-//! `stays_of` in `stay.rt` and `text_picture` in `text.rt`; the tests of `picture_tests` draw small journals.
+//! kind, so no colour is needed. A long journal is drawn in rows. The caller passes the verdict as text, so a picture needs no
+//! language and no audit. Begin with `stays_of` in `stay.rt` and `text_picture` in `text.rt`; the tests of `picture_tests` draw
+//! small journals.
 #![tactic(auto)]
 
 mod axis;

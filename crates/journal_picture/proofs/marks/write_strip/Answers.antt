@@ -21,14 +21,15 @@ loop-k-preserved c =
     let next = or_same t (admit_of p t (get_or es k (Register 0 0))) in
     let within : k < length es = search rules in
     let wrote : string_bytes c.write_figures.new.text ≡ string_bytes c.loop-k.text ++ figures_svg p end t k =
-        subst (λ (q : Plan). string_bytes c.write_figures.new.text ≡ string_bytes c.loop-k.text ++ figures_svg q end t k) c.loop-k.invariant.0 c.in_ok-write_figures.ensures in
+    subst (λ (q : Plan). string_bytes c.write_figures.new.text ≡ string_bytes c.loop-k.text ++ figures_svg q end t k) c.loop-k.invariant.0 c.in_ok-write_figures.ensures in
     let kept : c.admit.new.board.plan ≡ p = search rules in
     let moved : c.admit.new.board.state ≡ next =
-        ap (λ b. b.state) c.admit.ensures ∙ ap (λ (q : Plan). or_same t (admit_of q t (get_or es k (Register 0 0)))) c.loop-k.invariant.0 in
-    (kept,
-    subst (λ (u : TableState). string_bytes c.write_figures.new.text ++ strip_svg p end u (k + 1) (drop (k + 1) es) ≡ string_bytes c.args.text.now ++ strip_svg p end (first_state p) 0 es) (sym moved)
-    (turn (string_bytes c.loop-k.text) (string_bytes c.write_figures.new.text) (figures_svg p end t k) (strip_svg p end t k (drop k es))
-    (strip_svg p end next (k + 1) (drop (k + 1) es)) _ c.loop-k.invariant.1 (strip_more p end t k es (Register 0 0) within) wrote))
+    ap (λ b. b.state) c.admit.ensures ∙ ap (λ (q : Plan). or_same t (admit_of q t (get_or es k (Register 0 0)))) c.loop-k.invariant.0 in (
+      kept,
+      subst (λ (u : TableState). string_bytes c.write_figures.new.text ++ strip_svg p end u (k + 1) (drop (k + 1) es) ≡ string_bytes c.args.text.now ++ strip_svg p end (first_state p) 0 es) (sym moved)
+          (turn (string_bytes c.loop-k.text) (string_bytes c.write_figures.new.text) (figures_svg p end t k) (strip_svg p end t k (drop k es))
+          (strip_svg p end next (k + 1) (drop (k + 1) es)) _ c.loop-k.invariant.1 (strip_more p end t k es (Register 0 0) within) wrote),
+    )
 
 -- behind the last entry the figures of the last place are written
 pub returns : goal.returns
@@ -44,5 +45,5 @@ returns c =
     let last : strip_svg p end t k (drop k es) ≡ figures_svg p end t (length es) = ap (strip_svg p end t k) (drop_all k es past) ∙ ap (figures_svg p end t) stop in
     on_ok_weaker c.write_figures-2.result
     (λ (wrote : string_bytes c.write_figures-2.new.text ≡ text ++ figures_svg c.loop-k.board.plan end t (length es)).
-        wrote ∙ ap (λ (q : Plan). text ++ figures_svg q end t (length es)) c.loop-k.invariant.0 ∙ ap (λ x. text ++ x) (sym last) ∙ c.loop-k.invariant.1)
+    wrote ∙ ap (λ (q : Plan). text ++ figures_svg q end t (length es)) c.loop-k.invariant.0 ∙ ap (λ x. text ++ x) (sym last) ∙ c.loop-k.invariant.1)
     c.write_figures-2.ensures

@@ -1,4 +1,4 @@
-use Rattle.std.proofs.Common.{◌≡◌, ◌∙◌, ◌++◌, List, ℕ, OnOk, string_bytes, ap, subst}
+use Rattle.std.proofs.Common.{◌≡◌, ◌∙◌, ◌++◌, List, ℕ, OnOk, string_bytes, ap}
 use Rattle.std.specs.Prelude.{codes}
 use Rattle.journal_picture.specs.declared.shape.Kind.TheVariants.{Pool, Team}
 use Rattle.journal_picture.specs.SvgBars.{kind_fill}

@@ -1,4 +1,4 @@
-use Rattle.std.proofs.Common.{◌≡◌, ◌++◌, ◌+◌, nat_le, OnOk, length, take, drop, string_bytes, rules}
+use Rattle.std.proofs.Common.{◌≡◌, ◌++◌, ◌+◌, nat_le, length, take, drop, string_bytes, rules}
 use Rattle.journal_picture.specs.TextPicture.{numbers_line, deed_lines, lanes_text, strip_lines}
 use Rattle.journal_picture.proofs.Written.{on_four}
 use Rattle.journal_picture.proofs.text.write_band.Goals as goal
