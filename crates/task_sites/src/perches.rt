@@ -68,7 +68,7 @@ impl Perches {
             if shown == 0 {
                 return;
             }
-            word.park(rt, shown as u32);
+            word.park(rt, (shown % 4_294_967_296) as u32);
         }
         unreachable!()
     }
