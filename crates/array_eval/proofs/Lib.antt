@@ -7,3 +7,4 @@ pub mod LayoutLemmas
 mod MarkLemmas
 pub mod CopyLemmas
 pub mod OverLemmas
+mod FixedLemmas

@@ -5,12 +5,12 @@ use Rattle.array_meaning.specs.Stores.{Store, at_cell}
 use Rattle.array_eval.specs.Pages.{cells_on_page}
 use Rattle.array_eval.specs.Traces.{Trace}
 
--- The copy that a slot leads to: none at 0, and else that at the place before it.
+-- A slot leads to this copy: none at 0, and else that at the place before it.
 abbrev pub copy_at : {A : Type 0} → List A → ℕ → Option A
 copy_at copies zero = None
 copy_at copies (suc place) = slice_get copies place
 
--- How many slots are 0.
+-- The number says how many entries are 0.
 abbrev pub free_in : List ℕ → ℕ
 free_in [] = 0
 free_in (zero ∷ slots) = suc (free_in slots)
@@ -24,7 +24,7 @@ pub record AreSlots (slots : List ℕ) (copies : ℕ) : Type 0 where
       → 0 < slice_index_or slots a 0 → a ≡ b
   pub free : copies + free_in slots ≡ length slots
 
--- Whether a cell is marked.
+-- The test decides whether a cell is marked.
 abbrev pub mark_at : List Bool → ℕ → Bool
 mark_at marks cell = slice_index_or marks cell false
 
@@ -38,17 +38,17 @@ abbrev pub changed_copy : (Trace → Trace) → ℕ → List (Option Trace) → 
 changed_copy change number copies =
     slice_set copies number (option_map change (slice_index_or copies number None))
 
--- What a copy has, and else what is below it.
+-- This is what a copy has, and else what is below it.
 abbrev pub seen_in : {A : Type 0} → (Trace → A) → A → Option Trace → A
 seen_in own below None = below
 seen_in own below (Some page) = own page
 
--- What is seen at each of so many cells: of a page with a copy what the copy has there, and else what is below.
+-- This is what is seen at each of so many cells: of a page with a copy what the copy has there, and else what is below.
 abbrev pub seen : {A : Type 0} → (Trace → ℕ → A) → (ℕ → A) → List (Option Trace) → ℕ → List A
 seen own below copies count = map (λ cell. seen_in (λ page. own page (cell % cells_on_page))
     (below cell) (slice_index_or copies (cell / cells_on_page) None)) (range_with_len 0 count)
 
--- The values over a store, and which of the cells are marked.
+-- The copies give values over a store, and which of the cells are marked.
 abbrev pub over_store : Store → List (Option Trace) → Trace
 over_store store copies = record {
   cells = seen (λ page. at_cell page.cells) (at_cell store) copies (length store);

@@ -10,7 +10,7 @@ abbrev pub number_of : Arrays → List ℕ → ℕ
 number_of [] name = 0
 number_of (a ∷ more) name = cond (name_eq a.0 name) 0 (1 + number_of more name)
 
--- How many slots there are.
+-- The number says how many slots there are.
 abbrev pub slot_count : ℕ
 slot_count = 256
 
@@ -18,17 +18,17 @@ slot_count = 256
 abbrev pub slot_of : List ℕ → ℕ
 slot_of name = digest_of name % slot_count
 
--- The place of the first array in a slot; the number of arrays where there is none.
+-- A slot has its first array at this place, and the number of arrays if there is none.
 abbrev pub first_in : ℕ → Arrays → ℕ
 first_in slot [] = 0
 first_in slot (a ∷ more) = cond (nat_eq (slot_of a.0) slot) 0 (suc (first_in slot more))
 
--- How many cells the arrays before it have.
+-- The number says how many cells the arrays before the slot's first one have.
 abbrev pub cells_before : ℕ → Arrays → ℕ
 cells_before slot [] = 0
 cells_before slot (a ∷ more) = cond (nat_eq (slot_of a.0) slot) 0 (a.1 + cells_before slot more)
 
--- What a slot has.
+-- A slot has this first array.
 abbrev pub at_slot : List First → ℕ → First
 at_slot firsts slot = slice_index_or firsts slot (record { number = 0; base = 0 })
 
@@ -40,7 +40,7 @@ pub record AreFirsts (count cells : ℕ) (arrays : Arrays) (firsts : List First)
   pub base : (slot : ℕ) → slot < slot_count
       → (at_slot firsts slot).base ≡ cells + cells_before slot arrays
 
--- What a layout keeps.
+-- A layout has this invariant: its arrays have cells, and each slot has the first array of that slot.
 pub record IsLaidOut (arrays : Arrays) (firsts : List First) (cells : ℕ) : Type 0 where
   pub sized : AreSized arrays
   pub right : AreFirsts 0 0 arrays firsts

@@ -9,3 +9,4 @@ pub mod Equal
 pub mod EqualLaws
 pub mod Laws
 pub mod Copies
+pub mod Fixed

@@ -4,7 +4,7 @@ use Rattle.array_meaning.specs.Pieces.{lay, value_at}
 use Rattle.array_tree.specs.Equal.{name_eq}
 use Rattle.array_meaning.specs.Stores.{Vars, Write}
 
--- How many numbers there are for the cell of a pair: those of 16 bits.
+-- The number says how many numbers there are for the cell of a pair: those of 16 bits.
 abbrev pub cell_numbers : ℕ
 cell_numbers = 65536
 
@@ -13,7 +13,7 @@ pub record Laid : Type 0 where
   pub pairs : List (ℕ × ℤ)
   pub room : ℕ
 
--- How many pairs at the front have a smaller cell.
+-- The number says how many pairs at the front have a smaller cell.
 abbrev pub place_in : ℕ → List Write → ℕ
 place_in cell [] = 0
 place_in cell (w ∷ more) = cond (nat_lt w.0 cell) (suc (place_in cell more)) 0

@@ -2,20 +2,20 @@
 use Rattle.std.specs.Int.{div_ceil}
 use Rattle.std.specs.Prelude.{◌≡◌, ℕ, ◌+◌, ◌-◌, ◌*◌, ◌<◌, List, [], ◌∷◌, ◌++◌, ℤ, pos, All, length, replicate, take, drop, Bool, true, false, slice_index_or}
 
--- How many cells a page has.
+-- The number says how many cells a page has.
 abbrev pub cells_on_page : ℕ
 cells_on_page = 64
 
--- Cells with zeros behind them, to the end of a page.
+-- The cells have zeros behind them, to the end of a page.
 abbrev pub padded : List ℤ → List ℤ
 padded cells = cells ++ replicate (cells_on_page - length cells) (pos 0)
 
--- The cells of pages, one page after another.
+-- Pages have these cells, one page after another.
 abbrev pub cells_on : List (List ℤ) → List ℤ
 cells_on [] = []
 cells_on (page ∷ more) = page ++ cells_on more
 
--- How many pages so many cells take.
+-- The number says how many pages so many cells take.
 abbrev pub pages_for : ℕ → ℕ
 pages_for count = div_ceil count cells_on_page
 
@@ -25,7 +25,7 @@ pub record ArePages (count : ℕ) (pages : List (List ℤ)) : Type 0 where
   pub fewest : length pages ≡ pages_for count
   pub zeros : drop count (cells_on pages) ≡ replicate (cells_on_page * length pages - count) (pos 0)
 
--- The cells of the page with this number.
+-- The page with this number has these cells.
 abbrev pub page_at : ℕ → List ℤ → List ℤ
 page_at number cells = take cells_on_page (drop (cells_on_page * number) cells)
 
@@ -35,7 +35,7 @@ IsPageOf cells number page = (place : ℕ) → place < cells_on_page
     → cells_on_page * number + place < length cells
     → slice_index_or page place (pos 0) ≡ slice_index_or cells (cells_on_page * number + place) (pos 0)
 
--- Cells that were changed, and for each page whether one of its cells may have been: those of the other pages are as before.
+-- The flags say for each page whether one of its cells may have changed: the other pages are as before.
 pub record AreChanged (changed : List Bool) (before after : List ℤ) : Type 0 where
   pub as_many : length before ≡ length after
   pub marks : length changed ≡ pages_for (length after)

@@ -14,34 +14,34 @@ pub record Trace : Type 0 where
 abbrev pub fresh : Store → Trace
 fresh store = record { cells = store; marks = replicate (length store) false }
 
--- One write.
+-- One write is noted.
 abbrev pub noted : ℕ → ℤ → Trace → Trace
 noted cell value trace = record {
   cells = written trace.cells cell value;
   marks = slice_set trace.marks cell true;
 }
 
--- Writes, one after another.
+-- Writes are noted, one after another.
 abbrev pub noted_all : List Write → Trace → Trace
 noted_all [] trace = trace
 noted_all (w ∷ more) trace = noted_all more (noted w.0 w.1 trace)
 
--- What steps leave.
+-- Steps leave this trace.
 abbrev pub traced : Arrays → Steps → Trace → Trace
 traced arrays steps trace = noted_all (writes_of arrays steps trace.cells) trace
 
--- The cells that are marked, from one on, each with its value.
+-- The pairs are the cells that are marked, from one on, each with its value.
 abbrev pub marked_from : ℕ → List ℤ → List Bool → List Write
 marked_from cell [] marks = []
 marked_from cell (value ∷ more) [] = []
 marked_from cell (value ∷ more) (true ∷ marks) = (cell, value) ∷ marked_from (suc cell) more marks
 marked_from cell (value ∷ more) (false ∷ marks) = marked_from (suc cell) more marks
 
--- All cells that are marked, each with its value.
+-- The pairs are all cells that are marked, each with its value.
 abbrev pub marked : Trace → List Write
 marked trace = marked_from 0 trace.cells trace.marks
 
--- How many are marked.
+-- The number says how many cells are marked.
 abbrev pub marks_in : List Bool → ℕ
 marks_in [] = 0
 marks_in (true ∷ marks) = suc (marks_in marks)

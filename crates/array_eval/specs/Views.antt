@@ -8,11 +8,11 @@ use Rattle.array_meaning.specs.Stores.{Vars}
 abbrev pub loop_var : LoopVar → List ℕ × ℤ
 loop_var v = (v.name.now, v.value)
 
--- Variables that lie one after another, the innermost last.
+-- The variables lie one after another, the innermost last.
 abbrev pub stacked : List LoopVar → Vars
 stacked vars = reverse (map loop_var vars)
 
--- The loop variables around, the innermost first.
+-- The scope has these loop variables around, the innermost first.
 abbrev pub vars_of : Scope → Vars
 vars_of Outermost = []
 vars_of (Kept vars) = vars.now

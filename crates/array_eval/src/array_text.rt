@@ -12,6 +12,10 @@ use std::alloc::{AllocError, Global};
 /// its cells.
 ///
 /// Each array must have a cell, and all at most 4,096; the store must have one value per cell.
+///
+/// # Errors
+///
+/// `AllocError` if an allocation fails.
 pub fn write_arrays(alloc: Global, program: &Program, store: &Store) -> Result<Vec<u8>, AllocError>
     requires sized { AreSized (arrays_of (declarations_of program.now.arrays)) }
     requires whole { length store.now ≡ cells_of (arrays_of (declarations_of program.now.arrays)) }

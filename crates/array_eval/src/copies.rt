@@ -69,7 +69,7 @@ impl PageCopy {
         self.marks[place]
     }
 
-    /// Writes a cell, and tells whether it was written before.
+    /// Writes a cell, and returns whether it was written before.
     #[inline]
     fn write(&mut self, place: usize, value: i64) -> bool
         requires { place < cells_on_page }
@@ -148,7 +148,7 @@ impl Copies {
         self.slots[number] = place + 1;
     }
 
-    /// Writes a cell in the copy of a page, and tells whether it was written before.
+    /// Writes a cell in the copy of a page, and returns whether it was written before.
     #[inline]
     pub(crate) fn write(&mut self, number: usize, place: usize, value: i64) -> bool
         requires copied { IsSome (slice_index_or self.old number None) }

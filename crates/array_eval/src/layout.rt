@@ -29,7 +29,9 @@ struct First {
 }
 
 /// The arrays of a program, and where each is found: the first one of each slot of digests. Behind it the others are
-/// looked through, since names of one slot may differ.
+/// looked through, since names of one slot may differ: names chosen to collide cost a look at each declaration.
+///
+/// The table has 1 KB and is made in one pass. Why each job makes its own: a job's public fields have the arrays alone.
 ///
 /// Contracts see a layout as the arrays. Its type keeps that each array has a cell, and all at most 4,096.
 #[derive(Debug, Drop)]
@@ -59,6 +61,10 @@ impl<'p> Model for Layout<'p> {
 
 impl<'p> Layout<'p> {
     /// The layout of these arrays. Each must have a cell, and all at most 4,096.
+    ///
+    /// # Errors
+    ///
+    /// `AllocError` if an allocation fails.
     pub fn new(alloc: Global, arrays: &'p Arrays) -> Result<Layout<'p>, AllocError>
         requires { AreSized (arrays_of (declarations_of arrays.now)) }
         ensures { IfOk result (λ layout. layout ≡ arrays_of (declarations_of arrays.now)) }

@@ -1,9 +1,13 @@
 //! The one-thread evaluator of the array language: stores, what a program leaves in them, and what was written apart.
+//!
+//! `run_one` runs a whole program, and jobs run their works on the same stores. Begin with `run_one` in `run.rt`, then `Store`
+//! and `MarkedStore`; the tests of `language_tests` run programs by it.
 #![tactic(auto)]
 
 mod array_text;
 mod cells;
 mod copies;
+mod fixed;
 mod laws;
 mod layout;
 mod marked_store;

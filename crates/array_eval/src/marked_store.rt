@@ -49,6 +49,10 @@ impl Model for MarkedStore {
 
 impl MarkedStore {
     /// What a store has, of which no cell is written yet. No cell is copied.
+    ///
+    /// # Errors
+    ///
+    /// `AllocError` if an allocation fails.
     pub fn new(alloc: Global, store: &Store) -> Result<MarkedStore, AllocError>
         ensures { IfOk result (λ marked. marked ≡ fresh store.now) }
     {
@@ -87,7 +91,7 @@ impl MarkedStore {
         }
     }
 
-    /// Writes a cell, if it is there. It takes no memory.
+    /// Writes a cell, if it is there. It does not allocate.
     #[inline]
     pub(crate) fn write(&mut self, cell: usize, value: i64)
         ensures { self.new ≡ noted cell value self.old }
@@ -101,9 +105,10 @@ impl MarkedStore {
         }
     }
 
-    /// Writes an overlay's cells, those that are there, and marks them. It takes no memory, and time for the pairs alone.
+    /// Writes an overlay's cells, those that are there, and marks them. It does not allocate, and takes time for the pairs alone.
     ///
-    /// So pieces are merged: where all cells are there, the overlay is laid over what is marked, and its values win.
+    /// So pieces are merged: where all cells are there, the overlay is laid over what is marked, and its values win. Books cite
+    /// the clause `laid`.
     pub fn merge(&mut self, written: &Overlay)
         ensures noted { self.new ≡ noted_all written.now.pairs self.old }
         ensures laid { All (λ pair. pair.0 < length self.old.cells) written.now.pairs
@@ -118,6 +123,10 @@ impl MarkedStore {
 
     /// A store of these values. It shares with the one that was taken before, or else with the one that this was made
     /// from, each page of which no cell was written since.
+    ///
+    /// # Errors
+    ///
+    /// `AllocError` if an allocation fails.
     pub fn to_store(&mut self, alloc: Global) -> Result<Store, AllocError>
         ensures values { IfOk result (λ store. store ≡ self.old.cells) }
         ensures same { self.new ≡ self.old }
@@ -128,7 +137,12 @@ impl MarkedStore {
         Ok(store)
     }
 
-    /// The cells that were written, each with its value. There must be at most 65,535 cells.
+    /// The cells that were written, each with its value. There must be at most 65,535 cells, since an overlay counts its room in
+    /// 16 bits. Stores of programs have at most 4,096.
+    ///
+    /// # Errors
+    ///
+    /// `AllocError` if an allocation fails.
     pub fn written(&self, alloc: Global) -> Result<Overlay, AllocError>
         requires { length self.now.cells < cell_numbers }
         ensures { IfOk result (λ overlay. overlay.pairs ≡ last_writes (marked self.now)) }
@@ -138,7 +152,7 @@ impl MarkedStore {
         Ok(overlay)
     }
 
-    /// Lays the cells that were written, each with its value, into an overlay of no cell. It takes no memory, and one
+    /// Lays the cells that were written, each with its value, into an overlay of no cell. It does not allocate, and makes one
     /// pass over the pages that were written.
     ///
     /// The overlay must have room for as many pairs as there are cells, and there must be at most 65,535 cells.

@@ -23,7 +23,7 @@ fn first_iteration(iterations: u64, members: u64, member: u64) -> u64
 
 /// The number with which the iterations of a member of a team begin, and those of the member before it end.
 ///
-/// The team must have a member. Behind the last member all iterations end.
+/// The team must have a member. Behind the last member all iterations end. The walk of the check and the jobs both call it.
 pub fn start_of_member(low: i64, high: i64, members: u64, member: u64) -> i64
     requires some { 0 < members }
     requires inside { member ≤ members }

@@ -27,7 +27,7 @@ impl Model for Overlay {
 }
 
 impl Overlay {
-    /// An overlay of no cell, with no room. It takes no memory.
+    /// An overlay of no cell, with no room. It does not allocate.
     pub fn empty(alloc: Global) -> Overlay
         ensures pairs { result.pairs ≡ [] }
         ensures room { result.room ≡ 0 }
@@ -38,6 +38,10 @@ impl Overlay {
     }
 
     /// An overlay of no cell, with room for so many.
+    ///
+    /// # Errors
+    ///
+    /// `AllocError` if an allocation fails.
     pub fn roomy(alloc: Global, room: u16) -> Result<Overlay, AllocError>
         ensures pairs { IfOk result (λ overlay. overlay.pairs ≡ []) }
         ensures room { IfOk result (λ overlay. overlay.room ≡ room) }
@@ -47,7 +51,7 @@ impl Overlay {
         })
     }
 
-    /// Lays one more pair, in the place of an earlier one of its cell. Where memory is wanting, the pairs stay.
+    /// Lays one more pair, in the place of an earlier one of its cell. If an allocation fails, the pairs stay.
     #[tactic(auto, using(array_meaning::proofs::LastLemmas::rising_lay))]
     pub fn put(&mut self, cell: u16, value: i64) -> Result<(), AllocError>
         ensures ok { OnOk result (self.new.pairs ≡ lay cell value self.old.pairs) }
@@ -58,7 +62,7 @@ impl Overlay {
         put_pair(&mut self.pairs, cell, value)
     }
 
-    /// Lays one more pair as `put` does, keeps the room and takes no memory.
+    /// Lays one more pair as `put` does, keeps the room and does not allocate.
     ///
     /// The cell must be in the list, or the list shorter than the room.
     #[tactic(auto, using(array_meaning::proofs::LastLemmas::rising_lay))]
@@ -70,7 +74,7 @@ impl Overlay {
         let _ = put_pair(&mut self.pairs, cell, value);
     }
 
-    /// Lays a pair behind all others. It takes no memory, and no search.
+    /// Lays a pair behind all others. It allocates nothing and searches nothing.
     #[tactic(auto, using(crate::proofs::OverlayLemmas::lay_last, crate::proofs::OverlayLemmas::rising_last))]
     pub(crate) fn append(&mut self, cell: u16, value: i64)
         requires last { All (λ pair. pair.0 < cell) self.old.pairs }

@@ -70,7 +70,7 @@ impl Page {
         self.cells.as_slice()
     }
 
-    /// Writes a cell: in place if nobody shares the page, and else in a copy of its own.
+    /// Writes a cell: in place if no copy shares the page, and else in a copy of its own.
     pub(crate) fn put(&mut self, alloc: Global, cell: usize, value: i64) -> Result<(), AllocError>
         requires { cell < cells_on_page }
         ensures written { OnOk result (self.new ≡ written self.old cell value) }

@@ -68,7 +68,7 @@ impl Paged {
         self.pages[number].cells()
     }
 
-    /// Writes a cell. Where memory is wanting, nothing changes.
+    /// Writes a cell. If an allocation fails, nothing changes.
     pub(crate) fn put(&mut self, alloc: Global, cell: u16, value: i64) -> Result<(), AllocError>
         requires { cell < length self.old }
         ensures written { OnOk result (self.new ≡ written self.old cell value) }

@@ -7,6 +7,7 @@ ghost use Rattle.array_eval.specs.Traces.{noted, traced};
 ghost use Rattle.array_eval.specs.Views.{vars_of};
 
 use crate::cells::cell;
+use crate::fixed::FixedTurn;
 use crate::layout::Layout;
 use crate::marked_store::MarkedStore;
 use crate::scope::Scope;
@@ -19,6 +20,10 @@ use std::alloc::{AllocError, Global};
 ///
 /// Each array must have a cell, and all at most 4,096. That the names are known and the indexes inside their arrays
 /// is not needed: a read behind the last cell gives 0, and a write there does nothing.
+///
+/// # Errors
+///
+/// `AllocError` if an allocation fails.
 #[tactic(auto, using(array_meaning::proofs::StepLemmas::length_after, crate::proofs::TraceLemmas::cells_after))]
 pub fn run_one(alloc: Global, program: &Program) -> Result<Store, AllocError>
     requires { AreSized (arrays_of (declarations_of program.now.arrays)) }
@@ -119,6 +124,27 @@ fn run_statement<'s>(
 /// Runs a block once for each number from `low` to before `high`, with that number as the variable.
 #[cycle(run)]
 pub fn run_loop<'s>(
+    layout: &Layout,
+    body: &'s Block,
+    var: &'s Name,
+    low: i64,
+    high: i64,
+    scope: &'s Scope<'s>,
+    store: &mut MarkedStore,
+)
+    ensures { store.new ≡ traced layout.now
+        (loop var.now low high (sequence_work (sequence_of body.now))
+        (vars_of scope.now)) store.old }
+{
+    match FixedTurn::of(layout, body, var, high.saturating_sub(low), scope) {
+        Some(fixed) => fixed.run_all(layout, var, low, high, scope, store),
+        None => run_turns(layout, body, var, low, high, scope, store),
+    }
+}
+
+// Runs the turns of a loop, each as its body is written.
+#[cycle(run)]
+fn run_turns<'s>(
     layout: &Layout,
     body: &'s Block,
     var: &'s Name,

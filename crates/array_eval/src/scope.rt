@@ -15,7 +15,7 @@ pub struct LoopVar<'s> {
 }
 
 /// The loop variables around a place in a program, the innermost first. A loop's turn makes one on the stack, and
-/// copies neither a name nor the variables around it.
+/// copies neither a name nor the variables around it, so it allocates nothing.
 #[derive(Drop)]
 pub enum Scope<'s> {
     /// No loop is around.

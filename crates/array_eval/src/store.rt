@@ -19,6 +19,7 @@ use std::sync::Arc;
 #[derive(Debug, Drop)]
 pub struct Store {
     alloc: Global,
+    // Why the list of pages is behind an `Arc`, as each page is: a copy costs the same for a store of any size.
     paged: Arc<Paged>,
 }
 
@@ -33,6 +34,10 @@ impl Model for Store {
 
 impl Store {
     /// A store of so many cells, each 0.
+    ///
+    /// # Errors
+    ///
+    /// `AllocError` if an allocation fails.
     pub fn zero(alloc: Global, cells: u16) -> Result<Store, AllocError>
         ensures { IfOk result (λ store. store ≡ replicate cells (pos 0)) }
     {
@@ -75,7 +80,7 @@ impl Store {
         self.paged.page(number)
     }
 
-    /// Writes a cell. Where memory is wanting, nothing changes.
+    /// Writes a cell, in place if no copy shares the list of pages or the page. If an allocation fails, nothing changes.
     pub fn put(&mut self, cell: u16, value: i64) -> Result<(), AllocError>
         requires { cell < length self.old }
         ensures written { OnOk result (self.new ≡ written self.old cell value) }
@@ -92,7 +97,7 @@ impl Store {
         }
     }
 
-    /// An equal store. It takes no memory of its own.
+    /// An equal store. It allocates nothing of its own.
     pub fn copy(&self) -> Result<Store, AllocError>
         ensures { IfOk result (λ store. store ≡ self.now) }
     {
@@ -103,6 +108,10 @@ impl Store {
     }
 
     /// The store after an overlay's cells are written. Each of them must be there.
+    ///
+    /// # Errors
+    ///
+    /// `AllocError` if an allocation fails.
     #[tactic(auto, using(array_meaning::proofs::StepLemmas::length_after))]
     pub fn with(&self, written: &Overlay) -> Result<Store, AllocError>
         requires { All (λ pair. pair.0 < length self.now) written.now.pairs }
@@ -114,7 +123,8 @@ impl Store {
         Ok(store)
     }
 
-    /// Writes an overlay's cells. Each of them must be there. Where memory is wanting, nothing changes.
+    /// Writes an overlay's cells. Each of them must be there. The new store is made first, so if an allocation fails, nothing
+    /// changes.
     pub fn merge(&mut self, written: &Overlay) -> Result<(), AllocError>
         requires { All (λ pair. pair.0 < length self.old) written.now.pairs }
         ensures merged { OnOk result (self.new ≡ after written.now.pairs self.old) }

@@ -38,7 +38,7 @@ impl Model for Vars {
 }
 
 impl Vars {
-    /// No loop variable. It takes no memory.
+    /// No loop variable. It does not allocate.
     pub fn empty(alloc: Global) -> Vars
         ensures { result ≡ [] }
     {
@@ -49,6 +49,10 @@ impl Vars {
     }
 
     /// The variables of a scope.
+    ///
+    /// # Errors
+    ///
+    /// `AllocError` if an allocation fails.
     pub fn of_scope(alloc: Global, scope: &Scope) -> Result<Vars, AllocError>
         ensures { IfOk result (λ vars. vars ≡ vars_of scope.now) }
     {
@@ -58,6 +62,10 @@ impl Vars {
     }
 
     /// These variables with one more, the innermost.
+    ///
+    /// # Errors
+    ///
+    /// `AllocError` if an allocation fails.
     pub fn with(&self, name: &Name, value: i64) -> Result<Vars, AllocError>
         ensures { IfOk result (λ vars. vars ≡ (name.now, value) ∷ self.now) }
     {
@@ -80,7 +88,7 @@ impl Vars {
         None
     }
 
-    /// Equal variables, shared with these. It takes no memory of its own.
+    /// Equal variables, shared with these. It allocates nothing of its own.
     pub fn copy(&self) -> Result<Vars, AllocError>
         ensures { IfOk result (λ vars. vars ≡ self.now) }
     {

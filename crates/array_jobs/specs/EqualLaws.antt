@@ -21,6 +21,7 @@ member_decides : (v : List ℕ) (m n : ℤ) (p : Sequence) (w : List ℕ) (k l :
 member_decides v m n p w k l q =
     Decides-and _ _ (name_decides v w) (Decides-and _ _ (Decides-int_eq m k) (Decides-and _ _ (Decides-int_eq n l) (body_decides p q)))
 
+-- Works that pass the test are equal.
 pub work_same : (a b : WorkTree) → work_eq a b ≡ true → a ≡ b
 work_same (branch_of p) (branch_of q) h = ap branch_of ((body_decides p q).0 h)
 work_same (member_of v m n p) (member_of w k l q) h =
@@ -28,10 +29,12 @@ work_same (member_of v m n p) (member_of w k l q) h =
     let name = e.0 in let low = e.1.0 in let high = e.1.1.0 in let body = e.1.1.1 in cc
 work_same a b h = cc
 
+-- Each work passes the test with itself.
 pub work_refl : (a : WorkTree) → work_eq a a ≡ true
 work_refl (branch_of p) = (body_decides p p).1 refl
 work_refl (member_of v m n p) = (member_decides v m n p v m n p).1 (refl, (refl, (refl, refl)))
 
+-- The test decides whether two works are equal.
 pub work_decides : (a b : WorkTree) → Decides (work_eq a b) (a ≡ b)
 work_decides a b = (λ h. work_same a b h, λ e. rw e (work_refl b))
 
@@ -58,6 +61,7 @@ parts_decide a b =
     (Decides-and _ _ (Decides-eqb a.first b.first) (Decides-and _ _ (work_decides a.work b.work) (Decides-and _ _ (vars_decides a.vars b.vars)
     (Decides-and _ _ (store_decides a.store b.store) (arrays_decide a.arrays b.arrays)))))))
 
+-- Jobs that pass the test are equal.
 pub job_same : (a b : JobTree) → job_eq a b ≡ true → a ≡ b
 job_same a b h =
     let e = (parts_decide a b).0 h in
@@ -65,8 +69,10 @@ job_same a b h =
     = rw (e.0, e.1.0, e.1.1.0, e.1.1.1.0, e.1.1.1.1.0, e.1.1.1.1.1.0, e.1.1.1.1.1.1.0, e.1.1.1.1.1.1.1) refl in
     same
 
+-- Each job passes the test with itself.
 pub job_refl : (a : JobTree) → job_eq a a ≡ true
 job_refl a = (parts_decide a a).1 (refl, (refl, (refl, (refl, (refl, (refl, (refl, refl)))))))
 
+-- The test decides whether two jobs are equal.
 pub job_decides : (a b : JobTree) → Decides (job_eq a b) (a ≡ b)
 job_decides a b = (λ h. job_same a b h, λ e. rw e (job_refl b))

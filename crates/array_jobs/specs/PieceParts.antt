@@ -5,15 +5,15 @@ use Rattle.array_meaning.specs.Pieces.{piece_of}
 use Rattle.array_jobs.specs.Works.{steps_of}
 use Rattle.array_jobs.specs.Jobs.{JobParts, JobTree, job_of}
 
--- What contracts see of a piece.
+-- Contracts see these parts of a piece.
 pub record PieceParts : Type 0 where
   pub job : JobParts
   pub written : List Write
 
--- What a job writes: each cell with its last value, in rising order.
+-- This is what a job writes: each cell with its last value, in rising order.
 abbrev pub piece_of_job : JobTree → List Write
 piece_of_job job = piece_of (arrays_of job.arrays) (steps_of job.work job.vars) job.store
 
--- Exactly that is written.
+-- A piece has exactly what its job writes.
 abbrev pub IsRight : PieceParts → Type 0
 IsRight piece = piece.written ≡ piece_of_job (job_of piece.job)

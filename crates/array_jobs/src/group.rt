@@ -5,6 +5,10 @@ use crate::job::Job;
 use std::alloc::{AllocError, Global};
 
 /// Equal jobs, in the same order.
+///
+/// # Errors
+///
+/// `AllocError` if an allocation fails.
 pub fn copy_jobs<'p>(alloc: Global, jobs: &[Job<'p>]) -> Result<Vec<Job<'p>>, AllocError>
     ensures { IfOk result (λ copies. copies.items ≡ jobs.now) }
 {

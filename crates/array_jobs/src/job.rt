@@ -59,6 +59,10 @@ impl<'p> Model for Job<'p> {
 
 impl<'p> Job<'p> {
     /// An equal job.
+    ///
+    /// # Errors
+    ///
+    /// `AllocError` if an allocation fails.
     pub fn copy(&self) -> Result<Job<'p>, AllocError>
         ensures { IfOk result (λ job. job ≡ self.now) }
     {

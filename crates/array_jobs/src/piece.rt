@@ -51,6 +51,10 @@ impl<'p> Piece<'p> {
 }
 
 /// The piece of a job, by running its work on a copy of its store.
+///
+/// # Errors
+///
+/// `AllocError` if an allocation fails.
 pub fn piece_of<'p>(alloc: Global, job: Job<'p>) -> Result<Piece<'p>, AllocError>
     ensures { IfOk result (λ piece. piece.job ≡ job.entry) }
 {
@@ -59,6 +63,10 @@ pub fn piece_of<'p>(alloc: Global, job: Job<'p>) -> Result<Piece<'p>, AllocError
 }
 
 /// What a job writes, by running its work on a copy of its store: each cell with its last value.
+///
+/// # Errors
+///
+/// `AllocError` if an allocation fails.
 pub fn written_by(alloc: Global, job: &Job) -> Result<Overlay, AllocError>
     ensures { IfOk result (λ overlay. overlay.pairs ≡ piece_of_job (job_of job.now)) }
 {

@@ -11,7 +11,7 @@ use Rattle.array_meaning.specs.Touch.{walk, reads_in, reads_of, IsApart}
 use Rattle.array_meaning.specs.Sites.{branch_works}
 use Rattle.array_meaning.specs.Members.{first_of, start_of, member_work, member_works}
 use Rattle.array_meaning.specs.Plans.{sites_in}
-use Rattle.array_meaning.specs.Entered.{Entering, entered_then, turns_entered, loop_entered, statement_entered, sequence_entered, branches_entered, phases_entered, DependsOnReads, branches_alone, members_alone}
+use Rattle.array_meaning.specs.Entered.{Entering, entered_then, turns_entered, loop_entered, statement_entered, sequence_entered, branches_entered, phases_entered, DependsOnReads, branches_alone, members_alone, sequence_part}
 use Rattle.array_meaning.proofs.StepLemmas.{length_after, exec_followed_by}
 use Rattle.array_meaning.proofs.FrameLemmas.{walk_followed_by, touched_left, touched_right, value_same, writes_same, writes_within, kept, same_after}
 use Rattle.array_meaning.proofs.OrderLemmas.{separate_join}
@@ -28,7 +28,7 @@ works_in (p ∷ ps) = p.0 ∷ works_in ps
 -- what parts enter one after another, and what each enters from the one store
 abbrev threaded : Arrays → List Part → Entering
 threaded arrays [] store = []
-threaded arrays (p ∷ ps) store = entered_then arrays p.0 p.1 (threaded arrays ps) store
+threaded arrays (p ∷ ps) store = entered_then arrays p (threaded arrays ps) store
 
 abbrev alone : List Part → Entering
 alone [] store = []
@@ -37,7 +37,7 @@ alone (p ∷ ps) store = p.1 store ++ alone ps store
 module _ (arrays : Arrays) (sizes : (name : List ℕ) → 0 < length_of arrays name) where
   -- one part and then the next
   depends_then : (a b : Steps) (first rest : Entering) → DependsOnReads arrays a first → DependsOnReads arrays b rest →
-      DependsOnReads arrays (followed_by a b) (entered_then arrays a first rest)
+      DependsOnReads arrays (followed_by a b) (entered_then arrays (a, first) rest)
   depends_then a b first rest da db s t len agree =
       let on_a : (c : ℕ) → reads_of arrays a c → at_cell s c ≡ at_cell t c
       = λ c h. agree c (rw (walk_followed_by arrays a b) (touched_left arrays false (walk arrays a) (walk arrays b) c h)) in
@@ -53,10 +53,10 @@ module _ (arrays : Arrays) (sizes : (name : List ℕ) → 0 < length_of arrays n
       ∙ ap (λ x. first t ++ x) there
 
   depends_turns : (work : ℤ → Steps) (body : ℤ → Entering) (n : ℕ) (low : ℤ) → ((x : ℤ) → DependsOnReads arrays (work x) (body x)) →
-      DependsOnReads arrays (turns work low n) (turns_entered arrays work body low n)
+      DependsOnReads arrays (turns work low n) (turns_entered arrays (λ x. (work x, body x)) low n)
   depends_turns work body zero low h s t len agree = refl
   depends_turns work body (suc n) low h s t len agree =
-      depends_then (work low) (turns work (low +ℤ pos 1) n) (body low) (turns_entered arrays work body (low +ℤ pos 1) n) (h low) (depends_turns work body n (low +ℤ pos 1) h) s t len agree
+      depends_then (work low) (turns work (low +ℤ pos 1) n) (body low) (turns_entered arrays (λ x. (work x, body x)) (low +ℤ pos 1) n) (h low) (depends_turns work body n (low +ℤ pos 1) h) s t len agree
 
   mutual
     depends_statement : (st : Statement) (vars : Vars) → DependsOnReads arrays (statement_work st vars) (statement_entered arrays st vars)
@@ -90,7 +90,7 @@ module _ (arrays : Arrays) (sizes : (name : List ℕ) → 0 < length_of arrays n
     depends_phases no_more var low high vars s t len agree = refl
     depends_phases (beside first rest) var low high vars s t len agree =
         depends_then (loop var low high (sequence_work first) vars) (phases_work rest var low high vars)
-        (loop_entered arrays var low high (sequence_work first) (sequence_entered arrays first) vars) (phases_entered arrays rest var low high vars)
+        (loop_entered arrays var low high (sequence_part arrays first) vars) (phases_entered arrays rest var low high vars)
         (depends_turns (λ x. sequence_work first ((var, x) ∷ vars)) (λ x. sequence_entered arrays first ((var, x) ∷ vars)) (span low high) low (λ x. depends_sequence first ((var, x) ∷ vars)))
         (depends_phases rest var low high vars) s t len agree
 
@@ -142,8 +142,8 @@ module _ (arrays : Arrays) (sizes : (name : List ℕ) → 0 < length_of arrays n
 
   -- a loop is cut anywhere
   turns_cut : (work : ℤ → Steps) (body : ℤ → Entering) (a b : ℕ) (low : ℤ) (store : Store) →
-      turns_entered arrays work body low (a + b) store
-      ≡ turns_entered arrays work body low a store ++ turns_entered arrays work body (low +ℤ pos a) b (exec arrays (turns work low a) store)
+      turns_entered arrays (λ x. (work x, body x)) low (a + b) store
+      ≡ turns_entered arrays (λ x. (work x, body x)) low a store ++ turns_entered arrays (λ x. (work x, body x)) (low +ℤ pos a) b (exec arrays (turns work low a) store)
   turns_cut work body zero b low store =
       let none : zero + b ≡ b = omega arith in
       let same : low +ℤ pos 0 ≡ low = omega (arith, ints) in
@@ -152,11 +152,11 @@ module _ (arrays : Arrays) (sizes : (name : List ℕ) → 0 < length_of arrays n
       let more : suc a + b ≡ suc (a + b) = omega arith in
       let same : low +ℤ pos 1 +ℤ pos a ≡ low +ℤ pos (suc a) = omega (arith, ints) in
       let next = exec arrays (work low) store in
-      ap (λ n. turns_entered arrays work body low n store) more
+      ap (λ n. turns_entered arrays (λ x. (work x, body x)) low n store) more
       ∙ ap (λ x. body low store ++ x) (turns_cut work body a b (low +ℤ pos 1) next)
-      ∙ ap (λ y. body low store ++ (turns_entered arrays work body (low +ℤ pos 1) a next ++ turns_entered arrays work body y b (exec arrays (turns work (low +ℤ pos 1) a) next))) same
-      ∙ ap (λ s. body low store ++ (turns_entered arrays work body (low +ℤ pos 1) a next ++ turns_entered arrays work body (low +ℤ pos (suc a)) b s)) (sym (exec_followed_by arrays (work low) (turns work (low +ℤ pos 1) a) store))
-      ∙ sym (append_assoc (body low store) (turns_entered arrays work body (low +ℤ pos 1) a next) (turns_entered arrays work body (low +ℤ pos (suc a)) b (exec arrays (turns work low (suc a)) store)))
+      ∙ ap (λ y. body low store ++ (turns_entered arrays (λ x. (work x, body x)) (low +ℤ pos 1) a next ++ turns_entered arrays (λ x. (work x, body x)) y b (exec arrays (turns work (low +ℤ pos 1) a) next))) same
+      ∙ ap (λ s. body low store ++ (turns_entered arrays (λ x. (work x, body x)) (low +ℤ pos 1) a next ++ turns_entered arrays (λ x. (work x, body x)) (low +ℤ pos (suc a)) b s)) (sym (exec_followed_by arrays (work low) (turns work (low +ℤ pos 1) a) store))
+      ∙ sym (append_assoc (body low store) (turns_entered arrays (λ x. (work x, body x)) (low +ℤ pos 1) a next) (turns_entered arrays (λ x. (work x, body x)) (low +ℤ pos (suc a)) b (exec arrays (turns work low (suc a)) store)))
 
   module _ (var : List ℕ) (low high : ℤ) (m : ℕ) (body : Sequence) (vars : Vars) where
     abbrev one : ℤ → Steps
@@ -168,7 +168,7 @@ module _ (arrays : Arrays) (sizes : (name : List ℕ) → 0 < length_of arrays n
     abbrev member_parts : ℕ → ℕ → List Part
     member_parts j zero = []
     member_parts j (suc k) =
-        (member_work var low high m (sequence_work body) j vars, loop_entered arrays var (start_of low high m j) (start_of low high m (j + 1)) (sequence_work body) (sequence_entered arrays body) vars)
+        (member_work var low high m (sequence_work body) j vars, loop_entered arrays var (start_of low high m j) (start_of low high m (j + 1)) (sequence_part arrays body) vars)
         ∷ member_parts (j + 1) k
 
     members_are_parts : (j k : ℕ) → AllDepend (member_parts j k) × (works_in (member_parts j k) ≡ member_works var low high m (sequence_work body) j k vars)
@@ -180,12 +180,12 @@ module _ (arrays : Arrays) (sizes : (name : List ℕ) → 0 < length_of arrays n
         let b = start_of low high m (j + 1) in (
           (depends_turns one enters (span a b) a (λ x. depends_sequence body ((var, x) ∷ vars)), more.0),
           ap (λ x. member_work var low high m (sequence_work body) j vars ∷ x) more.1,
-          λ store. ap (λ x. loop_entered arrays var a b (sequence_work body) (sequence_entered arrays body) vars store ++ x) (more.2 store),
+          λ store. ap (λ x. loop_entered arrays var a b (sequence_part arrays body) vars store ++ x) (more.2 store),
         )
 
     -- members one after another are the loop over their iterations
     members_threaded : (j k : ℕ) (store : Store) → threaded arrays (member_parts j k) store
-        ≡ turns_entered arrays one enters (low +ℤ pos (first_of (span low high) m j)) (first_of (span low high) m (j + k) - first_of (span low high) m j) store
+        ≡ turns_entered arrays (λ x. (one x, enters x)) (low +ℤ pos (first_of (span low high) m j)) (first_of (span low high) m (j + k) - first_of (span low high) m j) store
     members_threaded j zero store =
         let e : j + 0 ≡ j = omega arith in
         let z : first_of (span low high) m j - first_of (span low high) m j ≡ 0 = omega arith in
@@ -202,15 +202,15 @@ module _ (arrays : Arrays) (sizes : (name : List ℕ) → 0 < length_of arrays n
         let place : low +ℤ pos a +ℤ pos (b - a) ≡ low +ℤ pos b = omega (arith, ints) in
         let here : span (low +ℤ pos a) (low +ℤ pos b) ≡ b - a = span_cut low a b ab in
         let then = exec arrays (turns one (low +ℤ pos a) (b - a)) store in
-        let rest : threaded arrays (member_parts (j + 1) k) then ≡ turns_entered arrays one enters (low +ℤ pos b) (c - b) then
-        = members_threaded (j + 1) k then ∙ ap (λ q. turns_entered arrays one enters (low +ℤ pos b) (first_of n m q - b) then) next in
-        ap (λ w. turns_entered arrays one enters (low +ℤ pos a) w store ++ threaded arrays (member_parts (j + 1) k) (exec arrays (turns one (low +ℤ pos a) w) store)) here
-        ∙ ap (λ x. turns_entered arrays one enters (low +ℤ pos a) (b - a) store ++ x) (rest ∙ ap (λ y. turns_entered arrays one enters y (c - b) then) (sym place))
+        let rest : threaded arrays (member_parts (j + 1) k) then ≡ turns_entered arrays (λ x. (one x, enters x)) (low +ℤ pos b) (c - b) then
+        = members_threaded (j + 1) k then ∙ ap (λ q. turns_entered arrays (λ x. (one x, enters x)) (low +ℤ pos b) (first_of n m q - b) then) next in
+        ap (λ w. turns_entered arrays (λ x. (one x, enters x)) (low +ℤ pos a) w store ++ threaded arrays (member_parts (j + 1) k) (exec arrays (turns one (low +ℤ pos a) w) store)) here
+        ∙ ap (λ x. turns_entered arrays (λ x. (one x, enters x)) (low +ℤ pos a) (b - a) store ++ x) (rest ∙ ap (λ y. turns_entered arrays (λ x. (one x, enters x)) y (c - b) then) (sym place))
         ∙ sym (turns_cut one enters (b - a) (c - b) (low +ℤ pos a) store)
-        ∙ ap (λ w. turns_entered arrays one enters (low +ℤ pos a) w store) sum
+        ∙ ap (λ w. turns_entered arrays (λ x. (one x, enters x)) (low +ℤ pos a) w store) sum
 
     pub members_enter : (store : Store) → 0 < m → IsApart arrays (member_works var low high m (sequence_work body) 0 m vars) →
-        loop_entered arrays var low high (sequence_work body) (sequence_entered arrays body) vars store ≡ members_alone arrays var low high m body 0 m vars store
+        loop_entered arrays var low high (sequence_part arrays body) vars store ≡ members_alone arrays var low high m body 0 m vars store
     members_enter store some apart =
         let n = span low high in
         let parts = members_are_parts 0 m in
@@ -218,6 +218,6 @@ module _ (arrays : Arrays) (sizes : (name : List ℕ) → 0 < length_of arrays n
         let end : first_of n m (0 + m) ≡ n = (let e : 0 + m ≡ m = omega arith in rw e (mul-div_cancel n some)) in
         let at : low +ℤ pos 0 ≡ low = omega (arith, ints) in
         let whole : n - 0 ≡ n = omega arith in
-        let loop_of : threaded arrays (member_parts 0 m) store ≡ loop_entered arrays var low high (sequence_work body) (sequence_entered arrays body) vars store
+        let loop_of : threaded arrays (member_parts 0 m) store ≡ loop_entered arrays var low high (sequence_part arrays body) vars store
         = members_threaded 0 m store ∙ rw (start, end, at, whole) refl in
         sym loop_of ∙ enter_alone (member_parts 0 m) store parts.0 (rw parts.1 apart) ∙ parts.2 store

@@ -7,10 +7,10 @@ use Rattle.array_meaning.specs.Stores.{Arrays, Vars, Store, value_of}
 use Rattle.array_meaning.specs.Steps.{Steps, exec}
 use Rattle.array_meaning.specs.Work.{span, loop, statement_work, sequence_work}
 use Rattle.array_meaning.specs.Plans.{statement_sites_in, sites_in, branches_sites_in}
-use Rattle.array_meaning.specs.Entered.{Entering, turns_entered, statement_entered, sequence_entered, branches_entered, phases_entered}
+use Rattle.array_meaning.specs.Entered.{Entering, turns_entered, statement_entered, sequence_entered, branches_entered, phases_entered, sequence_part}
 
 pub turns_length : (arrays : Arrays) (n count : ℕ) (work : ℤ → Steps) (body : ℤ → Entering) (low : ℤ) → ((x : ℤ) (store : Store) → length (body x store) ≡ count) → (store : Store) →
-    length (turns_entered arrays work body low n store) ≡ n * count
+    length (turns_entered arrays (λ x. (work x, body x)) low n store) ≡ n * count
 turns_length arrays zero count work body low h store = omega arith
 turns_length arrays (suc n) count work body low h store =
     length-append (body low store) _
@@ -48,5 +48,5 @@ mutual
   phases_length arrays (beside first rest) var low high vars store =
       let one = turns_length arrays (span low high) (sites_in first) (λ x. sequence_work first ((var, x) ∷ vars)) (λ x. sequence_entered arrays first ((var, x) ∷ vars)) low (λ x. sequence_length arrays first ((var, x) ∷ vars)) store in
       let more = phases_length arrays rest var low high vars (exec arrays (loop var low high (sequence_work first) vars) store) in
-      length-append (turns_entered arrays (λ x. sequence_work first ((var, x) ∷ vars)) (λ x. sequence_entered arrays first ((var, x) ∷ vars)) low (span low high) store) _
+      length-append (turns_entered arrays (λ x. sequence_part arrays first ((var, x) ∷ vars)) low (span low high) store) _
       ∙ rw (one, more) (omega arith)

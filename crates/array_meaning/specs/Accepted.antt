@@ -10,18 +10,18 @@ use Rattle.array_meaning.specs.Plans.{sites_in}
 use Rattle.array_meaning.specs.Names.{has_single_names, has_only_known_names}
 use Rattle.array_meaning.specs.Limits.{is_in_range, depth_of, units_of, pieces_in}
 
--- Whether an index is one of a cell of an array of this length. A dynamic index always is.
+-- The test decides whether an index is one of a cell of an array of this length. A dynamic index always is.
 abbrev pub is_inside : ℕ → Option ℤ → Bool
 is_inside length None = true
 is_inside length (Some index) = int_le (pos 0) index && int_lt index (pos length)
 
--- Whether each static index of a walk is inside its array.
+-- The test decides whether each static index of a walk is inside its array.
 abbrev pub are_inside : Arrays → List Visit → Bool
 are_inside arrays [] = true
 are_inside arrays (v ∷ more) =
     is_inside (length_of arrays v.array) v.index && are_inside arrays more
 
--- Whether each static index of the program's walk is inside its array.
+-- The test decides whether each static index of the program's walk is inside its array.
 abbrev pub has_indices_inside : ProgramTree → Bool
 has_indices_inside program =
     let arrays = arrays_of program.arrays in
@@ -31,6 +31,7 @@ has_indices_inside program =
 abbrev pub HasApartSites : ProgramTree → Type 0
 HasApartSites program = AreSitesApart (arrays_of program.arrays) (sequence_sites program.body [])
 
+-- A program is accepted if it meets these conditions. None of them depends on a number of harts.
 pub record IsAccepted (program : ProgramTree) : Type 0 where
   pub single_names : IsTrue (has_single_names program)
   pub known_names : IsTrue (has_only_known_names program)

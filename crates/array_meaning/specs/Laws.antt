@@ -10,7 +10,7 @@ use Rattle.array_meaning.specs.Members.{team_works}
 use Rattle.array_meaning.specs.Sites.{branch_works, sequence_sites}
 use Rattle.array_meaning.specs.Pieces.{merged, piece_of, last_writes, HaveSameMembers}
 use Rattle.array_meaning.specs.Plans.{plan_of, sites_in, AreEarlier, AreOutside, StayInside, Parents, repeated, statement_parents, sequence_parents, branches_parents, phases_parents}
-use Rattle.array_meaning.specs.Entered.{sequence_entered, branches_entered, loop_entered, DependsOnReads, branches_alone, team_alone}
+use Rattle.array_meaning.specs.Entered.{sequence_entered, branches_entered, loop_entered, DependsOnReads, branches_alone, team_alone, sequence_part}
 
 -- What steps write depends only on what they read: from two stores that agree on the cells they read, they write the
 -- same.
@@ -28,7 +28,7 @@ ArePiecesIndependent = (arrays : Arrays) → HaveCells arrays
     merged (map (λ piece. piece_of arrays piece store) order) []
     ≡ last_writes (writes_of arrays (join pieces) store)
 
--- So do the branches of a `par`: they give what the `par` writes.
+-- The branches of a `par`, if they are apart, give what the `par` writes, merged in any order.
 abbrev pub AreBranchesIndependent : Type 0
 AreBranchesIndependent =
     (arrays : Arrays) → HaveCells arrays
@@ -38,7 +38,7 @@ AreBranchesIndependent =
     merged (map (λ piece. piece_of arrays piece store) order) []
     ≡ last_writes (writes_of arrays (statement_work (Par line branches) vars) store)
 
--- And so do the members of one phase: they give what the loop over all iterations writes.
+-- The members of one phase, if they are apart, give what the loop over all iterations writes, merged in any order.
 abbrev pub AreMembersIndependent : Type 0
 AreMembersIndependent = (arrays : Arrays) → HaveCells arrays
     → (var : List ℕ) (low high : ℤ) (members : ℕ) (body : Work) (vars : Vars)
@@ -53,6 +53,7 @@ pub record IsApartByTest (arrays : Arrays) (pieces : List Steps) : Type 0 where
   pub clear : IsApart arrays pieces → (cell : ℕ) → overlaps arrays false false pieces cell ≡ false
   pub apart : ((cell : ℕ) → overlaps arrays false false pieces cell ≡ false) → IsApart arrays pieces
 
+-- The test decides for any pieces whether they are apart.
 abbrev pub ApartIsTested : Type 0
 ApartIsTested = (arrays : Arrays) (pieces : List Steps) → IsApartByTest arrays pieces
 
@@ -61,7 +62,7 @@ abbrev pub ClashesAreTested : Type 0
 ClashesAreTested = (arrays : Arrays) (pieces : List Steps) (cell : ℕ)
     → (overlaps arrays false false pieces cell ≡ true) ↔ IsClash arrays pieces cell
 
--- The cell that is told of an overlap is the least one on which two different pieces clash.
+-- The reported cell of an overlap is the least one on which two different pieces clash.
 abbrev pub LeastClashIsTold : Type 0
 LeastClashIsTold = (arrays : Arrays) (cells : ℕ) (pieces : List Steps)
     → IsLeastClash arrays cells pieces (overlap arrays cells pieces)
@@ -71,6 +72,7 @@ pub record IsPlanOf (program : ProgramTree) (plan : List ℕ) : Type 0 where
   pub earlier : AreEarlier 1 plan
   pub count : length plan ≡ sites_in program.body
 
+-- The computed plan of each program is a plan of it.
 abbrev pub PlansAreRight : Type 0
 PlansAreRight = (program : ProgramTree) → IsPlanOf program (plan_of program)
 
@@ -79,7 +81,7 @@ abbrev pub SitesArePlanned : Type 0
 SitesArePlanned = (body : Sequence) (vars : Vars)
     → length (sequence_sites body vars) ≡ sites_in body
 
--- Of each site of the plan it is told whether the meaning enters it.
+-- For each site of the plan, the flag says whether the meaning enters the site.
 abbrev pub EnteredSitesAreCounted : Type 0
 EnteredSitesAreCounted = (arrays : Arrays) (body : Sequence) (vars : Vars) (store : Store)
     → length (sequence_entered arrays body vars store) ≡ sites_in body
@@ -91,20 +93,20 @@ EnteredDependsOnReads =
     (arrays : Arrays) → HaveCells arrays → (body : Sequence) (vars : Vars)
     → DependsOnReads arrays (sequence_work body vars) (sequence_entered arrays body vars)
 
--- So branches that are apart enter, each from the store of the `par`, what they enter one after another.
+-- Branches that are apart enter, each from the store of the `par`, what they enter one after another.
 abbrev pub BranchesEnterAlone : Type 0
 BranchesEnterAlone =
     (arrays : Arrays) → HaveCells arrays → (branches : Sequences) (vars : Vars) (store : Store) →
     IsApart arrays (branch_works branches vars)
     → branches_entered arrays branches vars store ≡ branches_alone arrays branches vars store
 
--- And so do the members of one phase: what the loop over all iterations enters.
+-- Members of one phase that are apart enter, each from the one store, what the loop over all iterations enters.
 abbrev pub MembersEnterAlone : Type 0
 MembersEnterAlone = (arrays : Arrays) → HaveCells arrays
     → (var : List ℕ) (low high : ℤ) (members : ℕ) (body : Sequence) (vars : Vars)
     (store : Store) → 0 < members →
     IsApart arrays (team_works var low high members (sequence_work body) vars)
-    → loop_entered arrays var low high (sequence_work body) (sequence_entered arrays body) vars store
+    → loop_entered arrays var low high (sequence_part arrays body) vars store
     ≡ team_alone arrays var low high members body vars store
 
 -- The sites of every part of a program are inside the construct around it or inside each other.
@@ -115,7 +117,7 @@ pub record StayInsideParts : Type 0 where
   pub branches : (bs : Sequences) → StayInside (branches_parents bs)
   pub phases : (bs : Sequences) (n : ℕ) → StayInside (phases_parents bs n)
 
--- So where parts follow one another, no site of a later one is inside one of an earlier.
+-- If parts follow one another, no site of a later part is inside a site of an earlier one.
 abbrev pub LaterPartsAreOutside : Type 0
 LaterPartsAreOutside = (part : Parents) → StayInside part → (around first n : ℕ) → around < first
     → AreOutside first n (part around (first + n))

@@ -12,5 +12,6 @@ pub mod Entered
 pub mod Pieces
 pub mod Names
 pub mod Limits
+pub mod Choices
 pub mod Accepted
 pub mod Laws

@@ -1,19 +1,20 @@
 -- Lengths, bounds and counts inside their limits, and the size of a program.
-use Rattle.std.specs.Prelude.{ℕ, ◌+◌, ◌*◌, max, Bool, true, false, ◌&&◌, List, [], ◌∷◌, length, nat_le, ℤ, pos, int_le, unsigned_abs}
+use Rattle.std.specs.Prelude.{ℕ, ◌+◌, ◌*◌, max, Bool, true, ◌&&◌, List, [], ◌∷◌, length, nat_le, ℤ, pos, int_le, unsigned_abs}
 use Rattle.array_tree.specs.Trees.{Expression, Number, Var, Read, Neg, Binary, Statement, Assign, For, If, Par, Team, Sequence, ended, followed, Sequences, no_more, beside, Declaration, ProgramTree}
 use Rattle.array_meaning.specs.Bounds.{most_arrays, most_cells, most_members, most_phases}
 use Rattle.array_meaning.specs.Stores.{arrays_of, cells_of}
 use Rattle.array_meaning.specs.Work.{span}
 
--- Whether a number is at least 1 and at most this.
+-- The test decides whether a number is at least 1 and at most this.
 abbrev pub is_up_to : ℤ → ℤ → Bool
 is_up_to most n = int_le (pos 1) n && int_le n most
 
--- Whether each array has 1 to 4,096 cells.
+-- The test decides whether each array has 1 to 4,096 cells.
 abbrev pub have_right_lengths : List Declaration → Bool
 have_right_lengths [] = true
 have_right_lengths (d ∷ more) = is_up_to (pos most_cells) d.length && have_right_lengths more
 
+-- The count is the number of branches or phases.
 abbrev pub count_of : Sequences → ℕ
 count_of no_more = 0
 count_of (beside first rest) = 1 + count_of rest
@@ -40,38 +41,13 @@ abbrev mutual
   have_right_ranges no_more = true
   have_right_ranges (beside first rest) = has_right_ranges first && have_right_ranges rest
 
--- Whether all of these are inside their limits, and the arrays at most 64, with at most 4,096 cells in all.
+-- The test decides whether all of these are inside their limits, and the arrays at most 64, with at most 4,096 cells in all.
 abbrev pub is_in_range : ProgramTree → Bool
 is_in_range program =
     (have_right_lengths program.arrays
     && (nat_le (length program.arrays) most_arrays
     && nat_le (cells_of (arrays_of program.arrays)) most_cells))
     && has_right_ranges program.body
-
--- Whether no `par` or `team` stands inside a side of an `if`, so that every site is entered. Given is whether this part stands
--- inside one.
-abbrev mutual
-  pub has_no_site_under_if : Sequence → Bool → Bool
-  has_no_site_under_if ended inside = true
-  has_no_site_under_if (followed first rest) inside =
-      statement_has_no_site_under_if first inside && has_no_site_under_if rest inside
-
-  pub statement_has_no_site_under_if : Statement → Bool → Bool
-  statement_has_no_site_under_if (Assign line array index value) inside = true
-  statement_has_no_site_under_if (For line var low high body) inside =
-      has_no_site_under_if body inside
-  statement_has_no_site_under_if (If line cond then_block else_block) inside =
-      has_no_site_under_if then_block true && has_no_site_under_if else_block true
-  statement_has_no_site_under_if (Par line branches) true = false
-  statement_has_no_site_under_if (Par line branches) false = have_no_site_under_if branches false
-  statement_has_no_site_under_if (Team line var low high members phases) true = false
-  statement_has_no_site_under_if (Team line var low high members phases) false =
-      have_no_site_under_if phases false
-
-  pub have_no_site_under_if : Sequences → Bool → Bool
-  have_no_site_under_if no_more inside = true
-  have_no_site_under_if (beside first rest) inside =
-      has_no_site_under_if first inside && have_no_site_under_if rest inside
 
 -- How deep constructs nest in the text.
 abbrev mutual
@@ -91,7 +67,7 @@ abbrev mutual
   branches_depth_of no_more = 0
   branches_depth_of (beside first rest) = max (depth_of first) (branches_depth_of rest)
 
--- The units of work of an expression: its nodes.
+-- The units of work of an expression are its nodes.
 abbrev pub expression_units_of : Expression → ℕ
 expression_units_of (Number n) = 1
 expression_units_of (Var name) = 1

@@ -4,12 +4,12 @@ use Rattle.array_tree.specs.Trees.{Expression, Number, Var, Read, Neg, Binary, S
 use Rattle.array_tree.specs.Equal.{name_eq}
 use Rattle.array_meaning.specs.Touch.{Visit}
 
--- Whether the name is one of these.
+-- The test decides whether the name is one of these.
 abbrev pub is_among : List ℕ → List (List ℕ) → Bool
 is_among name [] = false
 is_among name (other ∷ more) = name_eq other name || is_among name more
 
--- Whether no declaration's name is one of those before.
+-- The test decides whether no declaration's name is one of those before.
 abbrev pub are_declared_once : List Declaration → List (List ℕ) → Bool
 are_declared_once [] before = true
 are_declared_once (d ∷ more) before =
@@ -37,15 +37,16 @@ abbrev mutual
   have_new_variables (beside first rest) taken =
       has_new_variables first taken && have_new_variables rest taken
 
+-- The names are those of the declarations, in their order.
 abbrev pub names_of : List Declaration → List (List ℕ)
 names_of declarations = map (λ d. d.name) declarations
 
--- Whether no name is used twice.
+-- The test decides whether no name is used twice.
 abbrev pub has_single_names : ProgramTree → Bool
 has_single_names program =
     are_declared_once program.arrays [] && has_new_variables program.body (names_of program.arrays)
 
--- Whether an expression indexes arrays only, and uses without index only variables of loops around.
+-- The test decides whether an expression indexes arrays only, and uses without index only variables of loops around.
 abbrev pub uses_known_names : Expression → List (List ℕ) → List (List ℕ) → Bool
 uses_known_names (Number n) arrays vars = true
 uses_known_names (Var name) arrays vars = is_among name vars
@@ -80,11 +81,11 @@ abbrev mutual
   have_known_names (beside first rest) arrays vars =
       has_known_names first arrays vars && have_known_names rest arrays vars
 
--- Whether no name is unknown.
+-- The test decides whether no name is unknown.
 abbrev pub has_only_known_names : ProgramTree → Bool
 has_only_known_names program = has_known_names program.body (names_of program.arrays) []
 
--- Whether each visit of a walk is to an array of these names.
+-- The test decides whether each visit of a walk is to an array of these names.
 abbrev pub are_known : List (List ℕ) → List Visit → Bool
 are_known arrays [] = true
 are_known arrays (v ∷ more) = is_among v.array arrays && are_known arrays more

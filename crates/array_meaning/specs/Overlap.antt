@@ -4,26 +4,26 @@ use Rattle.array_meaning.specs.Stores.{Arrays, base_of, length_of, cell_of}
 use Rattle.array_meaning.specs.Steps.{Steps}
 use Rattle.array_meaning.specs.Touch.{Visit, walk, reads_of, changes_of}
 
--- Whether an index of an array touches the cell.
+-- The test decides whether an index of an array touches the cell.
 abbrev pub covers : Arrays → List ℕ → Option ℤ → ℕ → Bool
 covers arrays array (Some index) cell = nat_eq cell (cell_of arrays array false index)
 covers arrays array None cell =
     nat_le (base_of arrays array) cell
     && nat_lt cell (base_of arrays array + length_of arrays array)
 
--- Whether some visit writes the cell.
+-- The test decides whether some visit writes the cell.
 abbrev pub changed : Arrays → List Visit → ℕ → Bool
 changed arrays [] cell = false
 changed arrays (v ∷ more) cell =
     (v.writes && covers arrays v.array v.index cell) || changed arrays more cell
 
--- Whether some visit reads the cell.
+-- The test decides whether some visit reads the cell.
 abbrev pub read : Arrays → List Visit → ℕ → Bool
 read arrays [] cell = false
 read arrays (v ∷ more) cell =
     (not v.writes && covers arrays v.array v.index cell) || read arrays more cell
 
--- Whether a piece overlaps with an earlier one, of which some changed the cell, or read it.
+-- The test decides whether a piece overlaps with an earlier one, of which some changed the cell, or read it.
 abbrev pub overlaps : Arrays → Bool → Bool → List Steps → ℕ → Bool
 overlaps arrays was_changed was_read [] cell = false
 overlaps arrays was_changed was_read (piece ∷ more) cell =
@@ -32,16 +32,17 @@ overlaps arrays was_changed was_read (piece ∷ more) cell =
     || overlaps arrays (was_changed || changed arrays (walk arrays piece) cell) (was_read
     || read arrays (walk arrays piece) cell) more cell
 
--- The first of so many numbers, from one on, that passes.
+-- The result is the first of so many numbers, from one on, that passes.
 abbrev pub first_from : (ℕ → Bool) → ℕ → ℕ → Option ℕ
 first_from test i zero = None
 first_from test i (suc k) = if test i then Some i else first_from test (i + 1) k
 
--- The least of so many cells on which two pieces overlap.
+-- The result is the least of so many cells on which two pieces overlap.
 abbrev pub overlap : Arrays → ℕ → List Steps → Option ℕ
 overlap arrays cells pieces = first_from (overlaps arrays false false pieces) 0 cells
 
--- Two different pieces clash on the cell: one changes it, and the other reads or changes it.
+-- Two different pieces clash on the cell: one changes it, and the other reads or changes it. So the reported cell is defined
+-- apart from the search for it (`overlap`).
 pub record IsClash (arrays : Arrays) (pieces : List Steps) (cell : ℕ) : Type 0 where
   pub i : ℕ
   pub j : ℕ
@@ -53,7 +54,7 @@ pub record IsClash (arrays : Arrays) (pieces : List Steps) (cell : ℕ) : Type 0
   pub changes : changes_of arrays one cell
   pub touches : reads_of arrays other cell ⊎ changes_of arrays other cell
 
--- It is the least of so many cells on which two different pieces clash, or they clash on none.
+-- The reported cell is the least of so many cells on which two different pieces clash; none is reported if they clash on none.
 abbrev pub IsLeastClash : Arrays → ℕ → List Steps → Option ℕ → Type 0
 IsLeastClash arrays cells pieces None = (cell : ℕ) → cell < cells → ¬ IsClash arrays pieces cell
 IsLeastClash arrays cells pieces (Some told) =

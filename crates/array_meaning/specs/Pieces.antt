@@ -11,30 +11,30 @@ lay cell value (w ∷ more) =
     cond (nat_lt cell w.0) ((cell, value) ∷ w ∷ more)
     (cond (nat_eq cell w.0) ((cell, value) ∷ more) (w ∷ lay cell value more))
 
--- With several more, one after another.
+-- Several writes are laid over these, one after another.
 abbrev pub lays : List Write → List Write → List Write
 lays [] laid = laid
 lays (w ∷ more) laid = lays more (lay w.0 w.1 laid)
 
--- Each cell that was written, with its last value, in rising order.
+-- The result is each cell that was written, with its last value, in rising order.
 abbrev pub last_writes : List Write → List Write
 last_writes writes = lays writes []
 
--- What steps write from a store: each cell with its last value, in rising order.
+-- This is what steps write from a store: each cell with its last value, in rising order.
 abbrev pub piece_of : Arrays → Steps → Store → List Write
 piece_of arrays steps store = last_writes (writes_of arrays steps store)
 
--- Pieces merged one after another.
+-- Pieces are merged one after another.
 abbrev pub merged : List (List Write) → List Write → List Write
 merged [] laid = laid
 merged (piece ∷ more) laid = merged more (lays piece laid)
 
--- What a list that has each cell once has at a cell.
+-- This is what a list that has each cell once has at a cell.
 abbrev pub value_at : List Write → ℕ → Option ℤ
 value_at [] cell = None
 value_at (w ∷ more) cell = cond (nat_eq w.0 cell) (Some w.1) (value_at more cell)
 
--- What writes leave at a cell: the last value written there.
+-- This is what writes leave at a cell: the last value written there.
 abbrev pub last_value : List Write → ℕ → Option ℤ
 last_value [] cell = None
 last_value (w ∷ more) cell =
@@ -50,7 +50,7 @@ abbrev pub IsRising : List Write → Type 0
 IsRising [] = Unit {0}
 IsRising (w ∷ more) = IsAbove w.0 more × IsRising more
 
--- It is one of the list.
+-- The element is one of the list.
 abbrev pub IsMember : {A : Type 0} → A → List A → Type 0
 IsMember x [] = ⊥
 IsMember x (y ∷ more) = (y ≡ x) ⊎ IsMember x more

@@ -4,21 +4,21 @@ use Rattle.std.specs.Prelude.{◌≡◌, ℕ, zero, suc, ◌+◌, ◌*◌, ◌<�
 use Rattle.array_tree.specs.Trees.{Statement, Assign, For, If, Par, Team, Sequence, ended, followed, Sequences, no_more, beside, ProgramTree}
 use Rattle.array_meaning.specs.Work.{span}
 
--- The parents of the sites of a part of a program, given the construct around it and the number of the next site.
+-- A part of a program has these parents of its sites, given the construct around it and the number of the next site.
 abbrev pub Parents : Type 0
 Parents = ℕ → ℕ → List ℕ
 
--- Those of one part and then those of the next.
+-- The sites of one part come first, and then those of the next.
 abbrev pub and_then : Parents → Parents → Parents
 and_then first rest around next =
     let sites = first around next in sites ++ rest around (next + length sites)
 
--- Those of so many turns.
+-- The sites of so many turns follow one another.
 abbrev pub repeated : ℕ → Parents → Parents
 repeated zero body around next = []
 repeated (suc n) body around next = and_then body (repeated n body) around next
 
--- Those of a construct: itself, and then those inside it.
+-- A construct is a site, and those inside it follow.
 abbrev pub construct : Parents → Parents
 construct inside around next = around ∷ inside next (next + 1)
 
@@ -51,7 +51,7 @@ abbrev mutual
       and_then (repeated iterations (sequence_parents first))
       (phases_parents rest iterations) around next
 
--- The plan: no construct is around the body, and the first site is 1.
+-- In the plan no construct is around the body, and the first site is 1.
 abbrev pub plan_of : ProgramTree → List ℕ
 plan_of program = sequence_parents program.body 0 1
 

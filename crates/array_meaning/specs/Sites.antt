@@ -13,23 +13,24 @@ pub record Site : Type 0 where
   pub line : ℕ
   pub rounds : List (List Steps)
 
--- What each branch does.
+-- Each branch does these steps.
 abbrev pub branch_works : Sequences → Vars → List Steps
 branch_works no_more vars = []
 branch_works (beside first rest) vars = sequence_work first vars ∷ branch_works rest vars
 
--- What the members do in each phase.
+-- The members do these steps in each phase.
 abbrev pub phase_rounds : Sequences → List ℕ → ℤ → ℤ → ℕ → Vars → List (List Steps)
 phase_rounds no_more var low high members vars = []
 phase_rounds (beside first rest) var low high members vars =
     team_works var low high members (sequence_work first) vars
     ∷ phase_rounds rest var low high members vars
 
--- The sites of so many turns.
+-- The sites are those of so many turns, one after another.
 abbrev pub turn_sites : (ℤ → List Site) → ℤ → ℕ → List Site
 turn_sites body low zero = []
 turn_sites body low (suc n) = body low ++ turn_sites body (low +ℤ pos 1) n
 
+-- The sites of a loop are those of its body, turn after turn.
 abbrev pub loop_sites : List ℕ → ℤ → ℤ → (Vars → List Site) → Vars → List Site
 loop_sites var low high body vars = turn_sites (λ x. body ((var, x) ∷ vars)) low (span low high)
 

@@ -11,7 +11,7 @@ pub data Steps : Type 0 where
   Set : (line : ℕ) (vars : Vars) (array : List ℕ) (index value : Expression) (rest : Steps) → Steps
   Choose : (line : ℕ) (vars : Vars) (test : Expression) (left right rest : Steps) → Steps
 
--- One after the other.
+-- Some steps follow others.
 abbrev pub followed_by : Steps → Steps → Steps
 followed_by Done next = next
 followed_by (Set line vars array index value rest) next =
@@ -19,7 +19,7 @@ followed_by (Set line vars array index value rest) next =
 followed_by (Choose line vars test left right rest) next =
     Choose line vars test left right (followed_by rest next)
 
--- All, one after another.
+-- The steps of a list run one after another.
 abbrev pub join : List Steps → Steps
 join [] = Done
 join (steps ∷ more) = followed_by steps (join more)
@@ -37,6 +37,6 @@ writes_of arrays (Choose line vars test left right rest) store =
     (writes_of arrays right store) in
     side ++ writes_of arrays rest (after side store)
 
--- The store after steps.
+-- The result is the store after the steps.
 abbrev pub exec : Arrays → Steps → Store → Store
 exec arrays steps store = after (writes_of arrays steps store) store

@@ -10,22 +10,23 @@ use Rattle.array_meaning.specs.Values.{wrapping_minus, applied}
 abbrev pub Arrays : Type 0
 Arrays = List (List ℕ × ℕ)
 
--- Each loop variable around and its value, the innermost first.
+-- The variables are those of the loops around, each with its value, the innermost first.
 abbrev pub Vars : Type 0
 Vars = List (List ℕ × ℤ)
 
--- The value of each cell. Cells are numbered from 0 in order of declaration.
+-- A store has the value of each cell. Cells are numbered from 0 in order of declaration.
 abbrev pub Store : Type 0
 Store = List ℤ
 
--- A cell, and what is written to it.
+-- A write is a cell and what is written to it.
 abbrev pub Write : Type 0
 Write = ℕ × ℤ
 
+-- The arrays are the declarations as pairs of a name and a length.
 abbrev pub arrays_of : List Declaration → Arrays
 arrays_of declarations = map (λ d. (d.name, unsigned_abs d.length)) declarations
 
--- How many cells the arrays have.
+-- The number says how many cells the arrays have.
 abbrev pub cells_of : Arrays → ℕ
 cells_of [] = 0
 cells_of (a ∷ more) = a.1 + cells_of more
@@ -40,17 +41,17 @@ pub record AreSized (arrays : Arrays) : Type 0 where
   pub each : HaveCells arrays
   pub whole : cells_of arrays ≤ most_cells
 
--- The value of a variable: of the innermost loop with the name.
+-- The value of a variable is that of the innermost loop with the name.
 abbrev pub var_of : Vars → List ℕ → ℤ
 var_of [] name = pos 0
 var_of (v ∷ more) name = cond (name_eq v.0 name) v.1 (var_of more name)
 
--- The first cell of an array.
+-- An array has this first cell.
 abbrev pub base_of : Arrays → List ℕ → ℕ
 base_of [] name = 0
 base_of (a ∷ more) name = cond (name_eq a.0 name) 0 (a.1 + base_of more name)
 
--- The length of an array, 1 where there is none of the name.
+-- An array has this length, and 1 if there is none of the name.
 abbrev pub length_of : Arrays → List ℕ → ℕ
 length_of [] name = 1
 length_of (a ∷ more) name = cond (name_eq a.0 name) a.1 (length_of more name)
@@ -63,7 +64,7 @@ is_dynamic (Read name index) = true
 is_dynamic (Neg e) = is_dynamic e
 is_dynamic (Binary op a b) = is_dynamic a || is_dynamic b
 
--- What a cell has.
+-- A cell has this value; behind the last it is 0.
 abbrev pub at_cell : Store → ℕ → ℤ
 at_cell store cell = slice_index_or store cell (pos 0)
 
@@ -76,17 +77,17 @@ abbrev pub after : List Write → Store → Store
 after [] store = store
 after (w ∷ more) store = after more (written store w.0 w.1)
 
--- Where an index leads in an array of this length: a dynamic one to its Euclidean remainder.
+-- An index leads to this place in an array of this length: a dynamic one to its Euclidean remainder.
 abbrev pub place_of : ℕ → Bool → ℤ → ℕ
 place_of length true index = unsigned_abs (int_rem_euclid index (pos length))
 place_of length false index = unsigned_abs index
 
--- The cell that an index of an array leads to.
+-- An index of an array leads to this cell.
 abbrev pub cell_of : Arrays → List ℕ → Bool → ℤ → ℕ
 cell_of arrays name dynamic index =
     base_of arrays name + place_of (length_of arrays name) dynamic index
 
--- The value of an expression.
+-- An expression has this value.
 abbrev pub value_of : Arrays → Vars → Expression → Store → ℤ
 value_of arrays vars (Number n) store = n
 value_of arrays vars (Var name) store = var_of vars name

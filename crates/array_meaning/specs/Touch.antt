@@ -4,14 +4,14 @@ use Rattle.array_tree.specs.Trees.{Expression, Number, Var, Read, Neg, Binary}
 use Rattle.array_meaning.specs.Stores.{Arrays, Vars, is_dynamic, base_of, length_of, cell_of, value_of}
 use Rattle.array_meaning.specs.Steps.{Steps, Done, Set, Choose}
 
--- One visit of the walk: on which line, whether it writes, which array, and the index where it is static.
+-- A visit of the walk has its line, whether it writes, the array, and the index if it is static.
 pub record Visit : Type 0 where
   pub line : ℕ
   pub writes : Bool
   pub array : List ℕ
   pub index : Option ℤ
 
--- The visit of an array under an index. A static index needs no store.
+-- An index of an array makes this visit. A static index needs no store.
 abbrev pub visit : Arrays → ℕ → Bool → Vars → List ℕ → Expression → Visit
 visit arrays line writes vars array index = record {
   line = line;
@@ -53,11 +53,11 @@ Touches arrays writes [] cell = ⊥
 Touches arrays writes (v ∷ more) cell =
     (v.writes ≡ writes) × Covers arrays v.array v.index cell ⊎ Touches arrays writes more cell
 
--- The cells that steps read.
+-- The steps read these cells.
 abbrev pub reads_of : Arrays → Steps → ℕ → Type 0
 reads_of arrays steps cell = Touches arrays false (walk arrays steps) cell
 
--- The cells that steps change.
+-- The steps change these cells.
 abbrev pub changes_of : Arrays → Steps → ℕ → Type 0
 changes_of arrays steps cell = Touches arrays true (walk arrays steps) cell
 
@@ -68,7 +68,7 @@ pub record IsSeparate (arrays : Arrays) (a b : Steps) : Type 0 where
   pub right : (cell : ℕ) → changes_of arrays b cell
       → reads_of arrays a cell ⊎ changes_of arrays a cell → ⊥
 
--- Separate from each of them.
+-- The piece is separate from each of these.
 abbrev pub IsSeparateFrom : Arrays → Steps → List Steps → Type 0
 IsSeparateFrom arrays a [] = Unit {0}
 IsSeparateFrom arrays a (b ∷ more) = IsSeparate arrays a b × IsSeparateFrom arrays a more

@@ -18,12 +18,15 @@ one_if b = if b then pos 1 else pos 0
 abbrev pub wrapping_sum : ℤ → ℤ → ℤ
 wrapping_sum a b = int_wrap w64 (a +ℤ b)
 
+-- A difference wraps to 64 bits.
 abbrev pub wrapping_difference : ℤ → ℤ → ℤ
 wrapping_difference a b = int_wrap w64 (a -ℤ b)
 
+-- A product wraps to 64 bits.
 abbrev pub wrapping_product : ℤ → ℤ → ℤ
 wrapping_product a b = int_wrap w64 (a *ℤ b)
 
+-- A negation wraps to 64 bits.
 abbrev pub wrapping_minus : ℤ → ℤ
 wrapping_minus a = int_wrap w64 (neg_ℤ a)
 
@@ -35,7 +38,7 @@ quotient a b = if holds b then int_wrapping_div w64 a b else pos 0
 abbrev pub remainder : ℤ → ℤ → ℤ
 remainder a b = if holds b then int_rem a b else pos 0
 
--- What an operator gives.
+-- An operator gives this value.
 abbrev pub applied : Op → ℤ → ℤ → ℤ
 applied Add a b = wrapping_sum a b
 applied Sub a b = wrapping_difference a b

@@ -5,20 +5,20 @@ use Rattle.array_tree.specs.Trees.{Statement, Assign, For, If, Par, Team, Sequen
 use Rattle.array_meaning.specs.Stores.{Arrays, Vars, Store, arrays_of, cells_of}
 use Rattle.array_meaning.specs.Steps.{Steps, Done, Set, Choose, followed_by, exec}
 
--- What loop variables make of a part of a program.
+-- A work is what a part of a program does with the values of the loop variables around it.
 abbrev pub Work : Type 0
 Work = Vars → Steps
 
--- The body for so many numbers from one on.
+-- The body runs for so many numbers from one on.
 abbrev pub turns : (ℤ → Steps) → ℤ → ℕ → Steps
 turns body low zero = Done
 turns body low (suc n) = followed_by (body low) (turns body (low +ℤ pos 1) n)
 
--- How many numbers lie from low to before high.
+-- The number says how many numbers lie from low to before high.
 abbrev pub span : ℤ → ℤ → ℕ
 span low high = if int_lt low high then unsigned_abs (high -ℤ low) else 0
 
--- The body for each number from low to before high.
+-- The body runs for each number from low to before high.
 abbrev pub loop : List ℕ → ℤ → ℤ → Work → Work
 loop var low high body vars = turns (λ x. body ((var, x) ∷ vars)) low (span low high)
 
@@ -53,7 +53,7 @@ abbrev mutual
 abbrev pub first_store : Arrays → Store
 first_store arrays = replicate (cells_of arrays) (pos 0)
 
--- The store that a program ends with.
+-- A program ends with this store.
 abbrev pub final_store : ProgramTree → Store
 final_store program =
     let arrays = arrays_of program.arrays in

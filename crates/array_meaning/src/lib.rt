@@ -1,6 +1,10 @@
 //! The meaning of the array language: what a program computes, what its parts touch, and what is accepted.
 //!
-//! The crate holds definitions and laws. No code here runs: each function's contract is a law, and its body is empty.
+//! The crate holds definitions and laws, for authors of checkers and evaluators and for auditors. No code here runs: each
+//! function's contract is a law, and its body is empty.
+//!
+//! Begin with `final_store` in `specs/Work.antt`, the store that a program leaves, and `IsAccepted` in `specs/Accepted.antt`. The
+//! evaluator `run_one` of `array_eval` computes `final_store`, and the tests of `language_tests` run it on programs.
 #![tactic(auto)]
 
 ghost use Rattle.array_meaning.specs.Laws.{WritesDependOnReads, ArePiecesIndependent, AreBranchesIndependent, AreMembersIndependent, ApartIsTested, ClashesAreTested, LeastClashIsTold, PlansAreRight, SitesArePlanned, EnteredSitesAreCounted, EnteredDependsOnReads, BranchesEnterAlone, MembersEnterAlone, StayInsideParts, LaterPartsAreOutside};
@@ -35,7 +39,7 @@ pub fn clashes_are_tested()
     ensures { ClashesAreTested }
 {}
 
-/// The cell that is told of an overlap is the least one on which two different pieces clash.
+/// The reported cell of an overlap is the least one on which two different pieces clash.
 pub fn least_clash_is_told()
     ensures { LeastClashIsTold }
 {}
@@ -50,7 +54,7 @@ pub fn sites_are_planned()
     ensures { SitesArePlanned }
 {}
 
-/// Of each site of the plan it is told whether the meaning enters it.
+/// For each site of the plan, the flag says whether the meaning enters the site.
 pub fn entered_sites_are_counted()
     ensures { EnteredSitesAreCounted }
 {}

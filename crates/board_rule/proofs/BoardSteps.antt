@@ -1,4 +1,5 @@
--- A step on the first word, which puts one entry at the journal's end.
+-- A step on the first word, which puts one entry at the journal's end. One lemma over all entries proves the six kinds of step
+-- that append; only `Layouts.antt` splits on the layout.
 use Rattle.std.proofs.Common.{◌≡◌, ◌≢◌, ℕ, ◌+◌, ◌%◌, ◌^◌, ◌<◌, ◌≤◌, Bool, true, eqb, ◌&&◌, eq-eqb, ne_eqb, nat_le, List, [], ◌∷◌, ◌++◌, length, set, slice_index, slice_get, refl, sym, ap, ◌∙◌, subst, arith, Option, Some, None, ⊎_elim, length-set, get_or-set_same, get_or-set_other}
 use mathlib.Core.Option.{some}
 use mathlib.Core.Logic.{dite}

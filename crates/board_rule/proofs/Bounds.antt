@@ -111,7 +111,7 @@ few_on_way lay p s k x =
     (λ not. let none = no_way v x Idle (ap (λ (u : View). u.doing) (k.spent j v is not)) refl in omega arith)) in
     let few = few_seats lay p s k p.harts (omega arith) in omega arith
 
--- a site's word is below 2^21
+-- A site's word is below 2^21, by the numbers of seats and of harts inside. So the sum that an exchange stores can't overflow.
 pub small_word : (lay : Layout) (p : Plan) (s : St) (k : Stands lay p s) (x : ℕ) → IsSite p x → slice_index s.words x < 2097152
 small_word lay p s k x site =
     let i = k.sites x site in let f = fields (slice_index s.words x) (k.closing x) (load x s.views) (shown k.journal k.table x) (insiders lay p k.table x) (few_wishes lay p s k x site) i in

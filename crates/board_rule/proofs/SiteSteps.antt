@@ -1,4 +1,4 @@
--- A step on a site's word, which keeps the journal.
+-- A step on a site's word, which keeps the journal. One lemma proves all kinds of such a step.
 use Rattle.std.proofs.Common.{◌≡◌, ◌≢◌, ℕ, ◌+◌, ◌≤◌, Bool, true, if◌then◌else◌, ◌==◌, eq-eqb, ne_eqb, List, set, slice_index, refl, sym, ap, ◌∙◌, subst, arith, ⊎_elim, length-set, get_or-set_same, get_or-set_other}
 use mathlib.Core.Option.{some}
 use mathlib.Core.Logic.{dite}

@@ -43,7 +43,7 @@ pub record IsSiteWord (word : ℕ) (closing : Bool) (c : Load) (r : Row) (inside
   pub fresh : r.stage ≡ New → closing ≡ false
   -- a gone site that was registered is closing
   pub over : r.stage ≡ Gone → is_some r.home ≡ true → closing ≡ true
-  -- a site that isn't live has no guest: nobody is inside, on the way in, or leaving
+  -- a site that isn't live has no guest: no hart is inside, on its way in, or leaving
   pub idle : r.stage ≢ Live → inside + c.reserves + c.lands + c.leaves ≡ 0
   -- it is closed where it is gone and no seat is sealing it
   pub sealed : c.seals ≤ one_if (is_gone r.stage)
@@ -155,7 +155,7 @@ pub record Stands (lay : Layout) (p : Plan) (s : State (Unit {0}) View) : Type 0
       → Knows lay p journal table v closing (guests lay p table s.views) made ended
   pub spent : (j : ℕ) (v : View) → get_elem? s.views j ≡ some v → ¬ IsSeat v → v ≡ spent_view
 
--- ---- what the rule tells of every seat
+-- ---- what the rule says of every seat
 
 -- its owner is the base or a site of its plan, its sets have a flag for each site, and the base is no home
 pub record FitsPlan (v : View) : Type 0 where

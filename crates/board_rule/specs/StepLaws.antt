@@ -131,7 +131,7 @@ JoinKeeps lay = (p : Plan) (s : St) (k : Stands lay p s) (id other : ℕ) (v w :
 
 -- ---- these make an entry of the journal, each by one addition to the first word
 
--- the first word grows, and the seat draws the place that it told
+-- the first word grows, and the seat draws the place that it showed
 abbrev pub after_tick : Layout → St → ℕ → ℕ → (ℕ → View) → St
 after_tick lay s amount id next = let word : ℕ = slice_index s.words 0 in
     after_step s 0 ((word + amount) % 2 ^ 64) id (next (entries_of lay word))

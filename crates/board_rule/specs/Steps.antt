@@ -1,4 +1,4 @@
--- When a seat may take each kind of step, as far as its view tells.
+-- When a seat may take each kind of step, by its view.
 use Rattle.std.specs.Prelude.{◌≡◌, ◌≢◌, ℕ, ◌+◌, ◌-◌, ◌≤◌, true, false, None}
 use Rattle.transfer_table.specs.Plan.{Plan, IsSite, parent}
 use Rattle.transfer_table.specs.Entry.{requested}

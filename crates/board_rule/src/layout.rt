@@ -1,7 +1,7 @@
 //! How the first word and the words of the sites are laid out.
 ghost use Rattle.std.specs.Prelude.{◌≡◌};
 
-/// What the first word of a board tells, and whom a site's word counts.
+/// What the first word of a board shows, and which harts a site's word counts.
 pub enum Layout {
     /// The first word has the number of entries and each hart's owner, so there are at most four harts.
     /// A site's word counts the harts on their way in.

@@ -56,7 +56,7 @@ pub struct Marks {
     pub gone: [bool; 0],
 }
 
-/// What a seat knows.
+/// What a seat knows. It has the marks and the kinds of doing of both layouts; only a board by owners has `Doing::Landing`.
 pub struct View {
     pub plan: Plan,
     pub hart: u8,

@@ -1,4 +1,5 @@
-//! Harts that go through the sites of one table, each in a thread of its own, by any port.
+//! Harts that go through the sites of one table, each in a thread of its own, by any port. One procedure serves any tree of sites.
+//! It looks and tries a bounded number of times, so a test ends whatever the schedule.
 ghost use Rattle.std.specs.Prelude.{◌≡◌, ℕ, ◌≤◌, ◌<◌, true, false, length, slice_index_or};
 ghost use Rattle.std.specs.List.{All};
 ghost use Rattle.transfer_table.specs.Plan.{IsSite, parent};

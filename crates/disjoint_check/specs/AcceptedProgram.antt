@@ -8,13 +8,14 @@ use Rattle.array_meaning.specs.Limits.{pieces_in}
 use Rattle.transfer_table.specs.Plan.{Plan}
 use Rattle.disjoint_check.specs.Shapes.{Shape, shapes_of}
 
+-- Contracts see an accepted program as the program, its plan, the number of its pieces, and the shape of each site.
 pub record AcceptedProgram : Type 0 where
   pub program : Program
   pub plan : Plan
   pub pieces : ℕ
   pub shapes : List Shape
 
--- It meets the conditions, and what is said of it is true.
+-- The program meets the conditions, and its plan, pieces and shapes are right.
 pub record IsAcceptedProgram (a : AcceptedProgram) : Type 0 where
   pub accepted : IsAccepted (program_of a.program)
   pub parents : a.plan.parents ≡ plan_of (program_of a.program)

@@ -1,4 +1,4 @@
--- The first of the nine conditions that a program fails, and what is told of it.
+-- The first of the nine conditions that a program fails, and its fault.
 use Rattle.std.specs.Prelude.{ℕ, [], ◌∷◌, Option}
 use Rattle.std.specs.Option.{option_map}
 use Rattle.array_tree.specs.Trees.{ProgramTree}
@@ -11,14 +11,14 @@ use Rattle.disjoint_check.specs.LimitFault.{limit_fault_of}
 use Rattle.disjoint_check.specs.declared.fault.CheckFault.{CheckFault}
 use Rattle.disjoint_check.specs.declared.fault.CheckFault.TheVariants.{OutOfRange, Overlap, Memory}
 
--- What is told of what the walk finds.
+-- What the walk finds is this fault.
 abbrev pub of_walk : WalkFault → CheckFault
 of_walk (walk.OutOfRange line index length) = OutOfRange line index length
 of_walk (walk.Overlap line cell) = Overlap line cell
 of_walk walk.Memory = Memory
 
--- The conditions that a program must meet to have a meaning, for so many harts: those on names, ranges and size come first,
--- then the indices.
+-- A program must meet these conditions to have a meaning, for so many harts: those on names, ranges and size come first, then
+-- the indices.
 abbrev pub meaning_fault_of : ProgramTree → ℕ → Option CheckFault
 meaning_fault_of program harts = first_fault
     (limit_fault_of program harts ∷ option_map of_walk (out_of_range_of program) ∷ [])

@@ -35,7 +35,7 @@ abbrev mutual
   duplicate_among (beside first rest) taken =
       first_fault (duplicate_in first taken ∷ duplicate_among rest taken ∷ [])
 
--- The line of the first declaration or loop whose name is already an array's, or a loop variable's around it.
+-- The result is the line of the first declaration or loop whose name is already an array's, or a loop variable's around it.
 abbrev pub duplicate_name : ProgramTree → Option ℕ
 duplicate_name program =
     first_fault (duplicate_declaration program.arrays []
@@ -67,5 +67,6 @@ abbrev mutual
   unknown_among (beside first rest) arrays vars =
       first_fault (unknown_in first arrays vars ∷ unknown_among rest arrays vars ∷ [])
 
+-- The result is the line of the first unknown name of a program.
 abbrev pub unknown_name : ProgramTree → Option ℕ
 unknown_name program = unknown_in program.body (names_of program.arrays) []

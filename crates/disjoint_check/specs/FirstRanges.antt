@@ -8,11 +8,11 @@ use Rattle.disjoint_check.specs.declared.fault.CheckFault.{CheckFault}
 use Rattle.disjoint_check.specs.declared.fault.CheckFault.TheVariants.{BadRange}
 use Rattle.disjoint_check.specs.declared.fault.Limit.TheVariants as limit
 
--- A number of parts as it is told: the greatest number that can be told, where there are more.
+-- A number of parts as it is reported: the greatest number that can be reported, where there are more.
 abbrev pub told : ℕ → ℤ
 told count = pos (min count (2 ^ 63 - 1))
 
--- The limits of a declaration, with so many arrays and so many cells before it.
+-- The fault of a declaration is the first limit that it passes, with so many arrays and so many cells before it.
 abbrev pub declaration_fault : Declaration → ℕ → ℕ → Option CheckFault
 declaration_fault d arrays cells = first_fault
     (unless (is_up_to (pos most_cells) d.length) (BadRange d.line limit.Length d.length)
@@ -22,13 +22,14 @@ declaration_fault d arrays cells = first_fault
     (BadRange d.line limit.Cells (pos (cells + unsigned_abs d.length)))
     ∷ [])
 
+-- The result is the first fault of some declarations, behind so many arrays and cells.
 abbrev pub declarations_fault : List Declaration → ℕ → ℕ → Option CheckFault
 declarations_fault [] arrays cells = None
 declarations_fault (d ∷ more) arrays cells =
     first_fault (declaration_fault d arrays cells
     ∷ declarations_fault more (arrays + 1) (cells + unsigned_abs d.length) ∷ [])
 
--- The limits of a `team` of so many phases.
+-- The fault of a `team` of so many phases is the first limit that it passes.
 abbrev pub team_fault : ℕ → ℤ → ℤ → ℤ → ℕ → Option CheckFault
 team_fault line low high members phases = first_fault
     (unless (int_le low high) (BadRange line limit.Bounds high)
@@ -63,6 +64,7 @@ abbrev mutual
   range_fault_among (beside first rest) =
       first_fault (range_fault_in first ∷ range_fault_among rest ∷ [])
 
+-- The result is the first fault of the ranges of a program: of its declarations, then of its body.
 abbrev pub range_fault : ProgramTree → Option CheckFault
 range_fault program = first_fault
     (declarations_fault program.arrays 0 0 ∷ range_fault_in program.body ∷ [])

@@ -16,6 +16,7 @@ pub record IsTested (program : ProgramTree) : Type 0 where
   pub ranges : (range_fault program ≡ None) ↔ IsTrue (is_in_range program)
   pub limits : (harts : ℕ) → (limit_fault_of program harts ≡ None) ↔ MeetsLimits program harts
 
+-- The tests of the conditions decide them, for each program.
 abbrev pub AreConditionsTested : Type 0
 AreConditionsTested = (program : ProgramTree) → IsTested program
 
@@ -24,5 +25,6 @@ pub record IsChecked (program : ProgramTree) (harts : ℕ) : Type 0 where
   pub meaning : (meaning_fault_of program harts ≡ None) ↔ HasMeaningFor program harts
   pub accepted : (check_fault_of program harts ≡ None) ↔ IsAcceptedFor program harts
 
+-- The check finds each failed condition, for each program and number of harts.
 abbrev pub AreConditionsChecked : Type 0
 AreConditionsChecked = (program : ProgramTree) (harts : ℕ) → IsChecked program harts

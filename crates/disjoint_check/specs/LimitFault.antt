@@ -1,4 +1,4 @@
--- The first condition that a program fails, and what is told of it.
+-- The first condition that a program fails, and its fault.
 use Rattle.std.specs.Prelude.{ℕ, ◌-◌, ◌*◌, ◌^◌, ◌≤◌, IsTrue, ◌&&◌, min, [], ◌∷◌, Option, nat_le}
 use Rattle.std.specs.Option.{option_map}
 use Rattle.transfer_table.specs.Plan.{most_entries}
@@ -14,11 +14,11 @@ use Rattle.disjoint_check.specs.FirstRanges.{range_fault}
 use Rattle.disjoint_check.specs.declared.fault.CheckFault.{CheckFault}
 use Rattle.disjoint_check.specs.declared.fault.CheckFault.TheVariants.{DuplicateName, UnknownName, TooDeep, TooMuchWork, TooManySites, TooManyPieces}
 
--- The greatest depth as it is told: the greatest number of 32 bits, where it is above that.
+-- The greatest depth as it is reported: the greatest number of 32 bits, where it is above that.
 abbrev pub told_depth : ℕ → ℕ
 told_depth depth = min depth (2 ^ 32 - 1)
 
--- How many entries the journal of a run with so many sites and harts may have.
+-- The number says how many entries the journal of a run with so many sites and harts may have.
 abbrev pub room_for : ℕ → ℕ → ℕ
 room_for sites harts = sites * (3 * harts - 1)
 

@@ -6,12 +6,12 @@ use Rattle.array_meaning.specs.Accepted.{IsAccepted, has_indices_inside}
 use Rattle.array_meaning.specs.Plans.{sites_in}
 use Rattle.disjoint_check.specs.LimitFault.{MeetsLimits, room_for}
 
--- All conditions but the last, which is that pieces are apart.
+-- A program has a meaning if it meets all conditions but the last, which is that pieces are apart.
 pub record HasMeaningFor (program : ProgramTree) (harts : ℕ) : Type 0 where
   pub limits : MeetsLimits program harts
   pub indices : IsTrue (has_indices_inside program)
 
--- All conditions.
+-- A program is accepted for so many harts if it meets all conditions.
 pub record IsAcceptedFor (program : ProgramTree) (harts : ℕ) : Type 0 where
   pub accepted : IsAccepted program
   pub entries : room_for (sites_in program.body) harts ≤ most_entries

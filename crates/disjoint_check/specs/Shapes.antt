@@ -6,10 +6,11 @@ use Rattle.array_tree.specs.Trees.{Statement, Assign, For, If, Par, Team, Sequen
 use Rattle.array_meaning.specs.Work.{span}
 use Rattle.array_meaning.specs.Limits.{count_of}
 
+-- A shape is the number of a site's members and the number of its phases.
 abbrev pub Shape : Type 0
 Shape = ℕ × ℕ
 
--- Those of so many turns.
+-- The shapes of so many turns follow one another.
 abbrev pub turns_of_shapes : ℕ → List Shape → List Shape
 turns_of_shapes zero body = []
 turns_of_shapes (suc n) body = body ++ turns_of_shapes n body
@@ -40,5 +41,6 @@ abbrev mutual
   phases_shapes (beside first rest) iterations =
       turns_of_shapes iterations (sequence_shapes first) ++ phases_shapes rest iterations
 
+-- The shapes of a program are those of its sites, in their order.
 abbrev pub shapes_of : ProgramTree → List Shape
 shapes_of program = sequence_shapes program.body

@@ -12,7 +12,10 @@ use site_walk::{walk_indices, walk_program};
 use std::alloc::Global;
 
 /// Whether a program may be run in parallel, by so many harts, one to sixteen. If so, what is known of it; else the first condition
-/// that it fails, or that memory was wanting, which is answered at will.
+/// that it fails, or an allocation failure, which may be returned at any time.
+///
+/// Units, sites and pieces are counted from the bounds of loops, in numbers that can't overflow. The plan is unrolled only for a
+/// program inside the limits.
 ///
 /// Names, ranges and sizes take time in proportion to the text, but for names, each of which is looked for among all
 /// arrays and the loops around. The walk takes time in proportion to the units of work, and comes only where these
@@ -35,7 +38,7 @@ pub fn check<'p>(alloc: Global, program: &'p Program, harts: u8) -> Result<Accep
 }
 
 /// Whether a program has a meaning that so many harts could keep a journal of: all conditions but the last, that no two
-/// pieces overlap. Else the first that it fails, or that memory was wanting, which is answered at will.
+/// pieces overlap. Else the first that it fails, or an allocation failure, which may be returned at any time.
 ///
 /// It takes time as `check` does, and looks for no overlaps.
 #[tactic(auto, using(crate::proofs::Accepting::limit_before_meaning, crate::proofs::Accepting::index_is_next))]

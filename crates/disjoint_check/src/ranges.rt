@@ -165,7 +165,7 @@ fn bad_range(line: u32, what: Limit, found: i64) -> CheckFault
     CheckFault::BadRange { line, what, found }
 }
 
-// A number of parts as it is told.
+// A number of parts as it is reported.
 fn told(count: usize) -> i64
     ensures { result ≡ told count }
 {

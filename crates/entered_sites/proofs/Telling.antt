@@ -8,13 +8,13 @@ use Rattle.array_meaning.specs.Stores.{Arrays, Vars}
 use Rattle.array_meaning.specs.Steps.{Steps, followed_by, exec, writes_of}
 use Rattle.array_meaning.specs.Work.{turns, span, loop, statement_work, sequence_work, branches_work, phases_work}
 use Rattle.array_meaning.specs.Plans.{sites_in}
-use Rattle.array_meaning.specs.Entered.{Entering, entered_then, turns_entered, loop_entered, statement_entered, sequence_entered, branches_entered, phases_entered}
+use Rattle.array_meaning.specs.Entered.{Part, entered_then, turns_entered, sequence_entered, statement_part, sequence_part, branches_part, loop_part, phases_part}
 use Rattle.array_meaning.proofs.StepLemmas.{span_next, span_none}
 use Rattle.array_meaning.proofs.EnteredLemmas.{sequence_length, turns_length}
 use Rattle.array_eval.specs.Traces.{Trace, traced}
 use Rattle.array_eval.proofs.TraceLemmas.{traced_followed_by, cells_after}
 use Rattle.site_counts.specs.Capped.{capped}
-use Rattle.entered_sites.specs.Told.{Told, told, statement_told, sequence_told, branches_told, loop_told, phases_told}
+use Rattle.entered_sites.specs.Told.{Told, told}
 
 abbrev made : Trace → List Bool → Told
 made trace sites = record { trace = trace; sites = sites }
@@ -22,57 +22,55 @@ made trace sites = record { trace = trace; sites = sites }
 same_parts : (s t : Trace) (a b : List Bool) → s ≡ t → a ≡ b → made s a ≡ made t b
 same_parts s t a b e f = ap (λ x. made x a) e ∙ ap (λ x. made t x) f
 
-told_followed : (arrays : Arrays) (a b : Steps) (first rest : Entering) (t : Told) →
-    told arrays (followed_by a b) (entered_then arrays a first rest) t ≡ told arrays b rest (told arrays a first t)
-told_followed arrays a b first rest t = same_parts
-    (traced arrays (followed_by a b) t.trace)
-    (traced arrays b (traced arrays a t.trace))
-    (t.sites ++ (first t.trace.cells ++ rest (exec arrays a t.trace.cells)))
-    ((t.sites ++ first t.trace.cells) ++ rest (traced arrays a t.trace).cells)
-    (traced_followed_by arrays a b t.trace)
-    (sym (append_assoc t.sites (first t.trace.cells) (rest (exec arrays a t.trace.cells)))
-    ∙ ap (λ cells. (t.sites ++ first t.trace.cells) ++ rest cells) (sym (cells_after (writes_of arrays a t.trace.cells) t.trace)))
+told_followed : (arrays : Arrays) (p q : Part) (t : Told) →
+    told arrays (followed_by p.0 q.0, entered_then arrays p q.1) t ≡ told arrays q (told arrays p t)
+told_followed arrays p q t = same_parts
+    (traced arrays (followed_by p.0 q.0) t.trace)
+    (traced arrays q.0 (traced arrays p.0 t.trace))
+    (t.sites ++ (p.1 t.trace.cells ++ q.1 (exec arrays p.0 t.trace.cells)))
+    ((t.sites ++ p.1 t.trace.cells) ++ q.1 (traced arrays p.0 t.trace).cells)
+    (traced_followed_by arrays p.0 q.0 t.trace)
+    (sym (append_assoc t.sites (p.1 t.trace.cells) (q.1 (exec arrays p.0 t.trace.cells)))
+    ∙ ap (λ cells. (t.sites ++ p.1 t.trace.cells) ++ q.1 cells) (sym (cells_after (writes_of arrays p.0 t.trace.cells) t.trace)))
 
 -- ---- what comes first is cut off
 
 pub statements_left : (arrays : Arrays) (ss : List Stmt) (i : ℕ) (d : Stmt) (vars : Vars) (t : Told) → i < length ss →
-    sequence_told arrays (sequence (map statement_of (drop i ss))) vars t
-    ≡ sequence_told arrays (sequence (map statement_of (drop (i + 1) ss))) vars (statement_told arrays (statement_of (get_or ss i d)) vars t)
+    told arrays (sequence_part arrays (sequence (map statement_of (drop i ss))) vars) t
+    ≡ told arrays (sequence_part arrays (sequence (map statement_of (drop (i + 1) ss))) vars) (told arrays (statement_part arrays (statement_of (get_or ss i d)) vars) t)
 statements_left arrays ss i d vars t h =
     let s = statement_of (get_or ss i d) in
     let rest = sequence (map statement_of (drop (suc i) ss)) in
-    ap (λ left. sequence_told arrays (sequence (map statement_of left)) vars t) (drop-cons ss i d h)
-    ∙ rw add-one (told_followed arrays (statement_work s vars) (sequence_work rest vars) (statement_entered arrays s vars) (sequence_entered arrays rest vars) t)
+    ap (λ left. told arrays (sequence_part arrays (sequence (map statement_of left)) vars) t) (drop-cons ss i d h)
+    ∙ rw add-one (told_followed arrays (statement_part arrays s vars) (sequence_part arrays rest vars) t)
 
 pub branches_left : (arrays : Arrays) (bs : List Block) (i : ℕ) (d : Block) (vars : Vars) (t : Told) → i < length bs →
-    branches_told arrays (sequences (map sequence_of (drop i bs))) vars t
-    ≡ branches_told arrays (sequences (map sequence_of (drop (i + 1) bs))) vars (sequence_told arrays (sequence_of (get_or bs i d)) vars t)
+    told arrays (branches_part arrays (sequences (map sequence_of (drop i bs))) vars) t
+    ≡ told arrays (branches_part arrays (sequences (map sequence_of (drop (i + 1) bs))) vars) (told arrays (sequence_part arrays (sequence_of (get_or bs i d)) vars) t)
 branches_left arrays bs i d vars t h =
     let s = sequence_of (get_or bs i d) in
     let rest = sequences (map sequence_of (drop (suc i) bs)) in
-    ap (λ left. branches_told arrays (sequences (map sequence_of left)) vars t) (drop-cons bs i d h)
-    ∙ rw add-one (told_followed arrays (sequence_work s vars) (branches_work rest vars) (sequence_entered arrays s vars) (branches_entered arrays rest vars) t)
+    ap (λ left. told arrays (branches_part arrays (sequences (map sequence_of left)) vars) t) (drop-cons bs i d h)
+    ∙ rw add-one (told_followed arrays (sequence_part arrays s vars) (branches_part arrays rest vars) t)
 
 pub phases_left : (arrays : Arrays) (bs : List Block) (i : ℕ) (d : Block) (var : List ℕ) (low high : ℤ) (vars : Vars) (t : Told) → i < length bs →
-    phases_told arrays (sequences (map sequence_of (drop i bs))) var low high vars t
-    ≡ phases_told arrays (sequences (map sequence_of (drop (i + 1) bs))) var low high vars (loop_told arrays var low high (sequence_of (get_or bs i d)) vars t)
+    told arrays (phases_part arrays (sequences (map sequence_of (drop i bs))) var low high vars) t
+    ≡ told arrays (phases_part arrays (sequences (map sequence_of (drop (i + 1) bs))) var low high vars) (told arrays (loop_part arrays var low high (sequence_part arrays (sequence_of (get_or bs i d))) vars) t)
 phases_left arrays bs i d var low high vars t h =
     let s = sequence_of (get_or bs i d) in
     let rest = sequences (map sequence_of (drop (suc i) bs)) in
-    ap (λ left. phases_told arrays (sequences (map sequence_of left)) var low high vars t) (drop-cons bs i d h)
-    ∙ rw add-one (told_followed arrays (loop var low high (sequence_work s) vars) (phases_work rest var low high vars)
-    (loop_entered arrays var low high (sequence_work s) (sequence_entered arrays s) vars) (phases_entered arrays rest var low high vars) t)
+    ap (λ left. told arrays (phases_part arrays (sequences (map sequence_of left)) var low high vars) t) (drop-cons bs i d h)
+    ∙ rw add-one (told_followed arrays (loop_part arrays var low high (sequence_part arrays s) vars) (phases_part arrays rest var low high vars) t)
 
 abbrev turns_told : Arrays → List ℕ → ℤ → ℕ → Sequence → Vars → Told → Told
-turns_told arrays var low n body vars = told arrays (turns (λ x. sequence_work body ((var, x) ∷ vars)) low n)
-    (turns_entered arrays (λ x. sequence_work body ((var, x) ∷ vars)) (λ x. sequence_entered arrays body ((var, x) ∷ vars)) low n)
+turns_told arrays var low n body vars = told arrays
+    (turns (λ x. sequence_work body ((var, x) ∷ vars)) low n, turns_entered arrays (λ x. sequence_part arrays body ((var, x) ∷ vars)) low n)
 
 pub turns_left : (arrays : Arrays) (var : List ℕ) (x high : ℤ) (body : Sequence) (vars : Vars) (t : Told) → x <ℤ high →
-    loop_told arrays var x high body vars t ≡ loop_told arrays var (x +ℤ pos 1) high body vars (sequence_told arrays body ((var, x) ∷ vars) t)
+    told arrays (loop_part arrays var x high (sequence_part arrays body) vars) t ≡ told arrays (loop_part arrays var (x +ℤ pos 1) high (sequence_part arrays body) vars) (told arrays (sequence_part arrays body ((var, x) ∷ vars)) t)
 turns_left arrays var x high body vars t h =
     ap (λ n. turns_told arrays var x n body vars t) (span_next x high h)
-    ∙ told_followed arrays (sequence_work body ((var, x) ∷ vars)) (loop var (x +ℤ pos 1) high (sequence_work body) vars)
-    (sequence_entered arrays body ((var, x) ∷ vars)) (loop_entered arrays var (x +ℤ pos 1) high (sequence_work body) (sequence_entered arrays body) vars) t
+    ∙ told_followed arrays (sequence_part arrays body ((var, x) ∷ vars)) (loop_part arrays var (x +ℤ pos 1) high (sequence_part arrays body) vars) t
 
 -- ---- where nothing is left, nothing is told
 
@@ -86,22 +84,22 @@ drop_all (x ∷ xs) zero h = absurd (omega (arith, h))
 drop_all (x ∷ xs) (suc i) h = drop_all xs i (omega (arith, h))
 
 pub statements_ended : (arrays : Arrays) (ss : List Stmt) (i : ℕ) (vars : Vars) (t : Told) → length ss ≤ i →
-    sequence_told arrays (sequence (map statement_of (drop i ss))) vars t ≡ t
+    told arrays (sequence_part arrays (sequence (map statement_of (drop i ss))) vars) t ≡ t
 statements_ended arrays ss i vars t h =
-    ap (λ left. sequence_told arrays (sequence (map statement_of left)) vars t) (drop_all ss i h) ∙ ended t
+    ap (λ left. told arrays (sequence_part arrays (sequence (map statement_of left)) vars) t) (drop_all ss i h) ∙ ended t
 
 pub branches_ended : (arrays : Arrays) (bs : List Block) (i : ℕ) (vars : Vars) (t : Told) → length bs ≤ i →
-    branches_told arrays (sequences (map sequence_of (drop i bs))) vars t ≡ t
+    told arrays (branches_part arrays (sequences (map sequence_of (drop i bs))) vars) t ≡ t
 branches_ended arrays bs i vars t h =
-    ap (λ left. branches_told arrays (sequences (map sequence_of left)) vars t) (drop_all bs i h) ∙ ended t
+    ap (λ left. told arrays (branches_part arrays (sequences (map sequence_of left)) vars) t) (drop_all bs i h) ∙ ended t
 
 pub phases_ended : (arrays : Arrays) (bs : List Block) (i : ℕ) (var : List ℕ) (low high : ℤ) (vars : Vars) (t : Told) → length bs ≤ i →
-    phases_told arrays (sequences (map sequence_of (drop i bs))) var low high vars t ≡ t
+    told arrays (phases_part arrays (sequences (map sequence_of (drop i bs))) var low high vars) t ≡ t
 phases_ended arrays bs i var low high vars t h =
-    ap (λ left. phases_told arrays (sequences (map sequence_of left)) var low high vars t) (drop_all bs i h) ∙ ended t
+    ap (λ left. told arrays (phases_part arrays (sequences (map sequence_of left)) var low high vars) t) (drop_all bs i h) ∙ ended t
 
 pub turns_ended : (arrays : Arrays) (var : List ℕ) (x high : ℤ) (body : Sequence) (vars : Vars) (t : Told) → (x <ℤ high → ⊥) →
-    loop_told arrays var x high body vars t ≡ t
+    told arrays (loop_part arrays var x high (sequence_part arrays body) vars) t ≡ t
 turns_ended arrays var x high body vars t h = ap (λ n. turns_told arrays var x n body vars t) (span_none x high h) ∙ ended t
 
 -- ---- what has no site
@@ -113,24 +111,24 @@ none (b ∷ sites) e = absurd (omega (arith, e))
 uncapped : (n : ℕ) → capped n ≡ 0 → n ≡ 0
 uncapped n e = omega (arith, e)
 
--- steps that tell of no site
-plain : (arrays : Arrays) (steps : Steps) (entering : Entering) (before after : Told) → length (entering before.trace.cells) ≡ 0 →
-    after.trace ≡ traced arrays steps before.trace → after.sites ≡ before.sites → after ≡ told arrays steps entering before
-plain arrays steps entering before after e same_trace same_sites =
-    same_parts after.trace (traced arrays steps before.trace) after.sites (before.sites ++ entering before.trace.cells) same_trace
-    (same_sites ∙ sym (ap (λ sites. before.sites ++ sites) (none (entering before.trace.cells) e) ∙ append-nil before.sites))
+-- a part without a site
+plain : (arrays : Arrays) (part : Part) (before after : Told) → length (part.1 before.trace.cells) ≡ 0 →
+    after.trace ≡ traced arrays part.0 before.trace → after.sites ≡ before.sites → after ≡ told arrays part before
+plain arrays part before after e same_trace same_sites =
+    same_parts after.trace (traced arrays part.0 before.trace) after.sites (before.sites ++ part.1 before.trace.cells) same_trace
+    (same_sites ∙ sym (ap (λ sites. before.sites ++ sites) (none (part.1 before.trace.cells) e) ∙ append-nil before.sites))
 
 pub plain_block : (arrays : Arrays) (s : Sequence) (vars : Vars) (before after : Told) → capped (sites_in s) ≡ 0 →
-    after.trace ≡ traced arrays (sequence_work s vars) before.trace → after.sites ≡ before.sites → after ≡ sequence_told arrays s vars before
+    after.trace ≡ traced arrays (sequence_work s vars) before.trace → after.sites ≡ before.sites → after ≡ told arrays (sequence_part arrays s vars) before
 plain_block arrays s vars before after e =
-    plain arrays (sequence_work s vars) (sequence_entered arrays s vars) before after
+    plain arrays (sequence_part arrays s vars) before after
     (sequence_length arrays s vars before.trace.cells ∙ uncapped (sites_in s) e)
 
 pub plain_loop : (arrays : Arrays) (var : List ℕ) (low high : ℤ) (s : Sequence) (vars : Vars) (before after : Told) → capped (sites_in s) ≡ 0 →
     after.trace ≡ traced arrays (loop var low high (sequence_work s) vars) before.trace → after.sites ≡ before.sites →
-    after ≡ loop_told arrays var low high s vars before
+    after ≡ told arrays (loop_part arrays var low high (sequence_part arrays s) vars) before
 plain_loop arrays var low high s vars before after e =
-    plain arrays (loop var low high (sequence_work s) vars) (loop_entered arrays var low high (sequence_work s) (sequence_entered arrays s) vars) before after
+    plain arrays (loop_part arrays var low high (sequence_part arrays s) vars) before after
     (turns_length arrays (span low high) 0 (λ x. sequence_work s ((var, x) ∷ vars)) (λ x. sequence_entered arrays s ((var, x) ∷ vars)) low
     (λ x store. sequence_length arrays s ((var, x) ∷ vars) store ∙ uncapped (sites_in s) e) before.trace.cells
     ∙ times_none (span low high))

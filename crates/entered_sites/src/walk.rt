@@ -3,9 +3,9 @@ ghost use Rattle.std.specs.Prelude.{◌≡◌, IfOk};
 ghost use Rattle.array_tree.specs.Trees.{statement_of, sequence_of, sequences_of, declarations_of, program_of};
 ghost use Rattle.array_meaning.specs.Stores.{arrays_of, AreSized};
 ghost use Rattle.array_meaning.specs.Plans.{sites_in};
-ghost use Rattle.array_meaning.specs.Entered.{entered_of};
+ghost use Rattle.array_meaning.specs.Entered.{branches_part, entered_of, loop_part, phases_part, sequence_part, statement_part};
 ghost use Rattle.array_eval.specs.Views.{vars_of};
-ghost use Rattle.entered_sites.specs.Told.{statement_told, sequence_told, branches_told, loop_told, phases_told};
+ghost use Rattle.entered_sites.specs.Told.{told};
 
 use crate::choice::has_no_choice;
 use crate::walker::Walker;
@@ -49,8 +49,7 @@ fn walk_block<'s>(
     scope: &'s Scope<'s>,
     walker: &mut Walker,
 ) -> Result<(), AllocError>
-    ensures { IfOk result (λ _. walker.new ≡ sequence_told layout.now (sequence_of block.now)
-        (vars_of scope.now) walker.old) }
+    ensures { IfOk result (λ _. walker.new ≡ told layout.now (sequence_part layout.now (sequence_of block.now) (vars_of scope.now)) walker.old) }
 {
     if sites_in_block(block) == 0 {
         walker.run_block(layout, block, scope);
@@ -67,8 +66,7 @@ fn walk_statements<'s>(
     scope: &'s Scope<'s>,
     walker: &mut Walker,
 ) -> Result<(), AllocError>
-    ensures { IfOk result (λ _. walker.new ≡ sequence_told layout.now (sequence_of block.now)
-        (vars_of scope.now) walker.old) }
+    ensures { IfOk result (λ _. walker.new ≡ told layout.now (sequence_part layout.now (sequence_of block.now) (vars_of scope.now)) walker.old) }
 {
     for statement in &block.statements {
         walk_statement(layout, statement, scope, walker)?;
@@ -85,8 +83,7 @@ fn walk_statement<'s>(
     scope: &'s Scope<'s>,
     walker: &mut Walker,
 ) -> Result<(), AllocError>
-    ensures { IfOk result (λ _. walker.new ≡ statement_told layout.now (statement_of statement.now)
-        (vars_of scope.now) walker.old) }
+    ensures { IfOk result (λ _. walker.new ≡ told layout.now (statement_part layout.now (statement_of statement.now) (vars_of scope.now)) walker.old) }
 {
     match statement {
         Stmt::Assign {
@@ -147,8 +144,7 @@ fn walk_loop<'s>(
     scope: &'s Scope<'s>,
     walker: &mut Walker,
 ) -> Result<(), AllocError>
-    ensures { IfOk result (λ _. walker.new ≡ loop_told layout.now var.now low high
-        (sequence_of body.now) (vars_of scope.now) walker.old) }
+    ensures { IfOk result (λ _. walker.new ≡ told layout.now (loop_part layout.now var.now low high (sequence_part layout.now (sequence_of body.now)) (vars_of scope.now)) walker.old) }
 {
     // The sites of a body that isn't run needn't be counted.
     if low < high && sites_in_block(body) == 0 {
@@ -174,8 +170,7 @@ fn walk_branches<'s>(
     scope: &'s Scope<'s>,
     walker: &mut Walker,
 ) -> Result<(), AllocError>
-    ensures { IfOk result (λ _. walker.new ≡ branches_told layout.now (sequences_of branches.now)
-        (vars_of scope.now) walker.old) }
+    ensures { IfOk result (λ _. walker.new ≡ told layout.now (branches_part layout.now (sequences_of branches.now) (vars_of scope.now)) walker.old) }
 {
     for branch in &branches.blocks {
         walk_block(layout, branch, scope, walker)?;
@@ -194,8 +189,7 @@ fn walk_phases<'s>(
     scope: &'s Scope<'s>,
     walker: &mut Walker,
 ) -> Result<(), AllocError>
-    ensures { IfOk result (λ _. walker.new ≡ phases_told layout.now (sequences_of phases.now)
-        var.now low high (vars_of scope.now) walker.old) }
+    ensures { IfOk result (λ _. walker.new ≡ told layout.now (phases_part layout.now (sequences_of phases.now) var.now low high (vars_of scope.now)) walker.old) }
 {
     for phase in &phases.blocks {
         walk_loop(layout, phase, var, low, high, scope, walker)?;

@@ -15,33 +15,34 @@ use Rattle.forkjoin_sched.specs.declared.looks.Found.{Found}
 use Rattle.forkjoin_sched.specs.declared.looks.Found.TheVariants.{HandedOut, NoneLeft, Work}
 use Rattle.forkjoin_sched.specs.declared.looks.Looks.{Looks}
 
--- the code of a job
+-- A job has this code, by its site and its place.
 abbrev pub code_at : ℕ → ℕ → ℕ
 code_at site place = 64 * site + place
 
+-- The code of a job is made of its site and its place.
 abbrev pub code_of : JobParts → ℕ
 code_of job = code_at job.site job.place
 
 -- Under the lock --
 
--- a further look, which found this
+-- A further look, which found this.
 abbrev pub Sees : Looks → Found → Looks → Type 0
 Sees before found after = Rose before.count after.count × (after.last ≡ Some found)
 
--- what is found by a hart that asks for work
+-- A look of a hart that asks for work finds this.
 abbrev pub found_by : Option PoolParts → Next PoolWork → Found
 found_by None next = HandedOut
 found_by (Some pool) Nothing = NoneLeft
 found_by (Some pool) (Run work) = Work
 found_by (Some pool) (Lend site) = Work
 
--- the pool answers, and of one that was handed out nothing is left
+-- The pool gives what `enter` of it does, and a pool that was handed out gives nothing.
 abbrev pub AnswersUnder : Option PoolParts → Next PoolWork → Option PoolParts → Type 0
 AnswersUnder None next after = (next ≡ Nothing) × (after ≡ None)
 AnswersUnder (Some pool) next None = ⊥
 AnswersUnder (Some pool) next (Some after) = Answers pool next after
 
--- the first context that is ready
+-- The first context that is ready is taken.
 abbrev pub GivesReadyUnder : Option PoolParts → Option PoolWork → Option PoolParts → Type 0
 GivesReadyUnder None ready after = (ready ≡ None) × (after ≡ None)
 GivesReadyUnder (Some pool) ready None = ⊥
@@ -50,7 +51,7 @@ GivesReadyUnder (Some pool) ready (Some after) =
 
 -- The rows --
 
--- the same rows, to which nothing was pushed; no count of moments at which one was found bare fell
+-- The rows are the same, to which nothing was pushed; no count of moments at which one was found bare fell.
 pub record Keeps (before after : HartRows) : Type 0 where
   pub kin : kin after ≡ kin before
   pub pushed : map (λ (v : Log). v.pushed) (home_logs after)
@@ -77,18 +78,18 @@ HasTaken home level code before after =
     ⊎ ((earlier : List ℕ) × ((pass_log after home level).stolen
     ≡ ((pass_log before home level).stolen ++ earlier) ++ code ∷ []))
 
--- a code of the row, or none, and it was found bare
+-- A code of the row, or none, and it was found bare.
 abbrev pub TakesCode : ℕ → ℕ → HartRows → Option ℕ → HartRows → Type 0
 TakesCode home level before (Some code) after = HasTaken home level code before after
 TakesCode home level before None after = IsFoundBare home level before after
 
--- a job of the site whose code was taken, or none, and the row was found bare
+-- A job of the site is taken whose code was taken, or none, and the row was found bare.
 abbrev pub TakesPiece : ℕ → ℕ → ℕ → HartRows → Option JobParts → HartRows → Type 0
 TakesPiece site home level before (Some job) after =
     (job.site ≡ site) × HasTaken home level (code_of job) before after
 TakesPiece site home level before None after = IsFoundBare home level before after
 
--- the places fall, each of them below n and none below `least`
+-- The places fall, each of them below n and none below `least`.
 abbrev pub IsFalling : ℕ → ℕ → List ℕ → Type 0
 IsFalling n least [] = least ≤ n
 IsFalling n least (place ∷ places) = (place < n) × IsFalling place least places

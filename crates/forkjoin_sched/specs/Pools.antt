@@ -11,41 +11,46 @@ use Rattle.join_book.specs.Books.{BookParts, open_book}
 use Rattle.forkjoin_sched.specs.declared.work.PoolWork.{PoolWork}
 use Rattle.forkjoin_sched.specs.declared.work.PoolWork.TheVariants.{Begin, Ready}
 
--- What contracts see of a pool: its site, what it has for harts, and the book of its pieces.
+-- Contracts see these parts of a pool: its site, what it has for harts, and the book of its pieces.
 pub record PoolParts : Type 0 where
   pub site : ℕ
   pub agenda : AgendaParts PoolWork
   pub book : BookParts
 
--- The site of the jobs.
+-- The jobs have this site.
 abbrev pub site_of_jobs : List JobParts → ℕ
 site_of_jobs [] = 0
 site_of_jobs (job ∷ jobs) = job.site
 
--- The pool of jobs none of which is begun, in the order of their places.
-abbrev pub new_pool : List JobParts → PoolParts
-new_pool jobs = record {
+-- The pool of jobs none of which is begun, in the order of their places, with room for so many wishes.
+abbrev pub roomy_pool : List JobParts → ℕ → PoolParts
+roomy_pool jobs wishes = record {
   site = site_of_jobs jobs;
   agenda = record {
     ready = [];
     room = length jobs;
     unbegun = map Begin jobs;
-    wishes = record { sites = []; room = MOST_WISHES };
+    wishes = record { sites = []; room = wishes };
   };
   book = open_book jobs;
 }
+
+-- The pool with room for the wishes of as many sites as a plan may have.
+abbrev pub new_pool : List JobParts → PoolParts
+new_pool jobs = roomy_pool jobs MOST_WISHES
 
 -- The book that nobody has taken.
 abbrev pub free_book : {C : Type 0} → Possession BookParts C → BookParts
 free_book (Free book) = book
 free_book (Held waiting) = record { jobs = []; places = [] }
 
--- What a pool does as a scheduler: it answers by its agenda, and a callback changes its wishes alone.
+-- The call `enter` of a pool gives what its agenda has, and changes its agenda alone.
 pub record Answers (before : PoolParts) (next : Next PoolWork) (after : PoolParts) : Type 0 where
   pub handed : TakesNext before.agenda next after.agenda
   pub site : after.site ≡ before.site
   pub book : after.book ≡ before.book
 
+-- A callback changes the wishes of the pool, and nothing else.
 abbrev pub Hears : PoolParts → Told → PoolParts → Type 0
 Hears before told after =
     after ≡ record before {
@@ -54,19 +59,22 @@ Hears before told after =
       };
     }
 
+-- The pool takes a context back into its ready list, if there is room.
 pub record Takes (before : PoolParts) (c : PoolWork) (answer : Result (Unit {0}) PoolWork)
     (after : PoolParts) : Type 0 where
   pub ready : PutsReady before.agenda c answer after.agenda
   pub site : after.site ≡ before.site
   pub book : after.book ≡ before.book
 
+-- The pool has this book, and is otherwise unchanged.
 abbrev pub with_book : PoolParts → BookParts → PoolParts
 with_book pool book = record pool { book = book }
 
+-- The pool has this agenda, and is otherwise unchanged.
 abbrev pub with_agenda : PoolParts → AgendaParts PoolWork → PoolParts
 with_agenda pool agenda = record pool { agenda = agenda }
 
--- the work is a piece of this place that isn't begun
+-- The work is a piece of this place that isn't begun.
 abbrev pub IsPieceAt : ℕ → PoolWork → Type 0
 IsPieceAt place (Begin job) = job.place ≡ place
 IsPieceAt place (Ready context) = ⊥

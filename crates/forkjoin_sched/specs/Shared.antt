@@ -5,7 +5,7 @@ use Rattle.array_jobs.specs.PieceParts.{PieceParts}
 use Rattle.join_book.specs.declared.book.Deposit.{Deposit}
 use Rattle.join_book.specs.declared.book.Deposit.TheVariants.{Kept, Double, Stranger}
 
--- The site and the jobs of the pool that it was made of.
+-- Contracts see of a shared pool the site and the jobs of the pool that it was made of.
 pub record SharedParts : Type 0 where
   pub site : ℕ
   pub jobs : List JobParts
@@ -15,7 +15,7 @@ abbrev pub HasJob : SharedParts → JobParts → Type 0
 HasJob shared job = (own : JobParts) × (slice_get shared.jobs job.place ≡ Some own)
     × (job_of own ≡ job_of job)
 
--- What is known of a deposit without what the lock holds: a piece is kept, or is a Double, only where its job is that of its
+-- A deposit has these results whatever the lock holds: a piece is kept, or is a Double, only where its job is that of its
 -- place, and what isn't kept is given back.
 abbrev pub Receives : SharedParts → PieceParts → Deposit → Type 0
 Receives shared piece Kept = HasJob shared piece.job

@@ -16,7 +16,7 @@ use std::sync::{Mutex, Wait};
 
 impl<'a, 'r, 'p, R: Wait + 'a> PoolHand<'a, 'r, 'p, R> {
     /// Puts the jobs that aren't begun up for all harts: their codes go to the home's row, the last place first. The hart must
-    /// be the home, and its row must have room for a code of each job. It takes no memory.
+    /// be the home, and its row must have room for a code of each job. It does not allocate.
     pub fn offer(&mut self, rt: &R)
         requires home { self.old.rows.now.hart ≡ self.old.home }
         requires room { length self.old.shared.now.jobs
@@ -33,8 +33,9 @@ impl<'a, 'r, 'p, R: Wait + 'a> PoolHand<'a, 'r, 'p, R> {
 
     /// What `deposit` of the pool does. Where the pool was handed out, each piece is a Stranger.
     ///
-    /// The piece's job is compared before the lock is taken, with the copy that stands beside it. A lock tells nothing of what
-    /// stands beside it, so behind it the piece lies with its own job: who takes the pool out has to compare its jobs.
+    /// The piece's job is compared before the lock is taken, with the copy that stands beside it. The type of a lock says nothing
+    /// of what stands beside it, so behind the lock the piece lies with its own job: the home compares all jobs of a pool that it
+    /// takes out.
     pub fn deposit(&self, rt: &R, piece: Piece<'p>) -> Deposit<'p>
         ensures { Receives self.now.shared.now piece.entry result }
     {
@@ -73,7 +74,7 @@ impl<'a, 'r, 'p, R: Wait + 'a> PoolHand<'a, 'r, 'p, R> {
         }
     }
 
-    /// Whether the piece of some place found no memory. It is false where the pool was handed out.
+    /// Whether some place is failed. It is false where the pool was handed out.
     pub fn has_failed(&self, rt: &R) -> bool {
         match self.shared.kept().lock(rt).as_ref() {
             Some(pool) => pool.has_failed(),
@@ -181,7 +182,7 @@ impl<'a, 'r, 'p, R: Wait + 'a> PoolHand<'a, 'r, 'p, R> {
         ready
     }
 
-    // What the pool has behind its lock.
+    // What the pool has behind its lock. A pool that no home offered hands its jobs out here.
     fn look(&mut self, rt: &R) -> Next<PoolWork<'p>>
         ensures { LooksBy self.old result self.new }
     {

@@ -10,7 +10,7 @@ use std::marker::PhantomData;
 /// One hart's hand on a shared pool, and on the row of the pool's home. Its calls do what those of `Pool` do, under the lock,
 /// for which each may wait but `site` and the callbacks that change no list. Jobs that were offered come by their codes,
 /// without the lock.
-/// Once the pool is handed out, `enter` answers Nothing and `unblock` gives its context back.
+/// Once the pool is handed out, `enter` returns Nothing and `unblock` gives its context back.
 pub struct PoolHand<'a, 'r, 'p, R> {
     /// The rows as this hart has them.
     pub rows: &'r mut HartRows,

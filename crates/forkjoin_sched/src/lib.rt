@@ -2,6 +2,8 @@
 //!
 //! A `Pool` is for one hart. Harts share a `SharedPool`, each by hands of its own. The home of the site offers the pool's jobs:
 //! their codes go to its row, from which the home pops and guests steal, without the lock of the pool.
+//!
+//! Begin with `Pool` in `pool.rt`, then `PoolHand` in `calls.rt`; the tests of `pool_tests` run pools by one hart and by threads.
 #![tactic(auto)]
 
 mod calls;

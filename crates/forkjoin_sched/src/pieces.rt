@@ -10,7 +10,7 @@ use deque_rows::{HartRows, Stolen};
 use std::sync::Wait;
 
 /// A piece of the pool that isn't begun, and whose code stood in the row of this home. A code of another site, or one whose
-/// job isn't there any more, is let go. None comes only where the row was found bare.
+/// job isn't there any more, is dropped. None comes only where the row was found bare.
 pub(crate) fn take_piece<'p, R: Wait>(
     rt: &R,
     shared: &SharedPool<'p>,

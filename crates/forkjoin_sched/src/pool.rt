@@ -8,7 +8,7 @@ ghost use Rattle.array_jobs.specs.Groups.{IsGroup};
 ghost use Rattle.work_agenda.specs.Agenda.{GivesReady};
 ghost use Rattle.join_book.specs.Books.{Open, Filled, Failed, IsMarked, IsPlaceOf, IsFull, HasFailed, Deposits, Puts, marked_book, all_writes};
 ghost use Rattle.forkjoin_sched.specs.declared.work.PoolWork.TheVariants.{Begin};
-ghost use Rattle.forkjoin_sched.specs.Pools.{new_pool, Answers, Hears, Takes, with_book, with_agenda, GivesJob};
+ghost use Rattle.forkjoin_sched.specs.Pools.{new_pool, roomy_pool, Answers, Hears, Takes, with_book, with_agenda, GivesJob};
 
 use crate::work::PoolWork;
 use array_eval::Overlay;
@@ -82,15 +82,27 @@ impl<'p> Model for Pool<'p> {
 
 impl<'p> Pool<'p> {
     /// A pool of these jobs, none of which is begun. They are one to 64 jobs of one site and one phase, each at the place
-    /// that it names. No other call but `take_all` takes memory.
+    /// that it names. No other call but `take_all` allocates.
     pub fn new(alloc: Global, jobs: Vec<Job<'p>>) -> Result<Pool<'p>, AllocError>
         requires { IsGroup (map job_of jobs.items) }
         ensures { IfOk result (λ pool. pool ≡ new_pool jobs.entry.items) }
     {
+        Pool::with_wishes(alloc, jobs, MOST_WISHES)
+    }
+
+    /// The pool that `new` makes, with room for `wishes` wishes. A wish beyond the room is dropped.
+    pub fn with_wishes(
+        alloc: Global,
+        jobs: Vec<Job<'p>>,
+        wishes: usize,
+    ) -> Result<Pool<'p>, AllocError>
+        requires { IsGroup (map job_of jobs.items) }
+        ensures { IfOk result (λ pool. pool ≡ roomy_pool jobs.entry.items wishes) }
+    {
         let site = jobs[0].site;
         let count = jobs.len();
         let unbegun = unbegun_work(alloc, &jobs)?;
-        let agenda = Agenda::new(alloc, count, MOST_WISHES, unbegun)?;
+        let agenda = Agenda::new(alloc, count, wishes, unbegun)?;
         let book = MutexState::new(alloc, 0, Book::new(alloc, jobs)?)?;
         Ok(Pool { site, agenda, book })
     }
@@ -184,7 +196,8 @@ impl<'p> Pool<'p> {
         }
     }
 
-    /// Marks a place whose piece found no memory. The place must be open.
+    /// Marks a place as failed: an allocation failed for its piece. The place must be open, which a caller tests by `is_open`;
+    /// a hand does so under the lock.
     pub fn fail(&mut self, place: u8)
         requires { IsMarked self.old.book place Open }
         ensures { self.new ≡ with_book self.old (marked_book self.old.book place Failed) }
@@ -208,7 +221,7 @@ impl<'p> Pool<'p> {
         }
     }
 
-    /// Whether the piece of some place found no memory.
+    /// Whether some place is failed.
     pub fn has_failed(&self) -> bool
         ensures { IsTrue result ↔ HasFailed self.now.book }
     {
@@ -229,7 +242,7 @@ impl<'p> Pool<'p> {
     }
 
     /// The writes of all pieces, merged in the order of their places. Every place must be filled or failed; where one has
-    /// failed, the answer is want of memory.
+    /// failed, the result is an allocation failure.
     pub fn take_all(self) -> Result<Overlay, AllocError>
         requires { IsFull self.book }
         ensures failed { HasFailed self.entry.book → IsErr result }
@@ -243,7 +256,7 @@ impl<'p> Pool<'p> {
     }
 }
 
-// Each job as work that isn't begun.
+// Each job as work that isn't begun. Why a copy: the book keeps the jobs, to recognise pieces that aren't its own.
 fn unbegun_work<'p>(alloc: Global, jobs: &[Job<'p>]) -> Result<VecDeque<PoolWork<'p>>, AllocError>
     ensures { IfOk result (λ work. work.items ≡ map Begin jobs.now) }
 {

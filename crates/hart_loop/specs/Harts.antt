@@ -1,4 +1,5 @@
--- How a hart of several begins and ends a run.
+-- How a hart of several begins and ends a run. Definitions and lemmas speak of lists of anything seen as a hart: seats, ports,
+-- and harts with ports.
 use Rattle.std.specs.Prelude.{◌≡◌, ◌<◌, ℕ, true, false, List, length, slice_index_or, Option, Some, IfSome, All}
 use Rattle.std.specs.List.{AllZip}
 use Rattle.transfer_table.specs.Plan.{Plan, IsSite, parent}
@@ -9,26 +10,26 @@ use Rattle.array_jobs.specs.PieceParts.{PieceParts}
 use Rattle.hart_tools.specs.Kins.{ToolKins}
 use Rattle.hart_loop.specs.declared.hart.Hart.{Hart}
 
--- the hart is in the base, and the home of no site; others may share the table
+-- The hart is in the base, and the home of no site; others may share the table.
 pub record StartsIn (p : Plan) (v : PortView) : Type 0 where
   pub plan : v.plan ≡ p
   pub shared : v.alone ≡ false
   pub base : v.owner ≡ 0
   pub inner : IsSettled v
 
--- it is this hart, of the table of this name and of the plan
+-- The view is of this hart, of the table of this name and of the plan.
 pub record IsAt (name : List ℕ) (p : Plan) (h : ℕ) (v : PortView) : Type 0 where
   pub plan : v.plan ≡ p
   pub hart : v.hart ≡ h
   pub table : v.table ≡ name
 
--- it is a hart of the same number, of the same table and plan
+-- The view is of a hart of the same number, of the same table and plan.
 pub record IsSameHart (v after : PortView) : Type 0 where
   pub plan : after.plan ≡ v.plan
   pub hart : after.hart ≡ v.hart
   pub table : after.table ≡ v.table
 
--- the hart has seen each top site gone
+-- The hart has seen each top site gone.
 abbrev pub TopSitesSeenGone : PortView → Type 0
 TopSitesSeenGone v = (s : ℕ) → IsSite v.plan s → parent v.plan s ≡ 0 → is_in v.gone s ≡ true
 
@@ -43,15 +44,15 @@ pub record HasRun (v : PortView) (tools : ToolKins) (job : Option JobParts) (aft
 
 -- ---- of lists of what is seen as a hart by `seen`: a seat, a port, or a hart with its port
 
--- each is in the base, and the home of no site
+-- Each is in the base, and the home of no site.
 abbrev pub AllStart : {Q : Type 0} → (Q → PortView) → Plan → List Q → Type 0
 AllStart seen p = All (λ q. StartsIn p (seen q))
 
--- each is the hart that it was
+-- Each is the hart that it was.
 abbrev pub AreSame : {Q : Type 0} → (Q → PortView) → List Q → List Q → Type 0
 AreSame seen = AllZip (λ before after. IsSameHart (seen before) (seen after))
 
--- they have done their parts, on the table of this name: that of hart h is at place h
+-- The harts have done their parts, on the table of this name: that of hart h is at place h.
 pub record AreBack {Q : Type 0} (seen : Q → PortView) (name : List ℕ) (p : Plan)
     (qs : List Q) : Type 0 where
   pub count : length qs ≡ p.harts
@@ -59,13 +60,13 @@ pub record AreBack {Q : Type 0} (seen : Q → PortView) (name : List ℕ) (p : P
 
 -- ---- of harts with ports, of which `seen` is what is known of the port
 
--- each has done its part of a run
+-- Each has done its part of a run.
 abbrev pub HaveRun : {P S : Type 0} → (P → PortView) → List (Hart P S) → List (Hart P S) → Type 0
 HaveRun seen = AllZip (λ before after.
     HasRun (seen before.port) before.schedulers.tools before.job
     (seen after.port) after.schedulers.tools after.piece)
 
--- each is the hart that it was, with the tools that it had
+-- Each is the hart that it was, with the tools that it had.
 abbrev pub AreTheSame : {P S : Type 0} → (P → PortView) → List (Hart P S) → List (Hart P S) → Type 0
 AreTheSame seen = AllZip (λ before after.
     IsSameHart (seen before.port) (seen after.port)

@@ -4,6 +4,6 @@ use Rattle.transfer_table.specs.declared.entry.Entry.{Entry}
 use Rattle.transfer_table.specs.Plan.{Plan}
 use Rattle.hart_work.specs.Accounts.{Account}
 
--- none is ever in order
+-- No account of several harts is ever in order.
 abbrev pub no_account : Account
 no_account p around start es = ⊥

@@ -11,30 +11,30 @@ use Rattle.hart_loop.specs.declared.hart_site.Keeper.{Keeper}
 use Rattle.hart_loop.specs.declared.hart_site.Keeper.TheVariants.{Base, Published, Kept}
 use Rattle.hart_loop.specs.declared.hart_site.HartSite.{HartSite}
 
--- a shared pool has the jobs of the `par`
+-- A shared pool has the jobs of the `par`.
 pub record IsSharedPoolOf (nested : NestedParts) (shared : SharedParts) : Type 0 where
   pub fit : IsFitNest (nested_of nested)
   pub one_phase : phases_of (statement_of nested.construct) ≡ 1
   pub jobs : map job_of shared.jobs ≡ jobs_in (nested_of nested) 0 nested.store
 
--- a scheduler was made for the construct, a pipe only where no two of its pieces cross
+-- A scheduler was made for the construct, a pipe only where no two of its pieces cross.
 abbrev pub IsMadeOf : NestedParts → SharedSite → Type 0
 IsMadeOf nested (Pool home shared) = IsSharedPoolOf nested shared
 IsMadeOf nested (Team shared) = shared ≡ nested
 IsMadeOf nested (Pipe shared) = (shared ≡ nested) × IsUncrossed (nested_of nested)
 IsMadeOf nested Alone = Unit {0}
 
--- what a keeper has of a site that isn't the base
+-- A keeper has this of a site that isn't the base.
 abbrev pub kept_in : {S : Type 0} → Keeper S → Option S
 kept_in (Base base) = None
 kept_in (Published shared) = Some shared.now
 kept_in (Kept shared) = Some shared.value
 
--- it was made for the construct; the base was made for none
+-- The keeper was made for the construct; that of the base was made for none.
 abbrev pub IsMadeFor : Option SharedSite → NestedParts → Type 0
 IsMadeFor None nested = ⊥
 IsMadeFor (Some shared) nested = IsMadeOf nested shared
 
--- the scheduler of a site that the hart opened was made for its construct
+-- The scheduler of a site that the hart opened was made for its construct.
 abbrev pub IsOpened : {S : Type 0} → (S → SharedSite) → HartSite S → Type 0
 IsOpened held site = IfSome site.opened (IsMadeFor (option_map held (kept_in site.keeper)))

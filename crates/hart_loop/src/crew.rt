@@ -110,8 +110,8 @@ fn settle_all(words: Claims, rows: Vec<HartRows>, claims: Vec<ClaimSeat>)
     claimed(words.into_table(), claims);
 }
 
-// Runs all harts with what they are lent, the first of them with the program's body. Its piece, unless memory was wanting there,
-// and what the harts gave back.
+// Runs all harts with what they are lent, the first of them with the program's body. Its piece, unless an allocation failed
+// there, and what the harts gave back.
 fn run_lent<
     'p,
     R: Threads + Wait + Sync,
@@ -149,8 +149,8 @@ fn run_lent<
     )
 }
 
-// Runs all harts on these cells, the first of them with this job. Its piece, unless memory was wanting there, and what the harts
-// gave back.
+// Runs all harts on these cells, the first of them with this job. Its piece, unless an allocation failed there, and what the
+// harts gave back.
 fn run_on<
     'x,
     'p: 'x,
@@ -186,7 +186,7 @@ fn run_on<
     Ok((piece, stock_of(alloc, harts)?))
 }
 
-// Runs each hart, the first of them with this job. Its piece, unless memory was wanting.
+// Runs each hart, the first of them with this job. Its piece, unless an allocation failed.
 fn run_crew<
     'x,
     'p: 'x,

@@ -13,8 +13,8 @@ use site_steps::{PatientPort, SiteTree, finish_base, sweep_if};
 use std::alloc::{AllocError, Global};
 use std::sync::Wait;
 
-/// What one hart has to itself. One of them has the program's body as its job, and its piece in the end, unless memory was
-/// wanting.
+/// What one hart has to itself. One of them has the program's body as its job, and its piece in the end, unless an
+/// allocation failed.
 #[derive(Drop)]
 pub struct Hart<'a, 'p, P, S> {
     pub port: P,

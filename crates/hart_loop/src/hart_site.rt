@@ -135,8 +135,8 @@ impl<'a, 'p, S: InDirectory<'p>> HartSite<'a, 'p, S> {
     }
 
     /// What the construct writes of a site that this hart opened: what all pieces wrote, where the scheduler is handed out and
-    /// has the jobs that it was made with, and else what this hart computes by itself. Where a piece found no memory, so does
-    /// the hart.
+    /// has the jobs that it was made with, and else what this hart computes by itself. If an allocation failed for a piece,
+    /// the result is that failure.
     pub(crate) fn take<R: Wait>(
         &self,
         rt: &R,
@@ -157,8 +157,8 @@ impl<'a, 'p, S: InDirectory<'p>> HartSite<'a, 'p, S> {
         }
     }
 
-    // The scheduler, where it is handed out. Where a piece of the site found no memory, so does the hart; where it has no hand, there
-    // was no piece.
+    // The scheduler, where it is handed out. If an allocation failed for a piece of the site, the result is that failure; where
+    // the hart has no hand, there was no piece.
     fn take_out<R: Wait>(
         &self,
         rt: &R,

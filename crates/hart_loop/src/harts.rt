@@ -26,7 +26,7 @@ use std::sync::Wait;
 use step_eval::Nested;
 
 /// The schedulers of the sites, as one of several harts has them. They stand behind locks, so nothing is known of what
-/// they tell but its type.
+/// they give but its type.
 #[derive(Drop)]
 pub struct HartSchedulers<'a, 'p, S> {
     lines: Vec<SiteLine<'a, S>>,
@@ -66,7 +66,7 @@ impl<'a, 'p, S> HartSchedulers<'a, 'p, S> {
     }
 }
 
-// The task that a hart was told.
+// The task in what a hart got.
 fn task_of<'p>(next: Next<Job<'p>>) -> Task<Job<'p>>
     ensures { result ≡ task_told next.entry }
 {
@@ -94,7 +94,7 @@ impl<'a, 'p, S: InDirectory<'p>, R: Wait> Schedulers<R, JobMachines<'p>>
 
     ghost construct = { λ site. site.opened };
 
-    // What stands behind a lock may have changed with every look. So a site owes nothing, and is settled as soon as the
+    // Lock-protected state may have changed with every look. So a site owes nothing, and is settled as soon as the
     // scheduler was made for its construct.
     ghost settled = { λ site. IsOpened S.held site };
 

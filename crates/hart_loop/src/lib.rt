@@ -2,8 +2,10 @@
 //!
 //! `run_alone` runs a program on one hart, and `run_harts` on the harts of its plan, each on a thread; `run_piped` does so with
 //! members that overtake. `HartSchedulers` is what
-//! one of several harts has to work with: the schedulers stand behind locks, and a directory tells where. `work` is what one of
-//! them does from start to end, and `run_ports` runs a crew of them, for any port that waits.
+//! one of several harts has to work with: the schedulers stand behind locks, and a directory has where each is. `work` is what
+//! one of them does from start to end, and `run_ports` runs a crew of them, for any port that waits.
+//!
+//! Begin with `run_harts` in `several.rt`, then `run_ports` in `crew.rt`; the tests of `harts_tests` run programs on threads.
 #![tactic(auto)]
 
 mod crew;

@@ -15,7 +15,12 @@ use std::alloc::{AllocError, Global};
 use std::sync::Wait;
 use std::thread::Threads;
 
-/// Runs an accepted program once on the one hart of its plan, by shared schedulers.
+/// Runs an accepted program once on the one hart of its plan, by shared schedulers. It is a crew of one, so no clause says that
+/// it returns.
+///
+/// # Errors
+///
+/// `AllocError` if an allocation fails.
 pub fn on_plain_port<R: Threads + Wait + Sync, F: Fn(u8, u16, u8, u8) + Sync>(
     rt: &R,
     alloc: Global,

@@ -16,7 +16,7 @@ use crate::members::Members;
 use array_eval::Overlay;
 use forkjoin_sched::{Pool, SharedPool};
 use hart_tools::Whole;
-use lone_hart::{open_pool, take_from_pool};
+use lone_hart::{open_pool, open_team, room_for_wishes, take_from_pool};
 use loop_team::{SharedTeam, Team};
 use pipe_sched::{Pipe, SharedPipe};
 use pipe_walk::uncrossed;
@@ -40,7 +40,7 @@ pub(crate) fn shared_site<'p>(
         }
         Kind::Team => match members {
             Members::Wait => {
-                let team = SharedTeam::new(alloc, Team::new(alloc, nested.copy()?)?)?;
+                let team = SharedTeam::new(alloc, open_team(alloc, nested.copy()?)?)?;
                 Ok(SharedSite::Team(team))
             }
             Members::Overtake => shared_pipe(alloc, nested),
@@ -58,7 +58,7 @@ fn shared_pipe<'p>(alloc: Global, nested: &Nested<'p>) -> Result<SharedSite<'p>,
         return Ok(SharedSite::Alone);
     }
     let own = nested.copy()?;
-    let pipe = Pipe::new(alloc, own)?;
+    let pipe = Pipe::with_wishes(alloc, own, room_for_wishes(nested))?;
     let shared = SharedPipe::new(alloc, pipe)?;
     Ok(SharedSite::Pipe(shared))
 }

@@ -28,9 +28,9 @@ const MOST_ON_WORDS: u8 = 4;
 ///
 /// The store is that of the one-thread meaning, and the journal, which is that of a closed board, is complete for the plan and
 /// the sites that this meaning enters: every transfer is legal, every site is gone, and exactly the entered ones came and went.
-/// That is tested, and a run whose journal isn't so is made anew. Up to four harts move on a word board, and more on a wide
-/// one. Where memory is wanting anywhere, the whole run answers that. A hart that has taken a piece passes the gate before its
-/// first step.
+/// The caller's thread checks that, and runs the program anew if a journal isn't so. Up to four harts move on a word board, and
+/// more on a wide one. If an allocation fails anywhere, the whole run returns that. A hart that has taken a piece passes the
+/// gate before its first step.
 pub fn run_harts<R: Threads + Wait + Sync, G: Gate>(
     rt: &R,
     alloc: Global,
@@ -55,6 +55,10 @@ pub fn run_harts<R: Threads + Wait + Sync, G: Gate>(
 /// overtake: each goes on to its next phase as soon as those below it have done that phase. It waits until all harts are back.
 ///
 /// The store and the journal are as those of `run_harts`, but for one hart the journal is the list that its port kept.
+///
+/// # Errors
+///
+/// `AllocError` if an allocation fails.
 pub fn run_piped<R: Threads + Wait + Sync, G: Gate>(
     rt: &R,
     alloc: Global,
@@ -143,7 +147,7 @@ fn run_once<R: Threads + Wait + Sync, F: Fn(u8, u16, u8, u8) + Sync>(
     }
 }
 
-// Whether a run's journal is complete for the sites that the program enters. What stands behind a lock doesn't tell which sites
+// Whether a run's journal is complete for the sites that the program enters. Lock-protected state doesn't show which sites
 // these are, so that no proof about the harts has it.
 fn is_complete(
     alloc: Global,

@@ -31,7 +31,7 @@ pub record PortView : Type 0 where
   pub gone : List Bool
   -- whether no other hart shares the table
   pub alone : Bool
-  -- what tells the table from others of its kind; empty where nobody asks
+  -- what distinguishes the table from others of its kind; empty where no caller needs it
   pub table : List ℕ
 
 -- the site is in the set

@@ -63,7 +63,8 @@ impl Ledger {
         Ok(())
     }
 
-    /// Marks the site as closing. A site that isn't in the plan isn't marked.
+    /// Marks the site as closing. A site that isn't in the plan isn't marked. Why: a mark is never cleared, so the word of a gone
+    /// site shows that it was closed.
     pub fn mark(&mut self, site: u16)
         ensures marked { IsSite self.old.plan site → self.new ≡ record self.old {
           closing = with_site self.old.closing site;
@@ -76,7 +77,7 @@ impl Ledger {
         }
     }
 
-    /// The word of the site, which tells of no hart on its way in; 0 for a site that isn't in the plan.
+    /// The word of the site, which shows no hart on its way in; 0 for a site that isn't in the plan.
     pub fn site_word(&self, site: u16) -> u64
         ensures inside { IsSite self.now.plan site
             → result ≡ site_word (row self.now.state site) (is_in self.now.closing site) }

@@ -31,7 +31,7 @@ pub struct LockedPort<'a, R> {
     closed: Vec<bool>,
     empty: Vec<bool>,
     gone: Vec<bool>,
-    // The sites of which the hart made Register or Request.
+    // The sites of which the hart made Register or Request. Why flags: a register searches no list.
     claimed: Vec<bool>,
     refused: u64,
     of: PhantomData<&'a R>,
@@ -147,7 +147,7 @@ fn claim<R: Wait>(
     unreachable!()
 }
 
-// The same for the Enter of a site, unless the site's word wants no hart, which is told.
+// The same for the Enter of a site. Where the site's word wants no hart, it is returned.
 fn go_in<R: Wait>(hold: &R, lock: &Mutex<Ledger>, hart: u8, site: u16, may: bool) -> Result<(), u64>
     ensures ok { OnOk result (IsTrue may) }
     ensures unwanted { IfErr result (λ shown. is_wanted shown ≡ false) }

@@ -20,6 +20,7 @@ use transfer_table::{Entries, Entry, Plan, Stage};
 pub struct PlainPort {
     ledger: Ledger,
     // A flag for the base and for each site.
+    // Why: the ledger's marks stay set when a site is gone, so the port keeps the sites that it closed beside them.
     closed: Vec<bool>,
     empty: Vec<bool>,
     gone: Vec<bool>,
@@ -126,7 +127,7 @@ impl Port for PlainPort {
     ghost empty_gives = { λ _ answer _. answer ≡ Empty };
 
     fn hart(&self) -> u8 {
-        // A look at a field tells what the type keeps: that the hart is 0.
+        // A read of a field gives the type's invariant: the hart is 0.
         let _ = &self.ledger;
         0
     }

@@ -35,7 +35,7 @@ pub enum Seen {
     Held { shown: u64 },
 }
 
-/// One hart's right to make transfers. No call takes memory.
+/// One hart's right to make transfers. No call allocates. The clause `kept` of each call says that the hart still fits its plan.
 pub trait Port {
     /// What a call needs of the runtime.
     type Hold: Copy;
@@ -44,12 +44,13 @@ pub trait Port {
     /// of, and whether it shares the table with no other hart.
     ghost seen: { Self → PortView };
 
-    /// How often a call was refused, up to the last value of `u64`.
+    /// How often a call was refused, up to the last value of `u64`. Why: it stands beside the view, since a refusal raises the
+    /// count and leaves the view unchanged.
     ghost refused: { Self → ℕ };
 
     /// Of a port, the site of a register, the answer, and the port afterwards: what the words behind the port had to do with it. So
-    /// a call over the port tells the words that the port was shown, and no others. This and the next four are exact where one hart
-    /// owns what is behind the port; of what stands behind a lock they tell nothing.
+    /// a call over the port notes the words that the port was shown, and no others. This and the next four are exact where one hart
+    /// owns what is behind the port; of lock-protected state they say nothing.
     ghost register_gives: { Self → ℕ → Result (Unit {0}) Taken → Self → Type 0 };
 
     /// The same of a skip.

@@ -6,29 +6,29 @@ use Rattle.step_eval.specs.Nests.{NestedParts}
 use Rattle.loop_team.specs.Teams.{phases_in}
 use Rattle.hart_tools.specs.declared.claims.SiteRows.{SiteRows}
 
--- the members of a site's claim rows: one row for each phase of a `team`, none of a `par`
+-- A site's claim rows have these members: one row for each phase of a `team`, none of a `par`.
 abbrev pub rows_of_shape : Shape → List ℕ
 rows_of_shape shape = replicate shape.1 shape.0
 
--- those of all sites, in the order of the sites and then of the phases
+-- The rows of all sites stand in the order of the sites and then of the phases.
 abbrev pub rows_of_shapes : List Shape → List ℕ
 rows_of_shapes [] = []
 rows_of_shapes (shape ∷ more) = rows_of_shape shape ++ rows_of_shapes more
 
--- as many of them as a table may have
+-- As many of them as a table may have.
 abbrev pub claim_rows : List Shape → List ℕ
 claim_rows shapes = take MOST_ROWS (rows_of_shapes shapes)
 
--- the shape of a site, as its rows tell it
+-- A site has this shape, by its rows.
 abbrev pub shape_of : SiteRows → Shape
 shape_of rows = (rows.members, rows.phases)
 
--- the first row of each site is behind those of the sites before it
+-- The first row of each site is behind those of the sites before it.
 abbrev pub AreBehind : List SiteRows → Type 0
 AreBehind sites = (i : ℕ) (rows : SiteRows) → slice_get sites i ≡ Some rows
     → rows.first ≡ length (claim_rows (take i (map shape_of sites)))
 
--- what stands at a site's place, which is that before its number
+-- This is what stands at a site's place, which is that before its number.
 abbrev pub at_site : {X : Type 0} → List X → ℕ → Option X
 at_site list site = if site == 0 then None else slice_get list (site - 1)
 

@@ -5,6 +5,7 @@ use Rattle.hart_tools.specs.declared.grip.Grip.TheVariants.{Base, Pool, Team, Pi
 use Rattle.hart_tools.specs.Kins.{ToolKins}
 use Rattle.hart_tools.specs.Places.{Fits}
 
+-- That a grip fits the tools is a plain fact.
 pub fits_is_fact : (k : ToolKins) (grip : Grip) → IsProp (Fits k grip)
 fits_is_fact k (Base base) = hlevel props
 fits_is_fact k (Pool place) = hlevel props

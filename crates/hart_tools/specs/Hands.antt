@@ -9,19 +9,19 @@ use Rattle.hart_tools.specs.declared.hand.Hand.{Hand}
 use Rattle.hart_tools.specs.declared.whole.Whole.{Whole}
 use Rattle.hart_tools.specs.declared.whole.Whole.TheVariants.{Pool, Team, Pipe}
 
--- the hand is on the same scheduler, with the rows and the seat of the same hart
+-- The hand is on the same scheduler, with the rows and the seat of the same hart.
 pub record IsSameHand {R : Type 0} (before after : Hand R) : Type 0 where
   pub rows : after.rows.ghost_name ≡ before.rows.ghost_name
   pub seat : after.seat.ghost_name ≡ before.seat.ghost_name
   pub kins : kins_of after.rows.now after.seat.now ≡ kins_of before.rows.now before.seat.now
   pub grip : after.grip ≡ before.grip
 
--- the hart is inside, where it was told something, or it is where it was
+-- The hart is inside if it got something to do, and otherwise where it was.
 abbrev pub HasTried : {X : Type 0} → PortView → ℕ → Option X → PortView → Type 0
 HasTried v s (Some told) after = after ≡ entered v s
 HasTried v s None after = after ≡ v
 
--- every place or piece is filled or failed, or the team is over
+-- Every place or piece is filled or failed, or the team is over.
 abbrev pub IsWhole : Whole → Type 0
 IsWhole (Pool pool) = IsFull pool.book
 IsWhole (Team team) = IsOver team

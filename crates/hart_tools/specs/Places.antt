@@ -9,15 +9,16 @@ use Rattle.hart_tools.specs.declared.grip.Grip.{Grip}
 use Rattle.hart_tools.specs.declared.grip.Grip.TheVariants.{Base, Pool, Team, Pipe, Nobody}
 use Rattle.hart_tools.specs.Kins.{ToolKins}
 
--- there is a row of this home and level
+-- There is a row of this home and level.
 abbrev pub PoolFits : Kin → PoolPlace → Type 0
 PoolFits k place = IsLevel place.level × (place.home < k.harts)
 
--- the seat is of the place's claim words, of which there is a row for each phase
+-- The seat is of the place's claim words, of which there is a row for each phase.
 abbrev pub TeamFits : SeatKin → TeamPlace → Type 0
 TeamFits k place = IsOf place.claims.now k
     × RowsFit place.claims.now.counts.items place.row place.team.now
 
+-- The grip fits the tools: a pool its deques, and a team its seat.
 abbrev pub Fits : ToolKins → Grip → Type 0
 Fits k (Base base) = Unit {0}
 Fits k (Pool place) = PoolFits k.rows place
@@ -25,7 +26,7 @@ Fits k (Team place) = TeamFits k.seat place
 Fits k (Pipe pipe) = Unit {0}
 Fits k Nobody = Unit {0}
 
--- the scheduler's site; that of nobody is the base's
+-- The grip has its scheduler's site; that of `Nobody` is the base's.
 abbrev pub site_at : Grip → ℕ
 site_at (Base base) = 0
 site_at (Pool place) = place.pool.now.site

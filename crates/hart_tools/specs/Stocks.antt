@@ -6,7 +6,7 @@ use Rattle.claim_words.specs.declared.seat.ClaimSeat.{ClaimSeat}
 use Rattle.claim_words.specs.declared.table.ClaimTable.{ClaimTable}
 use Rattle.claim_words.specs.Seats as seats
 
--- these are all rows of one call, and all seats of the table, in the order of the harts
+-- The rows are all rows of one call, and the seats all seats of the table, in the order of the harts.
 pub record AreTools (t : ClaimTable) (rs : List HartRows) (ss : List ClaimSeat) : Type 0 where
   pub rows : rows.AreAll (map rows.kin rs)
   pub seats : seats.AreAll t (map seats.kin ss)

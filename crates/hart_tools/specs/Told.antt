@@ -1,4 +1,4 @@
--- What a scheduler is told, and what it tells a hart to do, whichever scheduler it is.
+-- What a scheduler receives, and what it gives a hart to do, whichever scheduler it is.
 use Rattle.std.specs.Prelude.{ℕ, Option, Some, None}
 use Rattle.array_jobs.specs.Jobs.{JobParts}
 use Rattle.sched_api.specs.declared.hearing.Call.{Call}
@@ -16,26 +16,28 @@ use Rattle.loop_team.specs.declared.work.TeamWork.TheVariants as team
 use Rattle.pipe_sched.specs.declared.work.PipeWork.{PipeWork}
 use Rattle.pipe_sched.specs.declared.work.PipeWork.TheVariants as pipe
 
--- the job that a context is to begin; one that waits to go on has none
+-- The job of a pool's context is the one that it begins, if it begins one.
 abbrev pub pool_job : PoolWork → Option JobParts
 pool_job (pool.Begin job) = Some job
 pool_job (pool.Ready context) = None
 
+-- The job of a team's context is the one that it begins, if it begins one.
 abbrev pub team_job : TeamWork → Option JobParts
 team_job (team.Begin job) = Some job
 team_job (team.Ready context) = None
 
+-- The job of a pipe's context is the one that it begins, if it begins one.
 abbrev pub pipe_job : PipeWork → Option JobParts
 pipe_job (pipe.Begin job) = Some job
 pipe_job (pipe.Ready context) = None
 
--- the same, with the job in place of the context
+-- The task is the same, with the job in place of the context.
 abbrev pub with_job : {C : Type 0} → (C → Option JobParts) → Next C → Next (Option JobParts)
 with_job job_of (Run work) = Run (job_of work)
 with_job job_of (Lend child) = Lend child
 with_job job_of Nothing = Nothing
 
--- what a scheduler is told by a callback
+-- A scheduler receives this by a callback.
 abbrev pub told_by : Call → ℕ → ℕ → Told
 told_by Registered child count = registered_told child
 told_by Unregistered child count = unregistered_told child
@@ -43,7 +45,7 @@ told_by Requested child count = requested_told child count
 told_by Yielded child count = yielded_told child
 told_by Blocked child count = blocked_told
 
--- what a hart is told that is inside
+-- A hart that is inside gets this to do; one that isn't gets nothing.
 abbrev pub inside : {C : Type 0} → Lent C → Option (Next C)
 inside (Inside next) = Some next
 inside (NotWanted shown) = None

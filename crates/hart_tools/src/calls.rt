@@ -1,4 +1,4 @@
-//! What a hand on a scheduler tells it, and is told.
+//! The calls of a hand on a scheduler.
 ghost use Rattle.std.specs.Prelude.{◌≡◌};
 ghost use Rattle.sched_api.specs.declared.hearing.Told.{Told};
 ghost use Rattle.hart_tools.specs.Hands.{IsSameHand};
@@ -14,7 +14,8 @@ use sched_api::{Call, Hearing, Next, Scheduler, Told};
 use std::marker::Model;
 use std::sync::Wait;
 
-/// What a callback of a hand gives.
+/// What a callback of a hand gives. Why a type of its own: a pool, a team and a pipe each have their own contexts and receipts,
+/// so that each stands by itself, and a hand on any of them is a scheduler too.
 #[derive(Drop)]
 pub struct HandHeard {
     told: Told,
@@ -41,6 +42,7 @@ impl<'r, 's, 'b, 'p, R: Wait + 'b> Scheduler for Hand<'r, 's, 'b, 'p, R> {
 
     type Heard = HandHeard;
 
+    // The job that is to begin, or none where a context was dropped.
     type Ctx = Option<Job<'p>>;
 
     ghost use Rattle.hart_tools.specs.Places.{site_at};
@@ -48,7 +50,7 @@ impl<'r, 's, 'b, 'p, R: Wait + 'b> Scheduler for Hand<'r, 's, 'b, 'p, R> {
 
     ghost site_of = { λ hand. site_at hand.grip };
 
-    // Of what stands behind a lock nothing is known that would have to be told here.
+    // Why no more: nothing is known of lock-protected state.
     ghost answers = { λ before _ after. IsSameHand before after };
 
     ghost hears = { λ before _ after. IsSameHand before after };
@@ -96,7 +98,7 @@ impl<'r, 's, 'b, 'p, R: Wait + 'b> Scheduler for Hand<'r, 's, 'b, 'p, R> {
 }
 
 impl<'r, 's, 'b, 'p, R: Wait + 'b> Hand<'r, 's, 'b, 'p, R> {
-    // Tells the scheduler, where there is one.
+    // Makes the callback of the scheduler, where there is one.
     fn hear(&mut self, hold: &'b R, call: Call, child: u16, count: u8) -> HandHeard
         ensures same { IsSameHand self.old self.new }
         ensures told { result ≡ told_by call child count }
@@ -113,7 +115,7 @@ impl<'r, 's, 'b, 'p, R: Wait + 'b> Hand<'r, 's, 'b, 'p, R> {
     }
 }
 
-// Calls the callback that tells this, and gives what the scheduler was told by it.
+// Makes the callback, and returns what the scheduler received by it.
 fn tell<S: Scheduler>(scheduler: &mut S, hold: S::Hold, call: Call, child: u16, count: u8) -> Told
     ensures told { result ≡ told_by call child count }
     ensures hears { S.hears scheduler.old result scheduler.new }
@@ -128,7 +130,7 @@ fn tell<S: Scheduler>(scheduler: &mut S, hold: S::Hold, call: Call, child: u16, 
     heard.told()
 }
 
-// What a callback tells.
+// What a scheduler receives by a callback.
 fn told_by(call: Call, child: u16, count: u8) -> Told
     ensures { result ≡ told_by call child count }
 {

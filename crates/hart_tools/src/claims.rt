@@ -36,7 +36,13 @@ pub struct Claims {
 
 impl Claims {
     /// The claim words of a program, and a seat for each of so many harts. A site has its members, once for each phase; sites
-    /// for which a table has no further row have none.
+    /// for which a table has no further row have none, and the home of such a site computes its construct.
+    ///
+    /// The sites' shapes are those that the check found.
+    ///
+    /// # Errors
+    ///
+    /// `AllocError` if an allocation fails.
     pub fn new(
         alloc: Global,
         accepted: &Accepted<'_>,

@@ -21,13 +21,13 @@ pub enum Grip<'b, 'p> {
     Team(TeamPlace<'b, 'p>),
     /// A pipe, behind its lock.
     Pipe(&'b SharedPipe<'p>),
-    /// No scheduler, or one for which the hart has no rows; no run comes to such a one. The hart tells it nothing, and is told
-    /// nothing.
+    /// No scheduler, or one for which the hart has no rows; no run comes to such a one. Calls of its
+    /// hand do nothing.
     Nobody,
 }
 
 impl Grip<'_, '_> {
-    /// The scheduler's site; that of nobody is the base's.
+    /// The scheduler's site; that of `Nobody` is the base's.
     pub(crate) fn site(&self) -> u16
         ensures { result ≡ site_at self.now }
     {

@@ -12,7 +12,7 @@ use std::marker::PhantomData;
 /// One hart's hand on the scheduler of a site: on the base, a pool, a team or a pipe, with the hart's rows and its seat. Its calls
 /// are those of the scheduler's own hand, and each may wait for a lock.
 ///
-/// The contexts that it is told to run are jobs, and None is a context that was let go; no run puts one there, since no piece
+/// The contexts that it gets to run are jobs, and None is a context that was dropped; no run puts one there, since no piece
 /// waits at a mutex.
 pub struct Hand<'r, 's, 'b, 'p, R> {
     pub rows: &'r mut HartRows,

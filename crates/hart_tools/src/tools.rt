@@ -159,7 +159,11 @@ impl<'t> Tools<'t> {
         }
     }
 
-    /// Registers the child, and tells the scheduler.
+    /// Registers the child, and makes the callback of the scheduler.
+    ///
+    /// # Errors
+    ///
+    /// `Taken` if the child was claimed before.
     pub fn register<'b, P: Port, R: Wait + 'b>(
         &mut self,
         rt: &'b R,
@@ -180,7 +184,7 @@ impl<'t> Tools<'t> {
         Ok(())
     }
 
-    /// Asks for `count` harts for the child, and tells the scheduler.
+    /// Requests `count` harts for the child, and makes the callback of the scheduler.
     pub fn request<'b, P: Port, R: Wait + 'b>(
         &mut self,
         rt: &'b R,
@@ -201,7 +205,7 @@ impl<'t> Tools<'t> {
         sched_request(port, hold, &mut hand, rt, child, count);
     }
 
-    /// Unregisters the port's owner, and tells the scheduler.
+    /// Unregisters the port's owner, and makes the callback of the scheduler.
     pub fn unregister<'b, P: Port, R: Wait + 'b>(
         &mut self,
         rt: &'b R,
@@ -219,7 +223,7 @@ impl<'t> Tools<'t> {
         sched_unregister(port, hold, &mut hand, rt);
     }
 
-    /// Gives the hart back from the port's owner, and tells the scheduler.
+    /// Gives the hart back from the port's owner, and makes the callback of the scheduler.
     pub fn give_back<'b, P: Port, R: Wait + 'b>(
         &mut self,
         rt: &'b R,
@@ -238,8 +242,8 @@ impl<'t> Tools<'t> {
         sched_yield(port, hold, &mut hand, rt);
     }
 
-    /// Tries to enter the child until the hart is inside, where it is told what to do, or isn't wanted: where another hart moved at
-    /// the same time, it looks again. A hart that isn't inside was refused by the port, or the scheduler is of another site.
+    /// Tries to enter the child until the hart is inside, where it gets what to do, or isn't wanted: if another hart moved at the
+    /// same time, it looks again. A hart that isn't inside was refused by the port, or the scheduler is of another site.
     pub fn enter<'b, 'p, P: Port, R: Wait + 'b>(
         &mut self,
         rt: &'b R,
@@ -258,7 +262,7 @@ impl<'t> Tools<'t> {
         ensures kept { IsPortView (P.seen port.new) }
         ensures tools { self.new ≡ self.old }
     {
-        // A look at the owner tells what every port keeps.
+        // Reading the owner makes the invariant of a port known.
         let _ = port.owner();
         if grip.site() != child {
             return None;
@@ -327,7 +331,7 @@ impl<'t> Tools<'t> {
         unreachable!()
     }
 
-    // What a hart is told that is inside.
+    // What a hart gets that is inside.
     fn look<'b, 'p, R: Wait + 'b>(&mut self, rt: &'b R, grip: Grip<'b, 'p>) -> Next<Option<Job<'p>>>
         requires { Fits self.old grip }
         ensures { self.new ≡ self.old }
@@ -336,8 +340,8 @@ impl<'t> Tools<'t> {
         sched_reenter(&mut hand, rt)
     }
 
-    // Whether a hart has to leave though it might be told more: the base where it is shut, and the home where the work of its
-    // site is over.
+    // Whether a hart has to leave though it might get more: the base where it is shut, and the home where the work of its site is
+    // done. It is checked before each task.
     fn is_over<'b, R: Wait + 'b>(&mut self, rt: &'b R, grip: Grip<'b, '_>, is_home: bool) -> bool
         requires { Fits self.old grip }
         ensures { self.new ≡ self.old }
@@ -361,7 +365,7 @@ impl<'t> Tools<'t> {
         }
     }
 
-    /// A piece is done. One that is a stranger there is let go.
+    /// A piece is done. A piece that is a stranger to the scheduler is dropped.
     pub fn deposit<'b, 'p, R: Wait + 'b>(&mut self, rt: &'b R, grip: Grip<'b, 'p>, piece: Piece<'p>)
         requires { Fits self.old grip }
         ensures { self.new ≡ self.old }
@@ -380,7 +384,8 @@ impl<'t> Tools<'t> {
         }
     }
 
-    /// The piece of this phase at this place found no memory. A pool has one phase, and of a team it is the one that runs.
+    /// Reports that an allocation failed for the piece of this phase at this place. A pool has one phase, and of a team it is the
+    /// one that runs.
     pub fn fail<'b, R: Wait + 'b>(&mut self, rt: &'b R, grip: Grip<'b, '_>, phase: u8, place: u8)
         requires { Fits self.old grip }
         ensures { self.new ≡ self.old }
@@ -393,7 +398,7 @@ impl<'t> Tools<'t> {
         }
     }
 
-    /// Whether a piece found no memory, so that the sites inside don't come. Nor do they where the hart computes the
+    /// Whether a piece failed, so that the sites inside don't come. They don't come either where the hart computes the
     /// construct by itself.
     pub fn has_failed<'b, R: Wait + 'b>(&mut self, rt: &'b R, grip: Grip<'b, '_>) -> bool
         requires { Fits self.old grip }
@@ -442,6 +447,10 @@ fn is_level(level: u8) -> bool
 
 /// The tools of all harts of a run, by their rows and their seats of the claim words, in the opposite order: who pops them
 /// gets those of the first hart first.
+///
+/// # Errors
+///
+/// `AllocError` if an allocation fails.
 pub fn tools_of<'x>(
     alloc: Global,
     words: &'x Claims,

@@ -15,7 +15,7 @@ pub enum Whole<'p> {
 }
 
 impl<'p> Whole<'p> {
-    /// Whether a piece of it found no memory.
+    /// Whether a piece of it failed.
     pub fn has_failed(&self) -> bool {
         match self {
             Whole::Pool(pool) => pool.has_failed(),

@@ -1,5 +1,5 @@
--- The account of sites of a hart that shares the table with nobody, whose entries are so the whole journal: what is said of the plan,
--- of the site that the hart is in, and of entries.
+-- The account of sites of a hart that shares the table with no other. So its entries are the whole journal. An account is about
+-- the plan, the site that the hart is in, and entries.
 use Rattle.std.specs.Prelude.{◌≡◌, ℕ, ◌+◌, ◌-◌, ◌≤◌, true, List}
 use Rattle.transfer_table.specs.Plan.{Plan, IsSite, parent}
 use Rattle.transfer_table.specs.Entry.{unregisters, skips_over}
@@ -14,23 +14,23 @@ use Rattle.hart_work.specs.declared.found.Found.TheVariants as found
 use Rattle.hart_work.specs.declared.schedulers.Task.{Task}
 use Rattle.hart_work.specs.declared.schedulers.Task.TheVariants.{Piece, Visit, Nothing}
 
--- Of a machine in a site, between the entries with which it began its job and those of now.
+-- An account is about a machine in a site, between the entries with which it began its job and those of now.
 abbrev pub Account : Type 1
 Account = Plan → ℕ → List Entry → List Entry → Type 0
 
--- The account that was in order is so, and of a construct it is told in what state it is.
+-- If the account before was in order, the one after is too.
 abbrev pub Follows : Account → Account → Type 0
 Follows before after = (p : Plan) (around : ℕ) (start es : List Entry) → before p around start es
     → after p around start es
 
--- The hart is told to skip whole subtrees with which nobody has done anything. Once they are skipped the account goes on.
+-- The hart skips whole subtrees in which nothing was done. Once they are skipped the account goes on.
 abbrev pub FollowsSkips : ℕ → ℕ → Account → Account → Type 0
 FollowsSkips first end before after =
     (p : Plan) (around : ℕ) (start es : List Entry) → before p around start es
     → IsSpan p around first (end - first) × AreFresh p es first (end - first)
     × ((es' : List Entry) → IsSkippedSpan p es es' first (end - first) → after p around start es')
 
--- With a step a machine's account goes on. A construct that it hands out is fresh, and the account waits for it; where it is
+-- A machine's account goes on with each step. A construct that it hands out is fresh, and the account waits for it; where it is
 -- finished, its job was run.
 abbrev pub Accounts : {N : Type 0} → (Plan → ℕ → List Entry → N → Type 0)
     → (Plan → List Entry → List Entry → Type 0) → Account → Account → (N → Account)
@@ -45,13 +45,13 @@ Accounts fresh ran before after awaiting Finished =
     Follows before (λ p around start es. ran p start es)
 Accounts fresh ran before after awaiting NoMemory = Unit {0}
 
--- The site is a child of the one around, and nobody registered or skipped it.
+-- The site is a child of the one around, and no hart registered or skipped it.
 pub record IsFreshChild (p : Plan) (around : ℕ) (es : List Entry) (s : ℕ) : Type 0 where
   pub site : IsSite p s
   pub parent : parent p s ≡ around
   pub fresh : IsFresh p es s
 
--- With a task that is a job, the site's account waits for it. There is no task to visit a site: no other hart opens one.
+-- The site's account waits for a task that is a job. There is no task to visit a site: no other hart opens one.
 abbrev pub HasServing : {J : Type 0} → Type 0 → (J → Type 0) → Task J → Type 0
 HasServing serving lent (Piece job) = lent job
 HasServing serving lent (Visit child) = ⊥
@@ -67,6 +67,6 @@ abbrev pub HaveEnded : Plan → ℕ → List Entry → Type 0
 HaveEnded p around es = (c : ℕ) → IsSite p c → parent p c ≡ around
     → 1 ≤ unregisters c es + skips_over p c es
 
--- Of a hart's view: where it is alone, this is so of its plan, its site and its entries.
+-- If the hart is alone, this holds of its plan, its site and its entries.
 abbrev pub WhereAlone : PortView → (Plan → ℕ → List Entry → Type 0) → Type 0
 WhereAlone v told = v.alone ≡ true → told v.plan v.owner v.mine

@@ -5,6 +5,6 @@
 pub enum Found<N> {
     /// A construct. The machine awaits what it writes.
     Nest(N),
-    /// Sites that nobody is to enter, from `first` to before `end`. The hart skips them. Nothing is awaited.
+    /// Sites that no hart is to enter, from `first` to before `end`. The hart skips them. Nothing is awaited.
     Pass { first: u16, end: u16 },
 }

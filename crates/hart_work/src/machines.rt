@@ -12,7 +12,7 @@ use std::alloc::{AllocError, Global};
 
 /// Machines that run jobs, each a step at a time.
 ///
-/// Some ghost members tell what a hart did with the sites of a job. They are of use to a hart that keeps an account of it.
+/// Some ghost members say what a hart did with the sites of a job. They are of use to a hart that keeps an account of it.
 pub trait Machines {
     /// The work of a piece, and what it comes to.
     type Job;
@@ -98,7 +98,8 @@ pub trait Machines {
             (start es es' : List Entry) → awaiting nested running.old p around start es
             → ran p es es' nested → going running.new p around start es') };
 
-    /// The piece of a machine whose job is done.
+    /// The piece of a machine whose job is done. Why a bare machine: the procedure ends the context, so that no method of a trait
+    /// takes a context by value.
     fn end(machine: Self::Machine) -> Self::Piece
         requires { finished machine }
         ensures { job_in result ≡ job_of machine };

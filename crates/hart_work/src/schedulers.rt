@@ -65,7 +65,7 @@ pub trait Schedulers<R, M: Machines> {
     /// Whether a job of the site came back as a failure.
     ghost failed: { Self.Site → Type 0 };
 
-    /// What a callback of the site's scheduler did that told this.
+    /// What a callback of the site's scheduler did, by what it received.
     ghost hears: { Self.Site → Told → Self.Site → Type 0 };
 
     /// A scheduler for a construct, for all who enter its site.
@@ -86,7 +86,7 @@ pub trait Schedulers<R, M: Machines> {
         ensures settled { ForSome result (λ site. settled site) }
         ensures tools { tools self.new ≡ tools self.old };
 
-    /// Registers the child, and tells the scheduler around it.
+    /// Registers the child, and makes the callback of the scheduler around it.
     fn register<P: Port>(
         &mut self,
         rt: &R,
@@ -112,7 +112,7 @@ pub trait Schedulers<R, M: Machines> {
     fn offer(&mut self, rt: &R, site: &Self::Site)
         ensures { tools self.new ≡ tools self.old };
 
-    /// Asks for `count` harts for the child, and tells the scheduler around it.
+    /// Requests `count` harts for the child, and makes the callback of the scheduler around it.
     fn request<P: Port>(
         &mut self,
         rt: &R,
@@ -135,7 +135,7 @@ pub trait Schedulers<R, M: Machines> {
         ensures left { left around.new ≤ left around.old }
         ensures tools { tools self.new ≡ tools self.old };
 
-    /// Unregisters the port's owner, and tells the scheduler around it.
+    /// Unregisters the port's owner, and makes the callback of the scheduler around it.
     fn unregister<P: Port>(&mut self, rt: &R, port: &mut P, hold: P::Hold, around: &mut Self::Site)
         requires { MayUnregister (P.seen port.old) }
         ensures does { P.seen port.new ≡ unregistered (P.seen port.old) }
@@ -166,7 +166,7 @@ pub trait Schedulers<R, M: Machines> {
         ensures account { ForSome result (HasAccount (settled site.new) (owed site.new)) }
         ensures tools { tools self.new ≡ tools self.old };
 
-    /// Gives the hart back from the port's owner, and tells the scheduler around it.
+    /// Gives the hart back from the port's owner, and makes the callback of the scheduler around it.
     fn give_back<P: Port>(&mut self, rt: &R, port: &mut P, hold: P::Hold, around: &mut Self::Site)
         requires inside { 0 < (P.seen port.old).owner }
         requires guest { is_in (P.seen port.old).homes (P.seen port.old).owner ≡ false }
@@ -181,7 +181,7 @@ pub trait Schedulers<R, M: Machines> {
         ensures left { left around.new ≤ left around.old }
         ensures tools { tools self.new ≡ tools self.old };
 
-    /// What the hart does next. A home is told that there is nothing only where the site's work is over.
+    /// What the hart does next. A home gets Nothing only if the site's work is done.
     fn next(&mut self, rt: &R, site: &mut Self::Site, is_home: bool) -> Task<M::Job>
         requires { settled site.old }
         ensures left { HasNext (left site.old) result (left site.new) }
@@ -205,7 +205,7 @@ pub trait Schedulers<R, M: Machines> {
         ensures left { left site.new ≤ left site.old }
         ensures tools { tools self.new ≡ tools self.old };
 
-    /// The piece of this phase at this place found no memory.
+    /// Reports that an allocation failed for the piece of this phase at this place.
     fn fail(&mut self, rt: &R, site: &mut Self::Site, phase: u8, place: u8)
         requires { (job : M.Job) × owed site.old job
             × (M.phase_of job ≡ phase) × (M.place_of job ≡ place) }
@@ -225,7 +225,7 @@ pub trait Schedulers<R, M: Machines> {
             → serving site.now p around start es → failed site.now }
         ensures tools { tools self.new ≡ tools self.old };
 
-    /// What all pieces of a site wrote whose work is over. Where the scheduler can't tell, the hart computes the construct
+    /// What all pieces of a site wrote whose work is over. If the scheduler isn't handed out, the hart computes the construct
     /// itself.
     fn take(&mut self, rt: &R, alloc: Global, site: Self::Site) -> Result<M::Written, AllocError>
         requires construct { IsSome (construct site) }

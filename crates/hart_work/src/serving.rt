@@ -20,6 +20,10 @@ use site_steps::{PatientPort, SiteTree, finish_site, skip_sites, sweep_if};
 use std::alloc::{AllocError, Global};
 
 /// Runs a job of the site that the hart is in, and brings the hart back to it.
+///
+/// # Errors
+///
+/// `AllocError` if an allocation fails.
 #[cycle(serve)]
 pub fn run_piece<P: PatientPort, R, M: Machines, H: Schedulers<R, M>, F: Fn(u8, &M::Job)>(
     rt: &R,
@@ -74,6 +78,13 @@ pub fn run_piece<P: PatientPort, R, M: Machines, H: Schedulers<R, M>, F: Fn(u8, 
 }
 
 /// Runs a construct as a site inside the one that the hart is in, and brings the hart back.
+///
+/// It checks that the construct's site is a child of the hart's, as `register` requires; by the laws of `planned_sites` it always
+/// is. Sites have higher numbers than the site around them, so the recursion ends.
+///
+/// # Errors
+///
+/// `AllocError` if an allocation fails.
 #[cycle(serve)]
 pub fn run_construct<P: PatientPort, R, M: Machines, H: Schedulers<R, M>, F: Fn(u8, &M::Job)>(
     rt: &R,
@@ -281,8 +292,8 @@ fn be_guest<P: PatientPort, R, M: Machines, H: Schedulers<R, M>, F: Fn(u8, &M::J
     serve(rt, alloc, tree, pass, port, hold, schedulers, site, false);
 }
 
-// Skips sites that the hart is told of: each child of the owner among them, unless its skip is refused. Where the hart is alone and
-// these are whole subtrees with which nobody has done anything, they are over then as sites that nobody is to enter.
+// Skips the sites that a step passes: each child of the owner among them, unless its skip is refused. If the hart is alone and
+// these are whole subtrees in which nothing was done, they are gone then as sites that no hart is to enter.
 fn skip_span<P: PatientPort>(tree: &SiteTree, port: &mut P, hold: P::Hold, first: u16, end: u16)
     requires plan { (P.seen port.old).plan ≡ tree.now }
     requires inner { IsSettled (P.seen port.old) }

@@ -1,6 +1,7 @@
 //! Tasks of one kind on the harts of another.
 ghost use Rattle.std.specs.Prelude.{◌≡◌, ◌<◌, ◌⊎◌, List, All, map, IfOk, IfErr, alloc_error};
 ghost use Rattle.std.specs.List.{AllZip};
+ghost use Rattle.held_tasks.specs.Two.{FailsOfTwo};
 ghost use Rattle.tasks.specs.Failures.{FirstFailure};
 
 use crate::holds::Holds;
@@ -35,6 +36,42 @@ pub fn fork_join_as<T: TaskKind, V: Holds<T>, H: Harts<V>>(
         }
         Err(error) => Err(V::error_of(error)),
     }
+}
+
+/// Runs two tasks of the kind `T` on harts for tasks that hold them, and returns both outputs.
+///
+/// # Errors
+///
+/// The error of the first task; or, if that has an output, the error of the second; or an allocation failure.
+///
+/// # Memory
+///
+/// One list of two tasks beside what [`fork_join_as`] allocates.
+pub fn join_as<T: TaskKind, V: Holds<T>, H: Harts<V>>(
+    alloc: Global,
+    harts: &mut H,
+    first: T,
+    second: T,
+) -> Result<(T::Output, T::Output), T::Error>
+    requires first { T.depth first < H.levels harts.old }
+    requires second { T.depth second < H.levels harts.old }
+    ensures outputs { IfOk result
+        (λ outputs. T.gives first outputs.0 × T.gives second outputs.1) }
+    ensures error { IfErr result (λ error. FailsOfTwo T.gives T.fails first second error
+        ⊎ T.Error.from_gives alloc_error error) }
+    ensures levels { H.levels harts.new ≡ H.levels harts.old }
+{
+    let mut tasks = Vec::with_capacity(alloc, 2)?;
+    tasks.push_reserved(first);
+    tasks.push_reserved(second);
+    let mut outputs = fork_join_as::<T, V, H>(alloc, harts, tasks)?;
+    let Some(back) = outputs.pop() else {
+        unreachable!()
+    };
+    let Some(front) = outputs.pop() else {
+        unreachable!()
+    };
+    Ok((front, back))
 }
 
 // Each task, as a task of the other kind.

@@ -11,23 +11,26 @@ use Rattle.join_book.specs.declared.place.Place.TheVariants as place
 use Rattle.join_book.specs.declared.book.Deposit.{Deposit}
 use Rattle.join_book.specs.declared.book.Deposit.TheVariants.{Kept, Double, Stranger}
 
--- A place is open, or it has the piece of its own job, or its piece found no memory.
+-- A place is open, or it has the piece of its own job, or it is failed, by an allocation failure.
 pub data Mark : Type 0 where
   Open : Mark
   Filled : Mark
   Failed : Mark
 
+-- Contracts see these parts of a book: its jobs, and each place as open, filled or failed. Why no contents: what a place is
+-- filled with follows from the book's type.
 pub record BookParts : Type 0 where
   pub jobs : List JobParts
   pub places : List Mark
 
+-- The mark of a place is what became of it, without the contents.
 abbrev pub mark_of : Place → Mark
 mark_of place.Open = Open
 mark_of (place.Filled written) = Filled
 mark_of place.Failed = Failed
 
--- What the type keeps: there are jobs, each is fit and names its place, and they start from stores of one size; each has a place,
--- and what a place is filled with is what its job writes.
+-- The type has this invariant: there are jobs, each is fit and names its place, and they start from stores of one size; each
+-- has a place, and what a place is filled with is what its job writes.
 pub record IsKept (jobs : List JobParts) (places : List Place) : Type 0 where
   pub some : 0 < length jobs
   pub fit : (i : ℕ) (job : JobParts) → slice_get jobs i ≡ Some job → IsFit (job_of job)
@@ -39,7 +42,7 @@ pub record IsKept (jobs : List JobParts) (places : List Place) : Type 0 where
       → slice_get places i ≡ Some (place.Filled written) →
       written.pairs ≡ piece_of_job (job_of job)
 
--- The book of jobs none of which is done.
+-- The book has these jobs, none of which is done.
 abbrev pub open_book : List JobParts → BookParts
 open_book jobs = record { jobs = jobs; places = replicate (length jobs) Open }
 
@@ -52,6 +55,7 @@ abbrev pub IsPlaceOf : BookParts → ℕ → JobParts → Type 0
 IsPlaceOf book i job = (own : JobParts) × (slice_get book.jobs i ≡ Some own)
     × (job_of own ≡ job_of job)
 
+-- The book has this mark at place i, and is otherwise unchanged.
 abbrev pub marked_book : BookParts → ℕ → Mark → BookParts
 marked_book book i mark = record book { places = slice_set book.places i mark }
 
@@ -59,11 +63,11 @@ marked_book book i mark = record book { places = slice_set book.places i mark }
 abbrev pub IsFull : BookParts → Type 0
 IsFull book = (i : ℕ) → ¬ IsMarked book i Open
 
--- The piece of some place found no memory.
+-- Some place is failed.
 abbrev pub HasFailed : BookParts → Type 0
 HasFailed book = (i : ℕ) × IsMarked book i Failed
 
--- What the jobs of the filled places write, in the order of their places.
+-- This is what the jobs of the filled places write, in the order of their places.
 abbrev pub filled_pieces : List JobParts → List Mark → List (List Write)
 filled_pieces [] marks = []
 filled_pieces (job ∷ jobs) [] = []
@@ -76,18 +80,18 @@ abbrev pub HaveCells : BookParts → ℕ → Type 0
 HaveCells book cells = (i : ℕ) (job : JobParts) → slice_get book.jobs i ≡ Some job
     → length job.store ≡ cells
 
--- A store of the jobs' cells, of which none is marked.
+-- The store has the jobs' cells, of which none is marked.
 pub record IsBlank (book : BookParts) (store : Trace) : Type 0 where
   pub cells : HaveCells book (length store.cells)
   pub few : length store.cells < cell_numbers
   pub marks : length store.marks ≡ length store.cells
   pub unmarked : marked store ≡ []
 
--- What all jobs write, merged in the order of their places.
+-- This is what all jobs write, merged in the order of their places.
 abbrev pub all_writes : BookParts → List Write
 all_writes book = merged (map (λ job. piece_of_job (job_of job)) book.jobs) []
 
--- Of a book and a piece, the answer and the book afterwards. A piece goes to the place of its own job, if that is open.
+-- A deposit of a piece has this result and leaves this book. A piece goes to the place of its own job, if that is open.
 abbrev pub Deposits : BookParts → PieceParts → Deposit → BookParts → Type 0
 Deposits before piece Kept after =
     IsPlaceOf before piece.job.place piece.job × IsMarked before piece.job.place Open
@@ -110,8 +114,8 @@ with_piece book piece = record {
   places = slice_set book.places piece.job.place Filled;
 }
 
--- Of a book and a piece that isn't compared, the answer and the book afterwards. A piece goes to the place that its job names,
--- if that is open, and takes its job along.
+-- A piece that isn't compared has this result and leaves this book. It goes to the place that its job names, if that is open,
+-- and takes its job along.
 abbrev pub Puts : BookParts → PieceParts → Deposit → BookParts → Type 0
 Puts before piece Kept after =
     HasPlaceFor before piece.job × IsMarked before piece.job.place Open

@@ -53,7 +53,7 @@ impl<'p> Model for Book<'p> {
 
 impl<'p> Book<'p> {
     /// A book of these jobs, whose places are open. They are one to 64 jobs of one site and one phase, each at the
-    /// place that it names. Of the calls below only `take_all` takes memory.
+    /// place that it names. Of the calls below only `take_all` allocates.
     pub fn new(alloc: Global, jobs: Vec<Job<'p>>) -> Result<Book<'p>, AllocError>
         requires { IsGroup (map job_of jobs.items) }
         ensures { IfOk result (λ book. book ≡ open_book jobs.entry.items) }
@@ -137,7 +137,7 @@ impl<'p> Book<'p> {
         self.places[place] = Place::Filled(written);
     }
 
-    /// Marks a place whose piece found no memory. The place must be open.
+    /// Marks a place as failed: an allocation failed for its piece. The place must be open.
     pub fn fail(&mut self, place: u8)
         requires { IsMarked self.old place Open }
         ensures { self.new ≡ marked_book self.old place Failed }
@@ -157,7 +157,7 @@ impl<'p> Book<'p> {
         true
     }
 
-    /// Whether the piece of some place found no memory.
+    /// Whether some place is failed.
     pub fn has_failed(&self) -> bool
         ensures { IsTrue result ↔ HasFailed self.now }
     {
@@ -170,13 +170,17 @@ impl<'p> Book<'p> {
     }
 
     /// A store of the jobs' cells, of which none is marked, for the pieces to be merged into.
+    ///
+    /// # Errors
+    ///
+    /// `AllocError` if an allocation fails.
     pub fn blank_store(&self) -> Result<MarkedStore, AllocError>
         ensures { IfOk result (λ store. IsBlank self.now store) }
     {
         MarkedStore::new(self.alloc, &self.jobs[0].store)
     }
 
-    /// Merges the pieces of the filled places into a blank store, in the order of their places. It takes no memory.
+    /// Merges the pieces of the filled places into a blank store, in the order of their places. It does not allocate.
     pub fn merge_into(&self, store: &mut MarkedStore)
         requires { IsBlank self.now store.old }
         ensures filled { marked store.new
@@ -193,7 +197,7 @@ impl<'p> Book<'p> {
     }
 
     /// The writes of all pieces, merged in the order of their places. The book must be full; where a place has failed,
-    /// the answer is want of memory.
+    /// the result is an allocation failure.
     pub fn take_all(self) -> Result<Overlay, AllocError>
         requires { IsFull self }
         ensures failed { HasFailed self.entry → IsErr result }
@@ -238,7 +242,7 @@ fn open_places(alloc: Global, jobs: &[Job]) -> Result<Vec<Place>, AllocError>
 {
     let mut places = Vec::with_capacity(alloc, jobs.len())?;
     for job in jobs {
-        // A look at a field tells what the type of a job keeps.
+        // Reading a field makes the invariant of a job known.
         let _place = job.place;
         places.push(Place::Open)?;
     }

@@ -11,7 +11,7 @@ pub(crate) enum Place {
     Open,
     // What the place's job writes.
     Filled(Overlay),
-    // Its piece found no memory.
+    // An allocation failed for its piece.
     Failed,
 }
 

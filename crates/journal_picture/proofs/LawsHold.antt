@@ -1,9 +1,9 @@
 -- The laws of stays hold.
 use Rattle.std.proofs.Common.{◌≡◌, ◌∙◌, ◌≤◌, ℕ, List, [], ◌∷◌, length, take, Some, sym, ap, subst, arith, inl, inr}
-use Rattle.transfer_table.specs.Plan.{Plan, IsPlan, IsSite}
+use Rattle.transfer_table.specs.Plan.{Plan, IsPlan, IsSite, IsWithin}
 use Rattle.transfer_table.specs.Table.{TableState, owner, row, first_state}
 use Rattle.transfer_table.specs.Journal.{Reaches}
-use Rattle.transfer_table.specs.Laws.{IsWithin, IsBaseOrLive}
+use Rattle.transfer_table.specs.Laws.{IsBaseOrLive}
 use Rattle.transfer_table.specs.declared.entry.Entry.{Entry}
 use Rattle.transfer_table.proofs.Lists.{replicate_at}
 use Rattle.transfer_table.proofs.Positions.{fits_first}

@@ -1,15 +1,14 @@
 -- The laws of stays, for every plan and every list of entries.
 use Rattle.std.specs.Prelude.{◌≡◌, ℕ, ◌+◌, ◌≤◌, List, [], ◌∷◌, length, take, Some, None}
 use Rattle.std.specs.List.{filter}
-use Rattle.transfer_table.specs.Plan.{Plan, IsPlan, IsHart, IsSite}
+use Rattle.transfer_table.specs.Plan.{Plan, IsPlan, IsHart, IsSite, IsWithin}
 use Rattle.transfer_table.specs.Table.{TableState, owner, row}
 use Rattle.transfer_table.specs.Journal.{Reaches}
-use Rattle.transfer_table.specs.Laws.{IsWithin}
 use Rattle.transfer_table.specs.declared.entry.Entry.{Entry}
 use Rattle.journal_picture.specs.declared.stay.Stay.{Stay}
 use Rattle.journal_picture.specs.Stays.{stays_of, has_place}
 
--- of the hart's stays this one has the place, and no other
+-- Of the hart's stays this one has the place, and no other.
 abbrev pub IsOnlyAt : Plan → List Entry → ℕ → ℕ → Stay → Type 0
 IsOnlyAt p es h k stay = filter (has_place k) (stays_of p h es) ≡ stay ∷ []
 
@@ -28,6 +27,7 @@ FollowFrom k (stay ∷ []) = (stay.first ≡ k) × (stay.last ≡ None)
 FollowFrom k (stay ∷ next ∷ more) = (stay.first ≡ k)
     × ((last : ℕ) × (stay.last ≡ Some last) × (k ≤ last) × FollowFrom (last + 1) (next ∷ more))
 
+-- The stays of each hart follow one another, for each plan and list.
 abbrev pub StaysFollowOneAnother : Type 0
 StaysFollowOneAnother = (p : Plan) (es : List Entry) (h : ℕ) → FollowFrom 0 (stays_of p h es)
 

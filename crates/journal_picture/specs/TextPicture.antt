@@ -19,35 +19,39 @@ use Rattle.journal_picture.specs.Drawn.{drawn, has_fault, state_after}
 
 -- ---- where a hart is at each place
 
--- how many places a stay has, in a list whose last place is this
+-- How many places a stay has, in a list whose last place is this.
 abbrev pub last_or : ℕ → Option ℕ → ℕ
 last_or end None = end
 last_or end (Some last) = last
 
+-- A stay has so many places, the last one included.
 abbrev pub places_of : ℕ → Stay → ℕ
 places_of end stay = last_or end stay.last + 1 - stay.first
 
--- the site of each place
+-- The site of each place.
 abbrev pub sites_of : ℕ → List Stay → List ℕ
 sites_of end stays = flat_map (λ stay. replicate (places_of end stay) stay.site) stays
 
--- those of so many harts, from this one on
+-- Those of so many harts, from this one on.
 abbrev pub lanes_of : Plan → List Entry → ℕ → ℕ → List (List ℕ)
 lanes_of p es h zero = []
 lanes_of p es h (suc n) = sites_of (length es) (stays_of p h es) ∷ lanes_of p es (h + 1) n
 
 -- ---- the bands
 
+-- So many blanks stand in a row.
 abbrev pub blanks : ℕ → List ℕ
 blanks n = replicate n 32
 
--- the text at the right of six columns
+-- The text at the right of six columns.
 abbrev pub cell : List ℕ → List ℕ
 cell text = blanks (6 - length text) ++ text
 
+-- The name of a site is its number behind an `s`; the base has a word.
 abbrev pub site_name : ℕ → List ℕ
 site_name s = if s == 0 then codes "base" else codes "s" ++ decimal s
 
+-- Each kind of entry has its word.
 abbrev pub deed : Entry → List ℕ
 deed (Register h s) = codes "reg"
 deed (Request h s k) = codes "req"
@@ -56,41 +60,44 @@ deed (Yield h s) = codes "yield"
 deed (Unregister h s) = codes "unreg"
 deed (Skip h s) = codes "skip"
 
--- the numbers of the entries, the first of which has this one
+-- The numbers of the entries, the first of which has this one.
 abbrev pub numbers_text : ℕ → List Entry → List ℕ
 numbers_text k [] = []
 numbers_text k (e ∷ es) = cell (decimal k) ++ numbers_text (k + 1) es
 
+-- The words of the entries stand in cells, one behind another.
 abbrev pub deeds_text : List Entry → List ℕ
 deeds_text es = flat_map (λ e. cell (deed e)) es
 
 abbrev pub sites_text : List ℕ → List ℕ
 sites_text sites = flat_map (λ s. cell (site_name s)) sites
 
--- the text at the left of three columns
+-- The text at the left of three columns.
 abbrev pub name_cell : List ℕ → List ℕ
 name_cell text = text ++ blanks (3 - length text)
 
+-- The name of a hart is its number behind an `h`, in a cell of its own width.
 abbrev pub hart_name : ℕ → List ℕ
 hart_name h = name_cell (codes "h" ++ decimal h)
 
--- the lines of harts, the first of which is this one: before the entry at a place, and behind it and the 13 that follow
+-- The lines of harts, the first of which is this one: before the entry at a place, and behind it and the 13 that follow.
 abbrev pub lanes_text : ℕ → ℕ → List (List ℕ) → List ℕ
 lanes_text at h [] = []
 lanes_text at h (lane ∷ more) =
     hart_name h ++ sites_text (take 15 (drop at lane)) ++ codes "\n" ++ lanes_text at (h + 1) more
 
--- the mark of a fault, behind the last entry
+-- The mark of a fault, behind the last entry.
 abbrev pub mark_text : Bool → Bool → List ℕ
 mark_text true true = cell (codes "fault")
 mark_text true false = []
 mark_text false last = []
 
--- the line of the entries' numbers, and that of what they do
+-- The line of the entries' numbers, and that of what they do.
 abbrev pub numbers_line : Bool → Bool → ℕ → List Entry → List ℕ
 numbers_line faulty last at shown =
     codes "    entry" ++ numbers_text at shown ++ mark_text faulty last ++ codes "\n"
 
+-- The line of the entries has their words behind the margin.
 abbrev pub deeds_line : List Entry → List ℕ
 deeds_line shown = codes "         " ++ deeds_text shown ++ codes "\n"
 
@@ -106,57 +113,64 @@ bands_text faulty es lanes band zero = []
 bands_text faulty es lanes band (suc n) =
     band_text faulty es lanes (14 * band) ++ bands_text faulty es lanes (band + 1) n
 
--- a list without entries has one band too
+-- A list without entries has one band too.
 abbrev pub band_count : ℕ → ℕ
 band_count entries = if entries == 0 then 1 else (entries + 13) / 14
 
 -- ---- the tree of the sites
 
--- how many steps lead from a site to the base, if they are at most so many
+-- How many steps lead from a site to the base, if they are at most so many.
 abbrev pub steps_up : Plan → ℕ → ℕ → ℕ
 steps_up p zero s = 0
 steps_up p (suc n) s = if s == 0 then 0 else 1 + steps_up p n (parent p s)
 
--- how deep a site is; the base is at depth 0
+-- How deep a site is; the base is at depth 0.
 abbrev pub depth_of : Plan → ℕ → ℕ
 depth_of p s = steps_up p s s
 
+-- Each kind of site has its word.
 abbrev pub kind_text : Kind → List ℕ
 kind_text Pool = codes "pool"
 kind_text Team = codes "team"
 
+-- The home of a site is named, and a site without one is skipped.
 abbrev pub home_text : Option ℕ → List ℕ
 home_text None = codes ", skipped"
 home_text (Some h) = codes ", home h" ++ decimal h
 
+-- Wishes that no hart met are named, if there are any.
 abbrev pub unmet_text : ℕ → List ℕ
 unmet_text wishes = if wishes == 0 then [] else codes ", unmet wishes " ++ decimal wishes
 
--- what became of a site
+-- What became of a site.
 abbrev pub fate_text : Stage → Option ℕ → List ℕ
 fate_text New home = codes ", not entered"
 fate_text Live home = home_text home ++ codes ", not ended"
 fate_text Gone home = home_text home
 
+-- A line of the tree begins with the site's name, its kind and its line in the program.
 abbrev pub site_start : ℕ → ℕ → Shape → List ℕ
 site_start depth s shape =
     blanks (2 * depth) ++ (codes "s" ++ decimal s ++ codes " " ++ kind_text shape.kind
     ++ codes ", line " ++ decimal shape.line)
 
+-- A line of the tree has the site with what became of it.
 abbrev pub site_line : ℕ → ℕ → Shape → Row → List ℕ
 site_line depth s shape found =
     site_start depth s shape ++ fate_text found.stage found.home ++ unmet_text found.wishes
     ++ codes "\n"
 
--- the lines of sites with these shapes, from a site on
+-- The lines of sites with these shapes, from a site on.
 abbrev pub site_lines : Plan → TableState → ℕ → List Shape → List ℕ
 site_lines p t s [] = []
 site_lines p t s (shape ∷ more) =
     site_line (depth_of p s) s shape (row t s) ++ site_lines p t (s + 1) more
 
+-- The tree begins with the base, and has a line for each site.
 abbrev pub tree_text : Plan → TableState → List Shape → List ℕ
 tree_text p t shapes = codes "base\n" ++ site_lines p t 1 shapes
 
+-- The legend explains the words of entries.
 abbrev pub legend_text : List ℕ
 legend_text = codes "\nreg registers a site, req requests harts, unreg unregisters the site\n"
 
@@ -166,10 +180,12 @@ abbrev pub shown_text : Plan → TableState → List Shape → List Entry → Li
 shown_text p t shapes es lanes faulty =
     bands_text faulty es lanes 0 (band_count (length es)) ++ tree_text p t shapes ++ legend_text
 
+-- The picture of these entries ends with the verdict's text.
 abbrev pub text_of : Plan → List Shape → List Entry → Bool → List ℕ → List ℕ
 text_of p shapes es faulty told =
     shown_text p (state_after p es) shapes es (lanes_of p es 0 p.harts) faulty ++ told
 
+-- The picture of a list is that of its entries before the first fault.
 abbrev pub text_picture : Plan → List Bool → List Shape → List Entry → List ℕ → List ℕ
 text_picture p meant shapes es told =
     text_of p shapes (drawn p meant es) (has_fault p meant es) told

@@ -1,4 +1,8 @@
 //! A journal as a picture: where each hart was from when to when.
+//!
+//! `run_picture` draws the journal of a run with it. The height of a bar shows how deep its site is and the outline shows the
+//! kind, so no colour is needed. The caller passes the verdict as text, so a picture needs no language and no audit. Begin with
+//! `stays_of` in `stay.rt` and `text_picture` in `text.rt`; the tests of `picture_tests` draw small journals.
 #![tactic(auto)]
 
 mod axis;

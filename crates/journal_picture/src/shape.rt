@@ -1,4 +1,4 @@
-//! What a program tells of its sites.
+//! What a picture shows of a program's sites.
 
 /// What schedules a site's pieces.
 #[derive(Clone, Copy, Debug, PartialEq, Eq)]

@@ -20,6 +20,10 @@ pub struct Stay {
 }
 
 /// The stays of the hart, one after another, by a list of at most 65,535 entries.
+///
+/// # Errors
+///
+/// `AllocError` if an allocation fails.
 pub fn stays_of(
     alloc: Global,
     plan: &Plan,

@@ -1,8 +1,9 @@
 //! Writes a journal.
-ghost use Rattle.std.specs.Prelude.{◌≡◌, ◌≤◌, ◌<◌, ◌++◌, IfOk, OnOk, length, string_bytes};
+ghost use Rattle.std.specs.Prelude.{◌≡◌, ◌≤◌, ◌<◌, ◌++◌, ◌∷◌, [], IfOk, OnOk, codes, decimal, length, string_bytes};
 ghost use Rattle.transfer_table.specs.Plan.{most_entries};
 ghost use Rattle.journal_text.specs.JournalText.{journal_text, line_text, start_text, under_text};
 
+use itoa::Buffer;
 use std::alloc::{AllocError, Global};
 use transfer_table::{Entry, Plan};
 
@@ -32,7 +33,7 @@ fn write_line(text: &mut String, plan: &Plan, place: usize, entry: Entry) -> Res
         }
         Entry::Request { hart, site, count } => {
             write_start(text, place, hart, "request", site)?;
-            writeln!(text, " {count}")
+            write_count(text, count)
         }
         Entry::Enter { hart, site } => {
             write_start(text, place, hart, "enter", site)?;
@@ -64,12 +65,38 @@ fn write_start(
     ensures { OnOk result (string_bytes text.new ≡ string_bytes text.old
         ++ start_text place hart action.now site) }
 {
-    write!(text, "{place} h{hart} {action} s{site}")
+    push_number(text, place as u64)?;
+    text.push_str(" h")?;
+    push_number(text, u64::from(hart))?;
+    text.push_str(" ")?;
+    text.push_str(action)?;
+    text.push_str(" s")?;
+    push_number(text, u64::from(site))
 }
 
 // Adds the end of the line of a registration.
 fn write_parent(text: &mut String, parent: u16) -> Result<(), AllocError>
     ensures { OnOk result (string_bytes text.new ≡ string_bytes text.old ++ under_text parent) }
 {
-    writeln!(text, " under s{parent}")
+    text.push_str(" under s")?;
+    push_number(text, u64::from(parent))?;
+    text.push_str("\n")
+}
+
+// Adds the end of the line of a request.
+fn write_count(text: &mut String, count: u8) -> Result<(), AllocError>
+    ensures { OnOk result (string_bytes text.new ≡ string_bytes text.old ++ codes " " ++ decimal count ++ 10 ∷ []) }
+{
+    text.push_str(" ")?;
+    push_number(text, u64::from(count))?;
+    text.push_str("\n")
+}
+
+// Adds a number in decimal.
+//
+// Why: by `write!` each number goes through a formatter.
+fn push_number(text: &mut String, number: u64) -> Result<(), AllocError>
+    ensures { OnOk result (string_bytes text.new ≡ string_bytes text.old ++ decimal number) }
+{
+    text.push_str(Buffer::new().format(number))
 }

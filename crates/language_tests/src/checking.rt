@@ -84,6 +84,26 @@ fn indices_stay_inside_under_each_side(rt: HostRuntime) -> Result<(), Fail> {
 }
 
 #[test]
+fn the_index_of_a_loop_with_turns_stays_inside(rt: HostRuntime) -> Result<(), Fail> {
+    let alloc = rt.alloc();
+    let behind = "array a[4];\nfor i in 0..8 {\na[4] = a[4] + 1; }";
+    assert!(rt; refusal(alloc, behind)? == outside(3, 4));
+    let before = "array a[4];\nfor i in 0..8 { a[0 - 1] = i; }";
+    assert!(rt; refusal(alloc, before)? == outside(2, -1));
+    let no_turn = "array a[4]; for i in 0..0 { a[4] = a[4] + 1; }";
+    assert!(rt; refusal(alloc, no_turn)?.is_none());
+    Ok(())
+}
+
+fn outside(line: u32, index: i64) -> Option<CheckFault> {
+    Some(CheckFault::OutOfRange {
+        line,
+        index,
+        length: 4,
+    })
+}
+
+#[test]
 fn branches_may_share_reads_alone(rt: HostRuntime) -> Result<(), Fail> {
     let alloc = rt.alloc();
     let both_write = "array a[2]; par { { a[0] = 1; } { a[0] = 2; } }";

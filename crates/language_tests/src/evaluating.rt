@@ -74,3 +74,43 @@ fn arrays_of_one_slot_are_told_apart(rt: HostRuntime) -> Result<(), Fail> {
     assert!(rt; ends_with(rt.alloc(), text, expected)?);
     Ok(())
 }
+
+#[test]
+fn a_loop_writes_one_cell_in_each_turn(rt: HostRuntime) -> Result<(), Fail> {
+    let text = "array a[2]; array s[1];
+        for i in 0..10 { s[0] = s[0] + i; } for i in 0..10 { a[1] = i * i; }";
+    let expected = b"a = 0 81\ns = 45\n".as_slice();
+    assert!(rt; ends_with(rt.alloc(), text, expected)?);
+    Ok(())
+}
+
+// A turn adds what the cells have in that turn.
+#[test]
+fn a_loop_adds_cells_that_it_changes(rt: HostRuntime) -> Result<(), Fail> {
+    let text = "array x[2]; array y[4]; x[1] = 1;
+        for i in 0..5 { x[1] = x[1] + x[1]; } for i in 0..5 { x[0] = x[0] + x[1]; }
+        for i in 0..8 { y[y[0]] = y[y[0]] + 1; } for i in 0..4 { y[2] = y[1] - y[2]; }";
+    let expected = b"x = 160 32\ny = 1 7 0 0\n".as_slice();
+    assert!(rt; ends_with(rt.alloc(), text, expected)?);
+    Ok(())
+}
+
+#[test]
+fn an_inner_loop_writes_the_cell_of_the_outer_turn(rt: HostRuntime) -> Result<(), Fail> {
+    let text = "array a[4]; array c[3];
+        for i in 0..3 { for j in 0..4 { c[i] = c[i] + j; } }
+        for i in 0..5 { for j in 0..4 { a[j] = a[j] + i * j; } }";
+    let expected = b"a = 0 10 20 30\nc = 6 6 6\n".as_slice();
+    assert!(rt; ends_with(rt.alloc(), text, expected)?);
+    Ok(())
+}
+
+// No check refuses these programs here: a write behind the last cell does nothing.
+#[test]
+fn a_loop_writes_no_cell_behind_the_last(rt: HostRuntime) -> Result<(), Fail> {
+    let text = "array a[2];
+        for i in 0..8 { a[5] = a[5] + 1; } for i in 0..8 { a[2] = i; } for i in 3..3 { a[0] = 7; }";
+    let expected = b"a = 0 0\n".as_slice();
+    assert!(rt; ends_with(rt.alloc(), text, expected)?);
+    Ok(())
+}

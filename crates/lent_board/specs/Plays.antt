@@ -1,4 +1,4 @@
--- What each kind of step tells its seat.
+-- What each kind of step adds to its seat's view.
 use Rattle.std.specs.Prelude.{◌≡◌, ℕ, ◌<◌, ◌++◌, [], ◌∷◌}
 use Rattle.atomic_table.specs.Table.{Me, Step}
 use Rattle.transfer_table.specs.Plan.{room}
@@ -12,7 +12,7 @@ use Rattle.board_rule.specs.Counts.{busy_at}
 use Rattle.board_rule.specs.Rule.{FitsPlan}
 use Rattle.board_rule.specs.Views.{look_at, claim_next, reserve_next, see_gone_next, see_drained_next, see_empty_next, done_view, close_view, jot_view, register_view, request_view, enter_view, yield_view, unregister_view, skip_view}
 
--- the new view, by the word found; that it fits the plan; and what else the word found tells
+-- the new view, by the word found; that it fits the plan; and what else the word found shows
 abbrev pub Tells : (ℕ → View → View) → (ℕ → Type 0) → Me (Unit {0}) View → ℕ
     → Me (Unit {0}) View → Type 0
 Tells next more me found after = (after ≡ (next found me.0, me.1)) × FitsPlan after.0 × more found
@@ -25,7 +25,7 @@ noting x kind next found v = record (next found v) { looks = v.looks ++ look_at 
 abbrev pub unnoted : (ℕ → View → View) → ℕ → View → View
 unnoted next found v = record (next found v) { looks = v.looks }
 
--- ---- what else the word found tells
+-- ---- what else the word found shows
 
 abbrev pub nothing_more : ℕ → Type 0
 nothing_more found = Unit {0}

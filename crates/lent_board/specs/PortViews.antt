@@ -5,7 +5,7 @@ use Rattle.hart_port.specs.PortView.{PortView}
 use Rattle.board_rule.specs.declared.view.View.{View}
 use Rattle.lent_board.specs.declared.seat.HartSeat.{HartSeat}
 
--- what tells the words of a board from all others
+-- what distinguishes the words of a board from all others
 abbrev pub table_name : TableId → List ℕ
 table_name z = z.words ∷ z.slots ∷ z.views_name ∷ z.atom ∷ z.block ∷ z.offset ∷ z.slot_names
 

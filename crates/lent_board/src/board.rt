@@ -38,7 +38,7 @@ impl<L: Laid> Board<L> {
     ghost use Rattle.lent_board.specs.Of.{IsOf};
 
     /// Makes Register of the site, a child of the owner, whose home the hart then is. A hart that
-    /// finds the site claimed is told the word.
+    /// finds the site claimed gets the word.
     pub fn register(&self, seat: &mut HartSeat, site: u16) -> Result<(), Taken>
         requires of { IsOf self.now seat.old }
         requires site { IsSite self.now.plan site }
@@ -58,7 +58,7 @@ impl<L: Laid> Board<L> {
     }
 
     /// Makes Skip of the site, a child of the owner, in which the hart stays. A hart that finds the site
-    /// claimed is told the word.
+    /// claimed gets the word.
     pub fn skip(&self, seat: &mut HartSeat, site: u16) -> Result<(), Taken>
         requires of { IsOf self.now seat.old }
         requires site { IsSite self.now.plan site }
@@ -158,7 +158,7 @@ impl<L: Laid> Board<L> {
 
     /// Looks whether the owner, which the hart has closed, has a guest. By guests that are another hart in
     /// it or in a site below it, one on its way in, or one that is leaving, and `Held` is never the answer.
-    /// By owners they are the harts on their way in, and `Held` tells of another hart in the owner.
+    /// By owners they are the harts on their way in, and `Held` reports another hart in the owner.
     pub fn see_empty(&self, seat: &mut HartSeat) -> Seen
         requires of { IsOf self.now seat.old }
         requires home { is_in seat.old.seat.me.0.marks.homes seat.old.seat.me.0.owner ≡ true }
@@ -213,7 +213,7 @@ impl<L: Laid> Board<L> {
     }
 
     /// The word at this place, as it is now: the first word, then those of the sites, then those of the
-    /// journal. It takes no seat and tells none anything. Tests compare words by it.
+    /// journal. It takes no seat and changes no view. Tests compare words by it.
     pub fn peek(&self, place: usize) -> u64
         requires { place < width self.now.plan }
     {

@@ -53,8 +53,15 @@ pub struct CloseRefused<L: Laid> {
 }
 
 impl<L: Laid> Board<L> {
-    /// Ends the board, for all its seats in order, and gives its journal. It makes its room before
-    /// its first step.
+    /// Ends the board and returns its journal. The seats are all seats of the board, in the order in which `new` returned them.
+    ///
+    /// # Memory
+    ///
+    /// It allocates room for the longest legal journal, before its first step.
+    ///
+    /// # Errors
+    ///
+    /// `CloseRefused` if that allocation fails. The board and the seats come back unchanged.
     pub fn close(
         self,
         alloc: Global,

@@ -3,8 +3,8 @@
 //! A `Board` is shared by reference among the threads of a run; each hart has a `HartSeat`, which it
 //! makes its transfers with. A transfer is one addition to the first word, and one to four steps on
 //! other words; a look is a load. No call locks, waits or takes memory, but for `new` and `close`. What
-//! the first word and those of the sites tell is a `Layout`, which the board has as a type.
-//! `docs/BOARD.md` tells how it works, `board_rule` has the rule and its laws.
+//! the first word and those of the sites show is a `Layout`, which the board has as a type.
+//! `docs/BOARD.md` explains it; `board_rule` has the rule and its laws.
 #![tactic(auto)]
 
 mod amounts;

@@ -1,5 +1,5 @@
-//! The kinds of step. `specs/Plays.antt` says what each tells its seat, and there the word that was
-//! found is noted: a kind can't tell another.
+//! The kinds of step. `specs/Plays.antt` says what each adds to its seat's view, and there the word that was
+//! found is noted: no kind can note another word.
 ghost use Rattle.std.specs.Prelude.{ℕ};
 
 use atomic_table::{Join, Play, Split};
@@ -38,7 +38,8 @@ impl<L: Laid> Play<(), View> for MakeSkip<L> {
     ghost then = { makes_skip L.layout };
 }
 
-/// How many harts a request asks for. Each call of `request` picks it.
+/// How many harts a request asks for. Why a ghost member, which each call of `request` picks: a step shows its seat only the
+/// operands and the view.
 pub(crate) trait Asked {
     ghost count: { ℕ };
 }

@@ -15,36 +15,36 @@ use Rattle.lithe_call.specs.declared.answer.Ending.TheVariants as ending
 use Rattle.lithe_call.specs.declared.status.Status.{Status}
 use Rattle.lithe_call.specs.declared.status.Status.TheVariants as status
 
--- these bytes have two parts, which are so
+-- These bytes have two parts, for which this holds.
 pub record HasParts (AreSo : List ℕ → List ℕ → Type 0) (bytes : List ℕ) : Type 0 where
   pub first : List ℕ
   pub second : List ℕ
   pub parts : parts_of bytes ≡ Some (first, second)
   pub are : AreSo first second
 
--- what an audit finds in an output of the program's run on so many harts
+-- This is what an audit finds in an output of the program's run on so many harts.
 abbrev pub found_in : ℕ → ProgramTree → List ℕ → Result Verdict TextFault
 found_in harts program output =
     audit_of (table_plan program harts) (entered_of program)
     (array_text program (final_store program)) output
 
--- a first part that spells an accepted program, and this verdict on the second
+-- The first part spells an accepted program, and this is the verdict on the second.
 pub record AreFound (harts : ℕ) (verdict : Verdict) (first second : List ℕ) : Type 0 where
   pub program : ProgramTree
   pub input : SpellAccepted harts first program
   pub found : found_in harts program second ≡ Ok verdict
 
--- these bytes have this verdict
+-- These bytes have this verdict.
 abbrev pub HasVerdict : ℕ → List ℕ → Verdict → Type 0
 HasVerdict harts bytes verdict = HasParts (AreFound harts verdict) bytes
 
--- the status by a verdict
+-- A verdict has this status.
 abbrev pub status_by : Verdict → Status
 status_by (verdict.Legal entries) = status.Done
 status_by (verdict.Differs line) = status.Illegal
 status_by (verdict.Illegal fault) = status.Illegal
 
--- the status of an answer, by what it tells
+-- The status of a command, by how it ends.
 abbrev pub status_of_ending : Ending → Status
 status_of_ending ending.Written = status.Done
 status_of_ending ending.Illegal = status.Illegal

@@ -3,7 +3,7 @@ use Rattle.std.specs.Prelude.{Bool, true, false}
 use Rattle.command_words.specs.declared.command.Command.{Command}
 use Rattle.command_words.specs.declared.command.Command.TheVariants.{Tally, Pipe, Audit}
 
--- those that run each accepted program as it stands
+-- These commands run each accepted program as it stands.
 abbrev pub runs_programs : Command → Bool
 runs_programs (Tally harts) = false
 runs_programs (Pipe harts) = false

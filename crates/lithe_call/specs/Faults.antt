@@ -34,7 +34,7 @@ use Rattle.run_audit.specs.AuditText.{text_fault_text}
 use Rattle.lithe_call.specs.declared.fault.Fault.{Fault}
 use Rattle.lithe_call.specs.declared.fault.Fault.TheVariants as fault
 
--- bytes within the limit spell no program, and the line tells their first fault, which isn't want of memory
+-- Bytes within the limit spell no program, and the line reports their first fault, which isn't an allocation failure.
 pub record SpellNothing (bytes line : List ℕ) : Type 0 where
   pub short : length bytes ≤ most_bytes
   pub nothing : (program : ProgramTree) → Spells bytes program → ⊥
@@ -43,14 +43,15 @@ pub record SpellNothing (bytes line : List ℕ) : Type 0 where
   pub real : fault ≢ syntax.Memory
   pub told : line ≡ syntax_text fault
 
--- the line tells this fault of the program, which isn't want of memory
+-- The line reports this fault of the program, which isn't an allocation failure.
 pub record IsToldFault (found : Option CheckFault) (program : ProgramTree) (line : List ℕ) : Type 0 where
   pub fault : CheckFault
   pub is : found ≡ Some fault
   pub real : fault ≢ check.Memory
   pub told : line ≡ refusal_text program fault
 
--- bytes within the limit spell a program that isn't accepted for so many harts, and the line tells the first condition that it fails
+-- Bytes within the limit spell a program that isn't accepted for so many harts, and the line names the first condition that it
+-- fails.
 pub record SpellRefused (harts : ℕ) (bytes line : List ℕ) : Type 0 where
   pub short : length bytes ≤ most_bytes
   pub program : ProgramTree
@@ -58,26 +59,27 @@ pub record SpellRefused (harts : ℕ) (bytes line : List ℕ) : Type 0 where
   pub refused : IsAcceptedFor program harts → ⊥
   pub first : IsToldFault (check_fault_of program harts) program line
 
--- the program has a meaning, but its adds can't have rows of their own, and the line tells why
+-- The program has a meaning, but its adds can't have rows of their own, and the line reports why.
 pub record IsUnspread (harts : ℕ) (program : ProgramTree) (line : List ℕ) : Type 0 where
   pub meaning : HasMeaningFor program harts
   pub fault : SpreadFault
   pub first : spread_fault_of program ≡ Some fault
   pub told : line ≡ tally_text (told_of fault)
 
--- it has a meaning and its adds can have rows, but with them it isn't accepted, and the line tells of the program with rows
+-- The program has a meaning and its adds can have rows, but with them it isn't accepted, and the line is about the program with
+-- rows.
 pub record IsSpreadRefused (harts : ℕ) (program : ProgramTree) (line : List ℕ) : Type 0 where
   pub meaning : HasMeaningFor program harts
   pub shaped : spread_fault_of program ≡ None
   pub first : IsToldFault (check_fault_of (spread_of program) harts) (spread_of program) line
 
--- the first of the three that refuses a program to `tally`: its meaning, its adds, or the check of it with rows
+-- The first of the three that refuses a program to `tally`: its meaning, its adds, or the check of it with rows.
 abbrev pub IsUntallied : ℕ → ProgramTree → List ℕ → Type 0
 IsUntallied harts program line =
     IsToldFault (meaning_fault_of program harts) program line
     ⊎ (IsUnspread harts program line ⊎ IsSpreadRefused harts program line)
 
--- bytes within the limit spell a program that isn't tallied by so many harts, and the line tells why
+-- Bytes within the limit spell a program that isn't tallied by so many harts, and the line reports why.
 pub record SpellUntallied (harts : ℕ) (bytes line : List ℕ) : Type 0 where
   pub short : length bytes ≤ most_bytes
   pub program : ProgramTree
@@ -85,7 +87,7 @@ pub record SpellUntallied (harts : ℕ) (bytes line : List ℕ) : Type 0 where
   pub refused : IsTallied harts program → ⊥
   pub first : IsUntallied harts program line
 
--- the program is accepted, but two pieces cross at one of its sites, and the line tells the first such site and its least cell
+-- The program is accepted, but two pieces cross at one of its sites, and the line reports the first such site and its least cell.
 pub record IsCrossed (harts : ℕ) (program : ProgramTree) (line : List ℕ) : Type 0 where
   pub accepted : IsAcceptedFor program harts
   pub fault : PipeFault
@@ -93,12 +95,12 @@ pub record IsCrossed (harts : ℕ) (program : ProgramTree) (line : List ℕ) : T
   pub real : fault ≢ pipe.Memory
   pub told : line ≡ crossing_text program fault
 
--- the first of the two that refuses a program to `pipe`: the check, or the one for crossings
+-- The first of the two that refuses a program to `pipe`: the check, or the one for crossings.
 abbrev pub IsUnpiped : ℕ → ProgramTree → List ℕ → Type 0
 IsUnpiped harts program line =
     IsToldFault (check_fault_of program harts) program line ⊎ IsCrossed harts program line
 
--- bytes within the limit spell a program that isn't piped by so many harts, and the line tells why
+-- Bytes within the limit spell a program that isn't piped by so many harts, and the line reports why.
 pub record SpellUnpiped (harts : ℕ) (bytes line : List ℕ) : Type 0 where
   pub short : length bytes ≤ most_bytes
   pub program : ProgramTree
@@ -106,13 +108,13 @@ pub record SpellUnpiped (harts : ℕ) (bytes line : List ℕ) : Type 0 where
   pub refused : IsPiped harts program → ⊥
   pub first : IsUnpiped harts program line
 
--- an input without a line `%%`, and the line that says so
+-- The input has no line `%%`, and the line says so.
 pub record HasNoMark (bytes line : List ℕ) : Type 0 where
   pub none : parts_of bytes ≡ None
   pub told : line ≡ codes "syntax: no line %%" ++ 10 ∷ []
 
--- a first part that spells an accepted program, and a second that is no output's text; the line tells its first fault, which
--- isn't want of memory
+-- A first part that spells an accepted program, and a second that is no output's text; the line reports its first fault, which
+-- isn't an allocation failure.
 pub record AreNoOutput (harts : ℕ) (line first second : List ℕ) : Type 0 where
   pub program : ProgramTree
   pub input : SpellAccepted harts first program
@@ -121,17 +123,17 @@ pub record AreNoOutput (harts : ℕ) (line first second : List ℕ) : Type 0 whe
   pub real : fault ≢ text.Memory
   pub told : line ≡ text_fault_text fault
 
--- a first part that spells no program, or a second that is no output's text
+-- The first part spells no program, or the second is no output's text.
 abbrev pub AreNoText : ℕ → List ℕ → List ℕ → List ℕ → Type 0
 AreNoText harts line first second = SpellNothing first line ⊎ AreNoOutput harts line first second
 
--- why the command's input is no text that it takes, as the line tells
+-- The command's input is no text that it takes, as the line reports.
 abbrev pub IsNoText : Command → List ℕ → List ℕ → Type 0
 IsNoText (Audit harts) bytes line = HasNoMark bytes line ⊎ HasParts (AreNoText harts line) bytes
 IsNoText (Make seed size harts) bytes line = ⊥
 IsNoText command bytes line = SpellNothing bytes line
 
--- why its program isn't accepted, as the line tells
+-- The command's program isn't accepted, as the line reports.
 abbrev pub IsRefused : Command → List ℕ → List ℕ → Type 0
 IsRefused (Run harts) bytes line = SpellRefused harts bytes line
 IsRefused (Tally harts) bytes line = SpellUntallied harts bytes line
@@ -140,13 +142,13 @@ IsRefused Solo bytes line = SpellRefused 1 bytes line
 IsRefused (Audit harts) bytes line = HasParts (λ first second. SpellRefused harts first line) bytes
 IsRefused (Make seed size harts) bytes line = SpellRefused harts (made_text seed size) line
 
--- the program part of its input is too long
+-- The program part of its input is too long.
 abbrev pub IsLong : Command → List ℕ → Type 0
 IsLong (Audit harts) bytes = HasParts (λ first second. most_bytes < length first) bytes
 IsLong command bytes = ⊥
 
 -- The cause of a fault of the command, by what the source had left before and has left after, and by its count of faults
--- before and after. Want of memory has none.
+-- before and after. An allocation failure has none.
 abbrev pub IsCause : Command → Fault → Option (List ℕ) → Option (List ℕ) → ℕ → ℕ → Type 0
 IsCause command fault.Usage left left' faults faults' = ⊥
 IsCause command fault.TooLong left left' faults faults' =
@@ -165,7 +167,7 @@ IsNoCommand words fault.Usage = form_of words ≡ None
 IsNoCommand words fault.Memory = Unit {0}
 IsNoCommand words why = ⊥
 
--- The fault is that of usage only where the words give no command, and there it is that or want of memory, which may come
+-- The fault is that of usage only where the words give no command, and there it is that or an allocation failure, which may come
 -- also while the words are read. Any other has its cause.
 abbrev pub IsFault : List (List ℕ) → Fault → Option (List ℕ) → Option (List ℕ) → ℕ → ℕ → Type 0
 IsFault words fault.Usage left left' faults faults' = form_of words ≡ None
@@ -174,26 +176,26 @@ IsFault words why left left' faults faults' =
     (command : Command) × (form_of words ≡ Some command)
     × IsCause command why left left' faults faults'
 
--- why the program of these bytes has no output, by which lines tell that it is refused
+-- The program of these bytes has no output, by which lines report that it is refused.
 abbrev pub IsNoRun : (List ℕ → List ℕ → Type 0) → List ℕ → Fault → Type 0
 IsNoRun AreRefused bytes (fault.Syntax line) = SpellNothing bytes line.items
 IsNoRun AreRefused bytes (fault.Refused line) = AreRefused bytes line.items
 IsNoRun AreRefused bytes fault.Memory = Unit {0}
 IsNoRun AreRefused bytes why = ⊥
 
--- the fault tells why the program isn't tallied, or memory ran out
+-- The fault reports why the program isn't tallied, or memory ran out.
 abbrev pub TellsUntallied : ℕ → ProgramTree → Fault → Type 0
 TellsUntallied harts program (fault.Refused line) = IsUntallied harts program line.items
 TellsUntallied harts program fault.Memory = Unit {0}
 TellsUntallied harts program why = ⊥
 
--- the fault tells why the program isn't piped, or memory ran out
+-- The fault reports why the program isn't piped, or memory ran out.
 abbrev pub TellsUnpiped : ℕ → ProgramTree → Fault → Type 0
 TellsUnpiped harts program (fault.Refused line) = IsUnpiped harts program line.items
 TellsUnpiped harts program fault.Memory = Unit {0}
 TellsUnpiped harts program why = ⊥
 
--- why the command has no output for these bytes
+-- The command has no output for these bytes, for this cause.
 abbrev pub IsNoOutput : Command → List ℕ → Fault → Type 0
 IsNoOutput command bytes fault.Usage = ⊥
 IsNoOutput command bytes fault.TooLong = IsLong command bytes
@@ -202,7 +204,7 @@ IsNoOutput command bytes (fault.Syntax line) = IsNoText command bytes line.items
 IsNoOutput command bytes (fault.Refused line) = IsRefused command bytes line.items
 IsNoOutput command bytes fault.Memory = Unit {0}
 
--- why these parts have no verdict
+-- These parts have no verdict, for this cause.
 abbrev pub HaveNoVerdict : ℕ → List ℕ → List ℕ → Fault → Type 0
 HaveNoVerdict harts first second (fault.Syntax line) = AreNoText harts line.items first second
 HaveNoVerdict harts first second (fault.Refused line) = SpellRefused harts first line.items

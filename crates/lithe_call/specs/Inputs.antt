@@ -7,28 +7,29 @@ use Rattle.lithe_call.specs.Telling.{GivesWithin, GivesMore}
 use Rattle.command_words.specs.declared.command.Command.{Command}
 use Rattle.command_words.specs.declared.command.Command.TheVariants.{Audit, Make}
 
--- the greatest length of a command's input, in bytes
+-- A command's input has at most so many bytes.
 abbrev pub limit_of : Command → ℕ
 limit_of (Audit harts) = most_audited
 limit_of (Make seed size harts) = 0
 limit_of command = most_bytes
 
--- the command read these bytes, which were all that the source had left, and are no more than its input may have
+-- The command read these bytes, which were all that the source had left, and are no more than its input may have. Why the bytes
+-- that it read, not those that it was to read: a clause then means something also if the source doesn't show its bytes.
 abbrev pub ReadsAll : Command → Option (List ℕ) → List ℕ → Option (List ℕ) → Type 0
 ReadsAll (Make seed size harts) left bytes left' = left' ≡ left
 ReadsAll command left bytes left' = GivesWithin (limit_of command) left bytes left'
 
--- the source gave more than the command's input may have
+-- The source gave more than the command's input may have.
 abbrev pub GivesTooMuch : Command → Option (List ℕ) → Option (List ℕ) → Type 0
 GivesTooMuch (Make seed size harts) left left' = ⊥
 GivesTooMuch command left left' = GivesMore left (limit_of command) left'
 
--- these bytes are the command's input, as the source told beforehand; for `make` any will do
+-- These bytes are the command's input, as the source showed beforehand; for `make` any will do.
 abbrev pub AreInput : Command → Option (List ℕ) → List ℕ → Type 0
 AreInput (Make seed size harts) left bytes = Unit {0}
 AreInput command left bytes = left ≡ Some bytes
 
--- the source failed while the command read, by its count of faults before and after
+-- The source failed while the command read, by its count of faults before and after.
 abbrev pub FailsToRead : Command → ℕ → ℕ → Type 0
 FailsToRead (Make seed size harts) faults faults' = ⊥
 FailsToRead command faults faults' = Rose faults faults'

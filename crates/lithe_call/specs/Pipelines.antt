@@ -6,11 +6,12 @@ use Rattle.array_meaning.specs.Bounds.{most_bytes}
 use Rattle.disjoint_check.specs.Meaning.{IsAcceptedFor}
 use Rattle.phase_order.specs.Crossings.{HasNoCrossings}
 
+-- The program is accepted for so many harts, and no two of its pieces cross.
 pub record IsPiped (harts : ℕ) (program : ProgramTree) : Type 0 where
   pub accepted : IsAcceptedFor program harts
   pub uncrossed : HasNoCrossings program
 
--- these bytes spell such a program
+-- These bytes spell a program that may be piped by so many harts.
 pub record SpellPiped (harts : ℕ) (bytes : List ℕ) (program : ProgramTree) : Type 0 where
   pub short : length bytes ≤ most_bytes
   pub spelled : Spells bytes program

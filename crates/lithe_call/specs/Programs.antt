@@ -9,15 +9,15 @@ use Rattle.array_meaning.specs.Plans.{plan_of}
 use Rattle.disjoint_check.specs.Meaning.{IsAcceptedFor}
 use Rattle.program_maker.specs.Made.{made_program}
 
--- the program's plan for so many harts
+-- A program has this plan for so many harts.
 abbrev pub table_plan : ProgramTree → ℕ → Plan
 table_plan program harts = record { harts = harts; parents = plan_of program }
 
--- the text of the program that `make` makes, as it is printed
+-- The command `make` makes this text of a program, as it is printed.
 abbrev pub made_text : ℕ → ℕ → List ℕ
 made_text seed size = printed (made_program seed size)
 
--- these bytes spell a program that is accepted for so many harts
+-- These bytes spell a program that is accepted for so many harts.
 pub record SpellAccepted (harts : ℕ) (bytes : List ℕ) (program : ProgramTree) : Type 0 where
   pub short : length bytes ≤ most_bytes
   pub spelled : Spells bytes program

@@ -1,4 +1,4 @@
--- What a call has read, written and told. The bytes are those that the source gave; a source that tells its bytes had
+-- What a call has read and written. The bytes are those that the source gave; a source that shows its bytes had
 -- just these left. `make` reads none.
 use Rattle.std.specs.Prelude.{◌≡◌, ◌≢◌, ◌⊎◌, ℕ, List, Option, Some, None}
 use Rattle.outside_io.specs.Outside.{Rose, Appends}
@@ -13,7 +13,7 @@ use Rattle.command_words.specs.declared.command.Command.TheVariants.{Make}
 use Rattle.lithe_call.specs.declared.status.Status.{Status}
 use Rattle.lithe_call.specs.declared.status.Status.TheVariants.{Done, Illegal, Usage, Syntax, Refused, TooLong, ReadFault, WriteFault, NoMemory}
 
--- the words' command read these bytes to the end of the source, and this text is what it writes for them with this status
+-- The words' command read these bytes to the end of the source, and this text is what it writes for them with this status.
 pub record IsOutputFor (words : List (List ℕ)) (left left' : Option (List ℕ)) (status : Status)
     (text : List ℕ) : Type 0 where
   pub command : Command
@@ -22,14 +22,14 @@ pub record IsOutputFor (words : List (List ℕ)) (left left' : Option (List ℕ)
   pub given : ReadsAll command left bytes left'
   pub output : IsOutputOf command bytes status text
 
--- the sink took such a text
+-- The sink took such a text.
 pub record WritesOutput (words : List (List ℕ)) (left left' : Option (List ℕ)) (status : Status)
     (taken taken' : Option (List ℕ)) : Type 0 where
   pub text : List ℕ
   pub output : IsOutputFor words left left' status text
   pub written : Appends taken text taken'
 
--- the sink took a prefix of such a text, with whatever status
+-- The sink took a prefix of such a text, with whatever status.
 pub record WritesPrefix (words : List (List ℕ))
     (left left' taken taken' : Option (List ℕ)) : Type 0 where
   pub status : Status
@@ -37,14 +37,14 @@ pub record WritesPrefix (words : List (List ℕ))
   pub output : IsOutputFor words left left' status text
   pub written : AppendsPrefix taken text taken'
 
--- the input is too long for the words' command
+-- The input is too long for the words' command.
 pub record IsTooLong (words : List (List ℕ)) (left left' : Option (List ℕ)) : Type 0 where
   pub command : Command
   pub form : form_of words ≡ Some command
   pub longer : GivesTooMuch command left left'
       ⊎ ((bytes : List ℕ) × ReadsAll command left bytes left' × IsLong command bytes)
 
--- the line tells why what the words' command read isn't what it takes, or why it is refused
+-- The line reports why what the words' command read isn't what it takes, or why it is refused.
 pub record IsToldOf (IsSo : Command → List ℕ → List ℕ → Type 0) (words : List (List ℕ))
     (left left' : Option (List ℕ)) (line : List ℕ) : Type 0 where
   pub command : Command
@@ -53,13 +53,13 @@ pub record IsToldOf (IsSo : Command → List ℕ → List ℕ → Type 0) (words
   pub given : ReadsAll command left bytes left'
   pub is : IsSo command bytes line
 
--- the text is the status's, for what the source gave
+-- The text is the status's, for what the source gave.
 abbrev pub IsTextOf : List (List ℕ) → Status → Option (List ℕ) → Option (List ℕ) → List ℕ → Type 0
 IsTextOf words Syntax left left' text = IsToldOf IsNoText words left left' text
 IsTextOf words Refused left left' text = IsToldOf IsRefused words left left' text
 IsTextOf words status left left' text = text ≡ constant_text status
 
--- the sink, with its count of faults before and after, was told the status's text
+-- The status's text was written to the sink, with its count of faults before and after.
 pub record TellsStatus (words : List (List ℕ)) (status : Status)
     (left left' taken : Option (List ℕ)) (faults : ℕ) (taken' : Option (List ℕ))
     (faults' : ℕ) : Type 0 where
@@ -67,7 +67,7 @@ pub record TellsStatus (words : List (List ℕ)) (status : Status)
   pub right : IsTextOf words status left left' text
   pub tells : Tells taken faults text taken' faults'
 
--- How a call sees the outside: what the source has left, what the sinks for the output and for what is told have taken, and the
+-- How a call sees the outside: what the source has left, what the sinks for the output and for errors have taken, and the
 -- count of faults of each.
 pub record Outside (A B E : Type 0) : Type 0 where
   pub left : A → Option (List ℕ)
@@ -77,7 +77,7 @@ pub record Outside (A B E : Type 0) : Type 0 where
   pub told : E → Option (List ℕ)
   pub tell_faults : E → ℕ
 
--- The words were served, with this status: what the source, the sink and the sink for what is told were before and are after.
+-- The words were served, with this status: what the source, the sink and the sink for errors were before and are after.
 pub record AreServed {A B E : Type 0} (see : Outside A B E) (words : List (List ℕ)) (status : Status) (source source' : A)
     (out out' : B) (err err' : E) : Type 0 where
   -- The arrays are those of the one-thread meaning of the program that the source gave to its end, and the transfers are
@@ -94,7 +94,7 @@ pub record AreServed {A B E : Type 0} (see : Outside A B E) (words : List (List 
       → (FailsToRead command (see.read_faults source) (see.read_faults source') → ⊥)
       → (Rose (see.write_faults out) (see.write_faults out') → ⊥)
       → (status ≡ ended) ⊎ (status ≡ NoMemory)
-  -- When each other status comes. What is told of Syntax and Refused has their causes. Words that are no form are Usage,
+  -- When each other status comes. The texts of Syntax and Refused have their causes. Words that are no form are Usage,
   -- unless memory runs out while they are read.
   pub usage : status ≡ Usage → form_of words ≡ None
   pub no_form : form_of words ≡ None → (status ≡ Usage) ⊎ (status ≡ NoMemory)

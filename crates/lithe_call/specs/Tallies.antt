@@ -8,14 +8,14 @@ use Rattle.disjoint_check.specs.Meaning.{HasMeaningFor, IsAcceptedFor}
 use Rattle.spread_laws.specs.Faults.{spread_fault_of}
 use Rattle.spread_laws.specs.Spread.{spread_of}
 
--- For so many harts: it meets all conditions but that its pieces are apart; its adds can have rows; and with these it is
--- accepted.
+-- A program may be tallied by so many harts if it meets all conditions but that its pieces are apart, its adds can have rows,
+-- and with these it is accepted.
 pub record IsTallied (harts : ℕ) (program : ProgramTree) : Type 0 where
   pub meaning : HasMeaningFor program harts
   pub shaped : spread_fault_of program ≡ None
   pub accepted : IsAcceptedFor (spread_of program) harts
 
--- these bytes spell such a program
+-- These bytes spell a program that may be tallied by so many harts.
 pub record SpellTallied (harts : ℕ) (bytes : List ℕ) (program : ProgramTree) : Type 0 where
   pub short : length bytes ≤ most_bytes
   pub spelled : Spells bytes program

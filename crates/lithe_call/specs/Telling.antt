@@ -2,29 +2,29 @@
 use Rattle.std.specs.Prelude.{ℕ, ◌<◌, ◌≤◌, ◌⊎◌, List, length, take, Option}
 use Rattle.outside_io.specs.Outside.{Rose, Gives, Appends, IsAtEnd}
 
--- the source gave these bytes, and they were all
+-- The source gave these bytes, and they were all.
 pub record GivesAll (before : Option (List ℕ)) (bytes : List ℕ)
     (after : Option (List ℕ)) : Type 0 where
   pub given : Gives before bytes after
   pub ended : IsAtEnd after
 
--- the source gave these bytes, at most so many, and they were all
+-- The source gave these bytes, at most so many, and they were all.
 pub record GivesWithin (limit : ℕ) (before : Option (List ℕ)) (bytes : List ℕ)
     (after : Option (List ℕ)) : Type 0 where
   pub given : GivesAll before bytes after
   pub short : length bytes ≤ limit
 
--- the source gave more than so many bytes
+-- The source gave more than so many bytes.
 pub record GivesMore (before : Option (List ℕ)) (limit : ℕ) (after : Option (List ℕ)) : Type 0 where
   pub bytes : List ℕ
   pub given : Gives before bytes after
   pub longer : limit < length bytes
 
--- the sink put a prefix of these bytes behind what it had taken
+-- The sink put a prefix of these bytes behind what it had taken.
 abbrev pub AppendsPrefix : Option (List ℕ) → List ℕ → Option (List ℕ) → Type 0
 AppendsPrefix before bytes after = (count : ℕ) × Appends before (take count bytes) after
 
--- a text was told: the sink took it whole, or a prefix of it where its count of faults rose
+-- A text was written: the sink took it whole, or a prefix of it where its count of faults rose.
 abbrev pub Tells : Option (List ℕ) → ℕ → List ℕ → Option (List ℕ) → ℕ → Type 0
 Tells before faults text after faults' =
     Appends before text after ⊎ (Rose faults faults' × AppendsPrefix before text after)

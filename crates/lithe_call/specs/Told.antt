@@ -1,4 +1,4 @@
--- The same for bytes that a source told beforehand: what was written and told for them.
+-- The same for bytes that a source showed beforehand: what was written for them.
 use Rattle.std.specs.Prelude.{◌≡◌, ℕ, List, Option}
 use Rattle.outside_io.specs.Outside.{Appends}
 use Rattle.lithe_call.specs.Telling.{AppendsPrefix, Tells}
@@ -9,14 +9,14 @@ use Rattle.command_words.specs.declared.command.Command.{Command}
 use Rattle.lithe_call.specs.declared.status.Status.{Status}
 use Rattle.lithe_call.specs.declared.status.Status.TheVariants.{Syntax, Refused}
 
--- the sink took what the command writes for these bytes with this status
+-- The sink took what the command writes for these bytes with this status.
 pub record TookOutput (command : Command) (bytes : List ℕ) (status : Status)
     (taken taken' : Option (List ℕ)) : Type 0 where
   pub text : List ℕ
   pub output : IsOutputOf command bytes status text
   pub written : Appends taken text taken'
 
--- the sink took a prefix of what it writes with whatever status
+-- The sink took a prefix of what it writes with whatever status.
 pub record TookPrefix (command : Command) (bytes : List ℕ)
     (taken taken' : Option (List ℕ)) : Type 0 where
   pub status : Status
@@ -24,13 +24,13 @@ pub record TookPrefix (command : Command) (bytes : List ℕ)
   pub output : IsOutputOf command bytes status text
   pub written : AppendsPrefix taken text taken'
 
--- the text is the status's for the command with these bytes
+-- The text is the status's for the command with these bytes.
 abbrev pub IsLineOf : Command → Status → List ℕ → List ℕ → Type 0
 IsLineOf command Syntax bytes text = IsNoText command bytes text
 IsLineOf command Refused bytes text = IsRefused command bytes text
 IsLineOf command status bytes text = text ≡ constant_text status
 
--- the sink was told it
+-- The text was written to the sink.
 pub record ToldLine (command : Command) (status : Status) (bytes : List ℕ) (taken : Option (List ℕ))
     (faults : ℕ) (taken' : Option (List ℕ)) (faults' : ℕ) : Type 0 where
   pub text : List ℕ

@@ -1,13 +1,13 @@
 //! What a command writes.
 
-/// What a command writes, and what that tells.
+/// What a command writes, and how it ends.
 #[derive(Drop)]
 pub struct Answer {
     pub text: Vec<u8>,
     pub ending: Ending,
 }
 
-/// What an answer tells.
+/// How a command ends that writes its whole output.
 #[derive(Clone, Copy)]
 pub enum Ending {
     /// What the command was asked for; of an audit, that the output is the program's.

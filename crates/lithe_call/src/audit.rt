@@ -19,7 +19,8 @@ use journal_text::TextFault;
 use run_audit::{Verdict, audit, parts_of, text_fault_line, verdict_line};
 use std::alloc::Global;
 
-/// The line of the verdict on the output that stands behind a program, or why there is none.
+/// The line of the verdict on the output that stands behind a program, or why there is none. An input without a line `%%` has no
+/// program part, so it is a `Syntax` fault whatever its length.
 pub fn audited(alloc: Global, harts: u8, bytes: &[u8]) -> Result<Answer, Fault>
     requires short { length bytes.now ≤ most_audited }
     requires some_hart { 1 ≤ harts }
@@ -40,7 +41,7 @@ pub fn audited(alloc: Global, harts: u8, bytes: &[u8]) -> Result<Answer, Fault>
     Ok(Answer { text, ending })
 }
 
-// What the line of a verdict tells.
+// How a command ends that writes the line of a verdict.
 fn ending(verdict: Verdict) -> Ending
     ensures { status_of_ending result ≡ status_by verdict }
 {

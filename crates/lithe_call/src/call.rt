@@ -34,7 +34,7 @@ use std::alloc::Global;
 use std::sync::Wait;
 use std::thread::Threads;
 
-/// Serves the words: reads the input, runs its program and writes the output, or tells on `err` why not.
+/// Serves the words: reads the input, runs its program and writes the output, or writes to `err` why not.
 ///
 /// `run --harts N`, N from 1 to 16, runs the program on N harts, each of several on a thread, and writes its arrays and the
 /// journal of its transfers; `tally --harts N` does so where branches and members add into one cell of an array whose name
@@ -42,8 +42,8 @@ use std::thread::Threads;
 /// arrays alone. `audit --harts N` reads a program, a line `%%` and an output of
 /// `run`, and writes whether the output is the program's; where it isn't, the status is Illegal. `make --seed X --size K
 /// --harts N`, K from 1 to 40, reads nothing: it makes a program, runs its printed text as `run` does, and writes the
-/// summary of the run. The whole output is built before its first byte is written.
-/// Whatever the status, its text was told on `err`, and a failure of `err` changes no status.
+/// summary of the run. The whole output is built before its first byte is written, so a fault leaves the output empty.
+/// Whatever the status, its text was written to `err`, and a failure of `err` changes no status.
 pub fn lithe<R: Threads + Wait + Sync, A: Source, B: Sink, E: Sink, G: Gate>(
     rt: &R,
     alloc: Global,
@@ -75,7 +75,7 @@ pub fn lithe<R: Threads + Wait + Sync, A: Source, B: Sink, E: Sink, G: Gate>(
     }
 }
 
-/// Ends a run whose words aren't text, and so are no form: tells so on `err`, as `lithe` does of words that are no form.
+/// Ends a run whose words aren't text, and so are no form: writes so to `err`, as `lithe` does of words that are no form.
 pub fn no_form_for_words<E: Sink>(err: &mut E) -> Status
     ensures same { result ≡ Status.Usage }
     ensures told { Tells (E.taken err.old) (E.faults err.old) (constant_text Status.Usage)
@@ -84,7 +84,7 @@ pub fn no_form_for_words<E: Sink>(err: &mut E) -> Status
     tell(err, Status::Usage)
 }
 
-/// Ends a run that found no memory for its words: tells so on `err`, as `lithe` does of want of memory.
+/// Ends a run that could not allocate its words: writes so to `err`, as `lithe` does of an allocation failure.
 pub fn no_memory_for_words<E: Sink>(err: &mut E) -> Status
     ensures same { result ≡ Status.NoMemory }
     ensures told { Tells (E.taken err.old) (E.faults err.old) (constant_text Status.NoMemory)
@@ -93,7 +93,7 @@ pub fn no_memory_for_words<E: Sink>(err: &mut E) -> Status
     tell(err, Status::NoMemory)
 }
 
-// The status of an answer that was written.
+// The status of an output that was written.
 fn status_of_ending(ending: Ending) -> Status
     ensures { result ≡ status_of_ending ending }
 {
@@ -103,7 +103,7 @@ fn status_of_ending(ending: Ending) -> Status
     }
 }
 
-// Writes the line that tells the fault, and answers its status.
+// Writes the line that reports the fault, and returns its status.
 fn tell_fault<E: Sink>(err: &mut E, fault: &Fault) -> Status
     ensures same { result ≡ status_of fault.now }
     ensures told { Tells (E.taken err.old) (E.faults err.old) (line_of fault.now)
@@ -113,7 +113,7 @@ fn tell_fault<E: Sink>(err: &mut E, fault: &Fault) -> Status
     fault.status()
 }
 
-// Writes the status's text, where that is always the same, and answers the status.
+// Writes the status's text, where that is always the same, and returns the status.
 fn tell<E: Sink>(err: &mut E, status: Status) -> Status
     ensures same { result ≡ status }
     ensures told { Tells (E.taken err.old) (E.faults err.old) (constant_text status)
@@ -255,6 +255,7 @@ fn answer_to<R: Threads + Wait + Sync, G: Gate>(
         Command::Tally(harts) => tally_of(rt, alloc, gate, harts, bytes),
         Command::Pipe(harts) => pipe_of(rt, alloc, gate, harts, bytes),
         Command::Make { seed, size, .. } => {
+            // Why the printed text is run: a refusal then has the lines of that text.
             let text = made_text(alloc, seed, size)?;
             run_of(rt, alloc, gate, command, &text)
         }

@@ -15,11 +15,11 @@ pub enum Fault {
     TooLong,
     /// The source failed.
     ReadFault,
-    /// The input spells no program, or is no input of an audit; the line tells its first fault.
+    /// The input spells no program, or is no input of an audit; the line reports its first fault.
     Syntax(Vec<u8>),
-    /// The program isn't accepted; the line tells the first condition that it fails.
+    /// The program isn't accepted; the line reports the first condition that it fails.
     Refused(Vec<u8>),
-    /// Want of memory.
+    /// An allocation failed.
     Memory,
 }
 
@@ -64,7 +64,7 @@ impl Fault {
         }
     }
 
-    /// The text that tells the fault.
+    /// The text that reports the fault.
     pub fn line(&self) -> &[u8]
         ensures { result.now ≡ line_of self.now }
     {

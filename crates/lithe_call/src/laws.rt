@@ -8,7 +8,7 @@ ghost use Rattle.lithe_call.specs.Faults.{IsLong};
 ghost use Rattle.lithe_call.specs.Served.{WritesOutput, WritesPrefix, IsTooLong, TellsStatus};
 ghost use Rattle.lithe_call.specs.Told.{TookOutput, TookPrefix, ToldLine};
 
-/// Where the source told its bytes beforehand, what `lithe` wrote and told is that of these bytes.
+/// If the source showed its bytes beforehand, all that `lithe` wrote is that of these bytes.
 pub fn told_bytes_are_served()
     ensures done { (words : List (List ℕ)) (status : Status)
         (left left' taken taken' : Option (List ℕ))

@@ -1,8 +1,11 @@
 //! The top call: words and a program in, its arrays and its journal out.
 //!
 //! `lithe` is the call, and its contract is what is claimed of the whole. `specs/Output.antt` says what a command writes,
-//! `specs/Served.antt` what a call has read, written and told, and `src/laws.rt` what follows where the source tells its
-//! bytes.
+//! `specs/Served.antt` what a call has read and written, and `src/laws.rt` what follows where the source shows
+//! its bytes beforehand.
+//!
+//! Begin with `lithe` in `call.rt` and the clause `done` of `AreServed` in `specs/Served.antt`. The program `lithe_run` calls
+//! it, and the tests of `lithe_tests` serve commands from memory.
 #![tactic(auto)]
 
 mod answer;

@@ -9,7 +9,7 @@ use std::alloc::{AllocError, Global};
 /// Why an input wasn't read to its end.
 #[derive(Clone, Copy, Debug, PartialEq, Eq)]
 pub enum ReadError {
-    /// Want of memory.
+    /// An allocation failed.
     Memory,
     /// The source gave more than the limit's bytes before its end.
     TooLong,
@@ -31,6 +31,11 @@ impl From<AllocError> for ReadError {
 const BUFFER: usize = 4096;
 
 /// All bytes that the source has left, if they are at most `limit`.
+///
+/// # Errors
+///
+/// `ReadError::TooLong` if the source has more bytes, `ReadError::Failed` if it fails, and `ReadError::Memory` if an allocation
+/// fails.
 pub fn read_all<A: Source>(
     alloc: Global,
     source: &mut A,

@@ -174,7 +174,7 @@ fn summary<R: Threads + Wait + Sync, G: Gate>(
     )
 }
 
-/// Runs the program on the harts of its plan. One hart is alone, and waits for nobody.
+/// Runs the program on the harts of its plan. One hart is alone, and waits for no other.
 pub(crate) fn outcome<R: Threads + Wait + Sync, G: Gate>(
     rt: &R,
     alloc: Global,

@@ -21,7 +21,7 @@ pub enum Status {
     ReadFault = 6,
     /// The sink failed; it took a prefix of the output.
     WriteFault = 7,
-    /// Want of memory.
+    /// An allocation failed.
     NoMemory = 8,
 }
 

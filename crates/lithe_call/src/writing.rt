@@ -5,7 +5,7 @@ ghost use Rattle.lithe_call.specs.Telling.{AppendsPrefix};
 
 use outside_io::{Put, Sink};
 
-/// Writes the bytes, and answers whether all of them were taken. Else the sink failed, and took a prefix.
+/// Writes the bytes, and returns whether all of them were taken. Else the sink failed, and took a prefix.
 pub fn write_all<B: Sink>(out: &mut B, bytes: &[u8]) -> bool
     ensures count { B.faults out.old ≤ B.faults out.new }
     ensures done { IsTrue result → Appends (B.taken out.old) bytes.now (B.taken out.new) }

@@ -4,8 +4,8 @@ use Rattle.array_jobs.specs.Jobs.{JobParts}
 use Rattle.join_book.specs.Books.{BookParts, Open, IsMarked}
 use Rattle.work_agenda.specs.Agenda.{AgendaParts}
 
--- Of a book of jobs and of what there is for harts: no context is ready, the jobs before place `begun` were handed out, and
--- exactly those before place `done` came back, as a piece or as a failure.
+-- A book of jobs and an agenda stand so: no context is ready, the jobs before place `begun` were handed out, and exactly those
+-- before place `done` came back, as a piece or as a failure.
 pub record Stands {C : Type 0} (begin : JobParts → C) (book : BookParts) (agenda : AgendaParts C)
     (done begun : ℕ) : Type 0 where
   pub none_ready : agenda.ready ≡ []
@@ -15,11 +15,11 @@ pub record Stands {C : Type 0} (begin : JobParts → C) (book : BookParts) (agen
   pub each : length book.places ≡ length book.jobs
   pub own : (i : ℕ) (job : JobParts) → slice_get book.jobs i ≡ Some job → job.place ≡ i
 
--- all jobs that were handed out came back
+-- All jobs that were handed out came back.
 abbrev pub AllCameBack : {C : Type 0} → (JobParts → C) → BookParts → AgendaParts C → Type 0
 AllCameBack begin book agenda = (k : ℕ) × Stands begin book agenda k k
 
--- all but this job, which was handed out last
+-- All jobs that were handed out came back but this one, which was handed out last.
 abbrev pub AllButOneCameBack : {C : Type 0} → (JobParts → C) → BookParts → AgendaParts C
     → JobParts → Type 0
 AllButOneCameBack begin book agenda job =

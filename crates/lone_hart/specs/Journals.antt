@@ -4,22 +4,23 @@ use Rattle.transfer_table.specs.declared.entry.Entry.{Entry}
 use Rattle.lone_hart.specs.declared.outcome.Journal.{Journal}
 use Rattle.lone_hart.specs.declared.outcome.Journal.TheVariants.{Listed, Board, Wide}
 
+-- The entries of a journal are those of its list or of its board.
 abbrev pub entries_in : Journal → List Entry
 entries_in (Listed entries) = entries
 entries_in (Board entries) = entries
 entries_in (Wide entries) = entries
 
--- the list that a single hart kept
+-- The journal is the list that a single hart kept.
 abbrev pub IsListed : Journal → Type 0
 IsListed (Listed entries) = Unit {0}
 IsListed journal = ⊥
 
--- the journal of a closed word board
+-- The journal is that of a closed word board.
 abbrev pub IsBoard : Journal → Type 0
 IsBoard (Board entries) = Unit {0}
 IsBoard journal = ⊥
 
--- the journal of a closed wide board
+-- The journal is that of a closed wide board.
 abbrev pub IsWide : Journal → Type 0
 IsWide (Wide entries) = Unit {0}
 IsWide journal = ⊥

@@ -23,7 +23,7 @@ pub record ServesPool (p : Plan) (around : ℕ) (start es : List Entry) (nested 
   pub stands : Stands pool_work.Begin pool.book pool.agenda done done
   pub served : HasServed p around start es (nested_of nested) 0 done
 
--- So were all but this one, which it handed out last.
+-- The jobs that the pool handed out were run, all but this one, which it handed out last.
 pub record LendsJob (p : Plan) (around : ℕ) (start es : List Entry) (nested : NestedParts)
     (pool : PoolParts) (job : JobParts) : Type 0 where
   pub done : ℕ
@@ -39,7 +39,7 @@ pub record ServesPhase (p : Plan) (around : ℕ) (start es : List Entry) (t : Te
   pub stands : Stands team_work.Begin t.barrier t.agenda done done
   pub served : HasServed p around start es (nested_of t.nested) t.opened done
 
--- All phases were run.
+-- All phases of the team were run.
 pub record ServedPhases (p : Plan) (around : ℕ) (start es : List Entry) (t : TeamParts) : Type 0 where
   pub last : t.opened ≡ phases_in t.nested
   pub served : HasServed p around start es (nested_of t.nested) t.opened 0
@@ -58,7 +58,7 @@ abbrev pub serves_pool : NestedParts → PoolParts → Plan → ℕ → List Ent
 serves_pool nested pool p around start es =
     HasFailed pool.book ⊎ ServesPool p around start es nested pool
 
--- So was a team of which none did.
+-- A team of which no job failed was served so.
 abbrev pub serves_team : TeamParts → Plan → ℕ → List Entry → List Entry → Type 0
 serves_team t p around start es =
     (t.failed ≡ true) ⊎ (ServedPhases p around start es t ⊎ ServesPhase p around start es t)
@@ -69,14 +69,14 @@ is_serving (Base base) p around start es = ⊥
 is_serving (Pool nested pool) p around start es = IsPlan p × serves_pool nested pool p around start es
 is_serving (Team t) p around start es = IsPlan p × serves_team t p around start es
 
--- And this one is out.
+-- The jobs of the site that came back were run, and this one is out.
 abbrev pub is_lent : LoneSite → JobParts → Plan → ℕ → List Entry → List Entry → Type 0
 is_lent (Base base) job p around start es = ⊥
 is_lent (Pool nested pool) job p around start es =
     IsPlan p × LendsJob p around start es nested pool job
 is_lent (Team t) job p around start es = IsPlan p × LendsMember p around start es t job
 
--- a job of the site came back as a failure
+-- A job of the site came back as a failure.
 abbrev pub is_failed : LoneSite → Type 0
 is_failed (Base base) = ⊥
 is_failed (Pool nested pool) = HasFailed pool.book

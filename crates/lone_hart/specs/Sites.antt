@@ -1,10 +1,12 @@
 -- The schedulers of the sites, as the only hart has them.
-use Rattle.std.specs.Prelude.{◌≡◌, ◌⊎◌, ℕ, suc, ◌+◌, ◌-◌, ◌*◌, length, map, Option, Some, None}
+use Rattle.std.specs.Prelude.{◌≡◌, ◌⊎◌, ℕ, suc, ◌+◌, ◌-◌, ◌*◌, min, length, map, Option, Some, None}
 use Rattle.array_tree.specs.Trees.{statement_of}
+use Rattle.array_meaning.specs.Plans.{statement_sites_in}
 use Rattle.array_jobs.specs.Jobs.{JobParts, job_of}
 use Rattle.join_book.specs.Books.{IsFull, HasFailed}
 use Rattle.step_eval.specs.Nests.{NestedParts, nested_of, phases_of, jobs_in, IsFitNest}
 use Rattle.sched_api.specs.declared.hearing.Told.{Told}
+use Rattle.work_agenda.specs.declared.agenda.TheConstants.{MOST_WISHES}
 use Rattle.base_sched.specs.Oldest as base
 use Rattle.forkjoin_sched.specs.Pools as pools
 use Rattle.forkjoin_sched.specs.Pools.{PoolParts}
@@ -16,53 +18,57 @@ use Rattle.lone_hart.specs.Accounts.{AllCameBack, AllButOneCameBack}
 use Rattle.lone_hart.specs.declared.site.LoneSite.{LoneSite}
 use Rattle.lone_hart.specs.declared.site.LoneSite.TheVariants.{Base, Pool, Team}
 
--- the construct that the site runs; the base runs none
+-- The site runs this construct; the base runs none.
 abbrev pub construct_in : LoneSite → Option NestedParts
 construct_in (Base base) = None
 construct_in (Pool nested p) = Some nested
 construct_in (Team t) = Some t.nested
+
+-- how many wishes the sites inside a construct, which is a site itself, can have: fifteen each, and no more than a plan's sites
+abbrev pub wishes_inside : NestedParts → ℕ
+wishes_inside nested = min (15 * (statement_sites_in (statement_of nested.construct) - 1)) MOST_WISHES
 
 -- how many jobs a team still hands out, with those of the phases to come
 abbrev pub team_jobs_left : TeamParts → ℕ
 team_jobs_left t = length t.agenda.unbegun + (phases_in t.nested - suc t.opened)
     * members_in t.nested
 
--- how many jobs a site still hands out
+-- The number says how many jobs a site still hands out.
 abbrev pub jobs_left : LoneSite → ℕ
 jobs_left (Base base) = 0
 jobs_left (Pool nested p) = length p.agenda.unbegun
 jobs_left (Team t) = team_jobs_left t
 
--- the pool has the jobs of the `par`
+-- The pool has the jobs of the `par`.
 pub record IsPoolOf (nested : NestedParts) (p : PoolParts) : Type 0 where
   pub fit : IsFitNest (nested_of nested)
   pub one_phase : phases_of (statement_of nested.construct) ≡ 1
   pub jobs : map job_of p.book.jobs ≡ jobs_in (nested_of nested) 0 nested.store
 
--- a team that isn't over waits for a piece, and all jobs that it handed out came back
+-- A team that isn't over waits for a piece, and all jobs that it handed out came back.
 pub record IsRunning (t : TeamParts) : Type 0 where
   pub waits : ¬ IsFull t.barrier
   pub account : AllCameBack team.Begin t.barrier t.agenda
 
--- every job that the site handed out came back
+-- Every job that the site handed out came back.
 abbrev pub IsSettledSite : LoneSite → Type 0
 IsSettledSite (Base base) = Unit {0}
 IsSettledSite (Pool nested p) = IsPoolOf nested p × AllCameBack pool.Begin p.book p.agenda
 IsSettledSite (Team t) = IsOver t ⊎ IsRunning t
 
--- every job but this one; the base hands none out
+-- Every job that the site handed out came back but this one; the base hands none out.
 abbrev pub IsOwed : LoneSite → JobParts → Type 0
 IsOwed (Base base) job = ⊥
 IsOwed (Pool nested p) job = IsPoolOf nested p × AllButOneCameBack pool.Begin p.book p.agenda job
 IsOwed (Team t) job = AllButOneCameBack team.Begin t.barrier t.agenda job
 
--- its work is over
+-- Its work is over.
 abbrev pub IsOverSite : LoneSite → Type 0
 IsOverSite (Base base) = Unit {0}
 IsOverSite (Pool nested p) = IsPoolOf nested p × (IsFull p.book ⊎ HasFailed p.book)
 IsOverSite (Team t) = IsOver t
 
--- what a callback of the site's scheduler did that told this
+-- A callback of the site's scheduler did this, by what it received.
 abbrev pub HearsAt : LoneSite → Told → LoneSite → Type 0
 HearsAt (Base b) told (Base b') = base.HearsOf b told b'
 HearsAt (Pool nested p) told (Pool nested' p') = (nested' ≡ nested) × pools.Hears p told p'

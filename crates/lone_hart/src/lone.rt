@@ -18,7 +18,7 @@ use std::alloc::{AllocError, Global};
 use std::marker::PhantomData;
 use step_eval::{Kind, Nested};
 
-/// The schedulers of the sites, as the only hart has them: nobody else knows them, and nothing waits.
+/// The schedulers of the sites, as the only hart has them: no other hart knows them, and no call waits.
 #[derive(Drop)]
 pub struct LoneSchedulers<'p> {
     of: PhantomData<&'p Block>,

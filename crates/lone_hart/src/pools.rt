@@ -12,8 +12,9 @@ ghost use Rattle.hart_work.specs.Tasks.{HasNext, HasAccount};
 ghost use Rattle.hart_work.specs.Accounts.{HasServing};
 ghost use Rattle.lone_hart.specs.Accounts.{Stands, AllCameBack, AllButOneCameBack};
 ghost use Rattle.lone_hart.specs.Served.{serves_pool, LendsJob};
-ghost use Rattle.lone_hart.specs.Sites.{IsPoolOf};
+ghost use Rattle.lone_hart.specs.Sites.{IsPoolOf, wishes_inside};
 
+use crate::wishes::room_for_wishes;
 use array_eval::Overlay;
 use array_jobs::{Job, Piece};
 use forkjoin_sched::{Pool, PoolWork};
@@ -23,12 +24,18 @@ use std::alloc::{AllocError, Global};
 use step_eval::{Nested, jobs_of};
 
 /// The pool of a `par`.
+///
+/// # Errors
+///
+/// `AllocError` if an allocation fails.
 pub fn open_pool<'p>(alloc: Global, nested: &Nested<'p>) -> Result<Pool<'p>, AllocError>
     requires { phases_of (statement_of nested.now.construct) ≡ 1 }
     ensures of { IfOk result (IsPoolOf nested.now) }
     ensures none { IfOk result (λ pool. Stands Begin pool.book pool.agenda 0 0) }
+    ensures room { IfOk result (λ pool. pool.agenda.wishes.room ≡ wishes_inside nested.now) }
 {
-    Pool::new(alloc, jobs_of(alloc, nested, 0, &nested.store)?)
+    let jobs = jobs_of(alloc, nested, 0, &nested.store)?;
+    Pool::with_wishes(alloc, jobs, room_for_wishes(nested))
 }
 
 /// What the hart does next in the pool: the next job, or nothing where every job came back or one failed.
@@ -70,7 +77,7 @@ pub fn deposit_in_pool<'p>(pool: &mut Pool<'p>, piece: Piece<'p>)
     pool.keep(piece);
 }
 
-/// A piece found no memory.
+/// Reports that an allocation failed for a piece.
 pub fn fail_in_pool(pool: &mut Pool, place: u8)
     requires { (job : JobParts) × AllButOneCameBack Begin pool.old.book pool.old.agenda job
         × (job.place ≡ place) }
@@ -82,7 +89,7 @@ pub fn fail_in_pool(pool: &mut Pool, place: u8)
     pool.fail(place);
 }
 
-/// What the `par` of a pool writes that is full, or of which a piece failed: then the answer is want of memory.
+/// What the `par` of a pool writes that is full, or of which a piece failed: then the result is an allocation failure.
 pub fn take_from_pool<'p>(nested: &Nested<'p>, pool: Pool<'p>) -> Result<Overlay, AllocError>
     requires of { IsPoolOf nested.now pool }
     requires over { IsFull pool.book ⊎ HasFailed pool.book }

@@ -28,8 +28,8 @@ use std::alloc::{AllocError, Global};
 /// Runs an accepted program on one hart, and returns. The plan must have one hart.
 ///
 /// The store is that of the one-thread meaning, and the journal, which is listed, is complete for the plan and the sites that
-/// this meaning enters: every transfer is legal, every site is gone, and exactly the entered ones came and went. Where memory
-/// is wanting anywhere, the whole run answers that.
+/// this meaning enters: every transfer is legal, every site is gone, and exactly the entered ones came and went. If an
+/// allocation fails anywhere, the whole run returns that.
 pub fn run_alone(alloc: Global, accepted: &Accepted<'_>) -> Result<Outcome, AllocError>
     requires { accepted.now.plan.harts ≡ 1 }
     ensures store { IfOk result
@@ -76,7 +76,7 @@ fn run_body<'p>(
         &(),
         alloc,
         tree,
-        // Nobody is told.
+        // The gate of a single hart does nothing.
         &|_, _| {},
         port,
         (),
@@ -87,6 +87,10 @@ fn run_body<'p>(
 }
 
 /// The store after the piece of a program's body.
+///
+/// # Errors
+///
+/// `AllocError` if an allocation fails.
 pub fn store_after(piece: Piece<'_>) -> Result<Store, AllocError>
     ensures { IfOk result (λ store. (program : ProgramTree)
         → job_of piece.entry.job ≡ body_of program → store ≡ final_store program) }

@@ -13,8 +13,9 @@ ghost use Rattle.hart_work.specs.Tasks.{HasNext, HasAccount};
 ghost use Rattle.hart_work.specs.Accounts.{HasServing};
 ghost use Rattle.lone_hart.specs.Accounts.{Stands, AllButOneCameBack};
 ghost use Rattle.lone_hart.specs.Served.{serves_team, LendsMember};
-ghost use Rattle.lone_hart.specs.Sites.{IsRunning, team_jobs_left};
+ghost use Rattle.lone_hart.specs.Sites.{IsRunning, team_jobs_left, wishes_inside};
 
+use crate::wishes::room_for_wishes;
 use array_jobs::{Job, Piece};
 use hart_work::Task;
 use loop_team::{Team, TeamWork};
@@ -23,6 +24,10 @@ use std::alloc::{AllocError, Global};
 use step_eval::{Kind, Nested};
 
 /// The team of a `team`.
+///
+/// # Errors
+///
+/// `AllocError` if an allocation fails.
 pub fn open_team<'p>(alloc: Global, nested: Nested<'p>) -> Result<Team<'p>, AllocError>
     requires { kind_of (statement_of nested.construct) ≡ Some Kind.Team }
     ensures nested { IfOk result (λ team. team.nested ≡ nested.entry) }
@@ -31,8 +36,10 @@ pub fn open_team<'p>(alloc: Global, nested: Nested<'p>) -> Result<Team<'p>, Allo
     ensures jobs { IfOk result (λ team. AreJobsIn team.nested 0 team.barrier.jobs) }
     ensures none { IfOk result (λ team. Stands Begin team.barrier team.agenda 0 0) }
     ensures fit { IfOk result (λ team. IsFitNest (nested_of team.nested)) }
+    ensures room { IfOk result (λ team. team.agenda.wishes.room ≡ wishes_inside nested.entry) }
 {
-    let team = Team::new(alloc, nested)?;
+    let wishes = room_for_wishes(&nested);
+    let team = Team::with_wishes(alloc, nested, wishes)?;
     // What is known of the construct.
     let _ = team.nested();
     Ok(team)
@@ -79,7 +86,7 @@ pub fn arrive_in_team<'p>(team: &mut Team<'p>, piece: Piece<'p>)
     let _ = team.keep(piece);
 }
 
-/// A piece found no memory.
+/// Reports that an allocation failed for a piece.
 pub fn fail_in_team(team: &mut Team, place: u8)
     requires { (job : JobParts) × AllButOneCameBack Begin team.old.barrier team.old.agenda job
         × (job.place ≡ place) }

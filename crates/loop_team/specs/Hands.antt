@@ -16,7 +16,7 @@ use Rattle.loop_team.specs.declared.work.TeamWork.{TeamWork}
 use Rattle.loop_team.specs.declared.work.TeamWork.TheVariants.{Begin, Ready}
 use Rattle.loop_team.specs.Teams.{phases_in, members_in}
 
--- What no call of a hand changes: its team and the rows, and whose seat it has.
+-- No call of a hand changes its team, its rows, and whose seat it has.
 pub record IsSameHand {R : Type 0} (before after : TeamHand R) : Type 0 where
   pub team : after.shared ≡ before.shared
   pub claims : after.claims ≡ before.claims
@@ -56,7 +56,7 @@ abbrev pub Begins : {R : Type 0} → TeamHand R → TeamWork → TeamHand R → 
 Begins before (Begin job) after = HasFound before found.Work after ⊎ HasClaimed before job after
 Begins before (Ready context) after = HasFound before found.Work after
 
--- The cause of an answer of `enter`, all of it found by the call. A child's wish is met, and the answer is Nothing of a team
+-- The cause of a result of `enter`, all of it found by the call. A child's wish is met, and the result is Nothing of a team
 -- that isn't handed out, only where no member was left to be claimed.
 abbrev pub HasCause : {R : Type 0} → TeamHand R → Next TeamWork → TeamHand R → Type 0
 HasCause before (Run work) after = Begins before work after
@@ -65,6 +65,7 @@ HasCause before Nothing after =
     HasFound before found.HandedOut after
     ⊎ (HasFound before found.Idle after × NoneWasLeft before after)
 
+-- The hand is still the same one, and the result of `enter` has its cause in what the call found.
 pub record Enters {R : Type 0} (before : TeamHand R) (next : Next TeamWork)
     (after : TeamHand R) : Type 0 where
   pub same : IsSameHand before after

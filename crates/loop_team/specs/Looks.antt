@@ -1,4 +1,4 @@
--- What a look under the lock of a shared team found, and what a hart does then, if that is the answer.
+-- What a look under the lock of a shared team found, and what a hart does then, if that is the result.
 use Rattle.std.specs.Prelude.{◌≡◌, ◌⊎◌, Option, Some, None}
 use Rattle.sched_api.specs.declared.scheduler.Next.{Next}
 use Rattle.sched_api.specs.declared.scheduler.Next.TheVariants.{Run, Lend, Nothing}
@@ -6,14 +6,14 @@ use Rattle.loop_team.specs.declared.found.Found.{Found}
 use Rattle.loop_team.specs.declared.found.Found.TheVariants as found
 use Rattle.loop_team.specs.declared.work.TeamWork.{TeamWork}
 
--- Of a look for a ready context.
+-- A look for a ready context found the cause of this result.
 abbrev pub TellsReady : Found → Option (Next TeamWork) → Type 0
 TellsReady what None = Unit {0}
 TellsReady what (Some (Run work)) = what ≡ found.Work
 TellsReady what (Some (Lend child)) = ⊥
 TellsReady what (Some Nothing) = what ≡ found.HandedOut
 
--- Of a look where no member was left.
+-- A look where no member was left found the cause of this result.
 abbrev pub TellsRest : Found → Option (Next TeamWork) → Type 0
 TellsRest what None = Unit {0}
 TellsRest what (Some (Run work)) = what ≡ found.Work

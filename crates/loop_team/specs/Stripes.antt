@@ -22,7 +22,7 @@ pub record IsAwaited (team : TeamParts) (place : ℕ) (job : JobParts) : Type 0 
   pub waits : IsMarked team.barrier place Open
   pub own : slice_get team.barrier.jobs place ≡ Some job
 
--- What contracts see of a stripe: its number, the store from which its jobs start, and what it knows of its places.
+-- Contracts see these parts of a stripe: its number, the store from which its jobs start, and what it knows of its places.
 pub record StripeParts : Type 0 where
   pub number : ℕ
   pub start : Store
@@ -38,7 +38,7 @@ Starts start seat.Gone = Unit {0}
 abbrev pub StartFrom : Store → List Seat → Type 0
 StartFrom start seats = (row : ℕ) (s : Seat) → slice_get seats row ≡ Some s → Starts start s
 
--- What the type keeps: its number is below that of the most stripes, and all its jobs start from its store.
+-- The type has this invariant: its number is below that of the most stripes, and all its jobs start from its store.
 pub record IsKeptStripe (stripe : StripeParts) : Type 0 where
   pub few : stripe.number < STRIPES
   pub starts : StartFrom stripe.start stripe.seats
@@ -49,37 +49,42 @@ IsVacant (seat.Open job) = Unit {0}
 IsVacant (seat.Came piece) = ⊥
 IsVacant seat.Gone = ⊥
 
+-- The piece of the seat has come.
 abbrev pub HasCome : Seat → Type 0
 HasCome (seat.Open job) = ⊥
 HasCome (seat.Came piece) = Unit {0}
 HasCome seat.Gone = ⊥
 
+-- The seat is open for the piece of this job.
 abbrev pub IsOf : Seat → JobParts → Type 0
 IsOf (seat.Open own) job = job_of own ≡ job_of job
 IsOf (seat.Came piece) job = ⊥
 IsOf seat.Gone job = ⊥
 
--- The same of the place in a row.
+-- The place in the row is open.
 abbrev pub IsOpen : StripeParts → ℕ → Type 0
 IsOpen stripe row = (s : Seat) × (slice_get stripe.seats row ≡ Some s) × IsVacant s
 
+-- The piece of the row has come.
 abbrev pub HasPiece : StripeParts → ℕ → Type 0
 HasPiece stripe row = (s : Seat) × (slice_get stripe.seats row ≡ Some s) × HasCome s
 
+-- The row is open for the piece of this job.
 abbrev pub WaitsFor : StripeParts → ℕ → JobParts → Type 0
 WaitsFor stripe row job = (s : Seat) × (slice_get stripe.seats row ≡ Some s) × IsOf s job
 
+-- The stripe has this seat in the row, and is otherwise unchanged.
 abbrev pub with_seat : StripeParts → ℕ → Seat → StripeParts
 with_seat stripe row s = record stripe { seats = slice_set stripe.seats row s }
 
--- Of a stripe and a piece for a row, the answer and the stripe afterwards. The piece stays if the row waits for it.
+-- A piece for a row has this result and leaves this stripe. The piece stays if the row waits for it.
 abbrev pub Receives : StripeParts → ℕ → PieceParts → Result (Unit {0}) PieceParts → StripeParts → Type 0
 Receives before row piece (Ok done) after =
     WaitsFor before row piece.job × (after ≡ with_seat before row (seat.Came piece))
 Receives before row piece (Err back) after =
     (¬ WaitsFor before row piece.job) × (back ≡ piece) × (after ≡ before)
 
--- Of a stripe, what a row gives and the stripe afterwards: its piece, once, exactly if that has come.
+-- A row gives its piece and leaves this stripe: once, exactly if the piece has come.
 abbrev pub Gives : StripeParts → ℕ → Option PieceParts → StripeParts → Type 0
 Gives before row (Some piece) after =
     (slice_get before.seats row ≡ Some (seat.Came piece)) × (piece.job.store ≡ before.start)
@@ -101,7 +106,7 @@ abbrev pub AreSeatsOf : TeamParts → ℕ → List Seat → Type 0
 AreSeatsOf team number seats = (row : ℕ) (s : Seat) → slice_get seats row ≡ Some s
     → IsSeatOf team (number + row * STRIPES) s
 
--- No place of the team's phase is wanting.
+-- No place of the team's phase is missing.
 abbrev pub AreAllSeatsOf : TeamParts → ℕ → List Seat → Type 0
 AreAllSeatsOf team number seats = (row : ℕ) → row < ROWS → number + row * STRIPES < length team.barrier.jobs
     → row < length seats

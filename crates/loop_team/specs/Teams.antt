@@ -23,7 +23,7 @@ use Rattle.loop_team.specs.declared.team.Phase.{Phase}
 use Rattle.loop_team.specs.declared.work.TeamWork.{TeamWork}
 use Rattle.loop_team.specs.declared.work.TeamWork.TheVariants.{Begin}
 
--- What contracts see of a team.
+-- Contracts see these parts of a team.
 pub record TeamParts : Type 0 where
   -- its construct, with the variables and the store before it
   pub nested : NestedParts
@@ -39,10 +39,11 @@ pub record TeamParts : Type 0 where
 abbrev pub phases_in : NestedParts → ℕ
 phases_in nested = phases_of (statement_of nested.construct)
 
+-- The number of members is that of the construct.
 abbrev pub members_in : NestedParts → ℕ
 members_in nested = members_of (statement_of nested.construct)
 
--- What a phase writes from the store that those before it leave.
+-- This is what a phase writes from the store that those before it leave.
 abbrev pub writes_in : NestedParts → ℕ → List Write
 writes_in nested phase =
     phase_writes (nested_of nested) phase (store_before (nested_of nested) phase)
@@ -57,24 +58,28 @@ pub record AreJobsIn (nested : NestedParts) (phase : ℕ) (jobs : List JobParts)
 abbrev pub IsOver : TeamParts → Type 0
 IsOver team = (team.opened ≡ phases_in team.nested) ⊎ (team.failed ≡ true)
 
--- The team before its first phase, whose members have these jobs.
-abbrev pub new_team : NestedParts → List JobParts → TeamParts
-new_team nested jobs = record {
+-- The team before its first phase, whose members have these jobs, with room for so many wishes.
+abbrev pub roomy_team : NestedParts → List JobParts → ℕ → TeamParts
+roomy_team nested jobs wishes = record {
   nested = nested;
   agenda = record {
     ready = [];
     room = members_in nested;
     unbegun = map Begin jobs;
-    wishes = record { sites = []; room = MOST_WISHES };
+    wishes = record { sites = []; room = wishes };
   };
   opened = 0;
   barrier = open_book jobs;
   failed = false;
 }
 
-pub record IsNew (nested : NestedParts) (team : TeamParts) : Type 0 where
+pub record IsRoomy (nested : NestedParts) (wishes : ℕ) (team : TeamParts) : Type 0 where
   pub jobs : AreJobsIn nested 0 team.barrier.jobs
-  pub rest : team ≡ new_team nested team.barrier.jobs
+  pub rest : team ≡ roomy_team nested team.barrier.jobs wishes
+
+-- The team with room for the wishes of as many sites as a plan may have.
+abbrev pub IsNew : NestedParts → TeamParts → Type 0
+IsNew nested team = IsRoomy nested MOST_WISHES team
 
 -- One more phase has opened.
 abbrev pub opened_team : TeamParts → TeamParts
@@ -87,16 +92,19 @@ with_phase team jobs = record team {
   barrier = open_book jobs;
 }
 
+-- The team has this barrier, and is otherwise unchanged.
 abbrev pub with_barrier : TeamParts → BookParts → TeamParts
 with_barrier team barrier = record team { barrier = barrier }
 
+-- The team has this agenda, and is otherwise unchanged.
 abbrev pub with_agenda : TeamParts → AgendaParts TeamWork → TeamParts
 with_agenda team agenda = record team { agenda = agenda }
 
+-- The team is failed, and is otherwise unchanged.
 abbrev pub failed_team : TeamParts → TeamParts
 failed_team team = record team { failed = true }
 
--- Of a team whose phase has just opened: it is over, or its next phase is there to be begun.
+-- A team whose phase has just opened is over, or its next phase is there to be begun.
 pub record GoesOn (team after : TeamParts) : Type 0 where
   pub over : IsOver team → after ≡ team
   pub next : ¬ IsOver team
@@ -109,7 +117,7 @@ pub record Opens (before : TeamParts) (piece : PieceParts) (written : Laid)
   pub arrives : Arrives before.barrier piece (Opened written) full
   pub writes : written.pairs ≡ writes_in before.nested before.opened
 
--- The team goes on without the next phase, for which there was no memory.
+-- The team goes on without the next phase, for which an allocation failed.
 pub record FailsToGoOn (before : TeamParts) (piece : PieceParts) (full : BookParts)
     (after : TeamParts) : Type 0 where
   pub fills : Fills before.barrier piece full
@@ -117,8 +125,8 @@ pub record FailsToGoOn (before : TeamParts) (piece : PieceParts) (full : BookPar
   pub wanted : ¬ IsOver (opened_team (with_barrier before full))
   pub failed : after ≡ failed_team (opened_team (with_barrier before full))
 
--- Of a team and a piece, the answer and the team afterwards: the barrier's, and where it opens the team goes on. Want of memory
--- comes only where the next phase is to begin, and fails the team.
+-- A piece has this result and leaves this team: the result is the barrier's, and if the barrier opens the team goes on. An
+-- allocation failure comes only if the next phase is to begin, and fails the team.
 abbrev pub MovesOn : {E : Type 0} → TeamParts → PieceParts → Result Arrival E → TeamParts → Type 0
 MovesOn before piece (Ok Kept) after =
     Arrives before.barrier piece Kept after.barrier × (after ≡ with_barrier before after.barrier)
@@ -133,18 +141,20 @@ MovesOn before piece (Err refused) after = (full : BookParts) × FailsToGoOn bef
 abbrev pub AreInOrder : TeamParts → Type 0
 AreInOrder team = (begun : ℕ) × (team.agenda.unbegun ≡ drop begun (map Begin team.barrier.jobs))
 
--- What a team does as a scheduler: it answers by its agenda, and a callback changes its wishes alone. So the member that it
--- hands out is the lowest that isn't begun.
+-- The call `enter` of a team gives what its agenda has, and changes its agenda alone. So the member that it hands out is the
+-- lowest that isn't begun.
 pub record Answers (before : TeamParts) (next : Next TeamWork) (after : TeamParts) : Type 0 where
   pub handed : TakesNext before.agenda next after.agenda
   pub rest : after ≡ with_agenda before after.agenda
   pub in_order : AreInOrder before
 
+-- A callback changes the wishes of the team, and nothing else.
 abbrev pub Hears : TeamParts → Told → TeamParts → Type 0
 Hears before told after =
     after ≡ with_agenda before
     (record before.agenda { wishes = wishes_after told before.agenda.wishes })
 
+-- The team takes a context back into its ready list, if there is room.
 pub record Takes (before : TeamParts) (c : TeamWork) (answer : Result (Unit {0}) TeamWork)
     (after : TeamParts) : Type 0 where
   pub ready : PutsReady before.agenda c answer after.agenda
@@ -156,14 +166,15 @@ pub record TakesReady (before : TeamParts) (answer : Option TeamWork)
   pub given : GivesReady before.agenda answer after.agenda
   pub rest : after ≡ with_agenda before after.agenda
 
+-- The lowest member that hasn't begun is taken out, if there is one.
 abbrev pub TakesMember : TeamParts → Option JobParts → TeamParts → Type 0
 TakesMember before (Some job) after =
     GivesUnbegun before.agenda (Some (Begin job)) after.agenda
     × (after ≡ with_agenda before after.agenda)
 TakesMember before None after = GivesUnbegun before.agenda None after.agenda × (after ≡ before)
 
--- What the type keeps: the store has what the phases that have opened wrote; while a place is free, the places are those of
--- the next phase's jobs; and the members are handed out in order.
+-- The type has this invariant: the store has what the phases that have opened wrote; while a place is free, the places are
+-- those of the next phase's jobs; and the members are handed out in order.
 pub record IsKept (team : TeamParts) (store : Trace) : Type 0 where
   pub fit : IsFitNest (nested_of team.nested)
   pub reached : HasReached (nested_of team.nested) team.opened store
@@ -171,7 +182,7 @@ pub record IsKept (team : TeamParts) (store : Trace) : Type 0 where
       → AreJobsIn team.nested team.opened team.barrier.jobs
   pub in_order : AreInOrder team
 
--- A phase that is to begin: no piece has come, and no member has begun.
+-- A phase is to begin: no piece has come, and no member has begun.
 pub record IsPhase (nested : NestedParts) (phase : ℕ) (next : Phase) : Type 0 where
   pub jobs : AreJobsIn nested phase next.barrier.jobs
   pub barrier : next.barrier ≡ open_book next.barrier.jobs

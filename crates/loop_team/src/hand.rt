@@ -24,7 +24,7 @@ const SNOOZES: u32 = 100;
 
 /// One hart's hand on a shared team. It claims the members of the phase that runs with the hart's seat, beside the lock. Its
 /// other calls do what those of `Team` do, under the lock, for which each may wait but `site` and the callbacks that change
-/// no list. Once the team is handed out, `enter` answers Nothing and `unblock` gives its context back.
+/// no list. Once the team is handed out, `enter` returns Nothing and `unblock` gives its context back.
 ///
 /// Where `enter` finds nothing and a phase is to come, it snoozes, a bounded number of times, until the team changes, and looks
 /// again.
@@ -93,6 +93,10 @@ impl<'a, 'r, 'p, R: Wait + 'a> TeamHand<'a, 'r, 'p, R> {
     ghost use Rattle.loop_team.specs.Teams.{IsOver, phases_in};
 
     /// What `arrive` of the team does. Where the team was handed out, each piece is a Stranger.
+    ///
+    /// # Errors
+    ///
+    /// `AllocError` if an allocation fails.
     pub fn arrive(&self, rt: &R, piece: Piece<'p>) -> Result<Arrival<'p>, AllocError>
         ensures { IfOk result (λ arrival. GivesBack piece.entry arrival) }
     {
@@ -226,7 +230,7 @@ impl<'a, 'r, 'p, R: Wait + 'a> Scheduler for TeamHand<'a, 'r, 'p, R> {
 
     ghost site_of = { λ hand. hand.shared.now.site };
 
-    // Nothing is known of what the lock holds, so any answer may come that has its cause in what the call found.
+    // Nothing is known of what the lock holds, so any result may come that has its cause in what the call found.
     ghost answers = { λ before next after. Enters before next after };
 
     ghost hears = { λ before _ after. after ≡ before };

@@ -57,6 +57,10 @@ impl<'p> Model for SharedTeam<'p> {
 
 impl<'p> SharedTeam<'p> {
     /// Puts the team behind a lock, and a copy of its construct and the members that haven't begun beside it.
+    ///
+    /// # Errors
+    ///
+    /// `AllocError` if an allocation fails.
     pub fn new(alloc: Global, mut team: Team<'p>) -> Result<SharedTeam<'p>, AllocError>
         ensures { IfOk result (λ shared. shared ≡ team.entry.nested) }
     {
@@ -158,7 +162,7 @@ impl<'p> SharedTeam<'p> {
         }
     }
 
-    // Whether a stripe waits for the piece of a place, or the team has none. Who asks has the team's lock.
+    // Whether a stripe waits for the piece of a place, or the team has none. The caller has the team's lock.
     pub(crate) fn is_open<R: Wait>(&self, rt: &R, place: u8) -> bool {
         match self.stripes.get(usize::from(place % STRIPES)) {
             Some(stripe) => stripe.lock(rt).is_open(place / STRIPES),
@@ -200,7 +204,7 @@ impl<'p> SharedTeam<'p> {
         Ok(None)
     }
 
-    // Lays out the members of the phase that begins, and then shows its number. Where memory is wanting, the team is failed.
+    // Lays out the members of the phase that begins, and then shows its number. If an allocation fails, the team is failed.
     fn lay_out<R: Wait>(&self, rt: &R, team: &mut Team<'p>) -> Result<(), AllocError> {
         for slot in &self.slots {
             *slot.lock(rt) = team.take_member();
@@ -413,7 +417,7 @@ fn members_of<'p>(
     Ok(slots)
 }
 
-// What was found, where a team that isn't handed out answers this.
+// What was found, where a team that isn't handed out gives this.
 fn found_by(next: &Next<TeamWork>) -> Found
     ensures { TellsRest result (Some next.now) }
 {

@@ -25,7 +25,7 @@ pub(crate) enum Seat<'p> {
     Open(Job<'p>),
     // Its piece has come.
     Came(Piece<'p>),
-    // Nobody waits for a piece of it.
+    // No piece of it is awaited.
     Gone,
 }
 
@@ -197,6 +197,8 @@ fn seat_of<'p>(team: &Team<'p>, place: u8) -> Result<Seat<'p>, AllocError>
 }
 
 /// Hands all that came to a stripe on to its team. What the phase wrote, where that opens.
+///
+/// All jobs of a stripe start from its store, so one store a stripe is compared, and of each job the rest.
 pub(crate) fn hand_on<'p>(
     team: &mut Team<'p>,
     stripe: &mut Stripe<'p>,

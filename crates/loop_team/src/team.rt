@@ -12,7 +12,7 @@ ghost use Rattle.step_eval.specs.Shapes.{kind_of};
 ghost use Rattle.loop_team.specs.declared.work.TeamWork.TheVariants.{Begin};
 ghost use Rattle.array_jobs.specs.Jobs.{job_of};
 ghost use Rattle.loop_team.specs.Stripes.{StartsFrom, IsAwaited, IsNotAwaited};
-ghost use Rattle.loop_team.specs.Teams.{IsNew, IsOver, MovesOn, GoesOn, Answers, Hears, Takes, TakesReady, TakesMember, IsPhase, phases_in, writes_in, opened_team, failed_team};
+ghost use Rattle.loop_team.specs.Teams.{IsNew, IsRoomy, IsOver, MovesOn, GoesOn, Answers, Hears, Takes, TakesReady, TakesMember, IsPhase, phases_in, writes_in, opened_team, failed_team};
 
 use crate::work::TeamWork;
 use array_eval::{MarkedStore, Overlay, Store};
@@ -66,6 +66,7 @@ pub struct Team<'p> {
     agenda: Agenda<TeamWork<'p>>,
     opened: u8,
     barrier: BarrierState<'p>,
+    // Its cells are the start of the next phase, and its marks the result of `take_all`: opening a phase merges that phase alone.
     store: MarkedStore,
     failed: bool,
 }
@@ -97,16 +98,28 @@ impl<'p> Model for Team<'p> {
 impl<'p> Team<'p> {
     /// A team whose first phase is there to be begun. The construct must be a `team`.
     ///
-    /// It makes all room. Beside it only `arrive` and `take_all` take memory.
+    /// It makes all room, for ready contexts one a member. Beside it only `arrive` and `take_all` allocate.
     pub fn new(alloc: Global, nested: Nested<'p>) -> Result<Team<'p>, AllocError>
         requires { kind_of (statement_of nested.construct) ≡ Some kind.Team }
         ensures { IfOk result (λ team. IsNew nested.entry team) }
+    {
+        Team::with_wishes(alloc, nested, MOST_WISHES)
+    }
+
+    /// The team that `new` makes, with room for `wishes` wishes. A wish beyond the room is dropped.
+    pub fn with_wishes(
+        alloc: Global,
+        nested: Nested<'p>,
+        wishes: usize,
+    ) -> Result<Team<'p>, AllocError>
+        requires { kind_of (statement_of nested.construct) ≡ Some kind.Team }
+        ensures { IfOk result (λ team. IsRoomy nested.entry wishes team) }
     {
         let mut store = MarkedStore::new(alloc, &nested.store)?;
         let _phases = nested.phases();
         let members = usize::from(nested.members());
         let Phase { barrier, unbegun } = phase_of(alloc, &nested, 0, &mut store)?;
-        let agenda = Agenda::new(alloc, members, MOST_WISHES, unbegun)?;
+        let agenda = Agenda::new(alloc, members, wishes, unbegun)?;
         Ok(Team {
             alloc,
             nested,
@@ -189,7 +202,7 @@ impl<'p> Team<'p> {
     /// Takes a piece to the barrier of the phase that runs. Where it opens, what the phase wrote is put on the store, and
     /// the members of the next phase are there to be begun.
     ///
-    /// Where there is no memory for the next phase, the team is failed: the phase that opened was its last one.
+    /// If an allocation for the next phase fails, the team is failed: the phase that opened was its last one.
     pub fn arrive(&mut self, piece: Piece<'p>) -> Result<Arrival<'p>, AllocError>
         ensures { MovesOn self.old piece.entry result self.new }
     {
@@ -204,6 +217,10 @@ impl<'p> Team<'p> {
     }
 
     /// What `arrive` does with a piece whose place is known: that of its job, which must be open. No jobs are compared.
+    ///
+    /// # Errors
+    ///
+    /// `AllocError` if an allocation fails.
     pub fn keep(&mut self, piece: Piece<'p>) -> Result<Arrival<'p>, AllocError>
         requires own { IsPlaceOf self.old.barrier piece.job.place piece.job }
         requires open { IsMarked self.old.barrier piece.job.place Open }
@@ -282,8 +299,8 @@ impl<'p> Team<'p> {
         self.barrier.is_free(place)
     }
 
-    /// Tells that the piece of a place found no memory. The place must be open. The team is then failed, and no member of a
-    /// later phase begins.
+    /// Reports that an allocation failed for the piece of a place. The place must be open. The team is then failed, and no member
+    /// of a later phase begins. The team keeps no note of the place, and its other places still take pieces.
     pub fn fail(&mut self, place: u8)
         requires { IsMarked self.old.barrier place Open }
         ensures { self.new ≡ failed_team self.old }
@@ -291,7 +308,7 @@ impl<'p> Team<'p> {
         self.failed = true;
     }
 
-    /// Whether some piece, or the jobs of a phase, found no memory.
+    /// Whether an allocation failed for some piece, or for the jobs of a phase.
     pub fn has_failed(&self) -> bool
         ensures { result ≡ self.now.failed }
     {
@@ -305,8 +322,8 @@ impl<'p> Team<'p> {
         self.failed || self.opened == self.nested.phases()
     }
 
-    /// What the whole construct writes: each cell with its last value. The team must be over; where it is failed, the answer
-    /// is want of memory.
+    /// What the whole construct writes: each cell with its last value. The team must be over; if it is failed, the result
+    /// is an allocation failure.
     pub fn take_all(self) -> Result<Overlay, AllocError>
         requires { IsOver self }
         ensures failed { self.entry.failed ≡ true → IsErr result }

@@ -8,8 +8,8 @@ use Rattle.array_meaning.specs.Stores.{Arrays, Vars, Store, arrays_of, value_of}
 use Rattle.array_meaning.specs.Steps.{Steps, exec}
 use Rattle.array_meaning.specs.Work.{span, loop, statement_work, sequence_work, first_store}
 use Rattle.array_meaning.specs.Plans.{statement_sites_in, sites_in, branches_sites_in}
-use Rattle.array_meaning.specs.Limits.{has_no_site_under_if, statement_has_no_site_under_if, have_no_site_under_if}
-use Rattle.array_meaning.specs.Entered.{Entering, turns_entered, statement_entered, sequence_entered, branches_entered, phases_entered}
+use Rattle.array_meaning.specs.Choices.{has_no_site_under_if, statement_has_no_site_under_if, have_no_site_under_if}
+use Rattle.array_meaning.specs.Entered.{Entering, turns_entered, statement_entered, sequence_entered, branches_entered, phases_entered, sequence_part}
 use Rattle.array_meaning.proofs.EnteredLemmas as entered
 use Rattle.array_meaning.proofs.PlanLemmas as plans
 use Rattle.meant_sites.specs.Meant.{AllSitesAreEntered}
@@ -47,12 +47,12 @@ both_true : (xs ys : List Bool) (n m : ℕ) → xs ≡ trues n → ys ≡ trues 
 both_true xs ys n m one more = rw (one, more) (replicate-append-replicate n m true)
 
 turns_true : (arrays : Arrays) (n count : ℕ) (work : ℤ → Steps) (body : ℤ → Entering) (low : ℤ) → ((x : ℤ) (store : Store) → body x store ≡ trues count) → (store : Store)
-    → turns_entered arrays work body low n store ≡ trues (n * count)
+    → turns_entered arrays (λ x. (work x, body x)) low n store ≡ trues (n * count)
 turns_true arrays zero count work body low h store = let none : 0 ≡ 0 * count = omega arith in ap trues none
 turns_true arrays (suc n) count work body low h store =
     let more = turns_true arrays n count work body (low +ℤ pos 1) h (exec arrays (work low) store) in
     let sum : count + n * count ≡ suc n * count = omega arith in
-    both_true (body low store) (turns_entered arrays work body (low +ℤ pos 1) n (exec arrays (work low) store)) count (n * count) (h low store) more ∙ ap trues sum
+    both_true (body low store) (turns_entered arrays (λ x. (work x, body x)) (low +ℤ pos 1) n (exec arrays (work low) store)) count (n * count) (h low store) more ∙ ap trues sum
 
 mutual
   statement_true : (arrays : Arrays) (s : Statement) (vars : Vars) (store : Store) → statement_has_no_site_under_if s false ≡ true → statement_entered arrays s vars store ≡ trues (statement_sites_in s)
@@ -104,7 +104,7 @@ mutual
       let one = turns_true arrays (span low high) (sites_in first) (λ x. sequence_work first ((var, x) ∷ vars)) (λ x. sequence_entered arrays first ((var, x) ∷ vars)) low
       (λ x there. sequence_true arrays first ((var, x) ∷ vars) there parts.0) store in
       let sum : span low high * sites_in first + span low high * branches_sites_in rest ≡ span low high * (sites_in first + branches_sites_in rest) = omega arith in
-      both_true (turns_entered arrays (λ x. sequence_work first ((var, x) ∷ vars)) (λ x. sequence_entered arrays first ((var, x) ∷ vars)) low (span low high) store)
+      both_true (turns_entered arrays (λ x. sequence_part arrays first ((var, x) ∷ vars)) low (span low high) store)
       (phases_entered arrays rest var low high vars next) (span low high * sites_in first) (span low high * branches_sites_in rest)
       one (phases_true arrays rest var low high vars next parts.1) ∙ ap trues sum
 

@@ -7,7 +7,7 @@ use Rattle.transfer_table.specs.declared.entry.Entry.{Entry}
 use Rattle.site_accounts.specs.Accounts.{AreOverAs, IsSpan}
 use Rattle.array_tree.specs.Trees.{ProgramTree}
 use Rattle.array_meaning.specs.Plans.{plan_of, AreInside, AreOutside}
-use Rattle.array_meaning.specs.Limits.{has_no_site_under_if}
+use Rattle.array_meaning.specs.Choices.{has_no_site_under_if}
 use Rattle.array_meaning.specs.Entered.{entered_of}
 
 -- From the site s on the plan has the parents of a part inside the site `around`, and no site behind it is inside the part.

@@ -12,13 +12,13 @@ use Rattle.lithe_call.specs.Programs.{SpellAccepted, table_plan}
 use Rattle.lithe_call.specs.Telling.{GivesWithin}
 use Rattle.picture_call.specs.Words.{audit_words, form_asked}
 
--- a first part that spells an accepted program, and this picture of the second
+-- The first part spells an accepted program, and this is the picture of the second.
 pub record AreDrawn (form : Form) (harts : ℕ) (picture : Pictured) (first second : List ℕ) : Type 0 where
   pub program : ProgramTree
   pub input : SpellAccepted harts first program
   pub drawn : picture_of form program (table_plan program harts) second ≡ Ok picture
 
--- these bytes have this picture
+-- These bytes have this picture.
 abbrev pub HasPicture : Form → ℕ → List ℕ → Pictured → Type 0
 HasPicture form harts bytes picture = HasParts (AreDrawn form harts picture) bytes
 

@@ -1,5 +1,5 @@
--- What a call for a picture has read, written and told: it ends as the audit of the same input does, and where that writes the
--- line of its verdict, this writes a picture that tells it.
+-- What a call for a picture has read and written: it ends as the audit of the same input does, and where that
+-- writes the line of its verdict, this writes a picture that has it.
 use Rattle.std.specs.Prelude.{◌≡◌, ◌≢◌, ◌⊎◌, ℕ, List, Option, Some, None}
 use Rattle.outside_io.specs.Outside.{Rose, Appends}
 use Rattle.command_words.specs.declared.command.Command.TheVariants.{Audit}
@@ -13,14 +13,14 @@ use Rattle.picture_call.specs.Pictures.{IsPictureFor}
 use Rattle.picture_call.specs.Texts.{usage_text}
 use Rattle.picture_call.specs.Words.{audit_words}
 
--- the sink took the picture
+-- The sink took the picture.
 pub record WritesPicture (words : List (List ℕ)) (left left' : Option (List ℕ)) (status : Status)
     (taken taken' : Option (List ℕ)) : Type 0 where
   pub text : List ℕ
   pub picture : IsPictureFor words left left' status text
   pub written : Appends taken text taken'
 
--- the sink took a prefix of the picture, with whatever status
+-- The sink took a prefix of the picture, with whatever status.
 pub record WritesPart (words : List (List ℕ))
     (left left' taken taken' : Option (List ℕ)) : Type 0 where
   pub status : Status
@@ -28,12 +28,12 @@ pub record WritesPart (words : List (List ℕ))
   pub picture : IsPictureFor words left left' status text
   pub written : AppendsPrefix taken text taken'
 
--- the text is the status's, for what the source gave: that of the audit, but for the forms of the words
+-- The text is the status's, for what the source gave: that of the audit, but for the forms of the words.
 abbrev pub IsToldFor : List (List ℕ) → Status → Option (List ℕ) → Option (List ℕ) → List ℕ → Type 0
 IsToldFor words Usage left left' text = text ≡ usage_text
 IsToldFor words status left left' text = IsTextOf (audit_words words) status left left' text
 
--- the sink, with its count of faults before and after, was told the status's text
+-- The status's text was written to the sink, with its count of faults before and after.
 pub record TellsWhy (words : List (List ℕ)) (status : Status)
     (left left' taken : Option (List ℕ)) (faults : ℕ) (taken' : Option (List ℕ))
     (faults' : ℕ) : Type 0 where
@@ -41,10 +41,10 @@ pub record TellsWhy (words : List (List ℕ)) (status : Status)
   pub right : IsToldFor words status left left' text
   pub tells : Tells taken faults text taken' faults'
 
--- The words were served, with this status: what the source, the sink and the sink for what is told were before and are after.
+-- The words were served, with this status: what the source, the sink and the sink for errors were before and are after.
 pub record AreShown {A B E : Type 0} (see : Outside A B E) (words : List (List ℕ)) (status : Status) (source source' : A)
     (out out' : B) (err err' : E) : Type 0 where
-  -- The picture is of the output that the source gave behind its program, and tells its verdict.
+  -- The picture is of the output that the source gave behind its program, and has its verdict.
   pub done : status ≡ Done
       → WritesPicture words (see.left source) (see.left source') Done (see.taken out) (see.taken out')
   -- The same of an output that isn't the program's.
@@ -57,7 +57,7 @@ pub record AreShown {A B E : Type 0} (see : Outside A B E) (words : List (List �
       → (Rose (see.read_faults source) (see.read_faults source') → ⊥)
       → (Rose (see.write_faults out) (see.write_faults out') → ⊥)
       → (status ≡ ended) ⊎ (status ≡ NoMemory)
-  -- When each other status comes. What is told of Syntax and Refused has their causes. Words that are no form are Usage,
+  -- When each other status comes. The texts of Syntax and Refused have their causes. Words that are no form are Usage,
   -- unless memory runs out while they are read.
   pub usage : status ≡ Usage → form_of (audit_words words) ≡ None
   pub no_form : form_of (audit_words words) ≡ None → (status ≡ Usage) ⊎ (status ≡ NoMemory)

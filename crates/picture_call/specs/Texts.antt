@@ -1,4 +1,4 @@
--- The texts that are told: those of `lithe`, but for the forms of the words.
+-- The texts that are written for a status or a fault: those of `lithe`, but for the forms of the words.
 use Rattle.std.specs.Prelude.{ℕ, List, ◌++◌, codes}
 use Rattle.lithe_call.specs.declared.fault.Fault.{Fault}
 use Rattle.lithe_call.specs.declared.fault.Fault.TheVariants as fault
@@ -7,17 +7,18 @@ use Rattle.lithe_call.specs.declared.status.Status.TheVariants.{Usage}
 use Rattle.lithe_call.specs.FaultOf.{line_of}
 use Rattle.lithe_call.specs.Status.{line, constant_text}
 
+-- The text of the status Usage lists the forms of the words.
 abbrev pub usage_text : List ℕ
 usage_text =
     line (codes "usage: lithe_picture text --harts N")
     ++ line (codes "       lithe_picture svg --harts N")
 
--- the text of a status, where it is always the same
+-- A status has this text, if it is always the same.
 abbrev pub own_text : Status → List ℕ
 own_text Usage = usage_text
 own_text status = constant_text status
 
--- the text of a fault
+-- A fault has this text.
 abbrev pub fault_text : Fault → List ℕ
 fault_text fault.Usage = usage_text
 fault_text why = line_of why

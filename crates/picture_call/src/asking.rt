@@ -56,7 +56,7 @@ fn form_named(word: &str) -> Option<Form>
     None
 }
 
-// The words of an audit with these options.
+// The words of an audit with these options. Why: options then have one reader, that of an audit.
 fn audit_with(alloc: Global, options: &[String]) -> Result<Vec<String>, AllocError>
     ensures { IfOk result
         (λ words. map string_bytes words.items ≡ codes "audit" ∷ map string_bytes options.now) }

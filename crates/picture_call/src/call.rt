@@ -21,11 +21,11 @@ use run_picture::Picture;
 use std::alloc::Global;
 
 /// Serves the words: reads a program, a line `%%` and an output of its run, and writes a picture of the output's journal, or
-/// tells on `err` why not.
+/// writes to `err` why not.
 ///
-/// `text --harts N` and `svg --harts N`, N from 1 to 16, write it as text and as SVG. The input, the statuses and what is told
-/// are those of `lithe` for `audit --harts N`, but for the lines that tell the forms of the words. Where the output isn't
-/// the program's, the status is Illegal; the picture then shows the journal up to its first fault, and tells it.
+/// `text --harts N` and `svg --harts N`, N from 1 to 16, write it as text and as SVG. The input, the statuses and their texts
+/// are those of `lithe` for `audit --harts N`, but for the lines that list the forms of the words. Where the output isn't
+/// the program's, the status is Illegal; the picture then shows the journal up to its first fault, and names the fault.
 /// The whole picture is built before its first byte is written.
 pub fn serve_picture<A: Source, B: Sink, E: Sink>(
     alloc: Global,
@@ -56,7 +56,8 @@ pub fn serve_picture<A: Source, B: Sink, E: Sink>(
     }
 }
 
-/// Ends a call whose words aren't text, and so are no form: tells so on `err`, as `serve_picture` does of words that are no form.
+/// Ends a call whose words aren't text, and so are no form: writes so to `err`, as `serve_picture` does of words that are no
+/// form.
 pub fn no_picture_for_words<E: Sink>(err: &mut E) -> Status
     ensures same { result ≡ Status.Usage }
     ensures told { Tells (E.taken err.old) (E.faults err.old) (own_text Status.Usage)
@@ -65,7 +66,7 @@ pub fn no_picture_for_words<E: Sink>(err: &mut E) -> Status
     tell(err, Status::Usage)
 }
 
-/// Ends a call that found no memory for its words: tells so on `err`, as `serve_picture` does of want of memory.
+/// Ends a call that could not allocate its words: writes so to `err`, as `serve_picture` does of an allocation failure.
 pub fn no_memory_for_picture<E: Sink>(err: &mut E) -> Status
     ensures same { result ≡ Status.NoMemory }
     ensures told { Tells (E.taken err.old) (E.faults err.old) (own_text Status.NoMemory)
@@ -84,7 +85,7 @@ fn status_by(verdict: Verdict) -> Status
     }
 }
 
-// Writes the text that tells the fault, and answers its status.
+// Writes the text that reports the fault, and returns its status.
 fn tell_fault<E: Sink>(err: &mut E, fault: &Fault) -> Status
     ensures same { result ≡ status_of fault.now }
     ensures told { Tells (E.taken err.old) (E.faults err.old) (fault_text fault.now)
@@ -94,7 +95,7 @@ fn tell_fault<E: Sink>(err: &mut E, fault: &Fault) -> Status
     fault.status()
 }
 
-// Writes the status's text, where that is always the same, and answers the status.
+// Writes the status's text, where that is always the same, and returns the status.
 fn tell<E: Sink>(err: &mut E, status: Status) -> Status
     ensures same { result ≡ status }
     ensures told { Tells (E.taken err.old) (E.faults err.old) (own_text status)

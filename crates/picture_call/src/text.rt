@@ -1,4 +1,4 @@
-//! The texts that are told.
+//! The texts that are written to `err`.
 ghost use Rattle.std.specs.Prelude.{◌≡◌};
 ghost use Rattle.picture_call.specs.Texts.{fault_text, own_text};
 
@@ -16,7 +16,7 @@ pub fn own_text(status: Status) -> &'static [u8]
     }
 }
 
-/// The text that tells a fault.
+/// The text that reports a fault.
 pub fn fault_text(fault: &Fault) -> &[u8]
     ensures { result.now ≡ fault_text fault.now }
 {

@@ -19,56 +19,56 @@ use Rattle.pipe_sched.specs.Schedulers.{SchedulerParts, Answers, Hears, Takes, w
 
 -- Under the lock, which has the pipe until it is handed out --
 
--- a further look, which found this
+-- A further look, which found this.
 abbrev pub Sees : Looks → Found → Looks → Type 0
 Sees before what after = Rose before.count after.count × (after.last ≡ Some what)
 
--- what a pipe has for a hart that is told so
+-- The kind of a look's result is that of what the pipe gives.
 abbrev pub found_in : Next PipeWork → Found
 found_in (Run (Begin job)) = found.Due job.place job.phase
 found_in (Run (Ready context)) = found.Ready
 found_in (Lend child) = found.Wish child
 found_in Nothing = found.NoneLeft
 
--- what is found there
+-- A look under the lock finds what the pipe has for the hart, or that the pipe was handed out.
 abbrev pub found_by : Option SchedulerParts → Next PipeWork → Found
 found_by None next = found.HandedOut
 found_by (Some pipe) next = found_in next
 
--- the pipe answers, and where it was handed out there is nothing to do
+-- The pipe gives the hart something to do, and nothing if it was handed out.
 abbrev pub AnswersUnder : Option SchedulerParts → Next PipeWork → Option SchedulerParts → Type 0
 AnswersUnder None next after = (next ≡ Nothing) × (after ≡ None)
 AnswersUnder (Some pipe) next None = ⊥
 AnswersUnder (Some pipe) next (Some after) = Answers pipe next after
 
--- the pipe keeps a piece, or gives it back; where it was handed out each piece is a stranger
+-- The pipe keeps a piece, or gives it back; where it was handed out each piece is a stranger.
 abbrev pub DepositsUnder : Option SchedulerParts → PieceParts → Deposit → Option SchedulerParts → Type 0
 DepositsUnder None piece answer after = (answer ≡ Stranger piece) × (after ≡ None)
 DepositsUnder (Some pipe) piece answer None = ⊥
 DepositsUnder (Some pipe) piece answer (Some after) =
     Deposits pipe.state piece answer after.state × (after ≡ with_state pipe after.state)
 
--- the piece fails where it may, and else nothing changes
+-- The piece fails where it may, and else nothing changes.
 abbrev pub FailsUnder : Option SchedulerParts → ℕ → ℕ → Option SchedulerParts → Type 0
 FailsUnder None j k after = after ≡ None
 FailsUnder (Some pipe) j k after =
     (MayFail pipe.state j k × (after ≡ Some (with_state pipe (failed_pipe pipe.state j k))))
     ⊎ ((¬ MayFail pipe.state j k) × (after ≡ Some pipe))
 
--- the pipe hears what it is told
+-- The pipe hears the call.
 abbrev pub HearsUnder : Option SchedulerParts → Told → Option SchedulerParts → Type 0
 HearsUnder None told after = after ≡ None
 HearsUnder (Some pipe) told None = ⊥
 HearsUnder (Some pipe) told (Some after) = Hears pipe told after
 
--- the pipe takes a context that is ready, or gives it back; where it was handed out it is given back
+-- The pipe takes a context that is ready, or gives it back; where it was handed out it is given back.
 abbrev pub TakesUnder : Option SchedulerParts → PipeWork → Result (Unit {0}) PipeWork
     → Option SchedulerParts → Type 0
 TakesUnder None c answer after = (answer ≡ Err c) × (after ≡ None)
 TakesUnder (Some pipe) c answer None = ⊥
 TakesUnder (Some pipe) c answer (Some after) = Takes pipe c answer after
 
--- the pipe is handed out where it is full, and else nothing changes
+-- The pipe is handed out where it is full, and else nothing changes.
 abbrev pub TakesFull : Option SchedulerParts → Option SchedulerParts → Option SchedulerParts → Type 0
 TakesFull None taken after = (taken ≡ None) × (after ≡ None)
 TakesFull (Some pipe) None after = (¬ IsFull pipe.state) × (after ≡ Some pipe)
@@ -77,17 +77,17 @@ TakesFull (Some pipe) (Some taken) after =
 
 -- What is known without what the lock has --
 
--- a piece is kept, or is given back
+-- A piece is kept, or is given back.
 abbrev pub GivesBack : PieceParts → Deposit → Type 0
 GivesBack piece Kept = Unit {0}
 GivesBack piece (Double back) = back ≡ piece
 GivesBack piece (Stranger back) = back ≡ piece
 
--- the hand looked under the lock, and found this last
+-- The hand looked under the lock, and found this last.
 abbrev pub HasFound : {R : Type 0} → PipeHand R → Found → PipeHand R → Type 0
 HasFound before what after = (after.shared ≡ before.shared) × Sees before.looks what after.looks
 
--- What a hart is told is what the call found: what the pipe has for it, or Nothing, since the pipe was handed out.
+-- What `enter` returns is what the call found: what the pipe has for it, or Nothing, since the pipe was handed out.
 abbrev pub AnswersHand : {R : Type 0} → PipeHand R → Next PipeWork → PipeHand R → Type 0
 AnswersHand before next after =
     HasFound before (found_in next) after

@@ -1,7 +1,7 @@
 -- What only private contracts and proofs need: the places of a pipeline with what they hold.
-use Rattle.std.specs.Prelude.{◌≡◌, ℕ, zero, suc, ◌+◌, ◌-◌, ◌*◌, ◌%◌, ◌<◌, ◌≤◌, List, [], ◌∷◌, ◌++◌, true, map, length, slice_get, slice_index_or, Some}
+use Rattle.std.specs.Prelude.{◌≡◌, ℕ, zero, suc, ◌+◌, ◌-◌, ◌*◌, ◌%◌, ◌<◌, ◌≤◌, List, [], ◌∷◌, ◌++◌, true, map, length, slice_get, slice_index_or, get_or, Some}
 use Rattle.array_tree.specs.Trees.{statement_of}
-use Rattle.array_meaning.specs.Stores.{Write}
+use Rattle.array_meaning.specs.Stores.{Store, Write}
 use Rattle.array_jobs.specs.Jobs.{JobParts, job_of}
 use Rattle.array_jobs.specs.PieceParts.{piece_of_job}
 use Rattle.step_eval.specs.declared.shape.Kind.TheVariants as kind
@@ -10,8 +10,10 @@ use Rattle.step_eval.specs.Shapes.{kind_of}
 use Rattle.pipe_sched.specs.declared.slot.Slot.{Slot}
 use Rattle.pipe_sched.specs.declared.slot.Slot.TheVariants as slot
 use Rattle.pipe_sched.specs.Slots.{Mark, Waiting, Barred, Out, Filled, Lost, IsAt, IsClear, is_begun, is_settled, is_failed, phases_in, members_in}
+use Rattle.phase_order.specs.Pipes.{written_before}
 use Rattle.pipe_sched.specs.Pipes.{IsJobAt}
 
+-- The mark of a slot is what became of its piece, without the contents.
 abbrev pub mark_of : Slot → Mark
 mark_of slot.Waiting = Waiting
 mark_of slot.Barred = Barred
@@ -19,7 +21,7 @@ mark_of (slot.Out job) = Out
 mark_of (slot.Filled job written) = Filled
 mark_of (slot.Lost job) = Lost
 
--- It was handed out with this job.
+-- The slot was handed out with this job.
 abbrev pub HasJob : Slot → JobParts → Type 0
 HasJob slot.Waiting job = ⊥
 HasJob slot.Barred job = ⊥
@@ -27,6 +29,7 @@ HasJob (slot.Out own) job = job_of own ≡ job_of job
 HasJob (slot.Filled own written) job = job_of own ≡ job_of job
 HasJob (slot.Lost own) job = job_of own ≡ job_of job
 
+-- A failure bars a slot that waits, and loses one that is out.
 abbrev pub failed_slot : Slot → Slot
 failed_slot slot.Waiting = slot.Barred
 failed_slot slot.Barred = slot.Barred
@@ -34,7 +37,7 @@ failed_slot (slot.Out job) = slot.Lost job
 failed_slot (slot.Filled job written) = slot.Filled job written
 failed_slot (slot.Lost job) = slot.Lost job
 
--- Where it was handed out, its job is that of member j in phase k, and it is filled with what this job writes.
+-- The slot is right: if it was handed out, its job is that of member j in phase k, and it is filled with what this job writes.
 abbrev pub IsRight : NestedTree → ℕ → ℕ → Slot → Type 0
 IsRight nested j k slot.Waiting = Unit {0}
 IsRight nested j k slot.Barred = Unit {0}
@@ -56,13 +59,15 @@ pub record IsKept (nested : NestedParts) (slots : List Slot) : Type 0 where
       slice_get slots (j * phases_in nested + k) ≡ Some own → IsRight (nested_of nested) j k own
   pub order : AreInOrder (phases_in nested) (map mark_of slots)
 
+-- Each slot is settled: filled, barred or lost.
 abbrev pub AreSettled : List Slot → Type 0
 AreSettled slots = (i : ℕ) (own : Slot) → slice_get slots i ≡ Some own → is_settled (mark_of own) ≡ true
 
+-- Some slot is barred or lost.
 abbrev pub HaveFailed : List Slot → Type 0
 HaveFailed slots = (i : ℕ) × (own : Slot) × (slice_get slots i ≡ Some own) × (is_failed (mark_of own) ≡ true)
 
--- The mark at a place.
+-- A place has this mark.
 abbrev pub mark_at : List Slot → ℕ → Mark
 mark_at slots i = mark_of (slice_index_or slots i slot.Barred)
 
@@ -80,6 +85,18 @@ written_in slot.Barred = []
 written_in (slot.Out job) = []
 written_in (slot.Filled job written) = written.pairs
 written_in (slot.Lost job) = []
+
+-- What the job of a place started from.
+abbrev pub started_from : Slot → Store
+started_from slot.Waiting = []
+started_from slot.Barred = []
+started_from (slot.Out job) = job.store
+started_from (slot.Filled job written) = job.store
+started_from (slot.Lost job) = job.store
+
+-- What the predecessors of member j in phase k wrote, and then its own piece.
+abbrev pub written_with : List (List (List Write)) → ℕ → ℕ → List Write
+written_with rows j k = written_before rows j k ++ get_or (get_or rows k []) j []
 
 -- What the first members have of a phase.
 abbrev pub column : ℕ → List Slot → ℕ → ℕ → List (List Write)

@@ -10,16 +10,16 @@ use Rattle.phase_order.specs.Crossings.{HasNoCrossing}
 use Rattle.phase_order.specs.Pipes.{written_before, piped}
 use Rattle.pipe_sched.specs.Slots.{Mark, Out, Filled, PipeParts, IsMarked, IsDue, NoneIsDue, is_begun, marked_pipe, failed_pipe}
 
--- What the pieces of a construct write in a pipeline, phase after phase.
+-- This is what the pieces of a construct write in a pipeline, phase after phase.
 abbrev pub piped_writes : NestedTree → List (List (List Write))
 piped_writes nested =
     piped (arrays_of nested.arrays) (rounds_of nested.construct nested.vars) nested.store
 
--- The store that the pieces leave that come before that of member j in phase k.
+-- The pieces that come before that of member j in phase k leave this store.
 abbrev pub piped_store : NestedTree → ℕ → ℕ → Store
 piped_store nested j k = after (written_before (piped_writes nested) j k) nested.store
 
--- It is the job of member j in phase k: it starts from that store.
+-- The job is that of member j in phase k: it starts from that store.
 abbrev pub IsJobAt : NestedTree → ℕ → ℕ → JobTree → Type 0
 IsJobAt nested j k job = slice_get (jobs_in nested k (piped_store nested j k)) j ≡ Some job
 
@@ -42,23 +42,23 @@ pub record HandsOut (before : PipeParts) (job : JobParts) (after : PipeParts) : 
   pub marked : after ≡ marked_pipe before job.place job.phase Out
   pub out : IsMarked after job.place job.phase Out
 
--- Of a pipeline, what it hands out and the pipeline afterwards. It hands out nothing only where no piece is due.
+-- The pipeline hands this out and is this afterwards. It hands out nothing only if no piece is due.
 abbrev pub GivesDue : PipeParts → Option JobParts → PipeParts → Type 0
 GivesDue before (Some job) after = HandsOut before job after
 GivesDue before None after = NoneIsDue before × (after ≡ before)
 
--- Want of memory changes nothing.
+-- An allocation failure changes nothing.
 abbrev pub Gives : {E : Type 0} → PipeParts → Result (Option JobParts) E → PipeParts → Type 0
 Gives before (Ok given) after = GivesDue before given after
 Gives before (Err refused) after = after ≡ before
 
--- Pieces that found no memory fail one after another, each when it is the one that is due.
+-- Pieces for which an allocation failed fail one after another, each when it is the one that is due.
 abbrev pub FailWhenDue : PipeParts → List (ℕ × ℕ) → PipeParts → Type 0
 FailWhenDue before [] after = after ≡ before
 FailWhenDue before ((j, k) ∷ pieces) after =
     IsDue before j k × FailWhenDue (failed_pipe before j k) pieces after
 
--- What is handed out once pieces have failed so.
+-- Some pieces fail one after another, and then the pipeline hands out what is due.
 pub record GivesAfterFailing (before : PipeParts) (given : Option JobParts)
     (after : PipeParts) : Type 0 where
   pub failed : List (ℕ × ℕ)
@@ -66,7 +66,7 @@ pub record GivesAfterFailing (before : PipeParts) (given : Option JobParts)
   pub fail : FailWhenDue before failed left
   pub gives : GivesDue left given after
 
--- Of a pipeline and a piece, the answer and the pipeline afterwards.
+-- A deposit of a piece has this result and leaves this pipeline.
 abbrev pub Deposits : PipeParts → PieceParts → Deposit → PipeParts → Type 0
 Deposits before piece Kept after =
     WasHandedOut before piece.job × IsMarked before piece.job.place piece.job.phase Out

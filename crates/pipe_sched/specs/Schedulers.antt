@@ -12,28 +12,34 @@ use Rattle.pipe_sched.specs.declared.work.PipeWork.TheVariants.{Begin, Ready}
 use Rattle.pipe_sched.specs.Slots.{PipeParts, NoneIsDue, phases_in, members_in, new_pipe}
 use Rattle.pipe_sched.specs.Pipes.{HandsOut, FailWhenDue}
 
--- What contracts see of a pipe: its pieces, and what it has for harts beside them.
+-- Contracts see these parts of a pipe: its pieces, and what it has for harts beside them.
 pub record SchedulerParts : Type 0 where
   pub state : PipeParts
   pub agenda : AgendaParts PipeWork
 
+-- The pipe has this state, and is otherwise unchanged.
 abbrev pub with_state : SchedulerParts → PipeParts → SchedulerParts
 with_state pipe state = record pipe { state = state }
 
+-- The pipe has this agenda, and is otherwise unchanged.
 abbrev pub with_agenda : SchedulerParts → AgendaParts PipeWork → SchedulerParts
 with_agenda pipe agenda = record pipe { agenda = agenda }
 
--- The pipe of which no piece was handed out, with room for one ready context of each piece.
-abbrev pub new_scheduler : NestedParts → SchedulerParts
-new_scheduler nested = record {
+-- The pipe of which no piece was handed out, with room for one ready context of each piece, and for so many wishes.
+abbrev pub roomy_scheduler : NestedParts → ℕ → SchedulerParts
+roomy_scheduler nested wishes = record {
   state = new_pipe nested;
   agenda = record {
     ready = [];
     room = members_in nested * phases_in nested;
     unbegun = [];
-    wishes = record { sites = []; room = MOST_WISHES };
+    wishes = record { sites = []; room = wishes };
   };
 }
+
+-- The pipe with room for the wishes of as many sites as a plan may have.
+abbrev pub new_scheduler : NestedParts → SchedulerParts
+new_scheduler nested = roomy_scheduler nested MOST_WISHES
 
 -- The oldest context that is ready goes on.
 abbrev pub GoesOn : SchedulerParts → Next PipeWork → SchedulerParts → Type 0
@@ -52,7 +58,7 @@ BeginsDue before (Lend child) after =
     × (after ≡ with_agenda before after.agenda)
 BeginsDue before Nothing after = NoneIsDue before.state × IsIdle before.agenda × (after ≡ before)
 
--- Where no context is ready, pieces that are due and find no memory fail one after another, and then the pipe answers.
+-- Where no context is ready, pieces that are due fail one after another if an allocation fails, and then the call returns.
 pub record AnswersDue (before : SchedulerParts) (next : Next PipeWork)
     (after : SchedulerParts) : Type 0 where
   pub none_ready : before.agenda.ready ≡ []
@@ -61,15 +67,17 @@ pub record AnswersDue (before : SchedulerParts) (next : Next PipeWork)
   pub fail : FailWhenDue before.state failed left
   pub answer : BeginsDue (with_state before left) next after
 
--- What a pipe does as a scheduler: it answers by its lists, and a callback changes its wishes alone.
+-- The call `enter` of a pipe gives what its lists have.
 abbrev pub Answers : SchedulerParts → Next PipeWork → SchedulerParts → Type 0
 Answers before next after = GoesOn before next after ⊎ AnswersDue before next after
 
+-- A callback changes the wishes of the pipe, and nothing else.
 abbrev pub Hears : SchedulerParts → Told → SchedulerParts → Type 0
 Hears before told after =
     after ≡ with_agenda before
     (record before.agenda { wishes = wishes_after told before.agenda.wishes })
 
+-- The pipe takes a context back into its ready list, if there is room.
 pub record Takes (before : SchedulerParts) (c : PipeWork) (answer : Result (Unit {0}) PipeWork)
     (after : SchedulerParts) : Type 0 where
   pub ready : PutsReady before.agenda c answer after.agenda

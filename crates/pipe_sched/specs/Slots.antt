@@ -4,8 +4,8 @@ use Rattle.array_tree.specs.Trees.{statement_of}
 use Rattle.step_eval.specs.Nests.{NestedParts, phases_of}
 use Rattle.step_eval.specs.Shapes.{members_of}
 
--- A piece waits until it is handed out, and then it is out until it is filled with what it writes, or lost for want of memory.
--- One that comes after a piece that failed is barred: it is never handed out.
+-- A piece waits until it is handed out, and then it is out until it is filled with what it writes, or lost by an allocation
+-- failure. One that comes after a piece that failed is barred: it is never handed out.
 pub data Mark : Type 0 where
   Waiting : Mark
   Barred : Mark
@@ -13,7 +13,7 @@ pub data Mark : Type 0 where
   Filled : Mark
   Lost : Mark
 
--- What contracts see of a pipeline: its construct, and what became of each piece, member by member and then by phase.
+-- Contracts see these parts of a pipeline: its construct, and what became of each piece, member by member and then by phase.
 pub record PipeParts : Type 0 where
   pub nested : NestedParts
   pub marks : List Mark
@@ -22,10 +22,11 @@ pub record PipeParts : Type 0 where
 abbrev pub phases_in : NestedParts → ℕ
 phases_in nested = phases_of (statement_of nested.construct)
 
+-- The number of members is that of the construct.
 abbrev pub members_in : NestedParts → ℕ
 members_in nested = members_of (statement_of nested.construct)
 
--- Where marks are those of so many phases: member j is marked so in phase k.
+-- Member j is marked so in phase k, where marks are those of so many phases.
 abbrev pub IsAt : ℕ → List Mark → ℕ → ℕ → Mark → Type 0
 IsAt phases marks j k mark = (k < phases) × (slice_get marks (j * phases + k) ≡ Some mark)
 
@@ -45,11 +46,12 @@ pub record IsReady (phases : ℕ) (marks : List Mark) (j k : ℕ) : Type 0 where
   pub waits : IsAt phases marks j k Waiting
   pub clear : IsClear phases marks j k
 
--- It is the first of those that are ready, by member and then by phase.
+-- The piece is the first of those that are ready, by member and then by phase.
 pub record IsFirst (phases : ℕ) (marks : List Mark) (j k : ℕ) : Type 0 where
   pub ready : IsReady phases marks j k
   pub least : (i h : ℕ) → IsReady phases marks i h → (j < i) ⊎ ((j ≡ i) × (k ≤ h))
 
+-- The piece of member j in phase k has this mark.
 abbrev pub IsMarked : PipeParts → ℕ → ℕ → Mark → Type 0
 IsMarked pipe j k mark = IsAt (phases_in pipe.nested) pipe.marks j k mark
 
@@ -61,7 +63,7 @@ IsDue pipe j k = IsFirst (phases_in pipe.nested) pipe.marks j k
 abbrev pub NoneIsDue : PipeParts → Type 0
 NoneIsDue pipe = (j k : ℕ) → ¬ IsReady (phases_in pipe.nested) pipe.marks j k
 
--- Whether a piece was handed out, whether it is filled or has failed, and whether it has failed.
+-- A piece has begun if it was handed out, whatever became of it since.
 abbrev pub is_begun : Mark → Bool
 is_begun Waiting = false
 is_begun Barred = false
@@ -69,6 +71,7 @@ is_begun Out = true
 is_begun Filled = true
 is_begun Lost = true
 
+-- A piece is settled if it is filled, barred or lost.
 abbrev pub is_settled : Mark → Bool
 is_settled Waiting = false
 is_settled Barred = true
@@ -76,6 +79,7 @@ is_settled Out = false
 is_settled Filled = true
 is_settled Lost = true
 
+-- A piece has failed if it is barred or lost.
 abbrev pub is_failed : Mark → Bool
 is_failed Waiting = false
 is_failed Barred = true
@@ -91,7 +95,7 @@ IsFull pipe = (i : ℕ) (mark : Mark) → slice_get pipe.marks i ≡ Some mark �
 abbrev pub HasFailed : PipeParts → Type 0
 HasFailed pipe = (i : ℕ) × (mark : Mark) × (slice_get pipe.marks i ≡ Some mark) × (is_failed mark ≡ true)
 
--- A pipeline of which no piece was handed out.
+-- No piece of the pipeline was handed out.
 abbrev pub new_pipe : NestedParts → PipeParts
 new_pipe nested = record {
   nested = nested;
@@ -104,7 +108,7 @@ marked_pipe pipe j k mark = record pipe {
   marks = slice_set pipe.marks (j * phases_in pipe.nested + k) mark;
 }
 
--- What becomes of a piece where it, or one that comes before it, finds no memory.
+-- A failure of a piece, or of one that comes before it, leaves this mark.
 abbrev pub failed_mark : Mark → Mark
 failed_mark Waiting = Barred
 failed_mark Barred = Barred
@@ -112,11 +116,11 @@ failed_mark Out = Lost
 failed_mark Filled = Filled
 failed_mark Lost = Lost
 
--- Whether a place is that of member j or a higher one, in phase k or a later one.
+-- The test decides whether a place is that of member j or a higher one, in phase k or a later one.
 abbrev pub follows : ℕ → ℕ → ℕ → ℕ → Bool
 follows phases j k place = nat_le j (place / phases) && nat_le k (place % phases)
 
--- Those of the elements from this place on are changed whose place passes.
+-- The elements from this place on are changed whose place passes.
 abbrev pub changed_where : {A : Type 0} → (ℕ → Bool) → (A → A) → ℕ → List A → List A
 changed_where test change place [] = []
 changed_where test change place (x ∷ more) =

@@ -1,4 +1,4 @@
-//! Pieces that come back, and pieces that find no memory.
+//! Pieces that come back, and pieces that fail for lack of memory.
 ghost use Rattle.std.specs.Prelude.{◌≡◌, ◌↔◌, ◌<◌, IsTrue};
 ghost use Rattle.pipe_sched.specs.Slots.{Out, Filled, IsMarked, IsDue, MayFail, marked_pipe, failed_pipe, changed_where, follows, FailsFrom};
 ghost use Rattle.pipe_sched.specs.Pipes.{Deposits, WasHandedOut};
@@ -24,7 +24,7 @@ impl<'p> PipeState<'p> {
         Deposit::Kept
     }
 
-    /// Tells that a piece found no memory. It must be handed out and not filled or failed, or the one that is due. Each piece
+    /// Reports that a piece failed. It must be handed out and not filled or failed, or the one that is due. Each piece
     /// that comes after it fails too, and no other.
     pub fn fail(&mut self, member: u8, phase: u8)
         requires { MayFail self.old member phase }

@@ -15,7 +15,7 @@ use std::marker::PhantomData;
 use std::sync::Wait;
 
 /// One hart's hand on a shared pipe. Its calls do what those of `Pipe` do, under the lock, for which each may wait but `site`
-/// and the callbacks that change no list. Once the pipe is handed out, `enter` answers Nothing and `unblock` gives its context
+/// and the callbacks that change no list. Once the pipe is handed out, `enter` returns Nothing and `unblock` gives its context
 /// back.
 #[derive(Drop)]
 pub struct PipeHand<'a, 'p, R> {

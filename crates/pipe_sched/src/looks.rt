@@ -61,7 +61,7 @@ impl Looks {
     }
 }
 
-// What a pipe has for a hart that is told so.
+// What a pipe has for a hart that gets this.
 fn found_of(next: &Next<PipeWork>) -> Found
     ensures { result ≡ found_in next.now }
 {

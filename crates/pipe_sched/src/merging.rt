@@ -9,13 +9,13 @@ ghost use Rattle.pipe_sched.specs.Inside.{column, columns};
 
 use crate::slot::Slot;
 use crate::state::PipeState;
-use array_eval::{MarkedStore, Overlay};
+use array_eval::{MarkedStore, Overlay, Store};
 use std::alloc::{AllocError, Global};
 use step_eval::Nested;
 
 impl<'p> PipeState<'p> {
     /// What the whole construct writes where no two of its pieces cross, each cell with its last value, in whatever order the
-    /// pieces came. Every piece must be filled or failed; where one has failed, the answer is want of memory.
+    /// pieces came. Every piece must be filled or failed; where one has failed, the result is an allocation failure.
     pub fn take_all(self) -> Result<Overlay, AllocError>
         requires { IsFull self }
         ensures failed { HasFailed self.entry → IsErr result }
@@ -39,6 +39,13 @@ pub(crate) fn fresh_store(alloc: Global, nested: &Nested) -> Result<MarkedStore,
     ensures { IfOk result (λ store. store ≡ fresh nested.now.store) }
 {
     MarkedStore::new(alloc, &nested.store)
+}
+
+// The store before a construct.
+pub(crate) fn first_store(nested: &Nested) -> Result<Store, AllocError>
+    ensures { IfOk result (λ store. store ≡ nested.now.store) }
+{
+    nested.store.copy()
 }
 
 // Merges what the first members wrote in the first phases: phase after phase, and member after member.

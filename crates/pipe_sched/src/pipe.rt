@@ -9,7 +9,7 @@ ghost use Rattle.step_eval.specs.Nests.{nested_of, nested_writes, IsFitNest};
 ghost use Rattle.step_eval.specs.Shapes.{kind_of};
 ghost use Rattle.pipe_sched.specs.Slots.{MayFail, IsFull, HasFailed, FailsFrom, failed_pipe};
 ghost use Rattle.pipe_sched.specs.Pipes.{Deposits, IsUncrossed};
-ghost use Rattle.pipe_sched.specs.Schedulers.{new_scheduler, with_state, Answers, Hears, Takes};
+ghost use Rattle.pipe_sched.specs.Schedulers.{new_scheduler, roomy_scheduler, with_state, Answers, Hears, Takes};
 
 use crate::state::PipeState;
 use crate::work::PipeWork;
@@ -57,7 +57,7 @@ pub(crate) fn heard(call: Call, child: u16, count: u8) -> PipeHeard
 /// The scheduler of one `team` whose members overtake one another. It has the state of its pieces, the contexts that are
 /// ready to go on, and the wishes of its children.
 ///
-/// Of the calls of `Scheduler`, `enter` takes memory: the store from which a piece starts. A piece that is due and finds none
+/// Of the calls of `Scheduler`, `enter` allocates: the store from which a piece starts. A piece that is due and finds none
 /// fails there, and the next one is asked for.
 #[derive(Drop)]
 pub struct Pipe<'p> {
@@ -88,16 +88,28 @@ impl<'p> Model for Pipe<'p> {
 impl<'p> Pipe<'p> {
     /// A pipe of which no piece was handed out. The construct must be a `team`.
     ///
-    /// It makes the room for wishes and for one ready context of each piece. Beside it only `enter` and `take_all` take memory.
+    /// It makes the room for wishes and for one ready context of each piece. Beside it only `enter` and `take_all` allocate.
     pub fn new(alloc: Global, nested: Nested<'p>) -> Result<Pipe<'p>, AllocError>
         requires { kind_of (statement_of nested.construct) ≡ Some kind.Team }
         ensures { IfOk result (λ pipe. pipe ≡ new_scheduler nested.entry) }
+    {
+        Pipe::with_wishes(alloc, nested, MOST_WISHES)
+    }
+
+    /// The pipe that `new` makes, with room for `wishes` wishes. A wish beyond the room is dropped.
+    pub fn with_wishes(
+        alloc: Global,
+        nested: Nested<'p>,
+        wishes: usize,
+    ) -> Result<Pipe<'p>, AllocError>
+        requires { kind_of (statement_of nested.construct) ≡ Some kind.Team }
+        ensures { IfOk result (λ pipe. pipe ≡ roomy_scheduler nested.entry wishes) }
     {
         // A look at a field tells what the type of a construct keeps.
         let _site = nested.site;
         let room = usize::from(nested.members()) * usize::from(nested.phases());
         let unbegun = VecDeque::new(alloc);
-        let agenda = Agenda::new(alloc, room, MOST_WISHES, unbegun)?;
+        let agenda = Agenda::new(alloc, room, wishes, unbegun)?;
         let state = PipeState::new(alloc, nested)?;
         Ok(Pipe { state, agenda })
     }
@@ -118,7 +130,7 @@ impl<'p> Pipe<'p> {
         self.state.deposit(piece)
     }
 
-    /// Tells that a piece found no memory. It must be handed out and not filled or failed, or the one that is due. Each piece
+    /// Reports that a piece failed. It must be handed out and not filled or failed, or the one that is due. Each piece
     /// that comes after it fails too, and no other.
     pub fn fail(&mut self, member: u8, phase: u8)
         requires { MayFail self.old.state member phase }
@@ -150,7 +162,7 @@ impl<'p> Pipe<'p> {
     }
 
     /// What the whole construct writes where no two of its pieces cross, each cell with its last value, in whatever order the
-    /// pieces came. Every piece must be filled or failed; where one has failed, the answer is want of memory.
+    /// pieces came. Every piece must be filled or failed; where one has failed, the result is an allocation failure.
     pub fn take_all(self) -> Result<Overlay, AllocError>
         requires { IsFull self.state }
         ensures failed { HasFailed self.entry.state → IsErr result }

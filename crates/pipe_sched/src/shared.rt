@@ -29,6 +29,10 @@ impl<'p> Model for SharedPipe<'p> {
 
 impl<'p> SharedPipe<'p> {
     /// Puts the pipe behind a lock, and a copy of its construct beside it.
+    ///
+    /// # Errors
+    ///
+    /// `AllocError` if an allocation fails.
     pub fn new(_alloc: Global, pipe: Pipe<'p>) -> Result<SharedPipe<'p>, AllocError>
         ensures { IfOk result (λ shared. shared ≡ pipe.entry.state.nested) }
     {

@@ -1,4 +1,4 @@
-//! Pipelines as one owner has them.
+//! Pipelines as one owner has them. The state knows no table, no port and no scheduler.
 ghost use Rattle.std.specs.Prelude.{◌≡◌, ◌↔◌, IsTrue, IfOk, IfSome, IfNone, Some, replicate};
 ghost use Rattle.array_tree.specs.Trees.{statement_of};
 ghost use Rattle.step_eval.specs.declared.shape.Kind.TheVariants as kind;
@@ -22,7 +22,7 @@ use step_eval::Nested;
 pub struct PipeState<'p> {
     pub(crate) alloc: Global,
     pub(crate) nested: Nested<'p>,
-    // Member by member, and then by phase.
+    // Member by member, and then by phase: so the first slot that is due is that of the lowest member.
     pub(crate) slots: Vec<Slot<'p>>,
 }
 
@@ -47,12 +47,12 @@ impl<'p> Model for PipeState<'p> {
 impl<'p> PipeState<'p> {
     /// A pipeline of which no piece was handed out. The construct must be a `team`.
     ///
-    /// Of the calls below only `next` and `take_all` take memory.
+    /// Of the calls below only `next` and `take_all` allocate.
     pub fn new(alloc: Global, nested: Nested<'p>) -> Result<PipeState<'p>, AllocError>
         requires { kind_of (statement_of nested.construct) ≡ Some kind.Team }
         ensures { IfOk result (λ pipe. pipe ≡ new_pipe nested.entry) }
     {
-        // A look at a field tells what the type of a construct keeps.
+        // Reading a field makes the invariant of a construct known.
         let _site = nested.site;
         let count = usize::from(nested.members()) * usize::from(nested.phases());
         let slots = waiting_slots(alloc, count)?;

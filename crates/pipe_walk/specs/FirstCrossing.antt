@@ -9,21 +9,21 @@ use Rattle.phase_order.specs.Tests.{crossing}
 use Rattle.pipe_walk.specs.declared.fault.PipeFault.{PipeFault}
 use Rattle.pipe_walk.specs.declared.fault.PipeFault.TheVariants.{Crossing, Memory}
 
--- What a fault tells of a program. Want of memory tells nothing.
+-- A fault names the first crossing of a program. An allocation failure names nothing.
 abbrev pub IsFaultOf : ProgramTree → PipeFault → Type 0
 IsFaultOf program (Crossing line cell) = IsFirstCrossing program line cell
 IsFaultOf program Memory = Unit {0}
 
--- The fault of a site: its construct's line, and the least cell on which two of its pieces cross.
+-- A site's fault has its construct's line, and the least cell on which two of its pieces cross.
 abbrev pub site_crossing : Arrays → Site → Option PipeFault
 site_crossing arrays site =
     option_map (Crossing site.line) (crossing arrays (cells_of arrays) site.rounds)
 
--- The fault of the first of the sites that has one.
+-- The result is the fault of the first of the sites that has one.
 abbrev pub first_crossing : Arrays → List Site → Option PipeFault
 first_crossing arrays [] = None
 first_crossing arrays (site ∷ more) = option_or (site_crossing arrays site) (first_crossing arrays more)
 
--- What was found, or else the first crossing of sites.
+-- The result is what was found, or else the first crossing of sites.
 abbrev pub or_crossing : Arrays → List Site → Option PipeFault → Option PipeFault
 or_crossing arrays sites found = option_or found (first_crossing arrays sites)

@@ -13,8 +13,8 @@ use std::alloc::Global;
 
 /// Whether the members of each `team` of a program may go on without waiting for one another: at no site two pieces cross.
 ///
-/// The fault is the line of the first site at which two pieces cross, and the least cell on which they do. Want of memory alone
-/// is answered at will.
+/// The fault is the line of the first site at which two pieces cross, and the least cell on which they do. An allocation failure
+/// may be returned at any time.
 pub fn pipe_check(alloc: Global, accepted: &Accepted) -> Result<(), PipeFault>
     ensures ok { OnOk result (HasNoCrossings (program_of accepted.now.program)) }
     ensures fault { IfErr result (IsFaultOf (program_of accepted.now.program)) }

@@ -53,6 +53,10 @@ fn construct_crossing(
 }
 
 /// Whether no two pieces of a construct cross, with the variables around it. Those of a `par` don't.
+///
+/// # Errors
+///
+/// `AllocError` if an allocation fails.
 pub fn uncrossed(alloc: Global, nested: &Nested) -> Result<bool, AllocError>
     ensures { IfOk result (λ clear. IsTrue clear ↔ HasNoCrossing (arrays_of (declarations_of nested.now.arrays))
         (rounds_of (statement_of nested.now.construct) nested.now.vars)) }

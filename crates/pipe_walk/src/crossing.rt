@@ -151,6 +151,7 @@ fn walked_crossing<'s>(
 }
 
 /// The least cell on which two pieces of a `team` cross. Where the text shows that there is none, nothing is walked through.
+/// A loop around the `team` takes one look a turn.
 pub(crate) fn crossing_in<'s>(
     alloc: Global,
     layout: &Layout,
@@ -175,6 +176,10 @@ pub(crate) fn crossing_in<'s>(
 
 /// The least cell on which two pieces cross of a `team` of so many members, if it has these phases and the variables of this
 /// scope around it.
+///
+/// # Errors
+///
+/// `AllocError` if an allocation fails.
 pub fn crossing_of<'s>(
     alloc: Global,
     layout: &Layout,

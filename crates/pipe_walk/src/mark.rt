@@ -35,7 +35,7 @@ fn mark_index(
     }
 }
 
-// Marks the reads of an expression. No mark tells a line.
+// Marks the reads of an expression. A mark has no line.
 #[tactic(auto, using(crate::proofs::MarkLemmas::visits_append))]
 fn mark_reads(layout: &Layout, member: usize, scope: &Scope, expr: &Expr, table: &mut Table)
     ensures { table.new ≡ with_visits layout.now member

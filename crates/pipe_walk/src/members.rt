@@ -40,7 +40,7 @@ impl Members {
         }
     }
 
-    /// The last of them; 0 also where there is none, since nobody is below member 0.
+    /// The last of them; 0 also where there is none, since no member is below member 0.
     pub(crate) fn last(self) -> usize
         ensures { result ≡ last_of self }
     {

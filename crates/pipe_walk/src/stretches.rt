@@ -29,7 +29,7 @@ fn clash(one: Touch, other: Touch) -> bool
         || meet(one.read, other.written)
 }
 
-// Whether what is told of one clashes with what is told of the other on no array.
+// Whether the recorded stretches of one clash with those of the other on no array.
 fn are_clear(layout: &Layout, one: &[Touch], other: &[Touch]) -> bool
     requires one { length one.now ≡ length layout.now }
     requires other { length other.now ≡ length layout.now }
@@ -43,8 +43,8 @@ fn are_clear(layout: &Layout, one: &[Touch], other: &[Touch]) -> bool
     true
 }
 
-// Tells of a block that is run for each number from `low` to before `high`, and so of any turns of it. The result is whether
-// all could be told.
+// Records a block that is run for each number from `low` to before `high`, and so any turns of it. The result is whether all is
+// known.
 fn tell_turns<'s>(
     layout: &Layout,
     body: &'s Block,
@@ -74,8 +74,8 @@ fn tell_turns<'s>(
     tell_block(layout, body, &turns, touches)
 }
 
-// Whether the turns of a member in a phase, from `start` to before `end`, are told, and to keep clear of what those above it
-// did in the phases before. If so, what they do in this one, up to before `last`, is told besides.
+// Whether the turns of a member in a phase, from `start` to before `end`, are known, and to keep clear of what those above it
+// did in the phases before. If so, what they do in this one, up to before `last`, is recorded besides.
 fn phase_is_clear<'s>(
     layout: &Layout,
     phase: &'s Block,
@@ -170,9 +170,10 @@ fn each_is_clear<'s>(
 
 /// Whether no two pieces of a `team` are seen to cross, whatever values the variables have between their bounds: what each
 /// member touches in a phase, array by array, is a stretch into which none above it wrote in the phases before, and it writes
-/// into none that those touched. Where it isn't seen, or memory is wanting, it may yet be so.
+/// into none that those touched. Where it isn't seen, or an allocation fails, it may yet be so.
 ///
-/// It costs the text of the phases twice for each member, however many turns there are.
+/// It costs the text of the phases twice for each member, however many turns there are: for a member all those above it are taken
+/// together as one range of turns.
 pub(crate) fn members_are_clear<'s>(
     alloc: Global,
     layout: &Layout,

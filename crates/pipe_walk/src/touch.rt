@@ -11,7 +11,7 @@ pub(crate) struct Touch {
     pub(crate) changed: Members,
 }
 
-/// Nobody touched it.
+/// No member touched it.
 pub(crate) const UNTOUCHED: Touch = Touch {
     read: Members::Nobody,
     changed: Members::Nobody,

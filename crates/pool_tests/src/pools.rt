@@ -181,6 +181,24 @@ fn pieces_go_before_wishes(rt: HostRuntime) -> Result<(), Fail> {
     Ok(())
 }
 
+// What a hart finds of two pieces and one wish.
+const PIECES_THEN_ONE_WISH: &[Answer] = &[
+    Answer::Begins(0),
+    Answer::Begins(1),
+    Answer::Lends(2),
+    Answer::Nothing,
+];
+
+#[test]
+fn a_wish_beyond_the_room_is_dropped(rt: HostRuntime) -> Result<(), Fail> {
+    let program = parsed(rt.alloc(), TWO_BRANCHES)?;
+    let jobs = first_jobs(rt.alloc(), &program)?;
+    let mut pool = Pool::with_wishes(rt.alloc(), jobs, 1)?;
+    pool.request((), 2, 2);
+    assert!(rt; finds(&mut pool, (), PIECES_THEN_ONE_WISH));
+    Ok(())
+}
+
 // What a hart finds of two contexts and two pieces, as far as the first piece.
 const CONTEXTS_THEN_PIECE: &[Answer] = &[Answer::GoesOn, Answer::GoesOn, Answer::Begins(0)];
 

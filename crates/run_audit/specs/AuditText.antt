@@ -1,4 +1,4 @@
--- The lines that tell a verdict, and the faults of an input's second part.
+-- The lines that report a verdict, and the faults of an input's second part.
 use Rattle.std.specs.Prelude.{ℕ, true, false, List, [], ◌∷◌, ◌++◌, codes}
 use Rattle.std.specs.Fmt.{decimal}
 use Rattle.transfer_table.specs.declared.entry.NotAdmitted.{NotAdmitted}
@@ -10,6 +10,7 @@ use Rattle.journal_text.specs.declared.fault.TextFault.TheVariants as fault
 use Rattle.run_audit.specs.declared.verdict.Verdict.{Verdict}
 use Rattle.run_audit.specs.declared.verdict.Verdict.TheVariants as verdict
 
+-- Each refusal of an entry has its words.
 abbrev pub refusal_text : NotAdmitted → List ℕ
 refusal_text refusal.NoSuchHart = codes "no such hart"
 refusal_text refusal.NoSuchSite = codes "no such site"
@@ -24,13 +25,14 @@ refusal_text (refusal.HartInside hart) = codes "h" ++ decimal hart ++ codes " is
 refusal_text (refusal.ChildLeft site) = codes "s" ++ decimal site ++ codes " is left"
 refusal_text refusal.NoCount = codes "count is 0"
 
+-- Each cause of a fault has its words.
 abbrev pub cause_text : Why → List ℕ
 cause_text (Refused refused) = refusal_text refused
 cause_text (Unfinished site) = codes "s" ++ decimal site ++ codes " is unfinished"
 cause_text (Unmeant site true) = codes "s" ++ decimal site ++ codes " isn't skipped"
 cause_text (Unmeant site false) = codes "s" ++ decimal site ++ codes " is skipped"
 
--- the line of a verdict
+-- A verdict has this line.
 abbrev pub verdict_text : Verdict → List ℕ
 verdict_text (verdict.Legal entries) = codes "legal " ++ decimal entries ++ 10 ∷ []
 verdict_text (verdict.Differs line) =
@@ -38,7 +40,7 @@ verdict_text (verdict.Differs line) =
 verdict_text (verdict.Illegal found) =
     codes "illegal: entry " ++ decimal found.place ++ codes ", " ++ cause_text found.why ++ 10 ∷ []
 
--- the line that tells a fault of the second part; want of memory has none
+-- A fault of the second part has this line; an allocation failure has none.
 abbrev pub text_fault_text : TextFault → List ℕ
 text_fault_text (fault.BadLine line) =
     codes "syntax: bad line " ++ decimal line ++ codes " after %%" ++ 10 ∷ []

@@ -6,6 +6,7 @@ use Rattle.journal_text.specs.declared.fault.TextFault.TheVariants.{BadLine, Bad
 use Rattle.run_audit.specs.declared.auditing.ArrayLines.{ArrayLines}
 use Rattle.run_audit.specs.Audit.{Compared}
 
+-- Contracts see compared array lines with the rest of the text cut into lines.
 abbrev pub compared_seen : ArrayLines → Compared
 compared_seen found = record {
   differs = found.differs;
@@ -13,7 +14,7 @@ compared_seen found = record {
   rest = lines_of found.rest.now;
 }
 
--- a fault that tells a line tells one up to this
+-- A fault that has a line has one up to this.
 abbrev pub IsWithin : ℕ → TextFault → Type 0
 IsWithin most (BadLine line) = line ≤ most
 IsWithin most (BadNumber line) = line ≤ most

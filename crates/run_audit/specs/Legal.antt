@@ -19,7 +19,7 @@ pub record IsLegalOutput (plan : Plan) (meant : List Bool) (arrays : List ℕ) (
   pub many : length list ≡ entries
   pub whole : output ≡ arrays ++ journal_text plan list
 
--- an audit finds so many entries legal exactly in such an output
+-- An audit finds so many entries legal exactly in such an output.
 abbrev pub LegalOutputsAreFound : Type 0
 LegalOutputsAreFound = (plan : Plan) → IsPlan plan
     → (meant : List Bool) → length meant ≡ site_count plan

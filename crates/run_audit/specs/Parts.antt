@@ -4,15 +4,16 @@ use Rattle.std.specs.List.{join_with_byte}
 use Rattle.std.specs.Option.{option_map}
 use Rattle.journal_text.specs.Reading.{lines_of, is_word}
 
--- the greatest length of the input, in bytes
+-- The input has at most so many bytes.
 abbrev pub most_audited : ℕ
 most_audited = 4194304
 
+-- The first part has this text before it.
 abbrev pub with_front : List ℕ → List ℕ × List ℕ → List ℕ × List ℕ
 with_front front parts = (front ++ parts.0, parts.1)
 
--- what stands before the first such line that a newline ends, and what stands behind it, in a text that is cut into these
--- lines
+-- This is what stands before the first such line that a newline ends, and what stands behind it, in a text that is cut into
+-- these lines.
 abbrev pub parts_in : List (List ℕ) → Option (List ℕ × List ℕ)
 parts_in [] = None
 parts_in (last ∷ []) = None
@@ -20,5 +21,6 @@ parts_in (line ∷ next ∷ more) =
     if is_word (codes "%%") line then Some ([], join_with_byte 10 (next ∷ more))
     else option_map (with_front (line ++ 10 ∷ [])) (parts_in (next ∷ more))
 
+-- The parts of a text are what stands before and behind its first line `%%`.
 abbrev pub parts_of : List ℕ → Option (List ℕ × List ℕ)
 parts_of text = parts_in (lines_of text)

@@ -19,6 +19,7 @@ use transfer_table::{Entries, Plan, first_fault};
 
 /// The verdict on an output of at most 4,194,304 bytes for the program, or the first fault of its text.
 ///
+/// A fault behind the array lines has its line in the output.
 /// The array lines are compared first, as bytes, and then the journal is checked, by the sites that are meant to be entered:
 /// a truth value for each site, that of site `s` at place `s - 1`.
 pub fn audit(
@@ -37,7 +38,7 @@ pub fn audit(
     audit_against(alloc, accepted.plan(), meant, &wanted, output)
 }
 
-// The array lines of the program.
+// The array lines of the program, by the one-thread evaluator. So a verdict needs no harts.
 fn wanted_lines(alloc: Global, accepted: &Accepted<'_>) -> Result<Vec<u8>, AllocError>
     ensures { IfOk result (λ text. text.items ≡ array_text (program_of accepted.now.program)
         (final_store (program_of accepted.now.program))) }

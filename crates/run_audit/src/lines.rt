@@ -8,6 +8,10 @@ use std::alloc::{AllocError, Global};
 use transfer_table::{NotAdmitted, Why};
 
 /// The line of a verdict.
+///
+/// # Errors
+///
+/// `AllocError` if an allocation fails.
 pub fn verdict_line(alloc: Global, verdict: Verdict) -> Result<Vec<u8>, AllocError>
     ensures { IfOk result (λ line. line.items ≡ verdict_text verdict) }
 {
@@ -63,7 +67,7 @@ fn add_refusal(line: &mut String, refusal: NotAdmitted) -> Result<(), AllocError
     }
 }
 
-/// The line that tells a fault of the second part, which isn't want of memory.
+/// The line that reports a fault of the second part, which isn't an allocation failure.
 pub fn text_fault_line(alloc: Global, fault: TextFault) -> Result<Vec<u8>, AllocError>
     requires { fault ≢ TextFault.Memory }
     ensures { IfOk result (λ line. line.items ≡ text_fault_text fault) }

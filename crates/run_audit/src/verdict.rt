@@ -8,6 +8,6 @@ pub enum Verdict {
     Legal(u32),
     /// The line, counted from 1, is the first of the array lines that isn't the program's.
     Differs(u32),
-    /// The array lines are the program's, and the transfers have a fault, the first of which is told.
+    /// The array lines are the program's, and the transfers have a fault: this is the first.
     Illegal(Fault),
 }

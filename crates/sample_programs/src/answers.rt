@@ -1,4 +1,4 @@
-//! Answers that a test compares, without what they hand out.
+//! Results that a test compares, without what they hand out.
 
 use join_book::Deposit;
 use sched_api::{Call, Hearing, Scheduler, Told};
@@ -27,7 +27,7 @@ pub enum Came {
     Stranger,
 }
 
-/// The same of a deposit's answer, without the piece that it gives back.
+/// The same by a deposit's result, without the piece that it gives back.
 pub fn outcome_of(deposit: Deposit) -> Came {
     match deposit {
         Deposit::Kept => Came::Kept,
@@ -36,7 +36,7 @@ pub fn outcome_of(deposit: Deposit) -> Came {
     }
 }
 
-/// What a scheduler tells of the calls that it hears, each made once: child 3 registers, asks for a hart, gives it back and
+/// What the receipts of a scheduler have of its callbacks, each made once: child 3 registers, asks for a hart, gives it back and
 /// unregisters, and a context waits at a mutex.
 pub fn tells<S: Scheduler>(scheduler: &mut S, hold: S::Hold) -> [Told; 5] {
     [
@@ -48,7 +48,7 @@ pub fn tells<S: Scheduler>(scheduler: &mut S, hold: S::Hold) -> [Told; 5] {
     ]
 }
 
-/// What each scheduler tells of them.
+/// What the receipts of each scheduler have.
 pub const TOLD: [Told; 5] = [
     Told {
         call: Call::Registered,

@@ -26,7 +26,7 @@ pub fn first_jobs<'p>(alloc: Global, program: &'p Program) -> Result<Vec<Job<'p>
     ensures { IfOk result (λ jobs. IsGroup (map job_of jobs.items)) }
 {
     let nested = first_construct(alloc, program)?;
-    // A look at its phases tells that it is a construct that is handed out.
+    // Reading its phases makes the invariant of a construct known.
     let _phases = nested.phases();
     Ok(jobs_of(alloc, &nested, 0, &nested.store)?)
 }

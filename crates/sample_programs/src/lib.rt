@@ -1,6 +1,9 @@
-//! Small programs for the tests of schedulers, with their constructs, jobs and pieces.
+//! Small programs for the tests of schedulers, with their constructs, jobs and pieces. What the tests of books, pools and teams
+//! share is proved once here.
 //!
-//! What goes wrong is a test's failure: a text that spells no program, one that isn't accepted, or want of memory.
+//! What goes wrong is a test's failure: a text that spells no program, one that isn't accepted, or an allocation failure.
+//!
+//! Begin with `programs.rt`, which has the texts; the tests of `pool_tests` and `team_tests` use all of it.
 #![tactic(auto)]
 
 mod answers;

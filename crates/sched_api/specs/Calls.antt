@@ -12,7 +12,7 @@ use Rattle.sched_api.specs.declared.scheduler.Next.{Next}
 use Rattle.sched_api.specs.declared.scheduler.Lent.{Lent}
 use Rattle.sched_api.specs.declared.scheduler.Lent.TheVariants.{Inside, NotWanted, Moved}
 
--- what each callback tells
+-- what each callback says
 abbrev pub registered_told : ℕ → Told
 registered_told child = record { call = Registered; child = child; count = 0 }
 

@@ -17,7 +17,7 @@ pub enum Call {
     Blocked,
 }
 
-/// What a scheduler was told.
+/// A callback that a scheduler received.
 #[derive(Clone, Copy, Debug, PartialEq, Eq)]
 pub struct Told {
     pub call: Call,
@@ -27,12 +27,12 @@ pub struct Told {
     pub count: u8,
 }
 
-/// What a callback of a scheduler gives. Only the scheduler's own callbacks make one, so who has one
-/// has called one.
+/// A receipt: what a callback of a scheduler returns. Only the scheduler's own callbacks make one, so a receipt shows that the
+/// callback was called. Why it is apart from `Scheduler`: the six calls can then only pass a receipt on.
 pub trait Hearing: Drop {
     ghost heard: { Self → Told };
 
-    /// What the scheduler was told.
+    /// The callback.
     fn told(&self) -> Told
         ensures { result ≡ heard self.now };
 }

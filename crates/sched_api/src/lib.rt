@@ -1,6 +1,6 @@
 //! What schedulers hear and answer, and the calls that move a hart between a parent and its child.
 //!
-//! A scheduler is told when a child of it registers, unregisters, asks for harts or gives one back,
+//! A scheduler gets a callback when a child of it registers, unregisters, asks for harts or gives one back,
 //! and when a context of it waits; `enter` says what a hart that comes to it does next. Of the six
 //! calls, five make the port's transfer and the callback that belongs to it, and one only asks.
 #![tactic(auto)]

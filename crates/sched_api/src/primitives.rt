@@ -8,7 +8,7 @@ ghost use Rattle.sched_api.specs.Calls.{IsHeard, Lends, RoseUnlessLent, claim_of
 use crate::scheduler::{Lent, Next, Scheduler};
 use hart_port::{Entered, Port, Taken};
 
-/// Registers the site, and tells the parent. Where the site is taken, the parent isn't told.
+/// Registers the site, and calls the parent. Where the site is taken, the parent isn't called.
 pub fn sched_register<P: Port, S: Scheduler>(
     port: &mut P,
     ph: P::Hold,
@@ -29,7 +29,7 @@ pub fn sched_register<P: Port, S: Scheduler>(
     Ok(parent.register(sh, site))
 }
 
-/// Asks for `count` harts for the site, and tells the parent.
+/// Asks for `count` harts for the site, and calls the parent.
 pub fn sched_request<P: Port, S: Scheduler>(
     port: &mut P,
     ph: P::Hold,
@@ -51,7 +51,7 @@ pub fn sched_request<P: Port, S: Scheduler>(
     parent.request(sh, site, count)
 }
 
-/// Unregisters the port's owner, and tells the parent.
+/// Unregisters the port's owner, and calls the parent.
 pub fn sched_unregister<P: Port, S: Scheduler>(
     port: &mut P,
     ph: P::Hold,
@@ -71,7 +71,7 @@ pub fn sched_unregister<P: Port, S: Scheduler>(
     parent.unregister(sh, child)
 }
 
-/// Gives the hart back from the port's owner to the parent, and tells the parent.
+/// Gives the hart back from the port's owner to the parent, and calls the parent.
 pub fn sched_yield<P: Port, S: Scheduler>(
     port: &mut P,
     ph: P::Hold,

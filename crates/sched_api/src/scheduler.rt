@@ -45,7 +45,7 @@ pub trait Scheduler {
     /// Of a scheduler, what `enter` answers there, and the scheduler afterwards.
     ghost answers: { Self → Next Self.Ctx → Self → Type 0 };
 
-    /// Of a scheduler, what it is told, and the scheduler afterwards.
+    /// A scheduler, the callback that it gets, and the scheduler afterwards.
     ghost hears: { Self → Told → Self → Type 0 };
 
     /// Of a scheduler, a context that waits no longer, the answer, and the scheduler afterwards.

@@ -1,6 +1,6 @@
--- Counts as they are told.
+-- Counts as they are reported.
 use Rattle.std.specs.Prelude.{ℕ, ◌-◌, ◌^◌, min}
 
--- The greatest number of 64 bits, where a number is above that.
+-- A number above the greatest of 64 bits is that greatest number.
 abbrev pub capped : ℕ → ℕ
 capped n = min n (2 ^ 64 - 1)

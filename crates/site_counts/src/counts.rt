@@ -1,4 +1,7 @@
 //! How many sites a block has, and how many pieces they have.
+//!
+//! Why two functions of one form, for sites and for pieces: a common one would need a parameter with a contract, and would lose
+//! the recursion over the text.
 ghost use Rattle.std.specs.Prelude.{◌≡◌, ℕ, ◌+◌, ◌*◌};
 ghost use Rattle.array_tree.specs.Trees.{statement_of, sequence_of, sequences_of};
 ghost use Rattle.array_meaning.specs.Work.{span};

@@ -1,4 +1,7 @@
 //! How many sites a block has, and how many pieces they have, without a store.
+//!
+//! The checker counts a program's sites and pieces with it, and a job the sites inside it. Begin with `sites_in_block` in
+//! `counts.rt`; `array_jobs/src/work.rt` is a small user of it.
 #![tactic(auto)]
 
 mod counts;

@@ -75,6 +75,10 @@ impl<'a, S: Drop> SiteLine<'a, S> {
 
 /// An empty cell for each site of a plan with so many sites, that of site s at place s; the base has one too, which stays
 /// empty.
+///
+/// # Errors
+///
+/// `AllocError` if an allocation fails.
 pub fn cells<S: Drop>(alloc: Global, sites: u16) -> Result<Vec<OnceBox<S>>, AllocError>
     ensures { IfOk result (λ cells. vec_len cells ≡ sites + 1) }
 {
@@ -86,6 +90,10 @@ pub fn cells<S: Drop>(alloc: Global, sites: u16) -> Result<Vec<OnceBox<S>>, Allo
 }
 
 /// A hart's first sight of each cell, in their order.
+///
+/// # Errors
+///
+/// `AllocError` if an allocation fails.
 pub fn lines<'a, S: Drop>(
     alloc: Global,
     cells: &'a [OnceBox<S>],

@@ -75,15 +75,15 @@ work_goes arrays store (member_of var low high body) vars n more none = cases (i
         let enters = λ (x : ℤ). sequence_entered arrays body ((var, x) ∷ vars) in
         let first = sequence_entered arrays body ((var, low) ∷ vars) store in
         let then = exec arrays (works low) store in
-        ap (λ c. turns_entered arrays works enters low c store ++ (replicate n false ++ rest_entered arrays more (exec arrays (turns works low c) store))) count
-        ∙ append_assoc first (turns_entered arrays works enters (low +ℤ pos 1) k then) (replicate n false ++ rest_entered arrays more (exec arrays (turns works low (suc k)) store))
-        ∙ ap (λ s. first ++ (turns_entered arrays works enters (low +ℤ pos 1) k then ++ (replicate n false ++ rest_entered arrays more s)))
+        ap (λ c. turns_entered arrays (λ x. (works x, enters x)) low c store ++ (replicate n false ++ rest_entered arrays more (exec arrays (turns works low c) store))) count
+        ∙ append_assoc first (turns_entered arrays (λ x. (works x, enters x)) (low +ℤ pos 1) k then) (replicate n false ++ rest_entered arrays more (exec arrays (turns works low (suc k)) store))
+        ∙ ap (λ s. first ++ (turns_entered arrays (λ x. (works x, enters x)) (low +ℤ pos 1) k then ++ (replicate n false ++ rest_entered arrays more s)))
         (exec_followed_by arrays (works low) (turns works (low +ℤ pos 1) k) store)
     cases false e =
         let count : span low high ≡ 0 = rw e refl in
         let works = λ (x : ℤ). sequence_work body ((var, x) ∷ vars) in
         let enters = λ (x : ℤ). sequence_entered arrays body ((var, x) ∷ vars) in
-        ap (λ c. turns_entered arrays works enters low c store ++ (replicate n false ++ rest_entered arrays more (exec arrays (turns works low c) store))) count
+        ap (λ c. turns_entered arrays (λ x. (works x, enters x)) low c store ++ (replicate n false ++ rest_entered arrays more (exec arrays (turns works low c) store))) count
 
 pub steps_pass_sites : StepsPassSites
 steps_pass_sites arrays store w more none = work_goes arrays store w.work w.vars w.after more none

@@ -10,7 +10,7 @@ use Rattle.array_meaning.specs.Members.{start_of, team_works}
 use Rattle.array_meaning.specs.Sites.{phase_rounds, AreRoundsApart}
 use Rattle.array_meaning.specs.Touch.{IsApart}
 use Rattle.array_meaning.specs.Limits.{is_up_to, count_of, have_right_ranges}
-use Rattle.array_meaning.specs.Entered.{statement_entered, sequence_entered, loop_entered, phases_entered, branches_alone, members_alone}
+use Rattle.array_meaning.specs.Entered.{statement_entered, sequence_entered, loop_entered, phases_entered, branches_alone, members_alone, sequence_part}
 use Rattle.array_meaning.proofs.CellLemmas.{some_cell}
 use Rattle.array_meaning.proofs.EnterAlone.{branches_enter, members_enter}
 use Rattle.array_meaning.proofs.MemberLemmas.{members_loop}
@@ -32,7 +32,7 @@ member_jobs : (nested : NestedTree) (phase : ℕ) (store : Store) (place first :
 member_jobs nested phase store place first var low high m body j zero = refl
 member_jobs nested phase store place first var low high m body j (suc k) =
     let arrays = arrays_of nested.arrays in
-    ap (λ x. loop_entered arrays var (start_of low high m j) (start_of low high m (j + 1)) (sequence_work body) (sequence_entered arrays body) nested.vars store ++ x)
+    ap (λ x. loop_entered arrays var (start_of low high m j) (start_of low high m (j + 1)) (sequence_part arrays body) nested.vars store ++ x)
     (member_jobs nested phase store (place + 1) _ var low high m body (j + 1) k)
 
 -- the pieces of each phase are those of its body, and apart
@@ -78,13 +78,13 @@ module _ (nested : NestedTree) (have : HaveCells (arrays_of nested.arrays)) (lin
       let place : k + 0 ≡ k = omega arith in
       let is : first ≡ phase_at phases k = at 0 (omega arith) ∙ ap (phase_at phases) place in
       let body = phase_at phases k in
-      let here : loop_entered arrays var low high (sequence_work body) (sequence_entered arrays body) nested.vars store ≡ jobs_entered arrays (jobs_in whole k store)
+      let here : loop_entered arrays var low high (sequence_part arrays body) nested.vars store ≡ jobs_entered arrays (jobs_in whole k store)
       = members_enter arrays (some_cell arrays have) var low high m body nested.vars store some (phase_apart arrays phases var low high m nested.vars k small apart)
       ∙ sym (member_jobs whole k store 0 _ var low high m body 0 m) in
       let later = phases_left rest (k + 1)
       (λ i lt. at (suc i) (omega (arith, lt)) ∙ (let z : k + suc i ≡ k + 1 + i = omega arith in ap (phase_at phases) z)) (omega (arith, count)) in
       let one : 1 + count_of rest ≡ suc (count_of rest) = omega arith in
-      ap (λ b. loop_entered arrays var low high (sequence_work b) (sequence_entered arrays b) nested.vars store
+      ap (λ b. loop_entered arrays var low high (sequence_part arrays b) nested.vars store
       ++ phases_entered arrays rest var low high nested.vars (exec arrays (loop var low high (sequence_work b) nested.vars) store)) is
       ∙ ap (λ x. x ++ phases_entered arrays rest var low high nested.vars (exec arrays (loop var low high (sequence_work body) nested.vars) store)) here
       ∙ ap (λ s. jobs_entered arrays (jobs_in whole k store) ++ phases_entered arrays rest var low high nested.vars s) (phase_leaves k small)

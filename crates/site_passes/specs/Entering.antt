@@ -4,7 +4,7 @@ use Rattle.array_tree.specs.Trees.{Statement}
 use Rattle.array_meaning.specs.Stores.{Arrays, Vars, Store, HaveCells, arrays_of, after}
 use Rattle.array_meaning.specs.Steps.{exec}
 use Rattle.array_meaning.specs.Work.{sequence_work}
-use Rattle.array_meaning.specs.Entered.{Entering, loop_entered, sequence_entered, statement_entered}
+use Rattle.array_meaning.specs.Entered.{Entering, loop_entered, sequence_entered, statement_entered, sequence_part}
 use Rattle.array_jobs.specs.Works.{WorkTree, branch_of, member_of, steps_of}
 use Rattle.array_jobs.specs.Jobs.{JobTree}
 use Rattle.step_eval.specs.Rest.{WorkAt, rest_sites}
@@ -17,7 +17,7 @@ use Rattle.step_eval.specs.Phases.{store_before}
 abbrev pub work_entered : Arrays → WorkTree → Vars → Entering
 work_entered arrays (branch_of body) vars = sequence_entered arrays body vars
 work_entered arrays (member_of var low high body) vars =
-    loop_entered arrays var low high (sequence_work body) (sequence_entered arrays body) vars
+    loop_entered arrays var low high (sequence_part arrays body) vars
 
 -- Of each site of what is left, work after work. None of those behind a work is.
 abbrev pub rest_entered : Arrays → List WorkAt → Entering

@@ -1,12 +1,11 @@
 -- Where no other hart shares the table: what the hart registered is over, unless the hart is inside it.
 use Rattle.std.proofs.Common.{cond, ◌≡◌, ◌⊎◌, ℕ, ◌≤◌, ◌+◌, Bool, true, false, not, ◌&&◌, List, [], ◌∷◌, ◌++◌, if◌then◌else◌, refl, sym, ap, ◌∙◌, subst, arith, inl, inr}
 use Rattle.std.specs.Option.{is_some}
-use Rattle.transfer_table.specs.Plan.{Plan, IsPlan, IsHart, IsSite, parent, is_within}
+use Rattle.transfer_table.specs.Plan.{Plan, IsPlan, IsHart, IsSite, parent, IsWithin, is_within}
 use Rattle.transfer_table.specs.Table.{TableState, owner, row, is_gone}
 use Rattle.transfer_table.specs.Journal.{Reaches}
 use Rattle.transfer_table.specs.Entry.{site_of, is_skip, covers, unregisters, skips_over}
-use Rattle.transfer_table.specs.Laws.{IsWithin}
-use Rattle.transfer_table.specs.Laws.IsWithin.{itself, child}
+use Rattle.transfer_table.specs.Plan.IsWithin.{itself, child}
 use Rattle.transfer_table.specs.declared.entry.Entry.{Entry}
 use Rattle.transfer_table.specs.declared.entry.Stage.{Stage}
 use Rattle.transfer_table.specs.declared.entry.Stage.TheVariants.{New, Live, Gone}

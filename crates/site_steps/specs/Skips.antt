@@ -1,4 +1,4 @@
--- What a hart does that skips sites, of what its port tells of skips, and of the port's count of refusals before and after.
+-- What a hart does that skips sites, by what its port gives of skips and by the port's count of refusals before and after.
 use Rattle.std.specs.Prelude.{◌≡◌, ◌⊎◌, ℕ, ◌<◌, ◌≤◌, true, List, [], ◌∷◌, ◌++◌, map}
 use Rattle.std.specs.List.{All, Contains}
 use Rattle.transfer_table.specs.Plan.{IsSite, parent}

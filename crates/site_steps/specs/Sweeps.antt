@@ -1,4 +1,4 @@
--- What a sweep does, of what a port tells of registers, and of the hart's view and the port's count of refusals before and after.
+-- What a sweep does, by what a port gives of registers, and by the hart's view and the port's count of refusals before and after.
 use Rattle.std.specs.Prelude.{◌≡◌, ◌⊎◌, ℕ, ◌<◌, Option, Result, Err}
 use Rattle.transfer_table.specs.Plan.{IsSite, parent}
 use Rattle.transfer_table.specs.Entry.{unregisters}
@@ -7,7 +7,7 @@ use Rattle.hart_port.specs.PortView.{PortView}
 use Rattle.hart_port.specs.declared.port.Taken.{Taken}
 use Rattle.site_steps.specs.Visits.{IsBefore}
 
--- what a port tells of a register or of a skip: the port, the site, the answer, and the port afterwards
+-- what a port gives of a register or of a skip: the port, the site, the result, and the port afterwards
 abbrev pub Gives : Type 0 → Type 1
 Gives P = P → ℕ → Result (Unit {0}) Taken → P → Type 0
 
@@ -15,7 +15,8 @@ Gives P = P → ℕ → Result (Unit {0}) Taken → P → Type 0
 abbrev pub IsRefused : {P : Type 0} → Gives P → ℕ → Type 0
 IsRefused {P} gives s = (before after : P) × (taken : Taken) × gives before s (Err taken) after
 
--- the hart has unregistered the site in the sweep, or a register of it was refused
+-- The hart has unregistered the site in the sweep, or the port refused a register of the site. Why no more: on a shared table
+-- another hart may have the site. A hart that is alone knows that each child was unregistered or skipped.
 abbrev pub IsSwept : {P : Type 0} → Gives P → PortView → ℕ → PortView → ℕ → ℕ → Type 0
 IsSwept gives h refused after refused' s = (unregisters s h.mine < unregisters s after.mine)
     ⊎ (Rose refused refused' × IsRefused gives s)

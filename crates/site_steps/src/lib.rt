@@ -1,4 +1,4 @@
-//! What a hart does at a site besides its work, for every port: it ends the site, and it makes the sites that nobody
+//! What a hart does at a site besides its work, for every port: it ends the site, and it makes the sites that no hart
 //! entered come and go.
 //!
 //! `PatientPort` is a port that can wait for what other harts do; a single hart's port waits for nothing, and `WaitingPort`

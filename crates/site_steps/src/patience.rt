@@ -29,7 +29,7 @@ pub trait PatientPort: Port {
 /// A single hart waits for nothing: it sees at once what it waits for.
 impl PatientPort for PlainPort {
     fn until_gone(&mut self, hold: (), site: u16) {
-        // A look at the owner tells what the port keeps: a site that this hart unregistered or skipped is gone.
+        // A read of the owner gives the port's invariant: a site that this hart unregistered or skipped is gone.
         let _ = self.owner();
         if !self.see_gone(hold, site) {
             unreachable!()

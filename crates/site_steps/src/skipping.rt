@@ -1,4 +1,4 @@
-//! How sites are skipped that nobody is to enter.
+//! How a hart skips sites that no hart is to enter.
 ghost use Rattle.std.specs.Prelude.{◌≡◌, ◌≤◌, ◌+◌};
 ghost use Rattle.site_steps.specs.Back.{IsSettled, IsBack};
 ghost use Rattle.site_steps.specs.Skips.{HasSkipped, ChildrenClaimed};

@@ -1,4 +1,4 @@
-//! How the sites that nobody entered come and go.
+//! How the sites that no hart entered come and go.
 ghost use Rattle.std.specs.Prelude.{◌≡◌, ◌≤◌, true, false};
 ghost use Rattle.transfer_table.specs.Plan.{IsSite, parent};
 ghost use Rattle.hart_port.specs.PortView.{HasEnded};
@@ -9,7 +9,7 @@ use crate::ending::finish_site;
 use crate::patience::PatientPort;
 use crate::tree::SiteTree;
 
-/// Sweeps the owner where that is needed: where a piece of it has failed, or nothing tells that each child came and went or was
+/// Sweeps the owner where that is needed: where a piece of it has failed, or it isn't known that each child came and went or was
 /// skipped.
 pub fn sweep_if<P: PatientPort>(tree: &SiteTree, port: &mut P, hold: P::Hold, is_needed: bool)
     requires plan { (P.seen port.old).plan ≡ tree.now }
@@ -26,7 +26,7 @@ pub fn sweep_if<P: PatientPort>(tree: &SiteTree, port: &mut P, hold: P::Hold, is
     }
 }
 
-/// Makes each child of the owner that nobody registered come and go, in rising order, with all that is inside it. Of each child
+/// Makes each child of the owner that no hart registered come and go, in rising order, with all that is inside it. Of each child
 /// that it didn't unregister the register was refused.
 #[cycle(sweep)]
 pub fn sweep_children<P: PatientPort>(tree: &SiteTree, port: &mut P, hold: P::Hold)

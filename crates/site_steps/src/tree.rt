@@ -50,7 +50,7 @@ impl SiteTree {
         ensures same { result.now ≡ self.now }
         ensures kept { IsPlan self.now }
     {
-        // A look at the sites tells what the type of a plan keeps.
+        // A read of the sites gives the invariant of a plan's type.
         let _ = self.plan.sites();
         &self.plan
     }

@@ -6,8 +6,8 @@ use crossbeam_utils::Backoff;
 use hart_port::{Entered, Port, Seen, Taken};
 use std::sync::Wait;
 
-/// A port whose waits may last: each looks again and again, with a pause between two looks. It doesn't tell whether another hart
-/// shares the table, so who moves by it rests nothing on that.
+/// A port whose waits may last: each wait looks again and again. The pauses between looks grow (`Backoff`), so that a long wait
+/// takes little of a processor. The view's `alone` is always false, so callers can't rely on exclusive access.
 pub struct WaitingPort<'a, P, R> {
     port: P,
     rt: &'a R,

@@ -15,7 +15,7 @@ abbrev pub cell_fault : ℕ → Option ℕ → Option WalkFault
 cell_fault line None = None
 cell_fault line (Some cell) = Some (Overlap line cell)
 
--- The first of the rounds in which two pieces overlap, and the least cell on which they do.
+-- The fault is the first of the rounds in which two pieces overlap, and the least cell on which they do.
 abbrev pub rounds_fault : Arrays → ℕ → List (List Steps) → Option WalkFault
 rounds_fault arrays line [] = None
 rounds_fault arrays line (round ∷ more) =
@@ -33,6 +33,6 @@ first_overlap arrays (site ∷ more) =
 abbrev pub overlap_of : ProgramTree → Option WalkFault
 overlap_of program = first_overlap (arrays_of program.arrays) (sequence_sites program.body [])
 
--- What the walk finds: an index outside its array, or else an overlap.
+-- This is what the walk finds: an index outside its array, or else an overlap.
 abbrev pub walk_fault_of : ProgramTree → Option WalkFault
 walk_fault_of program = option_or (out_of_range_of program) (overlap_of program)

@@ -1,4 +1,4 @@
--- What the walk's answers mean.
+-- What the walk's results mean.
 use Rattle.std.specs.Prelude.{◌≡◌, ◌↔◌, None, IsTrue}
 use Rattle.array_tree.specs.Trees.{ProgramTree}
 use Rattle.array_meaning.specs.Names.{has_only_known_names}

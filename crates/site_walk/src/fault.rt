@@ -1,6 +1,6 @@
 //! What the walk can find.
 
-/// Why a program isn't accepted by the walk, or that memory is wanting.
+/// Why the walk doesn't accept a program, or an allocation failure.
 #[derive(Clone, Copy, PartialEq, Eq, Debug, Drop)]
 pub enum WalkFault {
     /// A static index outside its array: the line of the assignment or `if` in whose own expressions it stands, the
@@ -9,6 +9,6 @@ pub enum WalkFault {
     /// Two pieces of a site overlap: the construct's line, and the least cell on which they do. Cells are numbered from
     /// 0 in order of declaration.
     Overlap { line: u32, cell: u16 },
-    /// Want of memory.
+    /// An allocation failed.
     Memory,
 }

@@ -1,4 +1,4 @@
-//! What the walk's answers mean. No code here runs: each function's contract is a law, and its body is empty.
+//! What the walk's results mean. No code here runs: each function's contract is a law, and its body is empty.
 ghost use Rattle.site_walk.specs.Laws.{AreOutsidesFound, AreOverlapsFound};
 
 /// No index is found exactly where each static index is inside its array.

@@ -33,7 +33,7 @@ pub(crate) struct Touched {
     pub(crate) written: bool,
 }
 
-/// Nobody touched it.
+/// No piece touched it.
 pub(crate) const UNTOUCHED: Touched = Touched {
     by: Pieces::Nobody,
     written: false,

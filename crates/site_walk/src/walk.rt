@@ -17,8 +17,11 @@ use std::alloc::Global;
 
 /// Walks through a program: each static index must be inside its array, and the pieces of each site must not overlap.
 ///
-/// The fault is the first index outside its array, over the whole program, or else the first overlap. Want of memory
-/// alone is answered at will.
+/// The indices of the whole program are walked first. Then each construct is walked once, before the sites inside it, so site
+/// numbers need no second pass.
+///
+/// The fault is the first index outside its array, over the whole program, or else the first overlap. An
+/// allocation failure may be returned at any time.
 ///
 /// Each array must have a cell, and all at most 4,096. In a walk that finds nothing the pieces of each site are apart,
 /// where no name is unknown: an unknown array would have a cell behind the last.
@@ -55,8 +58,8 @@ pub fn walk_program(alloc: Global, program: &Program) -> Result<(), WalkFault>
     }
 }
 
-/// Looks at each static index of a program: it must be inside its array. The fault is that of the first one outside. Want of
-/// memory alone is answered at will.
+/// Looks at each static index of a program: it must be inside its array. The fault is that of the first one outside. An
+/// allocation failure may be returned at any time.
 ///
 /// Each array must have a cell, and all at most 4,096.
 pub fn walk_indices(alloc: Global, program: &Program) -> Result<(), WalkFault>

@@ -57,12 +57,12 @@ member_filter p (y ∷ ys) x (inr q) t = ⊎_elim
     (cases_Bool (p y))
 
 -- of arrays declared once each has the length of its name, and each name's is one of them
-length_single : (arrays : Arrays) → AreSingle arrays → (a : List ℕ × ℕ) → IsMember a arrays → length_of arrays a.0 ≡ a.1
+pub length_single : (arrays : Arrays) → AreSingle arrays → (a : List ℕ × ℕ) → IsMember a arrays → length_of arrays a.0 ≡ a.1
 length_single [] once a h = absurd h
 length_single (b ∷ more) once a (inl e) = let same : name_eq b.0 a.0 ≡ true = subst (λ z. name_eq b.0 z.0 ≡ true) e (name_self b.0) in rw same (ap (λ (z : List ℕ × ℕ). z.1) e)
 length_single (b ∷ more) once a (inr q) = let other = member_other more b.0 a once.0 q in rw other (length_single more once.1 a q)
 
-named_member : (arrays : Arrays) (x : List ℕ) → is_among x (names_in arrays) ≡ true → IsMember (x, length_of arrays x) arrays
+pub named_member : (arrays : Arrays) (x : List ℕ) → is_among x (names_in arrays) ≡ true → IsMember (x, length_of arrays x) arrays
 named_member [] x h = absurd (false≢true h)
 named_member (a ∷ more) x h = ⊎_elim
     (λ same. let name : a.0 ≡ x = same_text a.0 x (sym same) in rw same (inl (ap (λ z. (z, a.1)) name)))

@@ -1,39 +1,24 @@
--- Parts of two programs side by side: from related stores they lead to related ones, and enter the same sites.
-use Rattle.std.proofs.Common.{◌≡◌, ℕ, zero, suc, ◌<◌, Bool, true, false, cond, List, [], ◌∷◌, ◌++◌, replicate, ℤ, pos, ◌+ℤ◌, refl, sym, ap, ◌∙◌, subst, arith}
+-- Parts of two programs side by side: from related stores they lead to related ones, and enter the same sites. One lemma shows
+-- both, since a part is its steps together with the sites that it enters.
+use Rattle.std.proofs.Common.{◌≡◌, ℕ, zero, suc, ◌<◌, Bool, true, false, cond, [], ◌∷◌, ◌++◌, replicate, ℤ, pos, ◌+ℤ◌, refl, sym, ap, ◌∙◌, subst, arith}
 use Rattle.std.proofs.lemmas.Int.{ints}
-use Rattle.array_tree.specs.Trees.{Expression, Statement, Sequence, Sequences}
+use Rattle.array_tree.specs.Trees.{Expression}
 use Rattle.array_meaning.specs.Values.{holds}
 use Rattle.array_meaning.specs.Stores.{Arrays, Vars, Store, value_of}
 use Rattle.array_meaning.specs.Steps.{Steps, Done, Choose, followed_by, exec}
-use Rattle.array_meaning.specs.Work.{turns, statement_work, sequence_work, branches_work, phases_work}
-use Rattle.array_meaning.specs.Entered.{Entering, entered_then, turns_entered, statement_entered, sequence_entered, branches_entered, phases_entered}
+use Rattle.array_meaning.specs.Work.{turns}
+use Rattle.array_meaning.specs.Entered.{Part, entered_then, turns_entered}
 use Rattle.spread_laws.proofs.Keeps.{Keep, done_keep, then_keep, choice_keep}
-
--- the steps of a part, and which of its sites it enters
-abbrev pub Part : Type 0
-Part = Steps × Entering
-
-abbrev pub statement_part : Arrays → Statement → Vars → Part
-statement_part arrays s vars = (statement_work s vars, statement_entered arrays s vars)
-
-abbrev pub sequence_part : Arrays → Sequence → Vars → Part
-sequence_part arrays s vars = (sequence_work s vars, sequence_entered arrays s vars)
-
-abbrev pub branches_part : Arrays → Sequences → Vars → Part
-branches_part arrays bs vars = (branches_work bs vars, branches_entered arrays bs vars)
-
-abbrev pub phases_part : Arrays → Sequences → List ℕ → ℤ → ℤ → Vars → Part
-phases_part arrays bs var low high vars = (phases_work bs var low high vars, phases_entered arrays bs var low high vars)
 
 -- steps without a site
 abbrev pub plain_part : Steps → Part
 plain_part steps = (steps, λ store. [])
 
 abbrev pub then_part : Arrays → Part → Part → Part
-then_part arrays p q = (followed_by p.0 q.0, entered_then arrays p.0 p.1 q.1)
+then_part arrays p q = (followed_by p.0 q.0, entered_then arrays p q.1)
 
 abbrev pub turns_part : Arrays → (ℤ → Part) → ℤ → ℕ → Part
-turns_part arrays f low n = (turns (λ x. (f x).0) low n, turns_entered arrays (λ x. (f x).0) (λ x. (f x).1) low n)
+turns_part arrays f low n = (turns (λ x. (f x).0) low n, turns_entered arrays f low n)
 
 -- a choice of two sides that have m and n sites
 abbrev pub choice_part : Arrays → ℕ → Vars → Expression → Part → Part → ℕ → ℕ → Part

@@ -20,8 +20,9 @@ use Rattle.step_eval.specs.Moves.{moved, moved_writes, moved_sites, rest_left}
 use Rattle.step_eval.specs.Passes.{pass_of}
 use Rattle.step_eval.specs.Nests.{NestedTree, nested_of, nested_writes}
 
--- What contracts see of a machine: its job, the works that are still to be run, the store as it now is with the cells
--- that were written so far, the number of the next site, and its stage.
+-- Contracts see these parts of a machine: its job, the works that are still to be run, the store as it now is with the cells
+-- that were written so far, the number of the next site, and its stage. A work is a block or a loop with its variables;
+-- contracts see no frames.
 pub record Progress : Type 0 where
   pub job : JobParts
   pub rest : List WorkAt
@@ -41,7 +42,7 @@ pub record IsRight (job : JobTree) (rest : List WorkAt) (store : Trace) (next : 
   pub cells : length store.cells ≡ length job.store
   pub marks : length store.marks ≡ length job.store
 
--- The construct that is the first statement of a work.
+-- The construct is the first statement of a work.
 abbrev pub construct_of : WorkTree → Option Statement
 construct_of (branch_of ended) = None
 construct_of (branch_of (followed (Assign line array index value) rest)) = None
@@ -52,12 +53,12 @@ construct_of (branch_of (followed (Team line var low high members phases) rest))
     Some (Team line var low high members phases)
 construct_of (member_of var low high body) = None
 
--- The construct that is to be run next.
+-- The construct is the one that is to be run next.
 abbrev pub next_construct : List WorkAt → Option Statement
 next_construct [] = None
 next_construct (w ∷ more) = construct_of w.work
 
--- What a machine's type keeps: unless it is failed it is right, and what it awaits is the next construct.
+-- A machine's type has this invariant: unless the machine is failed it is right, and what it awaits is the next construct.
 abbrev pub IsKept : Stage → JobTree → List WorkAt → Trace → ℕ → Type 0
 IsKept Going job rest store next = IsRight job rest store next
 IsKept Awaiting job rest store next = IsRight job rest store next × IsSome (next_construct rest)
@@ -73,24 +74,25 @@ fresh_machine job = record {
   stage = Going;
 }
 
--- What is still to be written.
+-- This is what is still to be written.
 abbrev pub rest_writes : Progress → List Write
 rest_writes machine = writes_of (arrays_of (declarations_of machine.job.arrays))
     (rest_steps machine.rest) machine.store.cells
 
--- Whether a machine awaits what a construct writes.
+-- The test decides whether a machine awaits what a construct writes.
 abbrev pub is_awaiting : Stage → Bool
 is_awaiting Going = false
 is_awaiting Awaiting = true
 is_awaiting Failed = false
 
--- How many steps are left at most: the construct that is awaited takes none. A machine that is failed is never done.
+-- The number says how many steps are left at most: the construct that is awaited takes none. A machine that is failed is never
+-- done. A construct counts for one step until it is handed out, and both sides of an `if` count.
 abbrev pub left_of : Stage → List WorkAt → ℕ
 left_of Going rest = rest_left rest
 left_of Awaiting rest = rest_left rest - 1
 left_of Failed rest = 1
 
--- What a machine has still to do, as any machine tells it.
+-- A machine has this still to do, as contracts see it of any machine.
 abbrev pub to_do : Progress → Work
 to_do machine = record {
   rest = rest_writes machine;
@@ -98,7 +100,7 @@ to_do machine = record {
   left = left_of machine.stage machine.rest;
 }
 
--- A construct, handed out at this place of a machine.
+-- A construct is handed out at this place of a machine.
 abbrev pub handed_out : Progress → WorkAt → Option Statement → Option NestedTree
 handed_out machine w None = None
 handed_out machine w (Some construct) = Some record {
@@ -109,15 +111,16 @@ handed_out machine w (Some construct) = Some record {
   store = machine.store.cells;
 }
 
+-- The first of these works gives the construct that is handed out.
 abbrev pub nest_in : Progress → List WorkAt → Option NestedTree
 nest_in machine [] = None
 nest_in machine (w ∷ more) = handed_out machine w (construct_of w.work)
 
--- The construct that is to be run next, handed out.
+-- The construct that is to be run next is handed out so.
 abbrev pub next_nest : Progress → Option NestedTree
 next_nest machine = nest_in machine machine.rest
 
--- The sites that the hart is told to skip with the next step: those of the side of an `if` that isn't run.
+-- The hart has to skip these sites with the next step: those of the side of an `if` that isn't run.
 abbrev pub next_pass : Progress → Option (ℕ × ℕ)
 next_pass machine =
     pass_of (arrays_of (declarations_of machine.job.arrays)) machine.store.cells machine.next
@@ -136,9 +139,9 @@ HasMoved (w ∷ more) before after =
       stage = Going;
     }
 
--- What a step does, by its answer. More: no construct is next, and no `if` whose other side has sites, and the first work has
--- moved. A construct: the one that is next is handed out, with its site's number, the variables and the store at this place,
--- and the machine awaits what it writes. A pass: the `if` that is next has begun, and the hart is told of the sites of the
+-- This is what a step does, by its result. More: no construct is next, and no `if` whose other side has sites, and the first
+-- work has moved. A construct: the one that is next is handed out, with its site's number, the variables and the store at this
+-- place, and the machine awaits what it writes. A pass: the `if` that is next has begun, and the hart gets the sites of the
 -- side that isn't run; nothing is awaited. Finished: nothing is left. NoMemory: the machine is failed.
 abbrev pub Advances : Progress → Step Found → Progress → Type 0
 Advances before step.More after =
@@ -159,6 +162,7 @@ Advances before (step.Nest (found.Nest nested)) after =
 Advances before step.Finished after = (before.stage ≡ Going) × (before.rest ≡ []) × (after ≡ before)
 Advances before step.NoMemory after = after.stage ≡ Failed
 
+-- These are the writes of the construct, if there is one.
 abbrev pub AreAwaitedBy : Option NestedTree → List Write → Type 0
 AreAwaitedBy None written = ⊥
 AreAwaitedBy (Some nested) written = written ≡ nested_writes nested
@@ -187,7 +191,7 @@ HasRunWhole (w ∷ more) before after =
     })
 
 -- A machine comes from the first of these to the second with nothing for its hart to see to: by steps that hand out no
--- construct and tell of no site, and by works without sites that are run whole.
+-- construct and pass no site, and by works without sites that are run whole. Laws go over it by cases.
 pub data RunsTo (first : Progress) : Progress → Type 0 where
   stands : RunsTo first first
   moves : (mid last : Progress) → RunsTo first mid → mid.stage ≡ Going → next_nest mid ≡ None
@@ -204,9 +208,9 @@ pub record HasJustPassed (start : Progress) (first end : ℕ) (after : Progress)
   pub told : next_pass before ≡ Some (first, end)
   pub moved : HasMoved before.rest before after
 
--- Where a machine has gone, by the answer. Each time it is the same job, and the type keeps that the machine writes what
+-- Where a machine has gone, by the result. Each time it is the same job, and the type keeps that the machine writes what
 -- the job writes. More: it goes on, with less left. A construct: it has come to the one that is handed out, and awaits
--- what that writes. A pass: it has begun an `if`, and the hart is told of the sites of the side that isn't run. Finished:
+-- what that writes. A pass: it has begun an `if`, and the hart gets the sites of the side that isn't run. Finished:
 -- nothing is left. NoMemory: the machine is failed. On the way there was nothing for its hart to see to.
 abbrev pub HasGone : Progress → Step Found → Progress → Type 0
 HasGone before step.More after =

@@ -21,8 +21,8 @@ begun arrays store (If line cond then_block else_block) vars =
 begun arrays store (Par line branches) vars = []
 begun arrays store (Team line var low high members phases) vars = []
 
--- What one step leaves of a work with so many sites behind it: the first statement has begun, or the first turn, and the rest
--- keeps what is behind the work; what has nothing left is ended.
+-- This is what one step leaves of a work with so many sites behind it: the first statement has begun, or the first turn, and
+-- the rest keeps what is behind the work; what has nothing left is ended.
 abbrev pub work_moved : Arrays → Store → WorkTree → Vars → ℕ → List WorkAt
 work_moved arrays store (branch_of ended) vars n = []
 work_moved arrays store (branch_of (followed first rest)) vars n =
@@ -33,10 +33,11 @@ work_moved arrays store (member_of var low high body) vars n =
     ∷ before (member_of var (low +ℤ pos 1) high body) vars n ∷ [])
     else []
 
+-- After one step of a work these works stand in its place.
 abbrev pub moved : Arrays → Store → WorkAt → List WorkAt
 moved arrays store w = work_moved arrays store w.work w.vars w.after
 
--- What a statement writes when it begins: an assignment its cell, and a construct, once its pieces are done, all that
+-- This is what a statement writes when it begins: an assignment its cell, and a construct, once its pieces are done, all that
 -- they wrote, each cell with its last value.
 abbrev pub begun_writes : Arrays → Store → Statement → Vars → List Write
 begun_writes arrays store (Assign line array index value) vars = (
@@ -51,14 +52,14 @@ begun_writes arrays store (Par line branches) vars =
 begun_writes arrays store (Team line var low high members phases) vars =
     piece_of arrays (statement_work (Team line var low high members phases) vars) store
 
--- What one step of a work writes.
+-- This is what one step of a work writes.
 abbrev pub moved_writes : Arrays → Store → WorkTree → Vars → List Write
 moved_writes arrays store (branch_of ended) vars = []
 moved_writes arrays store (branch_of (followed first rest)) vars =
     begun_writes arrays store first vars
 moved_writes arrays store (member_of var low high body) vars = []
 
--- The sites that are passed when a statement begins: all of a construct, and of an `if` whose second side is run those of the
+-- The beginning of a statement passes these sites: all of a construct, and of an `if` whose second side is run those of the
 -- first.
 abbrev pub begun_sites : Arrays → Store → Statement → Vars → ℕ
 begun_sites arrays store (Assign line array index value) vars = 0
@@ -69,13 +70,14 @@ begun_sites arrays store (Par line branches) vars = statement_sites_in (Par line
 begun_sites arrays store (Team line var low high members phases) vars =
     statement_sites_in (Team line var low high members phases)
 
--- The sites that one step of a work passes. Where the work ends these are the ones behind it.
+-- One step of a work passes these sites. Where the work ends these are the ones behind it.
 abbrev pub work_passes : Arrays → Store → WorkTree → Vars → ℕ → ℕ
 work_passes arrays store (branch_of ended) vars n = n
 work_passes arrays store (branch_of (followed first rest)) vars n =
     begun_sites arrays store first vars
 work_passes arrays store (member_of var low high body) vars n = if int_lt low high then 0 else n
 
+-- A step of a work passes so many sites.
 abbrev pub moved_sites : Arrays → Store → WorkAt → ℕ
 moved_sites arrays store w = work_passes arrays store w.work w.vars w.after
 
@@ -93,12 +95,12 @@ abbrev mutual
   statement_left (Par line branches) = 1
   statement_left (Team line var low high members phases) = 1
 
--- How many steps a work takes at most: of a loop each turn is begun and ended, and the work itself is ended.
+-- The number says how many steps a work takes at most: of a loop each turn is begun and ended, and the work itself is ended.
 abbrev pub work_left : WorkTree → ℕ
 work_left (branch_of body) = 1 + sequence_left body
 work_left (member_of var low high body) = 1 + span low high * (2 + sequence_left body)
 
--- How many steps all works take at most.
+-- The number says how many steps all works take at most.
 abbrev pub rest_left : List WorkAt → ℕ
 rest_left [] = 0
 rest_left (w ∷ more) = work_left w.work + rest_left more

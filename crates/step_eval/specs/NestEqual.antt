@@ -11,7 +11,7 @@ use Rattle.array_eval.specs.Equal.{store_eq, vars_eq}
 use Rattle.array_eval.specs.EqualLaws.{store_decides, vars_decides}
 use Rattle.step_eval.specs.Nests.{NestedTree}
 
--- The test, part by part.
+-- The test compares two constructs part by part.
 abbrev pub nested_eq : NestedTree → NestedTree → Bool
 nested_eq a b =
     nat_eq a.site b.site && (vars_eq a.vars b.vars && (store_eq a.store b.store
@@ -33,7 +33,7 @@ parts_decide a b =
     (Decides-and _ _ (statement_decided a.construct b.construct (statement_eq a.construct b.construct) refl)
     (declarations_decided a.arrays b.arrays (declarations_eq a.arrays b.arrays) refl))))
 
--- Where the test holds the two are equal.
+-- Constructs that pass the test are equal.
 pub nested_same : (a b : NestedTree) → nested_eq a b ≡ true → a ≡ b
 nested_same a b h =
     let e = (parts_decide a b).0 h in
@@ -45,6 +45,6 @@ nested_same a b h =
 pub nested_refl : (a : NestedTree) → nested_eq a a ≡ true
 nested_refl a = (parts_decide a a).1 (refl, (refl, (refl, (refl, refl))))
 
--- So the test tells whether two are equal.
+-- The test decides whether two constructs are equal.
 pub nested_decides : (a b : NestedTree) → Decides (nested_eq a b) (a ≡ b)
 nested_decides a b = (λ h. nested_same a b h, λ e. rw e (nested_refl b))

@@ -14,7 +14,7 @@ use Rattle.array_meaning.specs.Pieces.{piece_of}
 use Rattle.array_jobs.specs.Works.{WorkTree, branch_of, member_of, sites_of}
 use Rattle.array_jobs.specs.Jobs.{JobTree, IsFit}
 
--- What contracts see of a construct that is handed out.
+-- Contracts see these parts of a construct that is handed out.
 pub record NestedParts : Type 0 where
   pub arrays : Arrays
   pub site : ℕ
@@ -22,7 +22,7 @@ pub record NestedParts : Type 0 where
   pub vars : Vars
   pub store : Store
 
--- The same without where its parts lie in memory. Two are equal where these are.
+-- A construct that is handed out, without where its parts lie in memory. Two constructs are equal if these are.
 pub record NestedTree : Type 0 where
   pub arrays : List Declaration
   pub site : ℕ
@@ -30,6 +30,7 @@ pub record NestedTree : Type 0 where
   pub vars : Vars
   pub store : Store
 
+-- The construct is its parts, without where they lie in memory.
 abbrev pub nested_of : NestedParts → NestedTree
 nested_of nested = record {
   arrays = declarations_of nested.arrays;
@@ -39,7 +40,7 @@ nested_of nested = record {
   store = nested.store;
 }
 
--- How many phases a construct has: a `par` one, a `team` its own.
+-- The number says how many phases a construct has: a `par` one, a `team` its own.
 abbrev pub phases_of : Statement → ℕ
 phases_of (Assign line array index value) = 0
 phases_of (For line var low high body) = 0
@@ -47,7 +48,7 @@ phases_of (If line cond then_block else_block) = 0
 phases_of (Par line branches) = 1
 phases_of (Team line var low high members phases) = count_of phases
 
--- What the pieces of each phase do.
+-- This is what the pieces of each phase do.
 abbrev pub rounds_of : Statement → Vars → List (List Steps)
 rounds_of (Assign line array index value) vars = []
 rounds_of (For line var low high body) vars = []
@@ -56,25 +57,25 @@ rounds_of (Par line branches) vars = branch_works branches vars ∷ []
 rounds_of (Team line var low high members phases) vars =
     phase_rounds phases var low high (unsigned_abs members) vars
 
--- The works of branches.
+-- The works are those of the branches.
 abbrev pub branch_trees : Sequences → List WorkTree
 branch_trees no_more = []
 branch_trees (beside first rest) = branch_of first ∷ branch_trees rest
 
--- The works of so many members, from member j on.
+-- The works are those of so many members, from member j on.
 abbrev pub member_trees : List ℕ → ℤ → ℤ → ℕ → Sequence → ℕ → ℕ → List WorkTree
 member_trees var low high m body j zero = []
 member_trees var low high m body j (suc k) =
     member_of var (start_of low high m j) (start_of low high m (j + 1)) body
     ∷ member_trees var low high m body (j + 1) k
 
--- The body of a phase.
+-- A phase has this body.
 abbrev pub phase_at : Sequences → ℕ → Sequence
 phase_at no_more phase = ended
 phase_at (beside first rest) zero = first
 phase_at (beside first rest) (suc phase) = phase_at rest phase
 
--- The works of the pieces of a phase, in the order of their places.
+-- The works are those of the pieces of a phase, in the order of their places.
 abbrev pub piece_trees : Statement → ℕ → List WorkTree
 piece_trees (Assign line array index value) phase = []
 piece_trees (For line var low high body) phase = []
@@ -84,13 +85,13 @@ piece_trees (Team line var low high members phases) phase =
     member_trees var low high (unsigned_abs members) (phase_at phases phase) 0
     (unsigned_abs members)
 
--- How many sites the bodies of the phases before this one have.
+-- The number says how many sites the bodies of the phases before this one have.
 abbrev pub sites_before : Sequences → ℕ → ℕ
 sites_before no_more phase = 0
 sites_before (beside first rest) zero = 0
 sites_before (beside first rest) (suc phase) = sites_in first + sites_before rest phase
 
--- How many sites the phases before this one have, each in all its iterations.
+-- The number says how many sites the phases before this one have, each in all its iterations.
 abbrev pub earlier_sites : Statement → ℕ → ℕ
 earlier_sites (Assign line array index value) phase = 0
 earlier_sites (For line var low high body) phase = 0
@@ -98,6 +99,11 @@ earlier_sites (If line cond then_block else_block) phase = 0
 earlier_sites (Par line branches) phase = 0
 earlier_sites (Team line var low high members phases) phase =
     span low high * sites_before phases phase
+
+-- How many sites works have.
+abbrev pub sites_of_all : List WorkTree → ℕ
+sites_of_all [] = 0
+sites_of_all (work ∷ more) = sites_of work + sites_of_all more
 
 -- The jobs of works in a phase, from this place on, over a store. The sites of each are numbered after those of the one before.
 abbrev pub numbered : NestedTree → ℕ → Store → ℕ → ℕ → List WorkTree → List JobTree
@@ -113,7 +119,7 @@ numbered nested phase store place first (work ∷ more) = record {
   store = store;
 } ∷ numbered nested phase store (place + 1) (first + sites_of work) more
 
--- The jobs of the pieces of a phase, in the order of their places. The sites inside come after the construct's own.
+-- The jobs are those of the pieces of a phase, in the order of their places. The sites inside come after the construct's own.
 abbrev pub jobs_in : NestedTree → ℕ → Store → List JobTree
 jobs_in nested phase store =
     numbered nested phase store 0 (nested.site + 1 + earlier_sites nested.construct phase)
@@ -124,7 +130,7 @@ abbrev pub AreFitJobs : List JobTree → Type 0
 AreFitJobs [] = Unit {0}
 AreFitJobs (job ∷ more) = IsFit job × AreFitJobs more
 
--- Whether a statement is a `par` or a `team`.
+-- The test decides whether a statement is a `par` or a `team`.
 abbrev pub is_construct : Statement → Bool
 is_construct (Assign line array index value) = false
 is_construct (For line var low high body) = false
@@ -132,8 +138,8 @@ is_construct (If line cond then_block else_block) = false
 is_construct (Par line branches) = true
 is_construct (Team line var low high members phases) = true
 
--- What is kept of a construct that is handed out: it is a `par` or a `team` with no more branches, members and phases
--- than there may be, its pieces are apart in each phase, and each of them is a fit job.
+-- A construct that is handed out is fit: it is a `par` or a `team` with no more branches, members and phases than there may be,
+-- its pieces are apart in each phase, and each of them is a fit job.
 pub record IsFitNest (nested : NestedTree) : Type 0 where
   pub construct : IsTrue (is_construct nested.construct)
   pub limits : IsTrue (statement_has_right_ranges nested.construct)
@@ -141,7 +147,7 @@ pub record IsFitNest (nested : NestedTree) : Type 0 where
   pub jobs : (phase : ℕ) → phase < phases_of nested.construct
       → AreFitJobs (jobs_in nested phase nested.store)
 
--- What the construct writes: each cell with its last value.
+-- This is what the construct writes: each cell with its last value.
 abbrev pub nested_writes : NestedTree → List Write
 nested_writes nested = piece_of (arrays_of nested.arrays)
     (statement_work nested.construct nested.vars) nested.store

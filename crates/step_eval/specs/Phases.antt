@@ -10,35 +10,36 @@ use Rattle.array_jobs.specs.PieceParts.{piece_of_job}
 use Rattle.step_eval.specs.Shapes.{members_of}
 use Rattle.step_eval.specs.Nests.{NestedTree, phases_of, rounds_of, jobs_in, IsFitNest, nested_writes}
 
--- What the pieces of this phase do, of those of each.
+-- The pieces of this phase do what stands at its place in the list of all phases.
 abbrev pub round_at : List (List Steps) → ℕ → List Steps
 round_at [] phase = []
 round_at (round ∷ more) zero = round
 round_at (round ∷ more) (suc phase) = round_at more phase
 
--- What the pieces of a phase of a construct do.
+-- This is what the pieces of a phase of a construct do.
 abbrev pub round_of : NestedTree → ℕ → List Steps
 round_of nested phase = round_at (rounds_of nested.construct nested.vars) phase
 
--- What a phase writes from a store, its pieces one after another: each cell with its last value.
+-- This is what a phase writes from a store, its pieces one after another: each cell with its last value. That they merge in any
+-- order is a law, `PhasesAreMerged`.
 abbrev pub phase_writes : NestedTree → ℕ → Store → List Write
 phase_writes nested phase store =
     piece_of (arrays_of nested.arrays) (join (round_of nested phase)) store
 
--- The store that the phases before this one leave.
+-- The phases before this one leave this store.
 abbrev pub store_before : NestedTree → ℕ → Store
 store_before nested zero = nested.store
 store_before nested (suc phase) =
     let store = store_before nested phase in
     after (phase_writes nested phase store) store
 
--- What the phases before this one write, laid together.
+-- This is what the phases before this one write, laid together.
 abbrev pub writes_before : NestedTree → ℕ → List Write
 writes_before nested zero = []
 writes_before nested (suc phase) =
     lays (phase_writes nested phase (store_before nested phase)) (writes_before nested phase)
 
--- What a job does.
+-- A job does the steps of its work, with its variables.
 abbrev pub steps_of_job : JobTree → Steps
 steps_of_job job = steps_of job.work job.vars
 
@@ -48,13 +49,13 @@ JobsAreRounds = (nested : NestedTree) (phase : ℕ) (store : Store)
     → phase < phases_of nested.construct →
     map steps_of_job (jobs_in nested phase store) ≡ round_of nested phase
 
--- They are as many as the construct has branches or members.
+-- The jobs of a phase are as many as the construct has branches or members.
 abbrev pub JobsAreCounted : Type 0
 JobsAreCounted = (nested : NestedTree) (phase : ℕ) (store : Store)
     → phase < phases_of nested.construct →
     length (jobs_in nested phase store) ≡ members_of nested.construct
 
--- They are a group.
+-- The jobs of a phase are a group.
 abbrev pub JobsAreGroups : Type 0
 JobsAreGroups = (nested : NestedTree) → IsFitNest nested → (phase : ℕ) (store : Store)
     → phase < phases_of nested.construct →
@@ -67,11 +68,13 @@ PhasesAreMerged = (nested : NestedTree) → IsFitNest nested → (phase : ℕ) (
     (order : List JobTree) → HaveSameJobs order (jobs_in nested phase store) →
     merged (map piece_of_job order) [] ≡ phase_writes nested phase store
 
--- Phase after phase, each from the store that the one before left, they are what the construct writes and leaves.
+-- The pieces of a construct, phase after phase, each from the store that the one before left, make up what the construct writes
+-- and leaves.
 pub record IsWhole (nested : NestedTree) : Type 0 where
   pub writes : writes_before nested (phases_of nested.construct) ≡ nested_writes nested
   pub store : store_before nested (phases_of nested.construct)
       ≡ after (nested_writes nested) nested.store
 
+-- The phases of each fit construct make up the whole construct.
 abbrev pub PhasesAreConstructs : Type 0
 PhasesAreConstructs = (nested : NestedTree) → IsFitNest nested → IsWhole nested

@@ -6,7 +6,7 @@ use Rattle.array_meaning.specs.Steps.{Steps, Done, followed_by}
 use Rattle.array_jobs.specs.Works.{WorkTree, steps_of, sites_of}
 use Rattle.array_jobs.specs.Jobs.{JobTree, IsFit}
 
--- A work with the loop variables around it, the innermost first.
+-- A work stands with the loop variables around it, the innermost first.
 pub record WorkAt : Type 0 where
   pub work : WorkTree
   pub vars : Vars
@@ -14,24 +14,25 @@ pub record WorkAt : Type 0 where
   -- this is
   pub after : ℕ
 
+-- The work stands by itself, with no site behind it.
 abbrev pub at : WorkTree → Vars → WorkAt
 at work vars = record { work = work; vars = vars; after = 0 }
 
--- With so many sites behind it.
+-- The work stands with so many sites behind it.
 abbrev pub before : WorkTree → Vars → ℕ → WorkAt
 before work vars n = record { work = work; vars = vars; after = n }
 
--- The steps of all works, one after another.
+-- The works do these steps, one after another.
 abbrev pub rest_steps : List WorkAt → Steps
 rest_steps [] = Done
 rest_steps (w ∷ more) = followed_by (steps_of w.work w.vars) (rest_steps more)
 
--- How many sites the walk has in them, and behind each of them.
+-- The number says how many sites the walk has in these works, and behind each of them.
 abbrev pub rest_sites : List WorkAt → ℕ
 rest_sites [] = 0
 rest_sites (w ∷ more) = sites_of w.work + w.after + rest_sites more
 
--- The job that has this work in the place of its own, and this number for the next site.
+-- The job has this work in the place of its own, and this number for the next site.
 abbrev pub instead : JobTree → ℕ → WorkAt → JobTree
 instead job next w = record {
   arrays = job.arrays;

@@ -13,6 +13,12 @@ use array_jobs::{Job, written_by};
 use std::alloc::{AllocError, Global};
 
 /// What a construct writes, each cell with its last value: the pieces of each phase, merged, phase after phase.
+///
+/// At the end it takes one pass over the written pages.
+///
+/// # Errors
+///
+/// `AllocError` if an allocation fails.
 pub fn compute(alloc: Global, nested: &Nested) -> Result<Overlay, AllocError>
     ensures { IfOk result (λ written. written.pairs ≡ nested_writes (nested_of nested.now)) }
 {
@@ -23,7 +29,7 @@ pub fn compute(alloc: Global, nested: &Nested) -> Result<Overlay, AllocError>
     store.written(alloc)
 }
 
-// Runs the pieces of a phase, each from the store that the phases before leave.
+// Runs the pieces of a phase, each from the store that the phases before leave, taken before the first piece.
 fn run_phase(
     alloc: Global,
     nested: &Nested,

@@ -45,6 +45,7 @@ pub(crate) enum Frame<'p> {
 pub(crate) struct Frames<'p> {
     top: Option<Frame<'p>>,
     below: Vec<Frame<'p>>,
+    // Each borrows its name from the tree.
     vars: Vec<LoopVar<'p>>,
 }
 
@@ -108,8 +109,10 @@ impl<'p> Frames<'p> {
         Vars::of_scope(alloc, &scope)
     }
 
-    /// Begins or ends the next statement or turn, which must be no construct, and tells what the hart has to skip; None where nothing
-    /// is left. The next site's number goes on by the sites that are passed.
+    /// Begins or ends the next statement or turn, which must be no construct, and returns what the hart has to skip; None where
+    /// nothing is left. The next site's number goes on by the sites that are passed.
+    ///
+    /// The end of a block and the end of a turn are steps of their own, so no step begins or ends two things.
     #[inline(always)]
     pub(crate) fn go_on(
         &mut self,

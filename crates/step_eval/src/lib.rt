@@ -1,4 +1,7 @@
 //! Jobs that are run a step at a time, by machines that any hart can put down and hand on.
+//!
+//! A machine hands out the constructs that it comes to; `jobs_of` cuts one into jobs, and `compute` runs one where it is met.
+//! Harts use it through `job_machines`. Begin with `StepMachine` in `machine.rt`; the tests of `job_tests` step machines.
 #![tactic(auto)]
 
 mod computing;
@@ -14,7 +17,7 @@ mod told;
 
 pub use computing::compute;
 pub use found::Found;
-pub use jobs::jobs_of;
+pub use jobs::{job_at, jobs_of};
 pub use laws::{
     jobs_are_counted, jobs_are_groups, jobs_are_rounds, phases_are_constructs, phases_are_merged,
 };

@@ -35,8 +35,10 @@ pub struct StepMachine<'p> {
     layout: Layout<'p>,
     frames: Frames<'p>,
     store: MarkedStore,
-    // Room for all that the job may write, so that its piece takes no memory.
+    // Room for all that the job may write, a pair a cell, so that `into_piece` does not allocate.
     room: Overlay,
+    // The next site's number. Why one for the machine, and not one for each work: a loop that begins would have to count the
+    // sites of its body. At the end of an `if` it jumps by the sites of the other side, which a `Pass` has reported.
     next: u16,
     stage: Stage,
 }
@@ -64,6 +66,10 @@ impl<'p> Model for StepMachine<'p> {
 
 impl<'p> StepMachine<'p> {
     /// A machine that has all of a job to run.
+    ///
+    /// # Errors
+    ///
+    /// `AllocError` if an allocation fails.
     pub fn new(alloc: Global, job: Job<'p>) -> Result<StepMachine<'p>, AllocError>
         ensures { IfOk result (λ machine. machine ≡ fresh_machine job.entry) }
     {
@@ -87,7 +93,7 @@ impl<'p> StepMachine<'p> {
     /// Takes what the construct that is awaited wrote, after which the machine goes on behind it.
     ///
     /// The last step must have handed the construct out, and these must be its writes, each cell with its last value.
-    /// Where memory is wanting, the machine is failed.
+    /// If an allocation fails, the machine is failed. This body allocates nothing; the contract leaves that open.
     pub fn supply(&mut self, written: &Overlay) -> Result<(), AllocError>
         requires awaits { self.old.stage ≡ Awaiting }
         requires written { AreAwaited self.old written.now.pairs }
@@ -105,7 +111,9 @@ impl<'p> StepMachine<'p> {
     }
 
     /// Goes on to the next construct or to the end, step by step but for the loops that come to no site: each is run to
-    /// its end at once. It also stops where it has begun an `if` whose other side has sites. It never answers More.
+    /// its end at once. It also stops where it has begun an `if` whose other side has sites. It never returns More.
+    ///
+    /// Why bare statements go by steps: each runs once a piece or a turn.
     pub fn go(&mut self) -> Step<Found<'p>>
         requires { is_awaiting self.old.stage ≡ false }
         ensures gone { HasGone self.old result self.new }
@@ -143,7 +151,7 @@ impl<'p> StepMachine<'p> {
         }
     }
 
-    /// The job with what it wrote. The last step must have been Finished. It takes no memory.
+    /// The job with what it wrote. The last step must have been Finished. It does not allocate.
     pub fn into_piece(self) -> Piece<'p>
         requires { IsFinished self }
         ensures { result.job ≡ self.entry.job }
@@ -169,7 +177,7 @@ impl<'p> Machine for StepMachine<'p> {
     ghost steps = { Advances };
 
     /// Begins or ends one statement or one turn of a loop, or hands out the construct that is next. Where it begins an `if` whose
-    /// other side has sites, it tells of these.
+    /// other side has sites, it reports these.
     fn step(&mut self) -> Step<Found<'p>>
         requires { is_awaiting self.old.stage ≡ false }
         ensures exact { Advances self.old result self.new }
@@ -200,7 +208,7 @@ impl<'p> Machine for StepMachine<'p> {
     }
 }
 
-// How a machine stands after a step that found memory.
+// How a machine stands after a step in which no allocation failed.
 fn stage_after(step: &Step<Found>) -> Stage
     ensures { result ≡ stage_by step.now }
 {
@@ -220,7 +228,8 @@ fn sites_in_construct(construct: Option<&Stmt>) -> u64
     }
 }
 
-// Does one step of a machine that goes on.
+// Does one step of a machine that goes on. Why it and the parts of a step are inlined: a loop of steps takes 1.4 to 3.5 times as
+// long if each is a call, since the result has room for a construct.
 #[inline(always)]
 fn advance<'p>(
     alloc: Global,

@@ -50,6 +50,10 @@ impl<'p> Model for Nested<'p> {
 
 impl<'p> Nested<'p> {
     /// An equal one.
+    ///
+    /// # Errors
+    ///
+    /// `AllocError` if an allocation fails.
     pub fn copy(&self) -> Result<Nested<'p>, AllocError>
         ensures { IfOk result (λ nested. nested ≡ self.now) }
     {

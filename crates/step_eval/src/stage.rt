@@ -7,6 +7,6 @@ pub enum Stage {
     Going,
     /// It waits for what a construct writes.
     Awaiting,
-    /// It found no memory, and is failed for good.
+    /// An allocation failed, and the machine is failed for good.
     Failed,
 }

@@ -1,9 +1,9 @@
-//! What a hart is told of the sites that a step passes.
+//! The sites that a step passes, as a hart gets them.
 ghost use Rattle.std.specs.Prelude.{◌≡◌, ℕ, ◌+◌, ◌≤◌, Option};
 ghost use Rattle.step_eval.specs.Passes.{some_span};
 ghost use Rattle.step_eval.specs.Inside.Frames.{span_told};
 
-/// What a hart is told of the sites that a step passes without entering them.
+/// The sites that a step passes without entering them, which the hart has to skip.
 #[derive(Clone, Copy, Debug, Drop)]
 pub(crate) enum Told {
     Nothing,

@@ -6,6 +6,10 @@ use std::alloc::{AllocError, Global};
 
 /// A store of the first so many cells of another, which must have them: of what a spread program leaves, the cells of the
 /// program that was given.
+///
+/// # Errors
+///
+/// `AllocError` if an allocation fails.
 pub fn first_cells(alloc: Global, store: &Store, cells: u16) -> Result<Store, AllocError>
     requires { cells ≤ length store.now }
     ensures { IfOk result (λ first. first ≡ take cells store.now) }

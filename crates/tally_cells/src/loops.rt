@@ -1,4 +1,4 @@
-//! The loops around a construct with adds.
+//! The loops around a construct with adds. Each has its construct's line.
 ghost use Rattle.std.specs.Prelude.{◌≡◌, ◌++◌, ◌≤◌, ◌*◌, map, pos, OnOk, IfOk, unsigned_abs};
 ghost use Rattle.array_tree.specs.declared.tree.Op.TheVariants.{Rem};
 ghost use Rattle.array_tree.specs.Trees.{Number, Var, Binary, expression_of, statement_of, declaration_of};

@@ -128,7 +128,7 @@ pub(crate) fn push_declarations(
     Ok(())
 }
 
-// The declaration of the rows of an array, of which there are so many.
+// The declaration of the rows of an array, of which there are so many. It has the array's line.
 fn rows_of(alloc: Global, array: &ArrayDecl, count: u64) -> Result<ArrayDecl, AllocError>
     requires few { count ≤ most_members }
     requires cells { unsigned_abs array.now.length ≤ most_cells }

@@ -72,7 +72,7 @@ fn is_unshaped(depth: u8, statement: &Stmt) -> bool
     depth > 0 && mentions_sum(statement) && (!is_add(statement) || depth > 1)
 }
 
-// One construct more. Where two are around, a further one tells no more.
+// One construct more. Where two are around, a further one changes nothing.
 fn one_more(depth: u8) -> u8
     ensures { (blocks : Sequences) → any_unshaped result blocks ≡ any_unshaped (depth + 1) blocks }
 {

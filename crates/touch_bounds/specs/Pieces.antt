@@ -1,4 +1,4 @@
--- Pieces of which is told what they touch.
+-- Pieces with recorded stretches of the cells that they touch.
 use Rattle.std.specs.Prelude.{ℕ, ◌<◌, List, [], ◌∷◌, length, map}
 use Rattle.array_meaning.specs.Stores.{Arrays, Vars}
 use Rattle.array_meaning.specs.Steps.{Steps}
@@ -9,11 +9,11 @@ use Rattle.touch_bounds.specs.declared.touch.Touch.{Touch}
 use Rattle.touch_bounds.specs.Ranges.{Bounds, AreWithin}
 use Rattle.touch_bounds.specs.Touches.{DoClash, touch_at, AreVisitsTold}
 
--- What is told of each piece, array by array.
+-- The recorded stretches of each piece, array by array.
 abbrev pub tables_of : List Piece → List (List Touch)
 tables_of pieces = map (λ p. p.touches.items) pieces
 
--- What is told of each piece is true.
+-- The recorded stretches of each piece are true.
 abbrev pub ArePiecesTold : Arrays → List (List Touch) → List Steps → Type 0
 ArePiecesTold arrays [] [] = Unit {0}
 ArePiecesTold arrays [] (piece ∷ more) = ⊥
@@ -21,11 +21,11 @@ ArePiecesTold arrays (t ∷ rest) [] = ⊥
 ArePiecesTold arrays (t ∷ rest) (piece ∷ more) =
     AreVisitsTold arrays t (walk arrays piece) × ArePiecesTold arrays rest more
 
--- The pieces of a round, by the values of the variables around.
+-- A round has its pieces, by the values of the variables around.
 abbrev pub Round : Type 0
 Round = Vars → List Steps
 
--- What is told of each piece is true, whatever values the variables have between their bounds.
+-- The recorded stretches of each piece are true, whatever values the variables have between their bounds.
 abbrev pub IsRoundTold : Arrays → List (List Touch) → Bounds → Round → Type 0
 IsRoundTold arrays tables bounds round =
     (vars : Vars) → AreWithin bounds vars → ArePiecesTold arrays tables (round vars)
@@ -40,22 +40,23 @@ abbrev pub AreAllRoundsApart : Arrays → Bounds → (Vars → List (List Steps)
 AreAllRoundsApart arrays bounds rounds =
     (vars : Vars) → AreWithin bounds vars → AreRoundsApart arrays (rounds vars)
 
+-- At each site the pieces are apart, whatever values the variables have between their bounds.
 abbrev pub AreAllSitesApart : Arrays → Bounds → (Vars → List Site) → Type 0
 AreAllSitesApart arrays bounds sites =
     (vars : Vars) → AreWithin bounds vars → AreSitesApart arrays (sites vars)
 
--- What one piece does to an array clashes with what none of these do to it.
+-- One piece clashes with none of these on an array.
 abbrev pub IsClearOf : ℕ → Touch → List (List Touch) → Type 0
 IsClearOf number touch [] = Unit {0}
 IsClearOf number touch (other ∷ more) =
     (¬ DoClash touch (touch_at other number)) × IsClearOf number touch more
 
--- No two of them clash on an array.
+-- No two of the pieces clash on an array.
 abbrev pub AreClear : ℕ → List (List Touch) → Type 0
 AreClear number [] = Unit {0}
 AreClear number (t ∷ more) = IsClearOf number (touch_at t number) more × AreClear number more
 
--- Pieces are apart where what is told of them is true, and clashes on no array.
+-- Pieces are apart if their recorded stretches are true and clash on no array.
 abbrev pub ClearPiecesAreApart : Type 0
 ClearPiecesAreApart = (arrays : Arrays) (tables : List (List Touch)) (pieces : List Steps)
     → ArePiecesTold arrays tables pieces →

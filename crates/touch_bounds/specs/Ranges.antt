@@ -8,14 +8,15 @@ use Rattle.touch_bounds.specs.declared.interval.Interval.{Interval}
 use Rattle.touch_bounds.specs.declared.ranges.Ranges.{Ranges, Fixed, Loop'}
 use Rattle.touch_bounds.specs.Intervals.{LiesIn, exactly}
 
--- Each loop variable around and its bounds, the innermost first.
+-- The bounds are those of each loop variable around, the innermost first.
 abbrev pub Bounds : Type 0
 Bounds = List (List ℕ × Interval)
 
--- Variables that have these values and no others.
+-- The variables have these values and no others.
 abbrev pub fixed : Vars → Bounds
 fixed vars = map (λ v. (v.0, exactly v.1)) vars
 
+-- The bounds of ranges are those of each loop around, and of the fixed variables.
 abbrev pub bounds_of : Ranges → Bounds
 bounds_of (Fixed scope) = fixed (vars_of scope.now)
 bounds_of (Loop' name within place outer) = (name.now, within) ∷ bounds_of outer
@@ -27,13 +28,13 @@ AreWithin [] (v ∷ more) = ⊥
 AreWithin (b ∷ rest) [] = ⊥
 AreWithin (b ∷ rest) (v ∷ more) = (v.0 ≡ b.0) × LiesIn b.1 v.1 × AreWithin rest more
 
--- The bounds of a variable: of the innermost loop with the name.
+-- The bounds of a variable are those of the innermost loop with the name.
 abbrev pub interval_of : Bounds → List ℕ → Interval
 interval_of [] name = exactly (pos 0)
 interval_of (b ∷ more) name = cond (name_eq b.0 name) b.1 (interval_of more name)
 
 -- Whatever the arrays and the store, and whatever values the variables have between their bounds, the value of the
--- expression lies between the bounds that are told.
+-- expression lies between the reported bounds.
 abbrev pub IsTold : Bounds → Expression → Interval → Type 0
 IsTold bounds expr told = (arrays : Arrays) (vars : Vars) (store : Store) → AreWithin bounds vars
     → LiesIn told (value_of arrays vars expr store)

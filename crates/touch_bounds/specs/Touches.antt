@@ -1,4 +1,4 @@
--- What is told of the cells that a work touches.
+-- Recorded stretches of the cells that a work touches.
 use Rattle.std.specs.Prelude.{ℕ, ◌+◌, ◌<◌, ◌≤◌, Bool, true, false, List, [], ◌∷◌, length, Option, IsTrue, ℤ, pos, ◌≤ℤ◌, ◌<ℤ◌, unsigned_abs, ◌⊎◌, min, max, slice_index_or}
 use Rattle.array_tree.specs.Trees.{Expression, Sequence, Assign, If}
 use Rattle.array_meaning.specs.Stores.{Arrays, Vars, length_of}
@@ -16,19 +16,20 @@ use Rattle.touch_bounds.specs.Ranges.{Bounds, AreWithin}
 abbrev pub Includes : Stretch → ℕ → Type 0
 Includes cells cell = (cells.from ≤ cell) × (cell < cells.to)
 
--- No cell.
+-- The stretch has no cell.
 abbrev pub no_cells : Stretch
 no_cells = record { from = 18446744073709551615; to = 0 }
 
--- The least stretch that has the cells of both.
+-- The result is the least stretch that has the cells of both.
 abbrev pub hull : Stretch → Stretch → Stretch
 hull a b = record { from = min a.from b.from; to = max a.to b.to }
 
--- What is written, or what is read.
+-- The side of a touch is what is written, or what is read.
 abbrev pub side : Touch → Bool → Stretch
 side touch true = touch.written
 side touch false = touch.read
 
+-- An untouched array has no cell read and no cell written.
 abbrev pub untouched : Touch
 untouched = record { read = no_cells; written = no_cells }
 
@@ -39,11 +40,11 @@ pub record DoClash (one other : Touch) : Type 0 where
       ⊎ (Includes one.written cell × Includes other.written cell
       ⊎ Includes one.read cell × Includes other.written cell)
 
--- What is told of an array, by its place among the arrays.
+-- An array has these recorded stretches, by its place among the arrays.
 abbrev pub touch_at : List Touch → ℕ → Touch
 touch_at touches number = slice_index_or touches number untouched
 
--- What was told is still told.
+-- Each cell that was in a recorded stretch is still in one.
 pub record Widens (before after : List Touch) : Type 0 where
   pub kept : (number : ℕ) (writes : Bool) (cell : ℕ)
       → Includes (side (touch_at before number) writes) cell
@@ -62,45 +63,47 @@ pub record IsReach (arrays : Arrays) (array : List ℕ) (index : Option ℤ)
   pub inside : IsTrue (is_inside (length_of arrays array) index)
   pub covered : (cell : ℕ) → Covers arrays array index cell → Includes cells cell
 
+-- The cells are a reach of the index, whatever values the variables have between their bounds.
 abbrev pub IsReachOf : Arrays → List ℕ → Expression → Bounds → Stretch → Type 0
 IsReachOf arrays array index bounds cells =
     (vars : Vars) → AreWithin bounds vars
     → IsReach arrays array (visit arrays 0 false vars array index).index cells
 
--- What is told of a visit is true: its array is one of the program, its index is inside, and each cell that it touches is
--- told of the array, as read or as written.
+-- The recorded stretches hold for a visit: its array is one of the program, its index is inside, and each cell that it touches
+-- is in a stretch of the array, as read or as written.
 pub record IsVisitTold (arrays : Arrays) (touches : List Touch) (v : Visit) : Type 0 where
   pub known : number_of arrays v.array < length arrays
   pub reach : IsReach arrays v.array v.index
       (side (touch_at touches (number_of arrays v.array)) v.writes)
 
+-- The recorded stretches hold for each of the visits.
 abbrev pub AreVisitsTold : Arrays → List Touch → List Visit → Type 0
 AreVisitsTold arrays touches [] = Unit {0}
 AreVisitsTold arrays touches (v ∷ more) =
     IsVisitTold arrays touches v × AreVisitsTold arrays touches more
 
--- So is what is told of a visit under an index, whatever values the variables have between their bounds.
+-- The recorded stretches hold for a visit under an index, whatever values the variables have between their bounds.
 abbrev pub IsIndexTold : Arrays → List Touch → Bounds → Bool → List ℕ → Expression → Type 0
 IsIndexTold arrays touches bounds writes array index =
     (line : ℕ) (vars : Vars) → AreWithin bounds vars
     → IsVisitTold arrays touches (visit arrays line writes vars array index)
 
--- Of the reads of an expression.
+-- The recorded stretches hold for the reads of an expression.
 abbrev pub AreReadsTold : Arrays → List Touch → Bounds → Expression → Type 0
 AreReadsTold arrays touches bounds expr = (line : ℕ) (vars : Vars) → AreWithin bounds vars
     → AreVisitsTold arrays touches (reads_in arrays line vars expr)
 
--- Of a work.
+-- The recorded stretches hold for a work.
 abbrev pub IsWorkTold : Arrays → List Touch → Bounds → Work → Type 0
 IsWorkTold arrays touches bounds work =
     (vars : Vars) → AreWithin bounds vars → AreVisitsTold arrays touches (walk arrays (work vars))
 
--- Of an assignment, on whatever line.
+-- The recorded stretches hold for an assignment, on whatever line.
 abbrev pub IsAssignTold : Arrays → List Touch → Bounds → List ℕ → Expression → Expression → Type 0
 IsAssignTold arrays touches bounds array index value =
     (line : ℕ) → IsWorkTold arrays touches bounds (statement_work (Assign line array index value))
 
--- Of an `if`, on whatever line.
+-- The recorded stretches hold for an `if`, on whatever line.
 abbrev pub IsChoiceTold : Arrays → List Touch → Bounds → Expression → Sequence → Sequence → Type 0
 IsChoiceTold arrays touches bounds test then_block else_block =
     (line : ℕ) → IsWorkTold arrays touches bounds

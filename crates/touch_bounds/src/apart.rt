@@ -1,4 +1,4 @@
-//! Whether pieces are told to touch different cells.
+//! Whether pieces touch different cells, by their recorded stretches.
 ghost use Rattle.std.specs.Prelude.{◌≡◌, ℕ, ◌<◌};
 ghost use Rattle.std.specs.Bool.{OnTrue, OnFalse};
 ghost use Rattle.touch_bounds.specs.Touches.{touch_at};
@@ -6,13 +6,13 @@ ghost use Rattle.touch_bounds.specs.Pieces.{tables_of, IsClearOf, AreClear};
 
 use crate::touch::{Touch, UNTOUCHED};
 
-/// What is told of a piece of a round, for each array.
+/// The recorded stretches of a piece of a round, for each array.
 #[derive(Drop)]
 pub(crate) struct Piece {
     pub(crate) touches: Vec<Touch>,
 }
 
-// What is told of an array. Behind the last there is nothing.
+// The recorded stretches of an array. Behind the last array there are none.
 fn touch_at(touches: &[Touch], number: usize) -> Touch
     ensures { result ≡ touch_at touches.now number }
 {

@@ -1,4 +1,7 @@
 //! What expressions and statements can come to, seen from their text: bounds of values, and the cells that are touched.
+//!
+//! Checkers ask it before they walk: if the text shows that the pieces of a round are apart, the round isn't walked. Begin with
+//! `branches_are_apart` in `round.rt` and its law in `laws.rt`; the tests of `bound_tests` show what is settled and what isn't.
 #![tactic(auto)]
 
 mod apart;

@@ -20,7 +20,7 @@ use array_eval::{Layout, Scope, start_of_member};
 use array_tree::{Block, Blocks, Name, Stmt};
 use std::alloc::Global;
 
-// What is told of a block, if all can be told and there is memory.
+// The recorded stretches of a block, if all are known and no allocation failed.
 fn told_block<'s>(
     alloc: Global,
     layout: &Layout,
@@ -59,7 +59,7 @@ fn told_loop<'s>(
     }
 }
 
-// What is told of the branches of a `par`, each as a piece.
+// The recorded stretches of the branches of a `par`, each as a piece.
 fn told_branches<'s>(
     alloc: Global,
     layout: &Layout,
@@ -78,7 +78,7 @@ fn told_branches<'s>(
     Some(pieces)
 }
 
-// What is told of the members of a `team` in one phase, each as a piece.
+// The recorded stretches of the members of a `team` in one phase, each as a piece.
 fn told_members<'s>(
     alloc: Global,
     layout: &Layout,
@@ -104,7 +104,7 @@ fn told_members<'s>(
 }
 
 /// Whether the branches of a `par` are seen to be apart, whatever values the variables have between their bounds: what each
-/// touches, array by array, is a stretch that no other one writes into. Where they aren't seen to be, or memory is wanting,
+/// touches, array by array, is a stretch that no other one writes into. Where they aren't seen to be, or an allocation fails,
 /// they may yet be.
 pub fn branches_are_apart<'s>(
     alloc: Global,
@@ -141,7 +141,7 @@ pub fn members_are_apart<'s>(
     }
 }
 
-/// Whether each static index of a statement is seen to be inside its array. Where one isn't, or memory is wanting, it may
+/// Whether each static index of a statement is seen to be inside its array. Where one isn't, or an allocation fails, it may
 /// yet be.
 pub fn indices_are_inside<'s>(
     alloc: Global,

@@ -36,7 +36,7 @@ fn phases_are_apart<'s>(
 }
 
 // Whether at each site of a block the pieces of each round are seen to be apart, whatever values the variables have between
-// their bounds. Where they aren't seen to be, or memory is wanting, they may yet be.
+// their bounds. Where they aren't seen to be, or an allocation fails, they may yet be.
 #[cycle(settle)]
 fn block_is_settled<'s>(
     alloc: Global,
@@ -109,8 +109,10 @@ fn statement_is_settled<'s>(
 }
 
 /// Whether at each site that a block enters, run for each number from `low` to before `high`, the pieces of each round are
-/// seen to be apart, whatever values the variables have between their bounds. Where they aren't seen to be, or memory is
-/// wanting, they may yet be. It costs the text, however many turns there are.
+/// seen to be apart, whatever values the variables have between their bounds. Where they aren't seen to be, or an
+/// allocation fails, they may yet be. It costs the text, however many turns there are.
+///
+/// Pieces that are apart in each turn, but meet across turns, aren't settled. The caller looks at their rounds turn by turn.
 #[cycle(settle)]
 pub fn loop_is_settled<'s>(
     alloc: Global,

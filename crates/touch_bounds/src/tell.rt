@@ -1,4 +1,7 @@
-//! What is told of the cells that statements touch.
+//! Bounds of the cells that statements touch: for each array a stretch of cells that are read and one of cells that are written.
+//!
+//! If the bounds of an index leave its array, or a name is no array's, the bounds are unknown, and the caller walks the round.
+//! So bounds need no premise.
 ghost use Rattle.std.specs.Prelude.{◌≡◌, ◌<◌, length};
 ghost use Rattle.std.specs.Bool.{OnTrue};
 ghost use Rattle.array_tree.specs.Trees.{expression_of};
@@ -11,7 +14,7 @@ use crate::touch::{Stretch, Touch};
 use array_eval::Layout;
 use array_tree::{Expr, Name};
 
-// Adds cells to what is told of an array. Whether it is one of the program.
+// Adds cells to the recorded stretches of an array. The result is whether the array is one of the program.
 fn add_cells(number: usize, writes: bool, cells: Stretch, touches: &mut [Touch]) -> bool
     ensures wider { Widens touches.old touches.new }
     ensures known { OnTrue result (number < length touches.old) }
@@ -26,8 +29,8 @@ fn add_cells(number: usize, writes: bool, cells: Stretch, touches: &mut [Touch])
     true
 }
 
-// Tells of an index of an array. The result, here and below, is whether all could be told; if not, nothing is known of
-// what was told.
+// Records an index of an array. The result, here and below, is whether all is known; if not, nothing is known of what was
+// recorded.
 fn tell_index(
     layout: &Layout,
     writes: bool,
@@ -48,7 +51,7 @@ fn tell_index(
     }
 }
 
-/// Tells of the reads of an expression.
+/// Records the reads of an expression.
 pub(crate) fn tell_reads(
     layout: &Layout,
     expr: &Expr,
@@ -78,7 +81,7 @@ pub(crate) fn tell_reads(
     }
 }
 
-/// Tells of an assignment.
+/// Records an assignment.
 pub(crate) fn tell_assign(
     layout: &Layout,
     array: &Name,

@@ -29,7 +29,7 @@ impl Stretch {
     }
 }
 
-/// What is told of an array: it may be that no other cells of it are read, and no others written.
+/// The recorded stretches of an array: it may be that no other cells of it are read, and no others written.
 #[derive(Clone, Copy, PartialEq, Eq, Debug, Drop)]
 pub struct Touch {
     pub read: Stretch,

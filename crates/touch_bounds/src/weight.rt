@@ -35,7 +35,7 @@ impl Weight {
         }
     }
 
-    // The same text, run so many times.
+    // The same text, run so many times. The work of a loop without a turn is 0.
     fn times(self, turns: u64) -> Weight {
         Weight {
             text: self.text,

@@ -1,4 +1,4 @@
-//! What is told of the cells that blocks touch.
+//! Bounds of the cells that blocks touch.
 ghost use Rattle.std.specs.Prelude.{◌≡◌, length};
 ghost use Rattle.std.specs.Bool.{OnTrue};
 ghost use Rattle.array_tree.specs.Trees.{statement_of, sequence_of, sequences_of};
@@ -13,11 +13,11 @@ use crate::touch::Touch;
 use array_eval::Layout;
 use array_tree::{Block, Blocks, Name, Stmt};
 
-/// Tells, for each array, of the cells that a block touches, whatever values the variables have between their bounds, and
-/// besides of what was told before. Both sides of an `if` count, and a loop without turns touches nothing.
+/// Records, for each array, the cells that a block touches, whatever values the variables have between their bounds,
+/// besides what was recorded before. Both sides of an `if` count, and a loop without turns touches nothing.
 ///
-/// The result is whether all could be told: each index that isn't dynamic is then inside its array. If not, nothing is
-/// known of what was told here.
+/// The result is whether all are known: each index that isn't dynamic is then inside its array. If not, nothing is
+/// known of what was recorded here.
 #[cycle(tell)]
 pub fn tell_block<'s>(
     layout: &Layout,

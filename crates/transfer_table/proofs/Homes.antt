@@ -1,12 +1,11 @@
 -- The home of a live site stays inside it.
 use Rattle.std.proofs.Common.{◌≡◌, ◌≢◌, ℕ, List, refl, sym, ap, subst, ◌∙◌, Some}
-use Rattle.transfer_table.specs.Plan.{Plan, IsPlan, IsHart, IsSite, parent}
+use Rattle.transfer_table.specs.Plan.{Plan, IsPlan, IsHart, IsSite, parent, IsWithin}
 use Rattle.transfer_table.specs.Table.{TableState, effect_of, first_state, owner, row}
 use Rattle.transfer_table.specs.Journal.{Reaches}
 use Rattle.transfer_table.specs.Entry.{hart_of, site_of}
 use Rattle.transfer_table.specs.Allowed.{IsAllowed}
-use Rattle.transfer_table.specs.Laws.{IsWithin}
-use Rattle.transfer_table.specs.Laws.IsWithin.{itself, child}
+use Rattle.transfer_table.specs.Plan.IsWithin.{itself, child}
 use Rattle.transfer_table.specs.declared.entry.Row.{Row}
 use Rattle.transfer_table.specs.declared.entry.Stage.TheVariants.{New, Live}
 use Rattle.transfer_table.specs.declared.entry.Entry.{Entry}

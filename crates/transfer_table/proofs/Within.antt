@@ -3,9 +3,8 @@ use Rattle.std.proofs.Common.{◌≡◌, ◌≢◌, ◌↔◌, ℕ, zero, suc, �
 use Rattle.std.proofs.lemmas.Bool.Decides.{nat_tests}
 use mathlib.Core.Logic.{dite}
 use native.Mathlib.Decide.{ℕ_discrete}
-use Rattle.transfer_table.specs.Plan.{Plan, IsPlan, IsSite, parent, leads_up, is_within, site_count}
-use Rattle.transfer_table.specs.Laws.{IsWithin}
-use Rattle.transfer_table.specs.Laws.IsWithin.{itself, child}
+use Rattle.transfer_table.specs.Plan.{Plan, IsPlan, IsSite, parent, leads_up, IsWithin, is_within, site_count}
+use Rattle.transfer_table.specs.Plan.IsWithin.{itself, child}
 
 not_less : (s o : ℕ) → o ≤ s → nat_lt s o ≡ false
 not_less s o le = grind (arith, nat_tests)

@@ -3,7 +3,7 @@
 use Rattle.std.specs.Prelude.{◌≡◌, ◌≢◌, ◌↔◌, ℕ, zero, suc, ◌+◌, ◌-◌, ◌≤◌, ◌==◌, ◌⊎◌, Bool, true, false, not, ◌&&◌, if◌then◌else◌, List, [], ◌++◌, length, Some, Ok}
 use Rattle.std.specs.List.{All, count_by}
 use Rattle.std.specs.Option.{is_some}
-use Rattle.transfer_table.specs.Plan.{Plan, IsPlan, IsHart, IsSite, parent, is_within, room, site_count}
+use Rattle.transfer_table.specs.Plan.{Plan, IsPlan, IsHart, IsSite, parent, IsWithin, is_within, room, site_count}
 use Rattle.transfer_table.specs.Table.{TableState, IsPosition, admit_of, effect_of, owner, row, blank, is_gone}
 use Rattle.transfer_table.specs.Journal.{Reaches, IsLegal, AllGone, AreMeant, is_meant}
 use Rattle.transfer_table.specs.Allowed.{IsAllowed}
@@ -38,12 +38,7 @@ ParentsOutliveChildren = (p : Plan) (es : List Entry) (t : TableState) → IsPla
     × ((s c : ℕ) → IsSite p s → IsSite p c → parent p c ≡ s → (row t s).stage ≡ Gone
     → (row t c).stage ≡ Gone)
 
--- it is the site s, or a descendant of it: a child of s, or a child of a descendant
-pub data IsWithin (p : Plan) (s : ℕ) : ℕ → Type 0 where
-  itself : IsWithin p s s
-  child : (c : ℕ) → IsSite p c → IsWithin p s (parent p c) → IsWithin p s c
-
--- the test of what is within a site tells it
+-- The test holds exactly of what is within a site.
 abbrev pub WithinIsTested : Type 0
 WithinIsTested = (p : Plan) (s o : ℕ) → IsPlan p → IsSite p s → IsSite p o
     → (is_within p s o ≡ true) ↔ IsWithin p s o

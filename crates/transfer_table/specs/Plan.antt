@@ -17,15 +17,6 @@ site_count p = length p.parents
 abbrev pub parent : Plan → ℕ → ℕ
 parent p s = slice_index p.parents (s - 1)
 
--- whether at most so many steps from the site o to its parent lead to s; below s there is no need to look
-abbrev pub leads_up : Plan → ℕ → ℕ → ℕ → Bool
-leads_up p s zero o = o == s
-leads_up p s (suc n) o = if nat_lt s o then leads_up p s n (parent p o) else o == s
-
--- whether the site o is s, or a descendant of it: a child of s, or a child of a descendant
-abbrev pub is_within : Plan → ℕ → ℕ → Bool
-is_within p s o = leads_up p s o o
-
 -- the harts of a plan are numbered from 0
 abbrev pub IsHart : Plan → ℕ → Type 0
 IsHart p h = h < p.harts
@@ -33,6 +24,20 @@ IsHart p h = h < p.harts
 -- the sites of a plan are numbered from 1
 abbrev pub IsSite : Plan → ℕ → Type 0
 IsSite p s = (1 ≤ s) × (s ≤ site_count p)
+
+-- A site is within the site s: it is s, or its parent is within s.
+pub data IsWithin (p : Plan) (s : ℕ) : ℕ → Type 0 where
+  itself : IsWithin p s s
+  child : (c : ℕ) → IsSite p c → IsWithin p s (parent p c) → IsWithin p s c
+
+-- Whether at most so many steps from the site o to its parent lead to s. Below s no step is taken: a parent is smaller.
+abbrev pub leads_up : Plan → ℕ → ℕ → ℕ → Bool
+leads_up p s zero o = o == s
+leads_up p s (suc n) o = if nat_lt s o then leads_up p s n (parent p o) else o == s
+
+-- The test of it: whether the site o is within s.
+abbrev pub is_within : Plan → ℕ → ℕ → Bool
+is_within p s o = leads_up p s o o
 
 -- The limits of a plan: harts, sites, and entries of a legal list.
 abbrev pub most_harts : ℕ
@@ -48,7 +53,8 @@ most_entries = 65535
 abbrev pub room : Plan → ℕ
 room p = site_count p * (3 * p.harts - 1)
 
--- at least one hart, not too many harts and sites, a legal list isn't too long, and each site's parent is smaller than the site
+-- At least one hart, not too many harts and sites, a legal list isn't too long, and each site's parent is smaller than the site.
+-- `short` doesn't follow from the other limits: 16 harts and 4,095 sites would have room for 192,465 entries.
 pub record IsPlan (p : Plan) : Type 0 where
   pub some_hart : 1 ≤ p.harts
   pub few_harts : p.harts ≤ most_harts

@@ -55,7 +55,7 @@ is_home (Some g) h = g == h
 abbrev pub lives_with : TableState → ℕ → ℕ → Bool
 lives_with t s h = is_live (row t s).stage && is_home (row t s).home h
 
--- the home as a number; 0 where there is none
+-- The home as a number; 0 if there is none. Why: `NotHome` reports a number for a site without a home too.
 abbrev pub home_number : Option ℕ → ℕ
 home_number None = 0
 home_number (Some g) = g
@@ -132,7 +132,8 @@ moved t h s = slice_set t.owners h s
 abbrev pub with_row : TableState → ℕ → Row → List Row
 with_row t s r = slice_set t.rows (s - 1) r
 
--- the row of a site that is gone and has no home
+-- The row of a site that is gone and has no home. Why: a skipped site differs from an unregistered one by its missing home, so a
+-- row needs no fourth stage.
 abbrev pub swept_row : Row → Row
 swept_row r = record r { stage = Gone; home = None }
 

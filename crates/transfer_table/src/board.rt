@@ -226,7 +226,8 @@ impl Board {
         Ok(())
     }
 
-    // Makes the site and all its descendants gone, without a home.
+    // Makes the site and all its descendants gone, without a home. Why: descendants needn't be adjacent, so it visits each site
+    // from this one on and climbs from each to its ancestors: at most sites times depth steps.
     fn sweep(&mut self, site: u16)
         requires { IsSite self.old.plan site }
         ensures { self.new ≡ record {

@@ -52,31 +52,31 @@ pub struct Row {
     pub asked: u8,
 }
 
-/// Why an entry is refused. Of several causes the first in this order is told.
+/// Why an entry is refused. Of several causes it is the first in this order.
 #[derive(Clone, Copy, Debug, PartialEq, Eq)]
 pub enum NotAdmitted {
     /// The plan has no such hart.
     NoSuchHart,
     /// The plan has no such site.
     NoSuchSite,
-    /// The hart's owner, which is told, isn't the one that the entry needs.
+    /// The hart's owner, given here, isn't the one that the entry needs.
     NotOwner { owner: u16 },
     /// The site isn't new.
     NotNew,
     /// The site isn't live.
     NotLive,
-    /// The site's home, which is told, is another hart.
+    /// The site's home, given here, is another hart.
     NotHome { home: u8 },
     /// The site has no unmet wish.
     NoWish,
     /// With this count the site would have asked for more than all harts but its home. The sum
-    /// that it has asked for so far is told.
+    /// that it has asked for so far is given.
     TooManyWished { asked: u8 },
     /// The hart is the site's home, which doesn't yield.
     IsHome,
-    /// Another hart's owner is the site. The least is told.
+    /// Another hart's owner is the site. The least such hart is given.
     HartInside { hart: u8 },
-    /// A child of the site isn't gone. The least is told.
+    /// A child of the site isn't gone. The least such child is given.
     ChildLeft { site: u16 },
     /// The count is 0.
     NoCount,

@@ -18,7 +18,7 @@ pub enum Why {
     /// No entry is refused, and the site, the least such, isn't gone at the end.
     Unfinished { site: u16 },
     /// No entry is refused, and every site is gone at the end. The site is the least that was
-    /// registered and isn't meant, or is meant and wasn't registered; which is told.
+    /// registered and isn't meant, or is meant and wasn't registered; the value says which.
     Unmeant { site: u16, registered: bool },
 }
 
@@ -48,7 +48,8 @@ pub fn first_fault(
     Ok(fault_on(&mut board, meant, list))
 }
 
-// The first fault of the list, by a board that has admitted no entry yet.
+// The first fault of the list, by a board that has admitted no entry yet. Why: it looks for unfinished sites only if the board
+// refuses no entry, so `first_refused` carries no state for them.
 fn fault_on(board: &mut Board, meant: &[bool], list: &[Entry]) -> Option<Fault>
     requires few { length list.now < 2 ^ 32 }
     requires meant { length meant.now ≡ site_count board.old.plan }

@@ -61,7 +61,7 @@ pub fn idle_harts_stay()
     ensures { IdleHartsStay }
 {}
 
-/// The test of what is within a site tells it.
+/// The test holds exactly of what is within a site.
 pub fn within_is_tested()
     ensures { WithinIsTested }
 {}
@@ -71,7 +71,7 @@ pub fn children_of_new_are_new()
     ensures { ChildrenOfNewAreNew }
 {}
 
-/// The row of a site tells how often it was registered, unregistered and skipped.
+/// The row of a site shows how often it was registered, unregistered and skipped.
 pub fn rows_tell_entries()
     ensures { RowsTellEntries }
 {}

@@ -33,7 +33,7 @@ impl Model for Plan {
     ghost invariant = { λ p. IsPlan record { harts = p.harts; parents = p.parents.items } };
 }
 
-/// Why there is no such plan. Of several causes the first in this order is told.
+/// Why there is no such plan. Of several causes it is the first in this order.
 #[derive(Clone, Copy, Debug, PartialEq, Eq)]
 pub enum PlanFault {
     /// The number of harts isn't from 1 to 16.
@@ -115,7 +115,17 @@ impl Plan {
         at == around
     }
 
-    /// An equal plan.
+    /// Returns an equal plan.
+    ///
+    /// Why: there is no `Clone`, since a copy may return an allocation failure.
+    ///
+    /// # Memory
+    ///
+    /// It allocates one list of parents.
+    ///
+    /// # Errors
+    ///
+    /// `AllocError` if that allocation fails.
     pub fn copy(&self, alloc: Global) -> Result<Plan, AllocError>
         ensures same { IfOk result (λ p. p ≡ self.now) }
         ensures kept { IsPlan self.now }
@@ -128,7 +138,7 @@ impl Plan {
     }
 }
 
-// The first fault but want of memory.
+// The first fault other than an allocation failure.
 fn fault_of(harts: u8, parents: &[u16]) -> Option<PlanFault>
     ensures { result ≡ plan_fault_of harts parents.now }
 {

@@ -5,34 +5,35 @@ use Rattle.pipe_walk.specs.declared.members.Members.{Members}
 use Rattle.pipe_walk.specs.declared.members.Members.TheVariants.{Nobody, Between}
 use Rattle.pipe_walk.specs.declared.touch.Touch.{Touch}
 
--- The members of one set or another.
+-- The set has the members of one set or another.
 abbrev pub joined_members : Members → Members → Members
 joined_members Nobody other = other
 joined_members (Between first last) Nobody = Between first last
 joined_members (Between first last) (Between low high) = Between (min first low) (max last high)
 
--- Whether some of them is below this one.
+-- The test decides whether some of the members is below this one.
 abbrev pub starts_below : ℕ → Members → Bool
 starts_below member Nobody = false
 starts_below member (Between first last) = nat_lt first member
 
--- The last of them; 0 also where there is none.
+-- The result is the last of the members, and 0 also if there is none.
 abbrev pub last_of : Members → ℕ
 last_of Nobody = 0
 last_of (Between first last) = last
 
--- What was done here or there.
+-- The touch has what was done in either.
 abbrev pub joined : Touch → Touch → Touch
 joined a b = record { read = joined_members a.read b.read; changed = joined_members a.changed b.changed }
 
+-- No member reads or changes the cell.
 abbrev pub untouched : Touch
 untouched = record { read = Nobody; changed = Nobody }
 
--- What was done at a place of a list, nothing behind its end.
+-- The touch is what was done at a place of a list, nothing behind its end.
 abbrev pub touch_in : List Touch → ℕ → Touch
 touch_in list place = slice_index_or list place untouched
 
--- What a member does that reads or changes.
+-- The touch is that of one member, which reads or changes.
 abbrev pub touch_by : ℕ → Bool → Touch
 touch_by member writes = record {
   read = if writes then Nobody else Between member member;

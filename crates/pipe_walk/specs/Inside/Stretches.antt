@@ -1,4 +1,4 @@
--- What is told of the stretches of cells that members touch, and what shows that none crosses another.
+-- The recorded stretches of cells that members touch, and what shows that none crosses another.
 -- Only the private contracts and the proofs of this crate need these.
 use Rattle.std.specs.Prelude.{ℕ, ◌<◌, List, length, ℤ, ◌≤ℤ◌}
 use Rattle.array_meaning.specs.Stores.{Arrays, Vars}
@@ -10,13 +10,13 @@ use Rattle.touch_bounds.specs.Ranges.{Bounds, AreWithin}
 use Rattle.touch_bounds.specs.Touches.{DoClash, touch_at, IsWorkTold}
 use Rattle.phase_order.specs.Crossings.{IsPiece, HasNoCrossing}
 
--- What is told of a body is true for any of its turns from one number to before another.
+-- The recorded stretches of a body are true for any of its turns from one number to before another.
 abbrev pub AreTurnsTold : Arrays → List Touch → Bounds → List ℕ → ℤ → ℤ → Work → Type 0
 AreTurnsTold arrays touches bounds var low high body =
     (from to : ℤ) → low ≤ℤ from → to ≤ℤ high →
     IsWorkTold arrays touches bounds (loop var from to body)
 
--- What is told of one clashes with what is told of the other on no array.
+-- The recorded stretches of one clash with those of the other on no array.
 abbrev pub AreClear : Arrays → List Touch → List Touch → Type 0
 AreClear arrays one other =
     (number : ℕ) → number < length arrays → ¬ DoClash (touch_at one number) (touch_at other number)
@@ -27,11 +27,12 @@ IsMemberClear arrays member rounds =
     (high early late : ℕ) (one other : Steps) → member < high → early < late →
     IsPiece rounds member late one → IsPiece rounds high early other → IsSeparate arrays one other
 
--- So it is whatever values the variables have between their bounds, and so no two pieces cross.
+-- The member is clear whatever values the variables have between their bounds.
 abbrev pub IsMemberAlwaysClear : Arrays → Bounds → ℕ → (Vars → List (List Steps)) → Type 0
 IsMemberAlwaysClear arrays bounds member rounds =
     (vars : Vars) → AreWithin bounds vars → IsMemberClear arrays member (rounds vars)
 
+-- The rounds have no crossing, whatever values the variables have between their bounds.
 abbrev pub HasNeverCrossing : Arrays → Bounds → (Vars → List (List Steps)) → Type 0
 HasNeverCrossing arrays bounds rounds =
     (vars : Vars) → AreWithin bounds vars → HasNoCrossing arrays (rounds vars)

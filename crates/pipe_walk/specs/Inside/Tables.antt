@@ -11,7 +11,7 @@ use Rattle.pipe_walk.specs.Inside.Owners.{owners_from}
 abbrev pub no_past : Past
 no_past = record { toucher = 0; changer = 0; crossed = false }
 
--- With one more phase, in which this is done to the cell.
+-- The past has one more phase, in which this is done to the cell.
 abbrev pub passed : Past → Touch → Past
 passed past touch = record {
   toucher = max past.toucher (max (last_of touch.read) (last_of touch.changed));
@@ -20,8 +20,8 @@ passed past touch = record {
       || (starts_below past.toucher touch.changed || starts_below past.changer touch.read);
 }
 
--- What contracts see of a table. Of the phase at hand: for each cell what is done to it by static indexes, and for each
--- array what is done to all its cells by dynamic ones. Of those before: what they did to each cell. And the array of each
+-- Contracts see these parts of a table. For the phase at hand it has what static indexes do to each cell, and what dynamic
+-- indexes do to all cells of each array. For the phases before it has what they did to each cell. It also has the array of each
 -- cell.
 pub record TableParts : Type 0 where
   pub cells : List Touch
@@ -29,16 +29,16 @@ pub record TableParts : Type 0 where
   pub past : List Past
   pub owners : List ℕ
 
--- The phases before, at a cell.
+-- A cell has this past, from the phases before.
 abbrev pub past_in : List Past → ℕ → Past
 past_in list cell = slice_index_or list cell no_past
 
--- What is done to a cell in the phase at hand, by static and by dynamic indexes.
+-- This is what is done to a cell in the phase at hand, by static and by dynamic indexes.
 abbrev pub touch_at : TableParts → ℕ → Touch
 touch_at table cell =
     joined (touch_in table.cells cell) (touch_in table.everywhere (slice_index_or table.owners cell 0))
 
--- With more done at a place.
+-- The list has more done at a place.
 abbrev pub added : ℕ → Touch → List Touch → List Touch
 added place more list = slice_set list place (joined more (touch_in list place))
 
@@ -49,14 +49,14 @@ pub record IsFor (arrays : Arrays) (table : TableParts) : Type 0 where
   pub past : length table.past ≡ cells_of arrays
   pub owners : table.owners ≡ owners_from 0 arrays
 
--- Nothing is done in the phase at hand.
+-- The table has nothing done in the phase at hand.
 abbrev pub blank : TableParts → TableParts
 blank table = record table {
   cells = replicate (length table.cells) untouched;
   everywhere = replicate (length table.everywhere) untouched;
 }
 
--- And no phase was before.
+-- The table has nothing done in the phase at hand, and no phase before.
 abbrev pub cleared : TableParts → TableParts
 cleared table = record (blank table) { past = replicate (length table.past) no_past }
 

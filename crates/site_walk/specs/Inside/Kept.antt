@@ -10,10 +10,10 @@ use Rattle.site_walk.specs.declared.fault.WalkFault.{WalkFault}
 use Rattle.site_walk.specs.Outside.{first_outside}
 use Rattle.site_walk.specs.FirstOverlap.{first_overlap}
 
--- What was found, or else the first fault of an index in the walk through steps.
+-- The result is what was found, or else the first fault of an index in the walk through steps.
 abbrev pub or_outside : Arrays → Steps → Option WalkFault → Option WalkFault
 or_outside arrays steps found = option_or found (first_outside arrays (walk arrays steps))
 
--- What was found, or else the first overlap of sites.
+-- The result is what was found, or else the first overlap of sites.
 abbrev pub or_overlap : Arrays → List Site → Option WalkFault → Option WalkFault
 or_overlap arrays sites found = option_or found (first_overlap arrays sites)

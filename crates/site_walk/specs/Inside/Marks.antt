@@ -12,7 +12,7 @@ use Rattle.site_walk.specs.Inside.Touched.{joined, clashes, touched_at, untouche
 use Rattle.array_eval.specs.Layouts.{number_of}
 use Rattle.site_walk.specs.Inside.Numbers.{array_at}
 
--- Nothing done to so many cells and so many arrays.
+-- The table has so many cells and so many arrays, and nothing is done to them.
 abbrev pub nothing_done : ℕ → ℕ → Table
 nothing_done cells arrays = record {
   cells = replicate cells untouched;
@@ -22,6 +22,7 @@ nothing_done cells arrays = record {
   suspect = false;
 }
 
+-- A cleared table has the same size, and nothing is marked in it.
 abbrev pub cleared : Table → Table
 cleared table = record {
   cells = replicate (length table.cells) untouched;
@@ -31,14 +32,14 @@ cleared table = record {
   suspect = false;
 }
 
--- There is a place for each cell and for each array.
+-- The table has a place for each cell and for each array.
 pub record HasPlaces (arrays : Arrays) (table : Table) : Type 0 where
   pub cells : length table.cells ≡ cells_of arrays
   pub everywhere : length table.everywhere ≡ length arrays
   pub read : length table.read ≡ length arrays
   pub written : length table.written ≡ length arrays
 
--- With more done at a place.
+-- The layer has more done at a place.
 abbrev pub added : ℕ → Touched → List Touched → List Touched
 added place touch layer = slice_set layer place (joined touch (touched_at layer place))
 
@@ -69,7 +70,7 @@ with_dynamic number touch table =
           || clashes (joined all (touched_at table.written number));
     }
 
--- With a visit of an array under an index.
+-- The table has a visit of an array under an index added.
 abbrev pub with_touch : Arrays → Touched → List ℕ → Option ℤ → Table → Table
 with_touch arrays touch array None table = with_dynamic (number_of arrays array) touch table
 with_touch arrays touch array (Some index) table =
@@ -80,24 +81,24 @@ with_touch arrays touch array (Some index) table =
 abbrev pub touch_of : ℕ → Bool → Touched
 touch_of piece writes = record { by = One piece; written = writes }
 
--- With the visits of a piece.
+-- The table has the visits of a piece added.
 abbrev pub with_visits : Arrays → ℕ → List Visit → Table → Table
 with_visits arrays piece [] table = table
 with_visits arrays piece (v ∷ more) table =
     with_visits arrays piece more
     (with_touch arrays (touch_of piece v.writes) v.array v.index table)
 
--- With all that a piece does.
+-- The table has all that a piece does added.
 abbrev pub with_piece : Arrays → ℕ → Steps → Table → Table
 with_piece arrays piece steps table = with_visits arrays piece (walk arrays steps) table
 
--- With all that pieces do, numbered from one on.
+-- The table has all that pieces do added, numbered from one on.
 abbrev pub with_pieces : Arrays → ℕ → List Steps → Table → Table
 with_pieces arrays piece [] table = table
 with_pieces arrays piece (steps ∷ more) table =
     with_pieces arrays (piece + 1) more (with_piece arrays piece steps table)
 
--- What was done to a cell, by static and by dynamic indexes.
+-- This is what was done to a cell, by static and by dynamic indexes.
 abbrev pub done_at : Arrays → Table → ℕ → Touched
 done_at arrays table cell =
     joined (touched_at table.cells cell) (touched_at table.everywhere (array_at arrays cell))

@@ -5,7 +5,7 @@ use Rattle.site_walk.specs.declared.touched.Pieces.{Pieces}
 use Rattle.site_walk.specs.declared.touched.Pieces.TheVariants.{Nobody, One, Several}
 use Rattle.site_walk.specs.declared.touched.Touched.{Touched}
 
--- The pieces of one set or another.
+-- The set has the pieces of one set or another.
 abbrev pub joined_pieces : Pieces → Pieces → Pieces
 joined_pieces Nobody other = other
 joined_pieces (One p) Nobody = One p
@@ -13,23 +13,24 @@ joined_pieces (One p) (One q) = cond (nat_eq p q) (One p) Several
 joined_pieces (One p) Several = Several
 joined_pieces Several other = Several
 
+-- The test is true if more than one piece touched.
 abbrev pub are_several : Pieces → Bool
 are_several Nobody = false
 are_several (One p) = false
 are_several Several = true
 
--- What was done here or there.
+-- The touch has what was done in either.
 abbrev pub joined : Touched → Touched → Touched
 joined a b = record { by = joined_pieces a.by b.by; written = a.written || b.written }
 
--- Whether two pieces touched it, of which one wrote.
+-- The test decides whether two pieces touched the cell, of which one wrote.
 abbrev pub clashes : Touched → Bool
 clashes t = t.written && are_several t.by
 
--- Nobody touched it.
+-- No piece touched the cell.
 abbrev pub untouched : Touched
 untouched = record { by = Nobody; written = false }
 
--- What was done at a place of a list, nothing behind its end.
+-- The touch is what was done at a place of a list, nothing behind its end.
 abbrev pub touched_at : List Touched → ℕ → Touched
 touched_at layer place = slice_index_or layer place untouched

@@ -1,4 +1,4 @@
--- Codes of trees and of works, by which proofs tell them apart.
+-- Codes of trees and of works, by which proofs distinguish them.
 -- Only proofs need these, here and in the crates above.
 use Rattle.std.specs.Prelude.{ℕ, List}
 use Rattle.std.proofs.Common.{◌≡◌, ap, refl}
@@ -19,6 +19,7 @@ tail (gcons a b) = b
 abbrev name_code : Coded (List ℕ)
 name_code = coded_list coded_ℕ
 
+-- The code of an expression has a number for its kind, and the codes of its parts.
 abbrev pub expression_code : Expression → Gv
 expression_code (Number n) = gcons (gnum 0) (coded_ℤ.code n)
 expression_code (Var name) = gcons (gnum 1) (name_code.code name)
@@ -29,6 +30,7 @@ expression_code (Binary op a b) =
     gcons (gnum 4) (gcons (op_type.the_row.coded.code op)
     (gcons (expression_code a) (expression_code b)))
 
+-- Expressions with one code are equal.
 pub expression_inj : (x y : Expression) → expression_code x ≡ expression_code y → x ≡ y
 expression_inj (Number n) (Number m) p = ap Number (coded_ℤ.inj n m (ap tail p))
 expression_inj (Var v) (Var w) p = ap Var (name_code.inj v w (ap tail p))
@@ -126,5 +128,6 @@ mutual
       let rest = sequences_inj x y (ap tail p) in cc
   sequences_inj x y p = cc
 
+-- Sequences have codes.
 abbrev pub coded_sequence : Coded Sequence
 coded_sequence = record { code = sequence_code; inj = sequence_inj }

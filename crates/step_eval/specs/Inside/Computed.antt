@@ -8,7 +8,7 @@ use Rattle.array_jobs.specs.PieceParts.{piece_of_job}
 use Rattle.step_eval.specs.Nests.{NestedTree}
 use Rattle.step_eval.specs.Phases.{store_before, writes_before}
 
--- What jobs write, one after another.
+-- This is what jobs write, one after another.
 abbrev pub writes_of_jobs : List JobTree → List Write
 writes_of_jobs [] = []
 writes_of_jobs (job ∷ more) = piece_of_job job ++ writes_of_jobs more

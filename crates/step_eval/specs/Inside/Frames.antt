@@ -19,7 +19,7 @@ use Rattle.step_eval.specs.Moves.{moved, moved_writes, moved_sites}
 use Rattle.step_eval.specs.Passes.{pass_of}
 use Rattle.step_eval.specs.Machines.{construct_of, next_construct}
 
--- The statements of a block from one on.
+-- The statements are those of a block from one on.
 abbrev pub statements_from : Block → ℕ → Sequence
 statements_from block from = sequence (map statement_of (drop from block.statements.items))
 
@@ -33,23 +33,24 @@ works_in (Turns body next high ∷ below) [] = []
 works_in (Turns body next high ∷ below) (v ∷ outer) =
     at (member_of v.0 next high (sequence_of body.now)) outer ∷ works_in below outer
 
--- All loop variables around the next work, given those around the whole.
+-- The loop variables around the next work are these, given those around the whole.
 abbrev pub vars_in : Frames → Vars → Vars
 vars_in frames around = stacked frames.vars.items ++ around
 
--- All frames, the next one first.
+-- The frames stand in a list, the next one first.
 abbrev pub on_top : Option Frame → List Frame → List Frame
 on_top None below = []
 on_top (Some frame) below = frame ∷ below
 
+-- The frames stand in a list, the top one first.
 abbrev pub frames_in : Frames → List Frame
 frames_in frames = on_top frames.top (reverse frames.below.items)
 
--- The works that are still to be run, given the loop variables around the whole.
+-- The works are still to be run, given the loop variables around the whole.
 abbrev pub works_of : Frames → Vars → List WorkAt
 works_of frames around = works_in (frames_in frames) (vars_in frames around)
 
--- The works with this frame on top.
+-- The works are those with this frame on top.
 abbrev pub works_with : Frame → Frames → Vars → List WorkAt
 works_with top frames around = works_in (top ∷ reverse frames.below.items) (vars_in frames around)
 
@@ -58,7 +59,7 @@ abbrev pub IsMore : List WorkAt → Type 0
 IsMore [] = ⊥
 IsMore (w ∷ more) = Unit {0}
 
--- How many loops have begun.
+-- The number says how many loops have begun.
 abbrev pub loops_in : List Frame → ℕ
 loops_in [] = 0
 loops_in (Statements block from after ∷ below) = loops_in below
@@ -68,7 +69,7 @@ loops_in (Turns body next high ∷ below) = suc (loops_in below)
 abbrev pub IsStacked : Frames → Type 0
 IsStacked frames = length frames.vars.items ≡ loops_in (frames_in frames)
 
--- So it is with this frame on top.
+-- Each loop that has begun has its variable on the stack, with this frame on top.
 abbrev pub IsStackedWith : Frame → Frames → Type 0
 IsStackedWith top frames = length frames.vars.items ≡ loops_in (top ∷ reverse frames.below.items)
 
@@ -95,12 +96,12 @@ HaveMoved arrays (w ∷ more) store next after store_after next_after =
     × (store_after ≡ noted_all (moved_writes arrays store.cells w.work w.vars) store)
     × (next_after ≡ next + moved_sites arrays store.cells w)
 
--- The sites that a hart is told to skip.
+-- A hart has to skip these sites.
 abbrev pub span_told : Told → Option (ℕ × ℕ)
 span_told Nothing = None
 span_told (Skips first end) = Some (first, end)
 
--- So they have moved, and the hart is told what it has to skip.
+-- The works have moved, and this is what the hart has to skip.
 abbrev pub HaveTold : Arrays → Told → List WorkAt → Trace → ℕ → List WorkAt → Trace → ℕ → Type 0
 HaveTold arrays told works store next after store_after next_after =
     (pass_of arrays store.cells next works ≡ span_told told)
@@ -136,16 +137,17 @@ abbrev pub HasPassed : Frames → Frames → Type 0
 HasPassed before after = (arrays : Arrays) (around : Vars) (store : Trace)
     → IsPast arrays store (works_of before around) (works_of after around)
 
+-- Contracts see a construct as a tree.
 abbrev pub seen : Option (Bor Stmt) → Option Statement
 seen None = None
 seen (Some construct) = Some (statement_of construct.now)
 
--- It is the construct that is to be run next, or there is none.
+-- The result is the construct that is to be run next, or there is none.
 abbrev pub IsConstruct : Option (Bor Stmt) → Frames → Type 0
 IsConstruct construct frames =
     (around : Vars) → seen construct ≡ next_construct (works_of frames around)
 
--- It is the construct that stands there in the block, or there is none.
+-- The result is the construct that stands there in the block, or there is none.
 abbrev pub IsConstructAt : Option (Bor Stmt) → Block → ℕ → Type 0
 IsConstructAt construct block place =
     seen construct ≡ construct_of (branch_of (statements_from block place))

@@ -29,8 +29,8 @@ run_branches-loop-branch-preserved t c =
     ∙ sym (branches_left Trace (traced arrays) (traced_followed_by arrays) items c.loop-branch.branch-index c.branch-item.result vars c.loop-branch.store c.loop-branch-test.true)
     ∙ c.loop-branch.invariant
 
-pub run_loop-loop-number-preserved : goal.run_loop-loop-number-preserved
-run_loop-loop-number-preserved t c =
+pub run_turns-loop-number-preserved : goal.run_turns-loop-number-preserved
+run_turns-loop-number-preserved t c =
     let arrays = c.args.layout.now in
     let vars = vars_of c.args.scope.now in
     let var = c.args.var.now in

@@ -16,8 +16,8 @@ invariant-run_branches-loop-branch l =
     traced l.layout (branches_work (sequences (map sequence_of (drop l.branch-index l.branch-items))) (vars_of l.scope)) l.store
     ≡ traced l.layout (branches_work (sequences_of l.branches) (vars_of l.scope)) l.fn.store
 
-abbrev pub invariant-run_loop-loop-number : goal.invariant-run_loop-loop-number
-invariant-run_loop-loop-number l =
+abbrev pub invariant-run_turns-loop-number : goal.invariant-run_turns-loop-number
+invariant-run_turns-loop-number l =
     traced l.layout (loop l.var l.number l.high (sequence_work (sequence_of l.body)) (vars_of l.scope)) l.store
     ≡ traced l.layout (loop l.var l.low l.high (sequence_work (sequence_of l.body)) (vars_of l.scope)) l.fn.store
 

@@ -1,6 +1,6 @@
 use Rattle.std.proofs.Common.{◌≡◌, drop, map}
 use Rattle.array_tree.specs.Trees.{statement_of, sequence_of, sequences_of, sequence, sequences}
-use Rattle.array_meaning.specs.Limits.{has_no_site_under_if, have_no_site_under_if}
+use Rattle.array_meaning.specs.Choices.{has_no_site_under_if, have_no_site_under_if}
 use Rattle.entered_sites.proofs.choice.+choice.Given as goal
 
 abbrev pub invariant-has_no_choice-loop-statement : goal.invariant-has_no_choice-loop-statement

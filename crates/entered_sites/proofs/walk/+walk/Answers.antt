@@ -3,9 +3,10 @@ use mir.Val.{SFits}
 use Rattle.std.proofs.lemmas.Int.{to_z-of_z, ints}
 use Rattle.array_tree.specs.Trees.{statement_of, sequence_of, sequences_of, sequence, sequences}
 use Rattle.array_meaning.specs.Work.{loop, sequence_work}
+use Rattle.array_meaning.specs.Entered.{statement_part, sequence_part, branches_part, loop_part, phases_part}
 use Rattle.array_eval.specs.Traces.{traced}
 use Rattle.array_eval.specs.Views.{vars_of}
-use Rattle.entered_sites.specs.Told.{statement_told, sequence_told, branches_told, loop_told, phases_told}
+use Rattle.entered_sites.specs.Told.{told}
 use Rattle.entered_sites.proofs.Telling.{statements_left, branches_left, phases_left, turns_left, statements_ended, branches_ended, phases_ended, plain_block, plain_loop}
 use Rattle.entered_sites.proofs.walk.+walk.Goals as goal
 
@@ -28,8 +29,8 @@ walk_statements-loop-statement-preserved t c =
     let arrays = c.args.layout.now in
     let vars = vars_of c.args.scope.now in
     let items = c.deref-statement-items.result.now in
-    ap (sequence_told arrays (sequence (map statement_of (drop (c.loop-statement.statement-index + 1) items))) vars)
-    (c.in_ok-walk_statement.ensures ∙ ap (λ s. statement_told arrays (statement_of s) vars c.loop-statement.walker) c.statement-item.is)
+    ap (told arrays (sequence_part arrays (sequence (map statement_of (drop (c.loop-statement.statement-index + 1) items))) vars))
+    (c.in_ok-walk_statement.ensures ∙ ap (λ s. told arrays (statement_part arrays (statement_of s) vars) c.loop-statement.walker) c.statement-item.is)
     ∙ sym (statements_left arrays items c.loop-statement.statement-index c.statement-item.result vars c.loop-statement.walker c.loop-statement-test.true)
     ∙ c.loop-statement.invariant
 
@@ -43,8 +44,8 @@ walk_branches-loop-branch-preserved t c =
     let arrays = c.args.layout.now in
     let vars = vars_of c.args.scope.now in
     let items = c.deref-branch-items.result.now in
-    ap (branches_told arrays (sequences (map sequence_of (drop (c.loop-branch.branch-index + 1) items))) vars)
-    (c.in_ok-walk_block.ensures ∙ ap (λ b. sequence_told arrays (sequence_of b) vars c.loop-branch.walker) c.branch-item.is)
+    ap (told arrays (branches_part arrays (sequences (map sequence_of (drop (c.loop-branch.branch-index + 1) items))) vars))
+    (c.in_ok-walk_block.ensures ∙ ap (λ b. told arrays (sequence_part arrays (sequence_of b) vars) c.loop-branch.walker) c.branch-item.is)
     ∙ sym (branches_left arrays items c.loop-branch.branch-index c.branch-item.result vars c.loop-branch.walker c.loop-branch-test.true)
     ∙ c.loop-branch.invariant
 
@@ -65,8 +66,8 @@ walk_loop-loop-number-preserved t c =
     let test = c.loop-number-test.true in
     let below : x <ℤ high = grind (arith, ints) in
     let next : to_z w64 (of_z w64 (x +ℤ pos 1)) ≡ x +ℤ pos 1 = omega (arith, ints) in
-    ap (λ y. loop_told arrays var y high body vars c.walk_statements.new.walker) next
-    ∙ ap (loop_told arrays var (x +ℤ pos 1) high body vars) c.in_ok-walk_statements.ensures
+    ap (λ y. told arrays (loop_part arrays var y high (sequence_part arrays body) vars) c.walk_statements.new.walker) next
+    ∙ ap (told arrays (loop_part arrays var (x +ℤ pos 1) high (sequence_part arrays body) vars)) c.in_ok-walk_statements.ensures
     ∙ sym (turns_left arrays var x high body vars c.loop-number.walker below)
     ∙ c.loop-number.invariant
 
@@ -78,8 +79,8 @@ walk_phases-loop-phase-preserved t c =
     let low = to_z w64 (of_z w64 c.args.low) in
     let high = to_z w64 (of_z w64 c.args.high) in
     let items = c.deref-phase-items.result.now in
-    ap (phases_told arrays (sequences (map sequence_of (drop (c.loop-phase.phase-index + 1) items))) var low high vars)
-    (c.in_ok-walk_loop.ensures ∙ ap (λ b. loop_told arrays var low high (sequence_of b) vars c.loop-phase.walker) c.phase-item.is)
+    ap (told arrays (phases_part arrays (sequences (map sequence_of (drop (c.loop-phase.phase-index + 1) items))) var low high vars))
+    (c.in_ok-walk_loop.ensures ∙ ap (λ b. told arrays (loop_part arrays var low high (sequence_part arrays (sequence_of b)) vars) c.loop-phase.walker) c.phase-item.is)
     ∙ sym (phases_left arrays items c.loop-phase.phase-index c.phase-item.result var low high vars c.loop-phase.walker c.loop-phase-test.true)
     ∙ c.loop-phase.invariant
 
@@ -89,5 +90,5 @@ walk_phases-returns t c =
     let high = to_z w64 (of_z w64 c.args.high) in
     sym (phases_ended c.args.layout.now c.deref-phase-items.result.now c.loop-phase.phase-index c.args.var.now low high (vars_of c.args.scope.now) c.loop-phase.walker c.loop-phase-test.false)
     ∙ c.loop-phase.invariant
-    ∙ ap (λ x. phases_told c.args.layout.now (sequences_of c.args.phases.now) c.args.var.now x high (vars_of c.args.scope.now) c.args.walker.now) (to_z-of_z w64 c.args.low c.ranges.low)
-    ∙ ap (λ x. phases_told c.args.layout.now (sequences_of c.args.phases.now) c.args.var.now c.args.low x (vars_of c.args.scope.now) c.args.walker.now) (to_z-of_z w64 c.args.high c.ranges.high)
+    ∙ ap (λ x. told c.args.layout.now (phases_part c.args.layout.now (sequences_of c.args.phases.now) c.args.var.now x high (vars_of c.args.scope.now)) c.args.walker.now) (to_z-of_z w64 c.args.low c.ranges.low)
+    ∙ ap (λ x. told c.args.layout.now (phases_part c.args.layout.now (sequences_of c.args.phases.now) c.args.var.now c.args.low x (vars_of c.args.scope.now)) c.args.walker.now) (to_z-of_z w64 c.args.high c.ranges.high)

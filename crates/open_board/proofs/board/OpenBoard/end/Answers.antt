@@ -1,6 +1,5 @@
 use Rattle.std.proofs.Common.{◌≡◌, ◌∙◌, sym, ap, arith, subst, ◌<◌, List, length, get_or}
 use Rattle.std.specs.List.{remove}
-use Rattle.open_rule.specs.declared.view.View.{View}
 use Rattle.open_board.specs.declared.seat.OpenSeat.{OpenSeat}
 use Rattle.open_board.specs.Ending.{AreOthers, HasFrom}
 use Rattle.open_board.proofs.Gathers.{first_default, others, finishes}

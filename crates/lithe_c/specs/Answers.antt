@@ -1,0 +1,57 @@
+-- What each call of C makes of the hart's block, and which status it returns. The board stays the same. The call is one of the board's
+-- checked calls on the hart's seat, and the status is that of its result.
+use Rattle.std.specs.Prelude.{◌≡◌, ℕ, Result}
+use Rattle.std.specs.Arc.{arc_value}
+use Rattle.open_rule.specs.declared.view.View.{View}
+use Rattle.open_board.specs.Calls.{Registers}
+use Rattle.open_board.specs.Checked.{ChecksRequest, ChecksEnter, ChecksYield, ChecksClose, ChecksLook, ChecksUnregister}
+use Rattle.open_board.specs.declared.board.OpenBoard.{OpenBoard}
+use Rattle.open_board.specs.declared.board.Entered.{Entered}
+use Rattle.open_board.specs.declared.board.Seen.{Seen}
+use Rattle.open_board.specs.declared.board.TooDeep.{TooDeep}
+use Rattle.open_board.specs.declared.checked.Refused.{Refused}
+use Rattle.lithe_c.specs.Status.{plain_status, register_status, site_after, enter_status, look_status}
+use Rattle.lithe_c.specs.declared.lent.Lent.{Lent}
+
+-- The board that the hart is of.
+abbrev pub board_of : Lent → OpenBoard
+board_of l = arc_value l.board
+
+-- What the hart knows.
+abbrev pub view_of : Lent → View
+view_of l = l.seat.seat.me.0
+
+-- A register, with what stood where the site's number goes before and after.
+abbrev pub AnswersRegister : Lent → ℕ → ℕ → ℕ → Lent → Type 0
+AnswersRegister l before status after m = (board_of m ≡ board_of l)
+    × ((r : Result ℕ TooDeep) × Registers (view_of l) r (view_of m) × (status ≡ register_status r) × (after ≡ site_after before r))
+
+-- A request.
+abbrev pub AnswersRequest : Lent → ℕ → ℕ → Lent → Type 0
+AnswersRequest l count status m = (board_of m ≡ board_of l)
+    × ((r : Result (Unit {0}) Refused) × ChecksRequest (board_of l).size (view_of l) count r (view_of m) × (status ≡ plain_status r))
+
+-- A try to enter.
+abbrev pub AnswersEnter : Lent → ℕ → ℕ → Lent → Type 0
+AnswersEnter l site status m = (board_of m ≡ board_of l)
+    × ((r : Result Entered Refused) × ChecksEnter (board_of l).size (view_of l) site r (view_of m) × (status ≡ enter_status r))
+
+-- A yield.
+abbrev pub AnswersYield : Lent → ℕ → Lent → Type 0
+AnswersYield l status m = (board_of m ≡ board_of l)
+    × ((r : Result (Unit {0}) Refused) × ChecksYield (view_of l) r (view_of m) × (status ≡ plain_status r))
+
+-- A close.
+abbrev pub AnswersClose : Lent → ℕ → Lent → Type 0
+AnswersClose l status m = (board_of m ≡ board_of l)
+    × ((r : Result (Unit {0}) Refused) × ChecksClose (view_of l) r (view_of m) × (status ≡ plain_status r))
+
+-- A look whether the owner is empty.
+abbrev pub AnswersLook : Lent → ℕ → Lent → Type 0
+AnswersLook l status m = (board_of m ≡ board_of l)
+    × ((r : Result Seen Refused) × ChecksLook (view_of l) r (view_of m) × (status ≡ look_status r))
+
+-- An unregister.
+abbrev pub AnswersUnregister : Lent → ℕ → Lent → Type 0
+AnswersUnregister l status m = (board_of m ≡ board_of l)
+    × ((r : Result (Unit {0}) Refused) × ChecksUnregister (view_of l) r (view_of m) × (status ≡ plain_status r))

@@ -1,0 +1,4 @@
+pub mod Answers
+pub mod Hart
+pub mod Making
+pub mod Status

@@ -1,0 +1,81 @@
+//! Each call of a hart: the block is taken from C's pointer, the call is made on it, and the pointer owns it again.
+ghost use Rattle.std.specs.Prelude.{◌≡◌};
+ghost use Rattle.open_board.specs.Calls.{Registers};
+ghost use Rattle.open_board.specs.Checked.{ChecksRequest, ChecksEnter, ChecksYield, ChecksClose, ChecksLook, ChecksUnregister};
+ghost use Rattle.open_board.specs.Views.{owner_of};
+ghost use Rattle.lithe_c.specs.Answers.{board_of, view_of};
+
+use crate::hart::LitheHart;
+use open_board::{Entered, Refused, Seen, TooDeep};
+
+pub(crate) fn registered(hart: LitheHart, none: ()) -> (LitheHart, Result<u16, TooDeep>)
+    ensures board { board_of result.0.lent ≡ board_of hart.lent }
+    ensures does { Registers (view_of hart.lent) result.1 (view_of result.0.lent) }
+{
+    let mut lent = hart.into_box();
+    let made = lent.register();
+    (LitheHart::of_box(lent), made)
+}
+
+pub(crate) fn requested(hart: LitheHart, count: u8) -> (LitheHart, Result<(), Refused>)
+    ensures board { board_of result.0.lent ≡ board_of hart.lent }
+    ensures does { ChecksRequest (board_of hart.lent).size (view_of hart.lent) count result.1 (view_of result.0.lent) }
+{
+    let mut lent = hart.into_box();
+    let made = lent.request(count);
+    (LitheHart::of_box(lent), made)
+}
+
+pub(crate) fn entered(hart: LitheHart, site: u16) -> (LitheHart, Result<Entered, Refused>)
+    ensures board { board_of result.0.lent ≡ board_of hart.lent }
+    ensures does { ChecksEnter (board_of hart.lent).size (view_of hart.lent) site result.1 (view_of result.0.lent) }
+{
+    let mut lent = hart.into_box();
+    let made = lent.try_enter(site);
+    (LitheHart::of_box(lent), made)
+}
+
+pub(crate) fn yielded(hart: LitheHart, none: ()) -> (LitheHart, Result<(), Refused>)
+    ensures board { board_of result.0.lent ≡ board_of hart.lent }
+    ensures does { ChecksYield (view_of hart.lent) result.1 (view_of result.0.lent) }
+{
+    let mut lent = hart.into_box();
+    let made = lent.yield_hart();
+    (LitheHart::of_box(lent), made)
+}
+
+pub(crate) fn closed(hart: LitheHart, none: ()) -> (LitheHart, Result<(), Refused>)
+    ensures board { board_of result.0.lent ≡ board_of hart.lent }
+    ensures does { ChecksClose (view_of hart.lent) result.1 (view_of result.0.lent) }
+{
+    let mut lent = hart.into_box();
+    let made = lent.close();
+    (LitheHart::of_box(lent), made)
+}
+
+pub(crate) fn looked(hart: LitheHart, none: ()) -> (LitheHart, Result<Seen, Refused>)
+    ensures board { board_of result.0.lent ≡ board_of hart.lent }
+    ensures does { ChecksLook (view_of hart.lent) result.1 (view_of result.0.lent) }
+{
+    let mut lent = hart.into_box();
+    let made = lent.see_empty();
+    (LitheHart::of_box(lent), made)
+}
+
+pub(crate) fn unregistered(hart: LitheHart, none: ()) -> (LitheHart, Result<(), Refused>)
+    ensures board { board_of result.0.lent ≡ board_of hart.lent }
+    ensures does { ChecksUnregister (view_of hart.lent) result.1 (view_of result.0.lent) }
+{
+    let mut lent = hart.into_box();
+    let made = lent.unregister();
+    (LitheHart::of_box(lent), made)
+}
+
+pub(crate) fn owned(hart: LitheHart, none: ()) -> (LitheHart, u16)
+    ensures same { result.0.lent ≡ hart.lent }
+    ensures owner { result.1 ≡ owner_of (view_of hart.lent) }
+{
+    let lent = hart.into_box();
+    let owner = lent.owner();
+    (LitheHart::of_box(lent), owner)
+}

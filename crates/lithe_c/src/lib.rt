@@ -1,0 +1,180 @@
+//! The open board for C, a static library. `bindings/c/lithe.h` declares it.
+//!
+//! C has of each hart one pointer, to a block with the hart's seat and its share of the board. Each call tests its own
+//! condition and returns a status. The contracts say what each call makes of the hart's view, and which status it returns.
+//! A call takes the hart from the pointer and puts it back: it writes the pointer, to what it was.
+//!
+//! Left to C: a hart's pointer is one that `lithe_hart_make` wrote and `lithe_hart_drop` hasn't taken. Each hart is given to
+//! one call at a time. A hart may go from thread to thread by a lock, by the start or the join of a thread, or by a
+//! sequentially consistent atomic. No call is made in a signal handler, or in a forked child of a process with threads.
+#![tactic(auto)]
+
+ghost use Rattle.std.specs.Prelude.{◌≡◌, ◌⊎◌, ◌<◌, ◌≢◌, length};
+ghost use Rattle.open_board.specs.Views.{owner_of};
+ghost use Rattle.lithe_c.specs.Answers.{view_of, AnswersRegister, AnswersRequest, AnswersEnter, AnswersYield, AnswersClose, AnswersLook, AnswersUnregister};
+ghost use Rattle.lithe_c.specs.Making.{MakesOrKeeps};
+ghost use Rattle.lithe_c.specs.Status.{EndsText};
+
+mod calls;
+mod hart;
+mod lent;
+mod lent_calls;
+mod making;
+mod parts;
+mod status;
+
+use core::mem::replace_with;
+use hart::LitheHart;
+use open_board::OpenBoard;
+use status::{BAD_SIZE, DONE, NO_MEMORY};
+use std::alloc::Global;
+use std::sync::Arc;
+
+/// Makes a board with `levels` levels, and writes a pointer for each hart into `harts`. The length of `harts` is the number of
+/// harts, and hart `h` is at place `h`, from 0. Each hart is at the base.
+///
+/// Returns 12 (bad size) exactly unless there are 1 to 64 harts and 1 to 64 levels, and 11 if there is no memory. `harts` is
+/// then as it was, and nothing stays allocated.
+///
+/// # Memory
+///
+/// A block of 64 bytes for each site and one for the base, one of 128 bytes for each hart, and one for the board.
+/// `lithe_hart_drop` of the last hart frees the board.
+///
+/// Left to the caller: that a pointer is one of a hart, which no clause says, is so for each that this call writes.
+#[unsafe(no_mangle)]
+pub extern "C" fn lithe_hart_make(alloc: Global, levels: u8, harts: &mut [*mut u8]) -> u32
+    ensures { MakesOrKeeps levels harts.old result harts.new }
+{
+    if harts.len() == 0 || harts.len() > 64 || levels == 0 || levels > 64 {
+        return BAD_SIZE;
+    }
+    let Ok((board, seats)) = OpenBoard::new(alloc, harts.len() as u8, levels) else {
+        return NO_MEMORY;
+    };
+    let Ok(board) = Arc::new(alloc, board) else {
+        return NO_MEMORY;
+    };
+    let Ok(boxes) = making::all(alloc, &board, seats) else {
+        return NO_MEMORY;
+    };
+    for (at, one) in harts.iter_mut().zip(boxes) {
+        *at = Box::into_raw(one).cast::<u8>();
+    }
+    DONE
+}
+
+/// Registers the next of the hart's sites as a child of its owner, and writes the site's number into `site`. The hart is the
+/// site's home, and the site is its owner. One store.
+///
+/// Returns 8 (too deep) exactly if the hart is the home of as many sites as the board has levels. Nothing changes then.
+#[unsafe(no_mangle)]
+pub extern "C" fn lithe_hart_register(hart: &mut LitheHart, site: &mut u16) -> u32
+    ensures { AnswersRegister hart.old.lent site.old result site.new hart.new.lent }
+{
+    let made = replace_with(hart, (), calls::registered);
+    if let Ok(number) = made {
+        *site = number;
+    }
+    status::of_register(made)
+}
+
+/// Asks for `count` more harts at the owner. A load and an addition.
+///
+/// Returns, in this order, 1 (not home) if the hart isn't the home of its owner, 4 (is closed) if it closed it, 3 (too many
+/// wished) if the site would have asked in all for more than the board's other harts. No hart is asked for then.
+#[unsafe(no_mangle)]
+pub extern "C" fn lithe_hart_request(hart: &mut LitheHart, count: u8) -> u32
+    ensures { AnswersRequest hart.old.lent count result hart.new.lent }
+{
+    status::of_call(replace_with(hart, count, calls::requested))
+}
+
+/// Tries to enter the site as a guest. The site is then the hart's owner. A load, and an exchange if the word that was loaded
+/// lets the hart in.
+///
+/// Returns 7 (no such site) if the number isn't 1 to harts times levels, 9 (not wanted) if the loaded word doesn't let the
+/// hart in, 10 (moved) if the exchange found another word. The hart stays in its owner then.
+#[unsafe(no_mangle)]
+pub extern "C" fn lithe_hart_enter(hart: &mut LitheHart, site: u16) -> u32
+    ensures { AnswersEnter hart.old.lent site result hart.new.lent }
+{
+    status::of_enter(replace_with(hart, site, calls::entered))
+}
+
+/// Leaves the owner, in which the hart is a guest, for its parent. One subtraction.
+///
+/// Returns 2 (not guest) if the hart isn't a guest of its owner. Nothing changes then.
+#[unsafe(no_mangle)]
+pub extern "C" fn lithe_hart_yield(hart: &mut LitheHart) -> u32
+    ensures { AnswersYield hart.old.lent result hart.new.lent }
+{
+    status::of_call(replace_with(hart, (), calls::yielded))
+}
+
+/// Closes the owner: no further hart may enter it. A load and an addition.
+///
+/// Returns 1 (not home) if the hart isn't the home of its owner, else 4 (is closed) if it closed it already.
+#[unsafe(no_mangle)]
+pub extern "C" fn lithe_hart_close(hart: &mut LitheHart) -> u32
+    ensures { AnswersClose hart.old.lent result hart.new.lent }
+{
+    status::of_call(replace_with(hart, (), calls::closed))
+}
+
+/// Looks whether the owner, which the hart has closed, has no guest: 0 if so, 6 (not empty) if it has one. A guest in a site
+/// below the owner is a guest of the owner too. Two loads.
+///
+/// Returns 1 (not home) if the hart isn't the home of its owner, else 5 (not closed) if it hasn't closed it.
+#[unsafe(no_mangle)]
+pub extern "C" fn lithe_hart_see_empty(hart: &mut LitheHart) -> u32
+    ensures { AnswersLook hart.old.lent result hart.new.lent }
+{
+    status::of_look(replace_with(hart, (), calls::looked))
+}
+
+/// Ends the owner, if it is closed and has no guest. Its parent is then the hart's owner. Two loads and a swap.
+///
+/// Returns, in this order, 1 (not home) if the hart isn't the home of its owner, 5 (not closed) if it hasn't closed it, 6
+/// (not empty) if the second word that was loaded has a guest. The site stays then.
+#[unsafe(no_mangle)]
+pub extern "C" fn lithe_hart_unregister(hart: &mut LitheHart) -> u32
+    ensures { AnswersUnregister hart.old.lent result hart.new.lent }
+{
+    status::of_call(replace_with(hart, (), calls::unregistered))
+}
+
+/// The site that the hart is in; 0 is the base. No step.
+#[unsafe(no_mangle)]
+pub extern "C" fn lithe_hart_owner(hart: &mut LitheHart) -> u16
+    ensures same { hart.new.lent ≡ hart.old.lent }
+    ensures owner { result ≡ owner_of (view_of hart.old.lent) }
+{
+    replace_with(hart, (), calls::owned)
+}
+
+/// Takes the hart away and frees its block. The last hart of a board takes the board with it.
+///
+/// Left to the caller: sites of the hart stay live, and a site in which it is a guest never gets empty, so each hart should
+/// be at the base. No later call is given the hart.
+#[unsafe(no_mangle)]
+pub extern "C" fn lithe_hart_drop(hart: LitheHart) {
+    drop(hart.into_box());
+}
+
+/// Writes one line for the status into `text`, with a final 0. A line that has no room is cut off. Returns the number of bytes
+/// before the 0. Without room for the 0 nothing is written. 80 bytes are room for each line.
+#[unsafe(no_mangle)]
+pub extern "C" fn lithe_status_text(status: u32, text: &mut [u8]) -> usize
+    ensures { EndsText text.old result text.new }
+{
+    if text.len() == 0 {
+        return 0;
+    }
+    let line = status::text(status).as_bytes();
+    let room = text.len() - 1;
+    let count = if line.len() < room { line.len() } else { room };
+    text[..count].copy_from_slice(&line[..count]);
+    text[count] = 0;
+    count
+}

@@ -1,0 +1,62 @@
+-- Ranges of a list, one behind the other.
+use Rattle.std.proofs.Common.{◌≡◌, ◌≤◌, ◌<◌, ◌+◌, ◌-◌, ◌++◌, ℕ, List, [], ◌∷◌, length, get_or, take, drop, sum, ◌%◌, refl, sym, ap, ◌∙◌, subst, arith}
+use Rattle.std.specs.List.{AllZip}
+use Rattle.std.proofs.Math.Seq.{take-add, take-length}
+use Rattle.std.proofs.Math.Nat.{add-mod, mod-add-mod}
+use Rattle.std.proofs.lemmas.List.{drop-drop, take_more}
+use Rattle.std.proofs.lemmas.List.Sums.{sum_by-append}
+use Rattle.task_loops.specs.Ranges.{between}
+use mathlib.Core.Logic.{dite}
+use native.Mathlib.Decide.{dec_le}
+
+pub between-between : {X : Type 0} (xs : List X) (low middle high : ℕ) → low ≤ middle → middle ≤ high → between low high xs ≡ between low middle xs ++ between middle high xs
+between-between xs low middle high h k =
+    let n : high - low ≡ middle - low + (high - middle) = omega arith in
+    let m : low + (middle - low) ≡ middle = omega arith in
+    ap (λ n. take n (drop low xs)) n ∙ (take-add (middle - low) (high - middle) (drop low xs) ∙ ap (λ ys. take (middle - low) (drop low xs) ++ take (high - middle) ys) (drop-drop (middle - low) low xs ∙ ap (λ n. drop n xs) m))
+
+module _ {A B : Type 0} (R : A → B → Type 0) where
+  pub zip_append : (xs us : List A) (ys vs : List B) → AllZip R xs ys → AllZip R us vs → AllZip R (xs ++ us) (ys ++ vs)
+  zip_append [] us [] vs z w = w
+  zip_append [] us (y ∷ ys) vs z w = absurd z
+  zip_append (x ∷ xs) us [] vs z w = absurd z
+  zip_append (x ∷ xs) us (y ∷ ys) vs z w = (z.0, zip_append xs us ys vs z.1 w)
+
+  -- the images of two neighbouring ranges, one behind the other
+  pub zip_ranges : (xs : List A) (ys vs all : List B) (low middle high : ℕ) → low ≤ middle → middle ≤ high → all ≡ ys ++ vs
+      → (middle ≤ length xs → AllZip R (between low middle xs) ys) → (high ≤ length xs → AllZip R (between middle high xs) vs)
+      → high ≤ length xs → AllZip R (between low high xs) all
+  zip_ranges xs ys vs all low middle high h k e f b fits =
+      subst (λ zs. AllZip R (between low high xs) zs) (sym e) (subst (λ ws. AllZip R ws (ys ++ vs)) (sym (between-between xs low middle high h k)) (zip_append (between low middle xs) (between middle high xs) ys vs (f (omega arith)) (b fits)))
+
+  pub zip_push : (xs : List A) (ys : List B) (x : A) (y : B) → AllZip R xs ys → R x y → AllZip R (xs ++ x ∷ []) (ys ++ y ∷ [])
+  zip_push xs ys x y z r = zip_append xs (x ∷ []) ys (y ∷ []) z (r, tt)
+
+-- the sums of two neighbouring ranges
+pub sum_ranges : (xs : List ℕ) (a b c low middle high m : ℕ) → low ≤ middle → middle ≤ high → c ≡ (a + b) % m
+    → (middle ≤ length xs → a ≡ sum (between low middle xs) % m) → (high ≤ length xs → b ≡ sum (between middle high xs) % m)
+    → high ≤ length xs → c ≡ sum (between low high xs) % m
+sum_ranges xs a b c low middle high m h k e f g fits =
+    let parts : sum (between low high xs) ≡ sum (between low middle xs) + sum (between middle high xs) = ap sum (between-between xs low middle high h k) ∙ sum_by-append (λ x. x) (between low middle xs) (between middle high xs) in
+    let fa = f (omega arith) in
+    let fb = g fits in
+    e ∙ (ap (λ n. (n + b) % m) fa ∙ (ap (λ n. (sum (between low middle xs) % m + n) % m) fb ∙ (sym (add-mod (sum (between low middle xs)) (sum (between middle high xs)) m) ∙ ap (λ n. n % m) (sym parts))))
+
+-- the whole of a list
+pub whole_range : {X : Type 0} (xs : List X) (n : ℕ) → n ≡ length xs → between 0 n xs ≡ xs
+whole_range xs n e =
+    let m : n - 0 ≡ length xs = omega (arith, e) in
+    ap (λ k. take k xs) m ∙ take-length xs
+
+-- one element more has its image
+pub zip_more : {A B : Type 0} (R : A → B → Type 0) (xs : List A) (i : ℕ) (ys all : List B) (x : A) (y : B) → i < length xs → x ≡ get_or xs i x
+    → AllZip R (take i xs) ys → R x y → all ≡ ys ++ y ∷ [] → AllZip R (take (i + 1) xs) all
+zip_more R xs i ys all x y lt is z r e =
+    subst (λ zs. AllZip R (take (i + 1) xs) zs) (sym e) (subst (λ ws. AllZip R ws (ys ++ y ∷ [])) (sym (take_more xs i x lt ∙ ap (λ z. take i xs ++ z ∷ []) (sym is))) (zip_push R (take i xs) ys x y z r))
+
+-- one number more is added
+pub sum_more : (xs : List ℕ) (i t u x m : ℕ) → i < length xs → x ≡ get_or xs i 0 → t ≡ sum (take i xs) % m → u ≡ (t + x) % m → u ≡ sum (take (i + 1) xs) % m
+sum_more xs i t u x m lt is et eu =
+    let one : sum (x ∷ []) ≡ x = omega arith in
+    let s : sum (take (i + 1) xs) ≡ sum (take i xs) + x = ap sum (take_more xs i 0 lt ∙ ap (λ z. take i xs ++ z ∷ []) (sym is)) ∙ (sum_by-append (λ x. x) (take i xs) (x ∷ []) ∙ ap (λ n. sum (take i xs) + n) one) in
+    eu ∙ (ap (λ n. (n + x) % m) et ∙ (mod-add-mod (sum (take i xs)) m x ∙ ap (λ n. n % m) (sym s)))

@@ -1,0 +1,181 @@
+//! Reductions over a range.
+ghost use Rattle.std.specs.Prelude.{◌≡◌, ◌≤◌, ◌<◌, ◌+◌, ◌⊎◌, ℕ, Some, IfOk, IfErr, refl, alloc_error};
+
+use held_tasks::{Holds, join_as};
+use std::alloc::{AllocError, Global};
+use tasks::{Harts, Task, TaskKind};
+
+/// What ranges of indices come to, and how the outputs of two neighbours are joined.
+pub trait Fold: Copy {
+    /// What a range comes to.
+    type Output: Drop;
+
+    /// Why a range fails. An allocation failure becomes such an error by `From`.
+    type Error: Drop + From<AllocError>;
+
+    /// The outputs that the indices from the first number up to the second may give.
+    ghost gives: { Self → ℕ → ℕ → Self.Output → Type 0 };
+
+    /// The errors that this range may fail with, beside an allocation failure.
+    ghost fails: { Self → ℕ → ℕ → Self.Error → Type 0 };
+
+    /// How many levels of tasks may be inside one leaf.
+    ghost depth: { Self → ℕ };
+
+    /// Joins the outputs of two neighbouring ranges, in order.
+    ///
+    /// # Errors
+    ///
+    /// An allocation failure.
+    fn join(&self, front: Self::Output, back: Self::Output) -> Result<Self::Output, Self::Error>
+        ensures output { IfOk result (λ output. (low middle high : ℕ) → low ≤ middle → middle ≤ high
+            → gives self.now low middle front → gives self.now middle high back
+            → gives self.now low high output) }
+        ensures error { IfErr result (λ error. Self.Error.from_gives alloc_error error) };
+
+    /// Where the front part of a range fails, the range fails.
+    ghost front_fails: { (fold : Self) (low middle high : ℕ) (error : Self.Error) → low ≤ middle → middle ≤ high
+        → fails fold low middle error → fails fold low high error };
+
+    /// Where the front part of a range has an output and the back part fails, the range fails.
+    ghost back_fails: { (fold : Self) (low middle high : ℕ) (output : Self.Output) (error : Self.Error)
+        → low ≤ middle → middle ≤ high
+        → gives fold low middle output → fails fold middle high error → fails fold low high error };
+}
+
+/// How one hart runs a short range.
+///
+/// Why a trait of its own: a leaf may run tasks of the kind `V`, around the loop, and so call other libraries.
+pub trait Leaf<V: TaskKind>: Fold {
+    /// Runs the indices from `low` up to `high`.
+    ///
+    /// # Errors
+    ///
+    /// An error of the fold's own, or an allocation failure.
+    fn run<H: Harts<V>>(
+        &self,
+        alloc: Global,
+        harts: &mut H,
+        low: usize,
+        high: usize,
+    ) -> Result<Self::Output, Self::Error>
+        requires in_order { low ≤ high }
+        requires levels { Self.depth self.now ≤ H.levels harts.old }
+        ensures output { IfOk result (λ output. Self.gives self.now low high output) }
+        ensures error { IfErr result (λ error. Self.fails self.now low high error
+            ⊎ Self.Error.from_gives alloc_error error) }
+        ensures levels { H.levels harts.new ≡ H.levels harts.old };
+}
+
+/// A range of a fold, as a task.
+#[derive(Drop)]
+pub struct Part<F> {
+    /// The fold, of which each part of a range has a copy.
+    pub fold: F,
+    /// The first index.
+    pub low: usize,
+    /// The index behind the last.
+    pub high: usize,
+    /// How many levels of parts may be inside this part: the range is cut into at most 2^cuts leaves.
+    pub cuts: u8,
+    /// One hart runs a range that has fewer indices.
+    pub shortest: usize,
+    /// The range isn't turned around.
+    ghost in_order: { low ≤ high },
+}
+
+impl<F: Fold> TaskKind for Part<F> {
+    type Output = F::Output;
+
+    type Error = F::Error;
+
+    ghost gives = { λ task output. F.gives task.fold task.low task.high output };
+
+    ghost fails = { λ task error. F.fails task.fold task.low task.high error };
+
+    ghost depth = { λ task. task.cuts + F.depth task.fold };
+}
+
+impl<F: Fold> Holds<Part<F>> for Part<F> {
+    ghost held = { λ task. task };
+
+    ghost same_depth = { λ _. refl };
+
+    ghost same_outcome = { λ _ output given. (output, given) };
+
+    fn hold(task: Part<F>) -> Part<F>
+        ensures { result ≡ task }
+    {
+        task
+    }
+
+    fn output_of(output: F::Output) -> Option<F::Output>
+        ensures { result ≡ Some output }
+    {
+        Some(output)
+    }
+
+    fn error_of(error: F::Error) -> F::Error
+        ensures { result ≡ error }
+    {
+        error
+    }
+}
+
+impl<F: Leaf<Part<F>>> Task for Part<F> {
+    fn run<H: Harts<Self>>(self, alloc: Global, harts: &mut H) -> Result<F::Output, F::Error> {
+        run_fold::<F, Part<F>, H>(alloc, harts, self)
+    }
+}
+
+/// Runs a range inside tasks of any kind that holds its parts, and returns what the range comes to.
+///
+/// # Errors
+///
+/// An error of the fold's own, or an allocation failure.
+///
+/// # Memory
+///
+/// For each cut what [`join_as`] and the fold's `join` allocate.
+pub fn run_fold<F: Leaf<V>, V: Holds<Part<F>>, H: Harts<V>>(
+    alloc: Global,
+    harts: &mut H,
+    part: Part<F>,
+) -> Result<F::Output, F::Error>
+    requires { part.cuts + F.depth part.fold ≤ H.levels harts.old }
+    ensures output { IfOk result (λ output. F.gives part.fold part.low part.high output) }
+    ensures error { IfErr result (λ error. F.fails part.fold part.low part.high error
+        ⊎ F.Error.from_gives alloc_error error) }
+    ensures levels { H.levels harts.new ≡ H.levels harts.old }
+{
+    let Part {
+        fold,
+        low,
+        high,
+        cuts,
+        shortest,
+    } = part;
+    let count = high - low;
+    if cuts == 0 || count < 2 || count < shortest {
+        return fold.run(alloc, harts, low, high);
+    }
+    let cuts = cuts - 1;
+    let middle = low + count / 2;
+    let front = Part {
+        fold,
+        low,
+        high: middle,
+        cuts,
+        shortest,
+    };
+    let back = Part {
+        fold,
+        low: middle,
+        high,
+        cuts,
+        shortest,
+    };
+    let (front, back) = join_as::<Part<F>, V, H>(alloc, harts, front, back)?;
+    let whole = fold.join(front, back)?;
+    Ok(whole)
+}

@@ -1,0 +1,36 @@
+//! Loops and reductions over a range of indices, as a library of tasks.
+//!
+//! An author says what the indices from `low` up to `high` come to, and how the outputs of two neighbouring ranges are joined
+//! ([`Fold`]), and how one hart computes a short range ([`Leaf`]). [`run_fold`] cuts the range in halves, runs them as tasks on
+//! whatever harts are free, and joins their outputs in order. The law of `join` is all that an associative operator needs: if
+//! `a..b` gives one output and `b..c` gives another, the joined output is one of `a..c`. So the result is the sequential one,
+//! whatever the cuts were, also for an operator that isn't commutative.
+//!
+//! Three folds are ready to use: [`Mapped`] applies a function to each element of a slice and keeps the order, [`Each`] does
+//! something at each index, and [`Sum`] adds up the numbers of a slice.
+//!
+//! # Example
+//!
+//! The sum of a slice's numbers, modulo 2^64.
+//!
+//! ```text
+//! impl<'p> Fold for Sum<'p> {
+//!     type Output = u64;
+//!     type Error = AllocError;
+//!     ghost gives = { λ fold low high output. output ≡ sum (between low high fold.numbers.now) % 2 ^ 64 };
+//!     ghost fails = { λ _ _ _ _. ⊥ };
+//!     ghost depth = { λ _. 0 };
+//!     fn join(&self, front: u64, back: u64) -> Result<u64, AllocError> { Ok(front.wrapping_add(back)) }
+//! }
+//!
+//! let sum = run_alone(alloc, Part { fold: sum, low: 0, high: numbers.len(), cuts: 3, shortest: 1024 })?;
+//! ```
+#![tactic(auto)]
+
+mod fold;
+mod loops;
+mod sums;
+
+pub use fold::{Fold, Leaf, Part, run_fold};
+pub use loops::{Body, Each, Map, Mapped, for_each, run_map};
+pub use sums::Sum;
