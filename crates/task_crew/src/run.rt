@@ -171,7 +171,7 @@ where
     B: Naming + Send + Sync,
     T: Task + Send,
     R: Threads + Wait + Sync,
-    L: Levels<T, R, B>,
+    L: Levels<T, R, B> + Send + Sync,
     T::Output: Send,
     T::Error: Send,
     requires count { 4 ≤ L.count }
@@ -199,7 +199,7 @@ where
     B: Naming + Send + Sync,
     T: Task + Send,
     R: Threads + Wait + Sync,
-    L: Levels<T, R, B>,
+    L: Levels<T, R, B> + Send + Sync,
     T::Output: Send,
     T::Error: Send,
     requires count { 8 ≤ L.count }
@@ -227,7 +227,7 @@ where
     B: Naming + Send + Sync,
     T: Task + Send,
     R: Threads + Wait + Sync,
-    L: Levels<T, R, B>,
+    L: Levels<T, R, B> + Send + Sync,
     T::Output: Send,
     T::Error: Send,
     requires count { 12 ≤ L.count }
@@ -255,7 +255,7 @@ where
     B: Naming + Send + Sync,
     T: Task + Send,
     R: Threads + Wait + Sync,
-    L: Levels<T, R, B>,
+    L: Levels<T, R, B> + Send + Sync,
     T::Output: Send,
     T::Error: Send,
     requires seats { All (IsSeatOf B.table B.size) seats.items }
@@ -323,7 +323,7 @@ where
     B: Naming + Send + Sync,
     T: Task + Send,
     R: Threads + Wait + Sync,
-    L: Levels<T, R, B>,
+    L: Levels<T, R, B> + Send + Sync,
     T::Output: Send,
     T::Error: Send,
 {
