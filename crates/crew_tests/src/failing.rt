@@ -79,26 +79,29 @@ fn numbers_of<'p>(alloc: Global, ended: &'p AtomicU64) -> Result<Vec<Count<'p>>,
     Ok(numbers)
 }
 
-// How a run on so many harts fails, and how many numbers had ended.
+// How a run on so many harts with so many levels fails, and how many numbers had ended.
 fn failure<R: Threads + Wait + Sync>(
     rt: &R,
     alloc: Global,
     harts: u8,
-) -> (Option<RunError<CountError>>, u64) {
+    levels: u8,
+) -> (Option<RunError<CountError>>, u64)
+    requires { 1 ≤ levels }
+{
     let ended = AtomicU64::new(0);
     let task = Count {
         leads: true,
         number: 0,
         ended: &ended,
     };
-    let why = run_on(rt, alloc, harts, 1, task).err();
+    let why = run_on(rt, alloc, harts, levels, task).err();
     (why, ended.load(Ordering::SeqCst))
 }
 
 #[test]
 fn the_first_failed_task_decides_on_four_harts(rt: HostRuntime) -> Result<(), Fail> {
     for _round in 0..200 {
-        let (why, ended) = failure(&rt, rt.alloc(), 4);
+        let (why, ended) = failure(&rt, rt.alloc(), 4, 1);
         assert_eq!(rt; why, Some(RunError::Task(CountError::Number(3))));
         assert_eq!(rt; ended, 8);
     }
@@ -107,7 +110,7 @@ fn the_first_failed_task_decides_on_four_harts(rt: HostRuntime) -> Result<(), Fa
 
 #[test]
 fn the_first_failed_task_decides_on_one_hart(rt: HostRuntime) -> Result<(), Fail> {
-    let (why, ended) = failure(&rt, rt.alloc(), 1);
+    let (why, ended) = failure(&rt, rt.alloc(), 1, 1);
     assert_eq!(rt; why, Some(RunError::Task(CountError::Number(3))));
     assert_eq!(rt; ended, 4);
     Ok(())
@@ -115,7 +118,25 @@ fn the_first_failed_task_decides_on_one_hart(rt: HostRuntime) -> Result<(), Fail
 
 #[test]
 fn wrong_numbers_start_nothing(rt: HostRuntime) -> Result<(), Fail> {
-    assert_eq!(rt; failure(&rt, rt.alloc(), 0), (Some(RunError::HartCount(0)), 0));
-    assert_eq!(rt; failure(&rt, rt.alloc(), 65), (Some(RunError::HartCount(65)), 0));
+    assert_eq!(rt;
+        failure(&rt, rt.alloc(), 0, 1),
+        (Some(RunError::HartCount(0)), 0)
+    );
+    assert_eq!(rt;
+        failure(&rt, rt.alloc(), 65, 1),
+        (Some(RunError::HartCount(65)), 0)
+    );
+    assert_eq!(rt;
+        failure(&rt, rt.alloc(), 0, 17),
+        (Some(RunError::HartCount(0)), 0)
+    );
+    assert_eq!(rt;
+        failure(&rt, rt.alloc(), 1, 17),
+        (Some(RunError::LevelCount(17)), 0)
+    );
+    assert_eq!(rt;
+        failure(&rt, rt.alloc(), 4, 17),
+        (Some(RunError::LevelCount(17)), 0)
+    );
     Ok(())
 }

@@ -42,7 +42,11 @@ impl<'p> Task for Tree<'p> {
             return Ok(1);
         }
         let leaves = harts.fork_join(alloc, branches_of(alloc, &self)?)?;
-        Ok(leaves.iter().fold(0u64, |sum, part| sum.wrapping_add(*part)))
+        Ok(
+            leaves
+                .iter()
+                .fold(0u64, |sum, part| sum.wrapping_add(*part)),
+        )
     }
 }
 

@@ -23,11 +23,8 @@ pub const MOST_HARTS: u8 = 64;
 /// The most levels of a run.
 pub const MOST_LEVELS: u8 = 16;
 
-// Four levels more than `L`.
+// Four levels more than `L`. Why four at a time: a goal that names sixteen is too large to prove.
 type FourMore<L> = OneMore<OneMore<OneMore<OneMore<L>>>>;
-
-// Sixteen levels.
-type Sixteen = FourMore<FourMore<FourMore<FourMore<NoLevel>>>>;
 
 /// Runs a task on so many harts, with at most `levels` levels of tasks inside it, and returns its output. `harts` is 1 to 64, and
 /// `levels` is 0 to 16. Once it returns, all tasks have ended, and all threads that it started.
@@ -136,15 +133,18 @@ fn go_home(board: OpenBoard, seats: Vec<OpenSeat>) -> Result<(), NotEnded>
 }
 
 // Runs a task on the first of the harts, while the others are lent to the sites inside it. Returns the outcome and the seats.
-fn run_crew<B: Naming + Send + Sync, T: Task + Send, R: Threads + Wait + Sync>(
+fn run_crew<B, T, R>(
     rt: &R,
     alloc: Global,
     crew: &Crew<T, B>,
-    mut seats: Vec<OpenSeat>,
+    seats: Vec<OpenSeat>,
     levels: u8,
     task: T,
 ) -> Result<(Outcome<T>, Vec<OpenSeat>), AllocError>
 where
+    B: Naming + Send + Sync,
+    T: Task + Send,
+    R: Threads + Wait + Sync,
     T::Output: Send,
     T::Error: Send,
     requires seats { All (IsSeatOf B.table B.size) seats.items }
@@ -155,16 +155,127 @@ where
         (λ r. Ends T.gives T.fails (T.Error.from_gives alloc_error) task r.0) }
     ensures seats { IfOk result (λ r. All (IsSeatOf B.table B.size) r.1.items) }
 {
+    run_over_four::<B, T, R, FourMore<NoLevel>>(rt, alloc, crew, seats, levels, task)
+}
+
+// The same, with twelve levels more than `L`.
+fn run_over_four<B, T, R, L>(
+    rt: &R,
+    alloc: Global,
+    crew: &Crew<T, B>,
+    seats: Vec<OpenSeat>,
+    levels: u8,
+    task: T,
+) -> Result<(Outcome<T>, Vec<OpenSeat>), AllocError>
+where
+    B: Naming + Send + Sync,
+    T: Task + Send,
+    R: Threads + Wait + Sync,
+    L: Levels<T, R, B>,
+    T::Output: Send,
+    T::Error: Send,
+    requires count { 4 ≤ L.count }
+    requires seats { All (IsSeatOf B.table B.size) seats.items }
+    requires some { 1 ≤ vec_len seats }
+    requires depth { T.depth task ≤ levels }
+    requires levels { levels ≤ 16 }
+    ensures outcome { IfOk result
+        (λ r. Ends T.gives T.fails (T.Error.from_gives alloc_error) task r.0) }
+    ensures seats { IfOk result (λ r. All (IsSeatOf B.table B.size) r.1.items) }
+{
+    run_over_eight::<B, T, R, FourMore<L>>(rt, alloc, crew, seats, levels, task)
+}
+
+// The same, with eight levels more than `L`.
+fn run_over_eight<B, T, R, L>(
+    rt: &R,
+    alloc: Global,
+    crew: &Crew<T, B>,
+    seats: Vec<OpenSeat>,
+    levels: u8,
+    task: T,
+) -> Result<(Outcome<T>, Vec<OpenSeat>), AllocError>
+where
+    B: Naming + Send + Sync,
+    T: Task + Send,
+    R: Threads + Wait + Sync,
+    L: Levels<T, R, B>,
+    T::Output: Send,
+    T::Error: Send,
+    requires count { 8 ≤ L.count }
+    requires seats { All (IsSeatOf B.table B.size) seats.items }
+    requires some { 1 ≤ vec_len seats }
+    requires depth { T.depth task ≤ levels }
+    requires levels { levels ≤ 16 }
+    ensures outcome { IfOk result
+        (λ r. Ends T.gives T.fails (T.Error.from_gives alloc_error) task r.0) }
+    ensures seats { IfOk result (λ r. All (IsSeatOf B.table B.size) r.1.items) }
+{
+    run_over_twelve::<B, T, R, FourMore<L>>(rt, alloc, crew, seats, levels, task)
+}
+
+// The same, with four levels more than `L`.
+fn run_over_twelve<B, T, R, L>(
+    rt: &R,
+    alloc: Global,
+    crew: &Crew<T, B>,
+    seats: Vec<OpenSeat>,
+    levels: u8,
+    task: T,
+) -> Result<(Outcome<T>, Vec<OpenSeat>), AllocError>
+where
+    B: Naming + Send + Sync,
+    T: Task + Send,
+    R: Threads + Wait + Sync,
+    L: Levels<T, R, B>,
+    T::Output: Send,
+    T::Error: Send,
+    requires count { 12 ≤ L.count }
+    requires seats { All (IsSeatOf B.table B.size) seats.items }
+    requires some { 1 ≤ vec_len seats }
+    requires depth { T.depth task ≤ levels }
+    requires levels { levels ≤ 16 }
+    ensures outcome { IfOk result
+        (λ r. Ends T.gives T.fails (T.Error.from_gives alloc_error) task r.0) }
+    ensures seats { IfOk result (λ r. All (IsSeatOf B.table B.size) r.1.items) }
+{
+    run_crew_with::<B, T, R, FourMore<L>>(rt, alloc, crew, seats, levels, task)
+}
+
+// The same, with the levels of `L`.
+fn run_crew_with<B, T, R, L>(
+    rt: &R,
+    alloc: Global,
+    crew: &Crew<T, B>,
+    mut seats: Vec<OpenSeat>,
+    levels: u8,
+    task: T,
+) -> Result<(Outcome<T>, Vec<OpenSeat>), AllocError>
+where
+    B: Naming + Send + Sync,
+    T: Task + Send,
+    R: Threads + Wait + Sync,
+    L: Levels<T, R, B>,
+    T::Output: Send,
+    T::Error: Send,
+    requires seats { All (IsSeatOf B.table B.size) seats.items }
+    requires some { 1 ≤ vec_len seats }
+    requires depth { T.depth task ≤ levels }
+    requires levels { levels ≤ L.count }
+    ensures outcome { IfOk result
+        (λ r. Ends T.gives T.fails (T.Error.from_gives alloc_error) task r.0) }
+    ensures seats { IfOk result (λ r. All (IsSeatOf B.table B.size) r.1.items) }
+{
     let room = Vec::with_capacity(alloc, seats.len())?;
     let home: Hart<'_, T, R, B> = Hart::new(rt, crew, seats.remove(0));
     let guests = seated(rt, alloc, crew, seats)?;
     let (guests, (home, outcome)) = thread::join(
         rt,
-        move || serve_all(rt, alloc, guests),
+        move || serve_all::<B, T, R, L>(rt, alloc, guests),
         move || -> (Hart<'_, T, R, B>, Outcome<T>)
-            requires { (T.depth task ≤ levels) × (levels ≤ 16) }
+            requires { (T.depth task ≤ levels) × (levels ≤ L.count) }
             ensures { Ends T.gives T.fails (T.Error.from_gives alloc_error) task result.1 }
-        { run_home(alloc, crew, home, levels, task) },
+        { run_home::<B, T, R, L>(alloc, crew, home, levels, task) },
     );
     Ok((outcome, seats_of(room, home, guests)?))
 }
@@ -186,7 +297,7 @@ fn seated<'c, B: Naming, T: Task, R>(
 }
 
 // Runs a task on a hart, and ends the run.
-fn run_home<'c, B: Naming, T: Task, R: Wait>(
+fn run_home<'c, B: Naming, T: Task, R: Wait, L: Levels<T, R, B>>(
     alloc: Global,
     crew: &Crew<T, B>,
     home: Hart<'c, T, R, B>,
@@ -194,21 +305,25 @@ fn run_home<'c, B: Naming, T: Task, R: Wait>(
     task: T,
 ) -> (Hart<'c, T, R, B>, Outcome<T>)
     requires depth { T.depth task ≤ levels }
-    requires levels { levels ≤ 16 }
+    requires levels { levels ≤ L.count }
     ensures { Ends T.gives T.fails (T.Error.from_gives alloc_error) task result.1 }
 {
-    let outcome = <Sixteen as Levels<T, R, B>>::run_task(alloc, &home, levels, task);
+    let outcome = L::run_task(alloc, &home, levels, task);
     crew.end();
     (home, outcome)
 }
 
 // Lends the harts, each on a thread, until the run has ended.
-fn serve_all<'c, B: Naming + Send + Sync, T: Task + Send, R: Threads + Wait + Sync>(
+fn serve_all<'c, B, T, R, L>(
     rt: &R,
     alloc: Global,
     mut guests: Vec<Hart<'c, T, R, B>>,
 ) -> Vec<Hart<'c, T, R, B>>
 where
+    B: Naming + Send + Sync,
+    T: Task + Send,
+    R: Threads + Wait + Sync,
+    L: Levels<T, R, B>,
     T::Output: Send,
     T::Error: Send,
 {
@@ -217,7 +332,7 @@ where
         rt,
         guests.as_mut_slice(),
         parts,
-        &|_, guest| serve_base::<T, R, B, Sixteen>(alloc, guest),
+        &|_, guest| serve_base::<T, R, B, L>(alloc, guest),
     );
     guests
 }

@@ -2,9 +2,9 @@
 ghost use Rattle.std.specs.Prelude.{◌≡◌};
 
 use crate::board::{CrewSeat, Naming};
+use crate::countdown::Countdown;
 use crate::crew::Crew;
 use crate::site::Site;
-use crate::countdown::Countdown;
 use crossbeam_utils::Backoff;
 use open_board::{Entered, OpenSeat, Refused};
 use std::alloc::Global;

@@ -46,12 +46,7 @@ impl<T: TaskKind> Site<T> {
     /// # Memory
     ///
     /// A word and a slot for each task, in two blocks.
-    pub fn new(
-        alloc: Global,
-        tasks: Vec<T>,
-        levels: u8,
-        share: u8,
-    ) -> Result<Site<T>, AllocError>
+    pub fn new(alloc: Global, tasks: Vec<T>, levels: u8, share: u8) -> Result<Site<T>, AllocError>
         requires some { 0 < length tasks.items }
         requires shallow { All (λ task. T.depth task ≤ levels) tasks.items }
         ensures { IfOk result (λ site. site ≡ (tasks.items, levels)) }
