@@ -15,5 +15,7 @@
 #![tactic(auto)]
 
 mod rows;
+#[cfg(test)]
+mod tests;
 
 pub use rows::{Factors, Times, run_product};
