@@ -5,6 +5,7 @@ pub mod FitParts
 pub mod FitMoves
 pub mod MoveLemmas
 pub mod PieceLemmas
+mod PlaceLemmas
 pub mod NestParts
 pub mod NestLemmas
 pub mod HandLemmas

@@ -263,7 +263,7 @@ count_branches : (bs : Sequences) → length (branch_trees bs) ≡ count_of bs
 count_branches no_more = refl
 count_branches (beside first rest) = let more = count_branches rest in omega (arith, more)
 
-count_pieces : (construct : Statement) (phase : ℕ) → phase < phases_of construct → length (piece_trees construct phase) ≡ members_of construct
+pub count_pieces : (construct : Statement) (phase : ℕ) → phase < phases_of construct → length (piece_trees construct phase) ≡ members_of construct
 count_pieces (Assign line array index value) phase h = absurd (omega arith)
 count_pieces (For line var low high body) phase h = absurd (omega arith)
 count_pieces (If line cond then_block else_block) phase h = absurd (omega arith)

@@ -99,6 +99,11 @@ earlier_sites (Par line branches) phase = 0
 earlier_sites (Team line var low high members phases) phase =
     span low high * sites_before phases phase
 
+-- How many sites works have.
+abbrev pub sites_of_all : List WorkTree → ℕ
+sites_of_all [] = 0
+sites_of_all (work ∷ more) = sites_of work + sites_of_all more
+
 -- The jobs of works in a phase, from this place on, over a store. The sites of each are numbered after those of the one before.
 abbrev pub numbered : NestedTree → ℕ → Store → ℕ → ℕ → List WorkTree → List JobTree
 numbered nested phase store place first [] = []

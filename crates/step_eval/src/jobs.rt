@@ -1,5 +1,5 @@
 //! The jobs of the pieces of a construct that is handed out.
-ghost use Rattle.std.specs.Prelude.{◌≡◌, ◌+◌, ◌*◌, ◌<◌, ◌≤◌, IfOk, map, length, ◌∷◌, []};
+ghost use Rattle.std.specs.Prelude.{◌≡◌, ◌+◌, ◌*◌, ◌^◌, ◌<◌, ◌≤◌, IfOk, Some, map, length, slice_get, ◌∷◌, []};
 ghost use Rattle.array_tree.specs.Trees.{statement_of, sequence_of, sequences_of};
 ghost use Rattle.array_meaning.specs.Work.{span};
 ghost use Rattle.array_meaning.specs.Limits.{count_of};
@@ -7,7 +7,8 @@ ghost use Rattle.site_counts.specs.Capped.{capped};
 ghost use Rattle.array_jobs.specs.Works.{work_of};
 ghost use Rattle.array_jobs.specs.Jobs.{job_of};
 ghost use Rattle.array_jobs.specs.Groups.{IsGroup};
-ghost use Rattle.step_eval.specs.Nests.{nested_of, phases_of, branch_trees, member_trees, piece_trees, sites_before, earlier_sites, numbered, jobs_in, AreFitJobs};
+ghost use Rattle.step_eval.specs.Nests.{nested_of, phases_of, branch_trees, member_trees, piece_trees, sites_before, earlier_sites, sites_of_all, numbered, jobs_in, AreFitJobs};
+ghost use Rattle.step_eval.specs.Shapes.{members_of};
 
 use crate::nested::Nested;
 use array_eval::{Store, start_of_member};
@@ -40,6 +41,34 @@ pub fn jobs_of<'p>(
         store,
         first_site(nested, phase),
         &works,
+    )
+}
+
+/// The job of the piece at one place of a phase: an equal one to what `jobs_of` has there. It copies the variables and the
+/// store for this job alone.
+///
+/// It starts from this store, which has as many cells as the one before the construct.
+pub fn job_at<'p>(
+    alloc: Global,
+    nested: &Nested<'p>,
+    phase: u8,
+    place: u8,
+    store: &Store,
+) -> Result<Job<'p>, AllocError>
+    requires phase { phase < phases_of (statement_of nested.now.construct) }
+    requires place { place < members_of (statement_of nested.now.construct) }
+    requires cells { length store.now ≡ length nested.now.store }
+    ensures { IfOk result
+        (λ job. slice_get (jobs_in (nested_of nested.now) phase store.now) place ≡ Some (job_of job)) }
+{
+    let works = works_of(alloc, nested.construct, phase)?;
+    job_of_place(
+        nested,
+        phase,
+        store,
+        first_site(nested, phase),
+        &works,
+        place,
     )
 }
 
@@ -164,6 +193,39 @@ fn jobs_of_works<'p>(
         first += sites_in(work) as u16;
     }
     Ok(jobs)
+}
+
+// Of the jobs of works in a phase, from place 0 on, the one at this place. The first site of the first one has this number.
+fn job_of_place<'p>(
+    nested: &Nested<'p>,
+    phase: u8,
+    store: &Store,
+    next: u16,
+    works: &[Work<'p>],
+    place: u8,
+) -> Result<Job<'p>, AllocError>
+    requires place { place < length works.now }
+    requires fit { AreFitJobs (numbered (nested_of nested.now) phase store.now 0 next
+        (map work_of works.now)) }
+    ensures { IfOk result
+        (λ job. slice_get (numbered (nested_of nested.now) phase store.now 0 next (map work_of works.now)) place
+        ≡ Some (job_of job)) }
+{
+    let before = usize::from(place);
+    let first = site_after(next, &works[..before]);
+    job_of_work(nested, phase, store, place, first, works[before])
+}
+
+// The number of the site that comes after those of these works, of which the first has this number.
+fn site_after(next: u16, works: &[Work]) -> u16
+    requires { next + sites_of_all (map work_of works.now) < 2 ^ 16 }
+    ensures { result ≡ next + sites_of_all (map work_of works.now) }
+{
+    let mut after = next;
+    for work in works {
+        after += sites_in(work) as u16;
+    }
+    after
 }
 
 // The job of one work.

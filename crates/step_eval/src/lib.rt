@@ -14,7 +14,7 @@ mod told;
 
 pub use computing::compute;
 pub use found::Found;
-pub use jobs::jobs_of;
+pub use jobs::{job_at, jobs_of};
 pub use laws::{
     jobs_are_counted, jobs_are_groups, jobs_are_rounds, phases_are_constructs, phases_are_merged,
 };
