@@ -3,6 +3,7 @@ pub mod Changes
 pub mod Kept
 pub mod Merges
 pub mod Writes
+pub mod Stores
 pub mod Whole
 pub mod Told
 pub mod Failing

@@ -1,7 +1,7 @@
 -- What only private contracts and proofs need: the places of a pipeline with what they hold.
-use Rattle.std.specs.Prelude.{◌≡◌, ℕ, zero, suc, ◌+◌, ◌-◌, ◌*◌, ◌%◌, ◌<◌, ◌≤◌, List, [], ◌∷◌, ◌++◌, true, map, length, slice_get, slice_index_or, Some}
+use Rattle.std.specs.Prelude.{◌≡◌, ℕ, zero, suc, ◌+◌, ◌-◌, ◌*◌, ◌%◌, ◌<◌, ◌≤◌, List, [], ◌∷◌, ◌++◌, true, map, length, slice_get, slice_index_or, get_or, Some}
 use Rattle.array_tree.specs.Trees.{statement_of}
-use Rattle.array_meaning.specs.Stores.{Write}
+use Rattle.array_meaning.specs.Stores.{Store, Write}
 use Rattle.array_jobs.specs.Jobs.{JobParts, job_of}
 use Rattle.array_jobs.specs.PieceParts.{piece_of_job}
 use Rattle.step_eval.specs.declared.shape.Kind.TheVariants as kind
@@ -10,6 +10,7 @@ use Rattle.step_eval.specs.Shapes.{kind_of}
 use Rattle.pipe_sched.specs.declared.slot.Slot.{Slot}
 use Rattle.pipe_sched.specs.declared.slot.Slot.TheVariants as slot
 use Rattle.pipe_sched.specs.Slots.{Mark, Waiting, Barred, Out, Filled, Lost, IsAt, IsClear, is_begun, is_settled, is_failed, phases_in, members_in}
+use Rattle.phase_order.specs.Pipes.{written_before}
 use Rattle.pipe_sched.specs.Pipes.{IsJobAt}
 
 abbrev pub mark_of : Slot → Mark
@@ -80,6 +81,18 @@ written_in slot.Barred = []
 written_in (slot.Out job) = []
 written_in (slot.Filled job written) = written.pairs
 written_in (slot.Lost job) = []
+
+-- What the job of a place started from.
+abbrev pub started_from : Slot → Store
+started_from slot.Waiting = []
+started_from slot.Barred = []
+started_from (slot.Out job) = job.store
+started_from (slot.Filled job written) = job.store
+started_from (slot.Lost job) = job.store
+
+-- What the predecessors of member j in phase k wrote, and then its own piece.
+abbrev pub written_with : List (List (List Write)) → ℕ → ℕ → List Write
+written_with rows j k = written_before rows j k ++ get_or (get_or rows k []) j []
 
 -- What the first members have of a phase.
 abbrev pub column : ℕ → List Slot → ℕ → ℕ → List (List Write)

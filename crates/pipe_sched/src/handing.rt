@@ -1,20 +1,19 @@
 //! Handing out the piece that is due.
-ghost use Rattle.std.specs.Prelude.{◌≡◌, ◌↔◌, ◌*◌, ◌<◌, ℕ, IsTrue, IfOk, OnErr, IfSome, IfNone, Some, length, slice_get};
-ghost use Rattle.array_tree.specs.Trees.{statement_of};
+ghost use Rattle.std.specs.Prelude.{◌≡◌, ◌↔◌, ◌<◌, ℕ, IsTrue, IfOk, OnErr, IfSome, IfNone, length};
+ghost use Rattle.array_meaning.specs.Stores.{after};
 ghost use Rattle.array_jobs.specs.Jobs.{job_of};
-ghost use Rattle.step_eval.specs.Nests.{nested_of, phases_of, jobs_in};
-ghost use Rattle.step_eval.specs.Shapes.{members_of};
-ghost use Rattle.pipe_sched.specs.Slots.{Out, IsDue, NoneIsDue, IsMarked, IsReady, marked_pipe, phases_in};
-ghost use Rattle.pipe_sched.specs.Pipes.{Gives, GivesAfterFailing, HandsOut, IsJobAt, piped_store};
-ghost use Rattle.pipe_sched.specs.Inside.{LooksReady};
+ghost use Rattle.step_eval.specs.Nests.{nested_of};
+ghost use Rattle.pipe_sched.specs.Slots.{Out, Filled, IsDue, NoneIsDue, IsMarked, IsReady, marked_pipe, phases_in};
+ghost use Rattle.pipe_sched.specs.Pipes.{Gives, GivesAfterFailing, HandsOut, IsJobAt, piped_writes, piped_store};
+ghost use Rattle.pipe_sched.specs.Inside.{LooksReady, written_with};
 
-use crate::merging::{fresh_store, merge_phase, merge_phases};
+use crate::merging::{first_store, merge_phase};
 use crate::slot::Slot;
 use crate::state::PipeState;
-use array_eval::Store;
+use array_eval::{MarkedStore, Store};
 use array_jobs::Job;
-use std::alloc::{AllocError, Global};
-use step_eval::{Nested, jobs_of};
+use std::alloc::AllocError;
+use step_eval::job_at;
 
 impl<'p> PipeState<'p> {
     /// Hands out the piece that is due: of those that wait and after none that isn't filled, the one of the lowest member, and
@@ -48,7 +47,7 @@ impl<'p> PipeState<'p> {
         ensures given { IfOk result (λ job. HandsOut self.old job self.new) }
         ensures same { OnErr result (self.new ≡ self.old) }
     {
-        let job = self.job_at(member, phase)?;
+        let job = self.due_job(member, phase)?;
         let own = job.copy()?;
         self.hand_out(member, phase, own);
         Ok(job)
@@ -67,28 +66,63 @@ impl<'p> PipeState<'p> {
     }
 
     // The job of a piece before which all are filled.
-    fn job_at(&self, member: u8, phase: u8) -> Result<Job<'p>, AllocError>
+    fn due_job(&self, member: u8, phase: u8) -> Result<Job<'p>, AllocError>
         requires { IsReady (phases_in self.now.nested) self.now.marks member phase }
         ensures own { IfOk result (λ job. IsJobAt (nested_of self.now.nested) member phase (job_of job)) }
         ensures place { IfOk result (λ job. job.place ≡ member) }
         ensures phase { IfOk result (λ job. job.phase ≡ phase) }
     {
         let store = self.store_before(member, phase)?;
-        one_job(self.alloc, &self.nested, member, phase, &store)
+        job_at(self.alloc, &self.nested, phase, member, &store)
     }
 
-    // The store that the pieces leave that come before this one.
+    // The store that the pieces leave that come before this one. After what the same member's piece leaves in the phase before,
+    // that is what the lower members wrote in this phase.
     fn store_before(&self, member: u8, phase: u8) -> Result<Store, AllocError>
         requires { IsReady (phases_in self.now.nested) self.now.marks member phase }
         ensures { IfOk result (λ store. store ≡ piped_store (nested_of self.now.nested) member phase) }
     {
+        if phase == 0 {
+            return self.store_in_first(member);
+        }
+        self.store_in_later(member, phase)
+    }
+
+    // The same in the first phase.
+    fn store_in_first(&self, member: u8) -> Result<Store, AllocError>
+        requires { IsReady (phases_in self.now.nested) self.now.marks member 0 }
+        ensures { IfOk result (λ store. store ≡ piped_store (nested_of self.now.nested) member 0) }
+    {
+        if member == 0 {
+            return first_store(&self.nested);
+        }
+        let mut store = self.store_after(member - 1, 0)?;
+        store.to_store(self.alloc)
+    }
+
+    // The same in a phase that isn't the first.
+    fn store_in_later(&self, member: u8, phase: u8) -> Result<Store, AllocError>
+        requires ready { IsReady (phases_in self.now.nested) self.now.marks member phase }
+        requires later { 0 < phase }
+        ensures { IfOk result (λ store. store ≡ piped_store (nested_of self.now.nested) member phase) }
+    {
         let phases = usize::from(self.nested.phases());
         let below = usize::from(member);
-        let earlier = usize::from(phase);
-        let mut store = fresh_store(self.alloc, &self.nested)?;
-        merge_phases(&self.slots, phases, below + 1, earlier, &mut store);
-        merge_phase(&self.slots, phases, below, earlier, &mut store);
+        let own = usize::from(phase);
+        let mut store = self.store_after(member, phase - 1)?;
+        merge_phase(&self.slots, phases, below, own, &mut store);
         store.to_store(self.alloc)
+    }
+
+    // The store that a piece leaves where it is filled: what its job started from, with what it wrote.
+    fn store_after(&self, member: u8, phase: u8) -> Result<MarkedStore, AllocError>
+        requires { IsMarked self.now member phase Filled }
+        ensures { IfOk result (λ store. store.cells
+            ≡ after (written_with (piped_writes (nested_of self.now.nested)) member phase) self.now.nested.store) }
+    {
+        let phases = usize::from(self.nested.phases());
+        let place = usize::from(member) * phases + usize::from(phase);
+        self.slots[place].store_left(self.alloc)
     }
 
     // Keeps that a piece was handed out with this job.
@@ -101,24 +135,6 @@ impl<'p> PipeState<'p> {
         let phases = usize::from(self.nested.phases());
         self.slots[usize::from(member) * phases + usize::from(phase)] = Slot::Out(job);
     }
-}
-
-// The job of a member in a phase, which starts from this store.
-fn one_job<'p>(
-    alloc: Global,
-    nested: &Nested<'p>,
-    member: u8,
-    phase: u8,
-    store: &Store,
-) -> Result<Job<'p>, AllocError>
-    requires member { member < members_of (statement_of nested.now.construct) }
-    requires phase { phase < phases_of (statement_of nested.now.construct) }
-    requires cells { length store.now ≡ length nested.now.store }
-    ensures { IfOk result
-        (λ job. slice_get (jobs_in (nested_of nested.now) phase store.now) member ≡ Some (job_of job)) }
-{
-    let jobs = jobs_of(alloc, nested, phase, store)?;
-    jobs[usize::from(member)].copy()
 }
 
 // The first place that looks ready, if there is one.

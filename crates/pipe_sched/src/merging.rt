@@ -9,7 +9,7 @@ ghost use Rattle.pipe_sched.specs.Inside.{column, columns};
 
 use crate::slot::Slot;
 use crate::state::PipeState;
-use array_eval::{MarkedStore, Overlay};
+use array_eval::{MarkedStore, Overlay, Store};
 use std::alloc::{AllocError, Global};
 use step_eval::Nested;
 
@@ -39,6 +39,13 @@ pub(crate) fn fresh_store(alloc: Global, nested: &Nested) -> Result<MarkedStore,
     ensures { IfOk result (λ store. store ≡ fresh nested.now.store) }
 {
     MarkedStore::new(alloc, &nested.store)
+}
+
+// The store before a construct.
+pub(crate) fn first_store(nested: &Nested) -> Result<Store, AllocError>
+    ensures { IfOk result (λ store. store ≡ nested.now.store) }
+{
+    nested.store.copy()
 }
 
 // Merges what the first members wrote in the first phases: phase after phase, and member after member.

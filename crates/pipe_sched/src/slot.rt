@@ -1,10 +1,12 @@
 //! Places for pieces.
-ghost use Rattle.std.specs.Prelude.{◌≡◌, ◌↔◌, IsTrue};
+ghost use Rattle.std.specs.Prelude.{◌≡◌, ◌↔◌, IsTrue, IfOk};
+ghost use Rattle.array_meaning.specs.Stores.{after};
 ghost use Rattle.pipe_sched.specs.Slots.{Waiting, Out, Filled, is_settled, is_failed};
-ghost use Rattle.pipe_sched.specs.Inside.{mark_of, failed_slot, HasJob};
+ghost use Rattle.pipe_sched.specs.Inside.{mark_of, failed_slot, HasJob, written_in, started_from};
 
-use array_eval::Overlay;
+use array_eval::{MarkedStore, Overlay};
 use array_jobs::Job;
+use std::alloc::{AllocError, Global};
 use std::mem;
 
 // What became of the piece of one member in one phase.
@@ -67,6 +69,21 @@ impl<'p> Slot<'p> {
         match self {
             Slot::Out(own) | Slot::Filled(own, _) | Slot::Lost(own) => *own == *job,
             Slot::Waiting | Slot::Barred => false,
+        }
+    }
+
+    // The store that its piece leaves where it is filled: what the job started from, with what it wrote.
+    pub(crate) fn store_left(&self, alloc: Global) -> Result<MarkedStore, AllocError>
+        requires { mark_of self.now ≡ Filled }
+        ensures { IfOk result (λ store. store.cells ≡ after (written_in self.now) (started_from self.now)) }
+    {
+        match self {
+            Slot::Filled(job, written) => {
+                let mut store = MarkedStore::new(alloc, &job.store)?;
+                store.merge(written);
+                Ok(store)
+            }
+            Slot::Waiting | Slot::Barred | Slot::Out(_) | Slot::Lost(_) => unreachable!(),
         }
     }
 

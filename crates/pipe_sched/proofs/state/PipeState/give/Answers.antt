@@ -5,8 +5,8 @@ use Rattle.pipe_sched.specs.Pipes.{IsJobAt}
 use Rattle.pipe_sched.proofs.Told.{hands_out}
 use Rattle.pipe_sched.proofs.state.PipeState.give.Goals as goal
 
-pub job_at-requires : goal.job_at-requires
-job_at-requires c = c.requires.ready
+pub due_job-requires : goal.due_job-requires
+due_job-requires c = c.requires.ready
 
 pub hand_out-requires-clause-ready : goal.hand_out-requires-clause-ready
 hand_out-requires-clause-ready c = c.requires.ready

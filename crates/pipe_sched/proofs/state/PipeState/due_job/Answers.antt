@@ -9,36 +9,36 @@ use Rattle.pipe_sched.specs.Pipes.{piped_writes}
 use Rattle.pipe_sched.proofs.Told.{room_for}
 use Rattle.step_eval.proofs.PhaseLemmas.{job_parts}
 use Rattle.pipe_sched.proofs.Writes.{job_is_told}
-use Rattle.pipe_sched.proofs.state.PipeState.job_at.Goals as goal
+use Rattle.pipe_sched.proofs.state.PipeState.due_job.Goals as goal
 
-pub one_job-requires-clause-member : goal.one_job-requires-clause-member
-one_job-requires-clause-member c =
+pub job_at-requires-clause-place : goal.job_at-requires-clause-place
+job_at-requires-clause-place c =
     (room_for c.self.inside.nested c.self.inside.slots.items c.args.self.now c.args.member c.args.phase c.self.view_is c.self.invariant c.requires).member
 
-pub one_job-requires-clause-phase : goal.one_job-requires-clause-phase
-one_job-requires-clause-phase c =
+pub job_at-requires-clause-phase : goal.job_at-requires-clause-phase
+job_at-requires-clause-phase c =
     (room_for c.self.inside.nested c.self.inside.slots.items c.args.self.now c.args.member c.args.phase c.self.view_is c.self.invariant c.requires).phase
 
-pub one_job-requires-clause-cells : goal.one_job-requires-clause-cells
-one_job-requires-clause-cells c =
+pub job_at-requires-clause-cells : goal.job_at-requires-clause-cells
+job_at-requires-clause-cells c =
     ap length c.in_ok-store.ensures
     ∙ length_after (written_before (piped_writes (nested_of c.args.self.now.nested)) c.args.member c.args.phase) c.args.self.now.nested.store
     ∙ ap (λ (p : PipeParts). length p.nested.store) (sym c.self.view_is)
 
 pub returns-clause-own : goal.returns-clause-own
 returns-clause-own c =
-    IfOk-weaker c.one_job.result _ _
+    IfOk-weaker c.job_at.result _ _
     (λ job e. job_is_told c.self.inside.nested c.self.inside.slots.items c.args.self.now c.args.member c.args.phase c.in_ok-store.store job c.self.view_is c.in_ok-store.ensures e)
-    c.one_job.ensures
+    c.job_at.ensures
 
 pub returns-clause-place : goal.returns-clause-place
 returns-clause-place c =
-    IfOk-weaker c.one_job.result _ _
+    IfOk-weaker c.job_at.result _ _
     (λ job e. (job_parts (nested_of c.self.inside.nested) c.args.phase c.in_ok-store.store c.args.member (job_of job) e).its_place)
-    c.one_job.ensures
+    c.job_at.ensures
 
 pub returns-clause-phase : goal.returns-clause-phase
 returns-clause-phase c =
-    IfOk-weaker c.one_job.result _ _
+    IfOk-weaker c.job_at.result _ _
     (λ job e. (job_parts (nested_of c.self.inside.nested) c.args.phase c.in_ok-store.store c.args.member (job_of job) e).its_phase)
-    c.one_job.ensures
+    c.job_at.ensures
