@@ -1,13 +1,19 @@
 -- One turn of a loop that counts.
-use Rattle.std.proofs.Common.{◌≡◌, ◌∙◌, ℕ, zero, suc, ◌+◌, ◌-◌, ◌*◌, ◌<◌, ◌==◌, cond, Bool, true, false, List, ◌∷◌, ◌++◌, length, drop, replicate, refl, ap, arith}
+use Rattle.std.proofs.Common.{◌≡◌, ◌∙◌, ℕ, zero, suc, ◌+◌, ◌-◌, ◌*◌, ◌<◌, ◌==◌, cond, Bool, true, false, List, ◌∷◌, ◌++◌, length, drop, replicate, get_or, refl, ap, arith}
 use Rattle.transfer_table.specs.Plan.{Plan, parent}
+use Rattle.transfer_table.specs.Table.{TableState, admit_of}
 use Rattle.transfer_table.specs.declared.entry.Entry.{Entry}
+use Rattle.journal_picture.specs.Drawn.{or_same}
 use Rattle.journal_picture.specs.Stays.{stays_of}
 use Rattle.std.specs.Fmt.{decimal}
 use Rattle.std.proofs.lemmas.List.{drop_more}
 use Rattle.transfer_table.specs.declared.entry.Entry.TheVariants.{Enter}
 use Rattle.journal_picture.specs.declared.shape.Shape.{Shape}
-use Rattle.journal_picture.specs.SvgPicture.{lane_svg, lanes_svg, stay_count}
+use Rattle.journal_picture.specs.declared.stay.Stay.{Stay}
+use Rattle.journal_picture.specs.declared.strip.Figures.{Figures}
+use Rattle.journal_picture.specs.Scale.{lane_y}
+use Rattle.journal_picture.specs.SvgBars.{bars_text, lanes_svg, part_text, parts_text}
+use Rattle.journal_picture.specs.SvgMarks.{figures_svg, hart_at, harts_svg, row_names, rows_svg, strip_svg}
 use Rattle.journal_picture.specs.TextPicture.{band_text, bands_text, cell, lanes_of, numbers_text, sites_of, steps_up}
 
 -- what a function of what is left gives, where one more is left
@@ -17,9 +23,9 @@ one_more f n i lt = ap f (omega arith)
 pub replicate_more : {A : Type 0} (n i : ℕ) (x : A) → i < n → replicate (n - i) x ≡ x ∷ replicate (n - (i + 1)) x
 replicate_more n i x lt = one_more (λ k. replicate k x) n i lt
 
-pub bands_more : (faulty : Bool) (es : List Entry) (lanes : List (List ℕ)) (n i : ℕ) → i < n
-    → bands_text faulty es lanes i (n - i) ≡ band_text faulty es lanes (14 * i) ++ bands_text faulty es lanes (i + 1) (n - (i + 1))
-bands_more faulty es lanes n i lt = one_more (λ k. bands_text faulty es lanes i k) n i lt
+pub bands_more : (faulty : Bool) (es : List Entry) (lanes : List (List ℕ)) (strip : List Figures) (n i : ℕ) → i < n
+    → bands_text faulty es lanes strip i (n - i) ≡ band_text faulty es lanes strip (14 * i) ++ bands_text faulty es lanes strip (i + 1) (n - (i + 1))
+bands_more faulty es lanes strip n i lt = one_more (λ k. bands_text faulty es lanes strip i k) n i lt
 
 pub lanes_more : (p : Plan) (es : List Entry) (n i : ℕ) → i < n
     → lanes_of p es i (n - i) ≡ sites_of (length es) (stays_of p i es) ∷ lanes_of p es (i + 1) (n - (i + 1))
@@ -45,10 +51,24 @@ numbers_more at i es lt =
     ap (numbers_text (at + i)) (drop_more es i (Enter 0 0) lt)
     ∙ ap (λ k. cell (decimal (at + i)) ++ numbers_text k (drop (i + 1) es)) (omega arith)
 
-pub svg_lanes_more : (p : Plan) (shapes : List Shape) (es : List Entry) (folded : Bool) (n i : ℕ) → i < n
-    → lanes_svg p shapes es folded i (n - i) ≡ lane_svg p shapes es folded i ++ lanes_svg p shapes es folded (i + 1) (n - (i + 1))
-svg_lanes_more p shapes es folded n i lt = one_more (λ k. lanes_svg p shapes es folded i k) n i lt
+pub svg_lanes_more : (p : Plan) (shapes : List Shape) (es : List Entry) (n i : ℕ) → i < n
+    → lanes_svg p shapes es i (n - i) ≡ bars_text p shapes (length es) (stays_of p i es) ++ lanes_svg p shapes es (i + 1) (n - (i + 1))
+svg_lanes_more p shapes es n i lt = one_more (λ k. lanes_svg p shapes es i k) n i lt
 
-pub count_more : (p : Plan) (es : List Entry) (n i : ℕ) → i < n
-    → stay_count p es i (n - i) ≡ length (stays_of p i es) + stay_count p es (i + 1) (n - (i + 1))
-count_more p es n i lt = one_more (λ k. stay_count p es i k) n i lt
+pub harts_more : (top n i : ℕ) → i < n
+    → harts_svg top i (n - i) ≡ hart_at (lane_y top i + 34) i ++ harts_svg top (i + 1) (n - (i + 1))
+harts_more top n i lt = one_more (λ k. harts_svg top i k) n i lt
+
+pub rows_more : (p : Plan) (end n i : ℕ) → i < n
+    → rows_svg p end i (n - i) ≡ row_names p end i ++ rows_svg p end (i + 1) (n - (i + 1))
+rows_more p end n i lt = one_more (λ k. rows_svg p end i k) n i lt
+
+pub parts_more : (p : Plan) (shapes : List Shape) (end : ℕ) (stay : Stay) (row n i : ℕ) → i < n
+    → parts_text p shapes end stay (row + i) (n - i) ≡ part_text p shapes end stay (row + i) ++ parts_text p shapes end stay (row + (i + 1)) (n - (i + 1))
+parts_more p shapes end stay row n i lt =
+    one_more (λ k. parts_text p shapes end stay (row + i) k) n i lt
+    ∙ ap (λ r. part_text p shapes end stay (row + i) ++ parts_text p shapes end stay r (n - (i + 1))) (omega arith)
+
+pub strip_more : (p : Plan) (end : ℕ) (t : TableState) (i : ℕ) (es : List Entry) (other : Entry) → i < length es
+    → strip_svg p end t i (drop i es) ≡ figures_svg p end t i ++ strip_svg p end (or_same t (admit_of p t (get_or es i other))) (i + 1) (drop (i + 1) es)
+strip_more p end t i es other lt = ap (strip_svg p end t i) (drop_more es i other lt)

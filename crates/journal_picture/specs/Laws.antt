@@ -1,12 +1,13 @@
--- The laws of stays, for every plan and every list of entries.
-use Rattle.std.specs.Prelude.{◌≡◌, ℕ, ◌+◌, ◌≤◌, List, [], ◌∷◌, length, take, Some, None}
-use Rattle.std.specs.List.{filter}
+-- The laws of stays and of what is told, for every plan and every list of entries.
+use Rattle.std.specs.Prelude.{◌≡◌, ℕ, ◌+◌, ◌≤◌, ◌==◌, Bool, true, not, List, [], ◌∷◌, length, take, Some, None}
+use Rattle.std.specs.List.{filter, list_all}
 use Rattle.transfer_table.specs.Plan.{Plan, IsPlan, IsHart, IsSite, IsWithin}
 use Rattle.transfer_table.specs.Table.{TableState, owner, row}
 use Rattle.transfer_table.specs.Journal.{Reaches}
 use Rattle.transfer_table.specs.declared.entry.Entry.{Entry}
 use Rattle.journal_picture.specs.declared.stay.Stay.{Stay}
 use Rattle.journal_picture.specs.Stays.{stays_of, has_place}
+use Rattle.journal_picture.specs.SvgPicture.{escaped}
 
 -- Of the hart's stays this one has the place, and no other.
 abbrev pub IsOnlyAt : Plan → List Entry → ℕ → ℕ → Stay → Type 0
@@ -39,3 +40,11 @@ GuestsAreWithTheHome = (p : Plan) (es : List Entry) (k : ℕ) (t : TableState) �
     → (stay : Stay) → IsOnlyAt p es h k stay → IsSite p stay.site
     → (home : ℕ) × (homes : Stay) × ((row t stay.site).home ≡ Some home)
     × IsOnlyAt p es home k homes × IsWithin p stay.site homes.site
+
+-- The byte begins no markup.
+abbrev pub is_plain : ℕ → Bool
+is_plain byte = not (byte == 60)
+
+-- Whatever is told, its escaped form has no `<`.
+abbrev pub EscapedHasNoMarkup : Type 0
+EscapedHasNoMarkup = (told : List ℕ) → list_all is_plain (escaped told) ≡ true

@@ -1,5 +1,9 @@
 pub mod Stays
-pub mod Laws
 pub mod Drawn
+pub mod Strip
 pub mod TextPicture
+pub mod Scale
+pub mod SvgBars
+pub mod SvgMarks
 pub mod SvgPicture
+pub mod Laws

@@ -1,10 +1,11 @@
 -- The picture in text: in each band 14 entries and a line for each hart, with the site where it is at each place; then the tree
 -- of the sites.
 use Rattle.std.specs.Prelude.{ℕ, zero, suc, ◌+◌, ◌-◌, ◌*◌, ◌/◌, ◌==◌, nat_le, Bool, true, false, if◌then◌else◌, List, [], ◌∷◌, ◌++◌, codes, length, take, drop, replicate, Option, Some, None}
-use Rattle.std.specs.List.{flat_map}
+use Rattle.std.specs.List.{concat, flat_map}
 use Rattle.std.specs.Fmt.{decimal}
 use Rattle.transfer_table.specs.Plan.{Plan, parent}
 use Rattle.transfer_table.specs.Table.{TableState, row}
+use Rattle.transfer_table.specs.Entry.{site_of}
 use Rattle.transfer_table.specs.declared.entry.Row.{Row}
 use Rattle.transfer_table.specs.declared.entry.Stage.{Stage}
 use Rattle.transfer_table.specs.declared.entry.Stage.TheVariants.{New, Live, Gone}
@@ -14,7 +15,9 @@ use Rattle.journal_picture.specs.declared.stay.Stay.{Stay}
 use Rattle.journal_picture.specs.declared.shape.Kind.{Kind}
 use Rattle.journal_picture.specs.declared.shape.Kind.TheVariants.{Pool, Team}
 use Rattle.journal_picture.specs.declared.shape.Shape.{Shape}
+use Rattle.journal_picture.specs.declared.strip.Figures.{Figures}
 use Rattle.journal_picture.specs.Stays.{stays_of}
+use Rattle.journal_picture.specs.Strip.{strip_of}
 use Rattle.journal_picture.specs.Drawn.{drawn, has_fault, state_after}
 
 -- ---- where a hart is at each place
@@ -69,6 +72,26 @@ numbers_text k (e ∷ es) = cell (decimal k) ++ numbers_text (k + 1) es
 abbrev pub deeds_text : List Entry → List ℕ
 deeds_text es = flat_map (λ e. cell (deed e)) es
 
+-- A hart and how many harts it asks for.
+abbrev pub asking : ℕ → ℕ → List ℕ
+asking h k = concat (codes "h" ∷ decimal h ∷ codes "+" ∷ decimal k ∷ [])
+
+-- Whose entry it is, and how many harts it asks for.
+abbrev pub doer : Entry → List ℕ
+doer (Register h s) = codes "h" ++ decimal h
+doer (Request h s k) = asking h k
+doer (Enter h s) = codes "h" ++ decimal h
+doer (Yield h s) = codes "h" ++ decimal h
+doer (Unregister h s) = codes "h" ++ decimal h
+doer (Skip h s) = codes "h" ++ decimal h
+
+abbrev pub doers_text : List Entry → List ℕ
+doers_text es = flat_map (λ e. cell (doer e)) es
+
+-- The sites that entries are of.
+abbrev pub at_sites_text : List Entry → List ℕ
+at_sites_text es = flat_map (λ e. cell (site_name (site_of e))) es
+
 abbrev pub sites_text : List ℕ → List ℕ
 sites_text sites = flat_map (λ s. cell (site_name s)) sites
 
@@ -101,17 +124,47 @@ numbers_line faulty last at shown =
 abbrev pub deeds_line : List Entry → List ℕ
 deeds_line shown = codes "         " ++ deeds_text shown ++ codes "\n"
 
--- the band of the entry at a place and the 13 that follow
-abbrev pub band_text : Bool → List Entry → List (List ℕ) → ℕ → List ℕ
-band_text faulty es lanes at =
-    numbers_line faulty (nat_le (length es) (at + 14)) at (take 14 (drop at es))
-    ++ deeds_line (take 14 (drop at es)) ++ lanes_text at 0 lanes ++ codes "\n"
+abbrev pub doers_line : List Entry → List ℕ
+doers_line shown = codes "         " ++ doers_text shown ++ codes "\n"
 
--- so many bands, from one on
-abbrev pub bands_text : Bool → List Entry → List (List ℕ) → ℕ → ℕ → List ℕ
-bands_text faulty es lanes band zero = []
-bands_text faulty es lanes band (suc n) =
-    band_text faulty es lanes (14 * band) ++ bands_text faulty es lanes (band + 1) n
+abbrev pub at_sites_line : List Entry → List ℕ
+at_sites_line shown = codes "         " ++ at_sites_text shown ++ codes "\n"
+
+abbrev pub deed_lines : List Entry → List ℕ
+deed_lines shown = deeds_line shown ++ doers_line shown ++ at_sites_line shown
+
+-- ---- the strip: how many wishes are unmet at each place, and how many harts idle, with a mark where a lender missed a wish
+
+abbrev pub unmets_text : List Figures → List ℕ
+unmets_text fs = flat_map (λ (f : Figures). cell (decimal f.unmet)) fs
+
+abbrev pub idle_words : Figures → List ℕ
+idle_words f = if f.missed then codes "!" ++ decimal f.idle else decimal f.idle
+
+abbrev pub idles_text : List Figures → List ℕ
+idles_text fs = flat_map (λ (f : Figures). cell (idle_words f)) fs
+
+abbrev pub unmet_line : List Figures → List ℕ
+unmet_line shown = codes "unm" ++ unmets_text shown ++ codes "\n"
+
+abbrev pub idle_line : List Figures → List ℕ
+idle_line shown = codes "idl" ++ idles_text shown ++ codes "\n\n"
+
+abbrev pub strip_lines : List Figures → List ℕ
+strip_lines shown = unmet_line shown ++ idle_line shown
+
+-- The band of the entry at a place and the 13 that follow.
+abbrev pub band_text : Bool → List Entry → List (List ℕ) → List Figures → ℕ → List ℕ
+band_text faulty es lanes strip at =
+    numbers_line faulty (nat_le (length es) (at + 14)) at (take 14 (drop at es))
+    ++ deed_lines (take 14 (drop at es)) ++ lanes_text at 0 lanes
+    ++ strip_lines (take 15 (drop at strip))
+
+-- So many bands, from one on.
+abbrev pub bands_text : Bool → List Entry → List (List ℕ) → List Figures → ℕ → ℕ → List ℕ
+bands_text faulty es lanes strip band zero = []
+bands_text faulty es lanes strip band (suc n) =
+    band_text faulty es lanes strip (14 * band) ++ bands_text faulty es lanes strip (band + 1) n
 
 -- A list without entries has one band too.
 abbrev pub band_count : ℕ → ℕ
@@ -172,18 +225,21 @@ tree_text p t shapes = codes "base\n" ++ site_lines p t 1 shapes
 
 -- The legend explains the words of entries.
 abbrev pub legend_text : List ℕ
-legend_text = codes "\nreg registers a site, req requests harts, unreg unregisters the site\n"
+legend_text =
+    codes "\nreg registers a site, req requests harts, unreg unregisters the site\nunm unmet wishes, idl idle harts, ! a child of the base has an unmet wish while a hart is idle\n"
 
 -- ---- the whole, with a line that tells whether the list is legal
 
-abbrev pub shown_text : Plan → TableState → List Shape → List Entry → List (List ℕ) → Bool → List ℕ
-shown_text p t shapes es lanes faulty =
-    bands_text faulty es lanes 0 (band_count (length es)) ++ tree_text p t shapes ++ legend_text
+abbrev pub shown_text : Plan → TableState → List Shape → List Entry → List (List ℕ) → List Figures
+    → Bool → List ℕ
+shown_text p t shapes es lanes strip faulty =
+    bands_text faulty es lanes strip 0 (band_count (length es)) ++ tree_text p t shapes
+    ++ legend_text
 
 -- The picture of these entries ends with the verdict's text.
 abbrev pub text_of : Plan → List Shape → List Entry → Bool → List ℕ → List ℕ
 text_of p shapes es faulty told =
-    shown_text p (state_after p es) shapes es (lanes_of p es 0 p.harts) faulty ++ told
+    shown_text p (state_after p es) shapes es (lanes_of p es 0 p.harts) (strip_of p es) faulty ++ told
 
 -- The picture of a list is that of its entries before the first fault.
 abbrev pub text_picture : Plan → List Bool → List Shape → List Entry → List ℕ → List ℕ

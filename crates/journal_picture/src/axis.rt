@@ -1,251 +1,242 @@
-//! The axis of the picture, with the entries' numbers and what they do, and the marks at the homes.
-ghost use Rattle.std.specs.Prelude.{◌≡◌, ◌≤◌, ◌++◌, OnOk, codes, length, string_bytes};
-ghost use Rattle.std.specs.Fmt.{decimal};
+//! The names of the lanes, and the axis with the entries' numbers and what they do.
+ghost use Rattle.std.specs.Prelude.{◌≡◌, ◌≤◌, ◌++◌, ◌+◌, IfOk, OnOk, length, string_bytes};
+ghost use Rattle.transfer_table.specs.Entry.{hart_of, site_of};
 ghost use Rattle.transfer_table.specs.Plan.{most_entries};
-ghost use Rattle.journal_picture.specs.SvgPicture.{deed_text, dot_svg, entry_mark, guide_text, line_svg, mark_svg, marks_text, number_text, request_svg, tick_marks, tick_text, ticks_text, unmet_at, unmet_svg, wishes_svg};
+ghost use Rattle.journal_picture.specs.SvgMarks.{deed_text, guide_text, hart_at, harts_svg, mark_svg, names_svg, number_text, row_names, rows_svg, shown_tick, strip_names, strip_y, tick_marks, tick_text, ticks_text, who_by, who_text};
 
-use crate::scale::{every, mark_y, place_x};
-use crate::text::deed;
+use crate::scale::{entry_x, every, is_shown, lane_y, row_of, row_y, rows_of, step_of};
+use crate::text::{deed, hart_of, site_of};
 use std::alloc::{AllocError, Global};
-use transfer_table::{Board, Entry};
+use transfer_table::{Entry, Plan};
 
-/// Adds the axis, down to this lower end of the lanes.
-pub(crate) fn write_ticks(
+/// Adds the names at the left of all rows.
+pub(crate) fn write_rows(
     text: &mut String,
-    step: usize,
-    bottom: usize,
-    list: &[Entry],
+    plan: &Plan,
+    end: usize,
+    count: usize,
 ) -> Result<(), AllocError>
-    requires some { 2 ≤ step }
-    requires narrow { step ≤ 72 }
-    requires few { length list.now ≤ most_entries }
+    requires few { end ≤ most_entries }
+    requires rows { count ≤ 65536 }
     ensures { OnOk result (string_bytes text.new ≡ string_bytes text.old
-        ++ ticks_text step bottom 0 list.now) }
+        ++ rows_svg plan.now end 0 count) }
 {
-    for (k, entry) in list.iter().enumerate() {
-        write_tick(text, step, bottom, k, *entry)?;
+    for row in 0..count {
+        write_row_names(text, plan, end, row)?;
     }
     Ok(())
 }
 
-// Adds what stands at the end of an entry's place.
-fn write_tick(
-    text: &mut String,
-    step: usize,
-    bottom: usize,
-    k: usize,
-    entry: Entry,
-) -> Result<(), AllocError>
-    requires some { 2 ≤ step }
-    requires narrow { step ≤ 72 }
-    requires few { k ≤ most_entries }
+// Adds the names at the left of a row, if it is shown.
+fn write_row_names(text: &mut String, plan: &Plan, end: usize, row: usize) -> Result<(), AllocError>
+    requires few { end ≤ most_entries }
+    requires low { row ≤ 65536 }
     ensures { OnOk result (string_bytes text.new ≡ string_bytes text.old
-        ++ tick_text step bottom k entry) }
+        ++ row_names plan.now end row) }
 {
-    if k % every(step) == 0 {
-        write_marked(text, step, bottom, place_x(step, k + 1), k, entry)
+    if is_shown(end, row) {
+        write_names(text, plan, row_y(plan, end, row))
     } else {
         Ok(())
     }
 }
 
-// Adds a line, a number and a word at this place.
-fn write_marked(
-    text: &mut String,
-    step: usize,
-    bottom: usize,
-    x: usize,
-    k: usize,
-    entry: Entry,
-) -> Result<(), AllocError>
+// Adds the names of the lanes and of the strip's numbers.
+fn write_names(text: &mut String, plan: &Plan, top: usize) -> Result<(), AllocError>
+    requires { top ≤ 4000000000000 }
+    ensures { OnOk result (string_bytes text.new ≡ string_bytes text.old ++ names_svg plan.now top) }
+{
+    write_harts(text, plan, top)?;
+    write_strip_names(text, strip_y(plan, top))
+}
+
+// Adds the names of the lanes.
+fn write_harts(text: &mut String, plan: &Plan, top: usize) -> Result<(), AllocError>
+    requires { top ≤ 4000000000000 }
     ensures { OnOk result (string_bytes text.new ≡ string_bytes text.old
-        ++ tick_marks step bottom x k entry) }
+        ++ harts_svg top 0 plan.now.harts) }
 {
-    write_guide(text, x, bottom)?;
-    write_number(text, x, k)?;
-    write_deed(text, step, x, entry)
-}
-
-// Adds a line across the lanes.
-fn write_guide(text: &mut String, x: usize, bottom: usize) -> Result<(), AllocError>
-    ensures { OnOk result (string_bytes text.new ≡ string_bytes text.old ++ guide_text x bottom) }
-{
-    write!(text, "<path d='M{x} 104V{bottom}' stroke='#d5dade'/>\n")
-}
-
-// Adds the number of an entry.
-fn write_number(text: &mut String, x: usize, k: usize) -> Result<(), AllocError>
-    ensures { OnOk result (string_bytes text.new ≡ string_bytes text.old ++ number_text x k) }
-{
-    write!(text, "<text x='{x}' y='84'>{k}</text>\n")
-}
-
-// Adds what an entry does, where there is room.
-fn write_deed(text: &mut String, step: usize, x: usize, entry: Entry) -> Result<(), AllocError>
-    ensures { OnOk result (string_bytes text.new ≡ string_bytes text.old ++ deed_text step x entry) }
-{
-    if step < 40 {
-        Ok(())
-    } else {
-        write_at(text, x, 98, deed(entry))
+    for hart in 0..plan.harts() {
+        write_hart_at(text, lane_y(top, hart) + 34, hart)?;
     }
+    Ok(())
 }
 
-// Adds words at a place.
-fn write_at(text: &mut String, x: usize, y: usize, words: &str) -> Result<(), AllocError>
+// Adds the name of a hart at a height.
+#[tactic(auto, unfolding(crate::specs::SvgMarks::hart_at))]
+fn write_hart_at(text: &mut String, y: usize, hart: u8) -> Result<(), AllocError>
+    ensures { OnOk result (string_bytes text.new ≡ string_bytes text.old ++ hart_at y hart) }
+{
+    write!(
+        text,
+        "<text x='28' y='{y}' font-size='13' font-weight='bold'>h{hart}</text>\n"
+    )
+}
+
+/// The upper end of the strip.
+pub(crate) fn strip_y(plan: &Plan, top: usize) -> usize
+    requires { top ≤ 4000000000000 }
+    ensures same { result ≡ strip_y plan.now top }
+    ensures bound { result ≤ 5000000000000 }
+{
+    top + 44 + 44 * plan.harts() as usize
+}
+
+// Adds the names of the strip's numbers.
+fn write_strip_names(text: &mut String, y: usize) -> Result<(), AllocError>
+    requires { y ≤ 5000000000000 }
+    ensures { OnOk result (string_bytes text.new ≡ string_bytes text.old ++ strip_names y) }
+{
+    write_at(text, 28, y + 11, "unmet")?;
+    write_at(text, 28, y + 25, "idle")
+}
+
+/// Adds words at a place.
+#[tactic(auto, unfolding(crate::specs::SvgMarks::mark_svg))]
+pub(crate) fn write_at(text: &mut String, x: usize, y: usize, words: &str) -> Result<(), AllocError>
     ensures { OnOk result (string_bytes text.new ≡ string_bytes text.old ++ mark_svg x y words.now) }
 {
     write!(text, "<text x='{x}' y='{y}'>{words}</text>\n")
 }
 
-/// Adds the marks of requests and of wishes that nobody met, each at the home.
-pub(crate) fn write_marks(
+/// Adds the axis of all rows.
+pub(crate) fn write_ticks(
     alloc: Global,
     text: &mut String,
-    board: &Board,
-    step: usize,
+    plan: &Plan,
+    end: usize,
     list: &[Entry],
 ) -> Result<(), AllocError>
-    requires narrow { step ≤ 72 }
-    requires few { length list.now ≤ most_entries }
+    requires few { end ≤ most_entries }
+    requires short { length list.now ≤ most_entries }
     ensures { OnOk result (string_bytes text.new ≡ string_bytes text.old
-        ++ marks_text board.now.plan board.now.state step 0 list.now) }
+        ++ ticks_text plan.now end 0 list.now) }
 {
     for (k, entry) in list.iter().enumerate() {
-        write_entry_mark(alloc, text, board, step, k, *entry)?;
+        write_tick(alloc, text, plan, end, k, *entry)?;
     }
     Ok(())
 }
 
-// Adds the mark of an entry, if it has one.
-fn write_entry_mark(
+// Adds what stands at an entry, if it has a number.
+fn write_tick(
     alloc: Global,
     text: &mut String,
-    board: &Board,
-    step: usize,
+    plan: &Plan,
+    end: usize,
     k: usize,
     entry: Entry,
 ) -> Result<(), AllocError>
-    requires narrow { step ≤ 72 }
-    requires few { k ≤ most_entries }
+    requires few { end ≤ most_entries }
+    requires low { k ≤ most_entries }
     ensures { OnOk result (string_bytes text.new ≡ string_bytes text.old
-        ++ entry_mark board.now.plan board.now.state step k entry) }
+        ++ tick_text plan.now end k entry) }
 {
-    match entry {
-        Entry::Request { hart, count, .. } => {
-            write_request(alloc, text, step, place_x(step, k + 1), mark_y(hart), count)
-        }
-        Entry::Unregister { hart, site } => {
-            let wishes = unmet_at(board, site);
-            write_unmet(
-                alloc,
-                text,
-                step,
-                place_x(step, k + 1),
-                mark_y(hart),
-                wishes,
-            )
-        }
-        Entry::Register { .. } | Entry::Enter { .. } | Entry::Yield { .. } | Entry::Skip { .. } => {
-            Ok(())
-        }
+    if k % every(end) == 0 {
+        write_shown_tick(alloc, text, plan, end, k, entry)
+    } else {
+        Ok(())
     }
 }
 
-// Adds the mark of a request: a line, and where there is room how many harts it wants.
-fn write_request(
+// Adds what stands at an entry, if its row is shown.
+fn write_shown_tick(
     alloc: Global,
     text: &mut String,
-    step: usize,
-    x: usize,
-    y: usize,
-    count: u8,
+    plan: &Plan,
+    end: usize,
+    k: usize,
+    entry: Entry,
 ) -> Result<(), AllocError>
+    requires few { end ≤ most_entries }
+    requires low { k ≤ most_entries }
     ensures { OnOk result (string_bytes text.new ≡ string_bytes text.old
-        ++ request_svg step x y count) }
+        ++ shown_tick plan.now end k entry) }
 {
-    if step < 48 {
-        return write_line(text, x, y);
+    let row = row_of(end, k);
+    if !is_shown(end, row) {
+        return Ok(());
     }
-    let words = format!(in alloc; "+{count}")?;
-    write_at(text, x, y, words.as_str())
-}
-
-// Adds a line that ends at this foot.
-fn write_line(text: &mut String, x: usize, y: usize) -> Result<(), AllocError>
-    ensures { OnOk result (string_bytes text.new ≡ string_bytes text.old ++ line_svg x y) }
-{
-    write!(text, "<path d='M{x} {y}v-10' stroke='#000000'/>\n")
-}
-
-// Adds a dot at this foot.
-fn write_dot(text: &mut String, x: usize, y: usize) -> Result<(), AllocError>
-    ensures { OnOk result (string_bytes text.new ≡ string_bytes text.old ++ dot_svg x y) }
-{
-    write!(
+    write_marked(
+        alloc,
         text,
-        "<path d='M{x} {y}v-4' stroke='#000000' stroke-width='4'/>\n"
+        plan,
+        step_of(end),
+        entry_x(end, k),
+        row_y(plan, end, row),
+        k,
+        entry,
     )
 }
 
-// How many wishes of the site nobody met; 0 for what is no site.
-fn unmet_at(board: &Board, site: u16) -> u8
-    ensures { result ≡ unmet_at board.now.plan board.now.state site }
+// Adds a line, a number and what the entry does.
+fn write_marked(
+    alloc: Global,
+    text: &mut String,
+    plan: &Plan,
+    step: usize,
+    x: usize,
+    top: usize,
+    k: usize,
+    entry: Entry,
+) -> Result<(), AllocError>
+    requires { top ≤ 4000000000000 }
+    ensures { OnOk result (string_bytes text.new ≡ string_bytes text.old
+        ++ tick_marks plan.now step x top k entry) }
 {
-    if site == 0 || site > board.plan().sites() {
-        0
-    } else {
-        board.wishes(site)
-    }
+    write_guide(text, x, top + 40, 44 * plan.harts() as usize)?;
+    write_number(text, x, top + 12, k)?;
+    write_deed(alloc, text, step, x, top, entry)
 }
 
-// Adds the mark of wishes that nobody met, if there are any.
-fn write_unmet(
+// Adds a line across the lanes.
+#[tactic(auto, unfolding(crate::specs::SvgMarks::guide_text))]
+fn write_guide(text: &mut String, x: usize, upper: usize, height: usize) -> Result<(), AllocError>
+    ensures { OnOk result (string_bytes text.new ≡ string_bytes text.old
+        ++ guide_text x upper height) }
+{
+    write!(text, "<path d='M{x} {upper}v{height}' stroke='#d5dade'/>\n")
+}
+
+// Adds the number of an entry.
+#[tactic(auto, unfolding(crate::specs::SvgMarks::number_text))]
+fn write_number(text: &mut String, x: usize, y: usize, k: usize) -> Result<(), AllocError>
+    ensures { OnOk result (string_bytes text.new ≡ string_bytes text.old ++ number_text x y k) }
+{
+    write!(text, "<text x='{x}' y='{y}'>{k}</text>\n")
+}
+
+// Adds what an entry does, where there is room.
+fn write_deed(
     alloc: Global,
     text: &mut String,
     step: usize,
     x: usize,
-    y: usize,
-    wishes: u8,
+    top: usize,
+    entry: Entry,
 ) -> Result<(), AllocError>
+    requires { top ≤ 4000000000000 }
     ensures { OnOk result (string_bytes text.new ≡ string_bytes text.old
-        ++ unmet_svg step x y wishes) }
+        ++ deed_text step x top entry) }
 {
-    if wishes == 0 {
+    if step < 40 {
         return Ok(());
     }
-    write_wishes(alloc, text, step, x, y, wishes)
+    let who = who_text(alloc, entry)?;
+    write_at(text, x, top + 24, deed(entry))?;
+    write_at(text, x, top + 36, who.as_str())
 }
 
-// Adds the mark of so many wishes that nobody met: a dot, and where there is room how many they are.
-fn write_wishes(
-    alloc: Global,
-    text: &mut String,
-    step: usize,
-    x: usize,
-    y: usize,
-    wishes: u8,
-) -> Result<(), AllocError>
-    ensures { OnOk result (string_bytes text.new ≡ string_bytes text.old
-        ++ wishes_svg step x y wishes) }
+// Whose entry it is, and of which site.
+fn who_text(alloc: Global, entry: Entry) -> Result<String, AllocError>
+    ensures { IfOk result (λ who. string_bytes who ≡ who_text entry) }
 {
-    if step < 48 {
-        return write_dot(text, x, y);
-    }
-    write_count(alloc, text, x, y, wishes)
+    who_by(alloc, hart_of(entry), site_of(entry))
 }
 
-// Adds how many wishes nobody met.
-fn write_count(
-    alloc: Global,
-    text: &mut String,
-    x: usize,
-    y: usize,
-    wishes: u8,
-) -> Result<(), AllocError>
-    ensures { OnOk result (string_bytes text.new ≡ string_bytes text.old
-        ++ mark_svg x y (decimal wishes ++ codes " unmet")) }
+// A hart and a site.
+fn who_by(alloc: Global, hart: u8, site: u16) -> Result<String, AllocError>
+    ensures { IfOk result (λ who. string_bytes who ≡ who_by hart site) }
 {
-    let words = format!(in alloc; "{wishes} unmet")?;
-    write_at(text, x, y, words.as_str())
+    format!(in alloc; "h{hart} s{site}")
 }

@@ -1,126 +1,34 @@
-//! The lanes of the picture, with a bar for each stay.
-ghost use Rattle.std.specs.Prelude.{◌≡◌, ◌≤◌, ◌<◌, ◌++◌, ◌+◌, ◌*◌, IfOk, OnOk, length, string_bytes};
+//! The bars of the picture.
+ghost use Rattle.std.specs.Prelude.{◌≡◌, ◌≤◌, ◌<◌, ◌++◌, ◌+◌, ◌*◌, IfOk, OnOk, codes, length, string_bytes, Some, None};
 ghost use Rattle.transfer_table.specs.Plan.{most_entries};
-ghost use Rattle.journal_picture.specs.SvgPicture.{bar_text, bars_text, end_bars, ends_of, fill_text, hart_at, hart_text, is_folded, kind_label, kind_of, label_text, lane_bars, lane_svg, lanes_svg, placed_bar, rect_text, stay_count, words_text};
+ghost use Rattle.journal_picture.specs.TextPicture.{kind_text, last_or, site_name};
+ghost use Rattle.journal_picture.specs.Scale.{level_of, per_row, row_of};
+ghost use Rattle.journal_picture.specs.SvgBars.{about_by, about_text, bar_text, bars_text, base_fill, fill_text, first_in, kind_fill, kind_label, label_text, lanes_svg, last_in, part_text, parts_text, placed_bar, rect_text, row_count, shape_of, shown_part, since_text, stay_title, title_by, until_text, words_text};
 
-use crate::lanes::places_of;
-use crate::scale::{bar_y, ends_of, lane_y, level_of, place_x, step_of, times};
+use crate::scale::{bar_y, is_shown, level_of, per_row, place_x, row_of, row_y, step_of, times};
 use crate::shape::{Kind, Shape};
 use crate::stay::{Stay, stays_of};
-use crate::words::site_name;
+use crate::words::{kind_name, site_name};
 use std::alloc::{AllocError, Global};
 use transfer_table::{Entry, Plan};
 
-/// Whether there are more stays than a picture has bars.
-pub(crate) fn is_folded(alloc: Global, plan: &Plan, list: &[Entry]) -> Result<bool, AllocError>
-    requires { length list.now ≤ most_entries }
-    ensures { IfOk result (λ folded. folded ≡ is_folded plan.now list.now) }
-{
-    let mut total = 0usize;
-    for hart in 0..plan.harts() {
-        let stays = stays_of(alloc, plan, hart, list)?;
-        total += stays.len();
-    }
-    Ok(4096 < total)
-}
-
-/// Adds the lanes of all harts.
+/// Adds the bars of all harts.
 pub(crate) fn write_lanes(
     alloc: Global,
     text: &mut String,
     plan: &Plan,
     shapes: &[Shape],
     list: &[Entry],
-    folded: bool,
 ) -> Result<(), AllocError>
     requires { length list.now ≤ most_entries }
     ensures { OnOk result (string_bytes text.new ≡ string_bytes text.old
-        ++ lanes_svg plan.now shapes.now list.now folded 0 plan.now.harts) }
+        ++ lanes_svg plan.now shapes.now list.now 0 plan.now.harts) }
 {
     for hart in 0..plan.harts() {
-        write_lane(alloc, text, plan, shapes, list, folded, hart)?;
+        let stays = stays_of(alloc, plan, hart, list)?;
+        write_bars(alloc, text, plan, shapes, list.len(), &stays)?;
     }
     Ok(())
-}
-
-// Adds the lane of a hart.
-fn write_lane(
-    alloc: Global,
-    text: &mut String,
-    plan: &Plan,
-    shapes: &[Shape],
-    list: &[Entry],
-    folded: bool,
-    hart: u8,
-) -> Result<(), AllocError>
-    requires { length list.now ≤ most_entries }
-    ensures { OnOk result (string_bytes text.new ≡ string_bytes text.old
-        ++ lane_svg plan.now shapes.now list.now folded hart) }
-{
-    let stays = stays_of(alloc, plan, hart, list)?;
-    write_hart(text, hart)?;
-    write_lane_bars(alloc, text, plan, shapes, list.len(), folded, &stays)
-}
-
-// Adds the name of a hart at its lane.
-fn write_hart(text: &mut String, hart: u8) -> Result<(), AllocError>
-    ensures { OnOk result (string_bytes text.new ≡ string_bytes text.old ++ hart_text hart) }
-{
-    write_hart_at(text, lane_y(hart) + 55, hart)
-}
-
-// Adds the name of a hart at a height.
-fn write_hart_at(text: &mut String, y: usize, hart: u8) -> Result<(), AllocError>
-    ensures { OnOk result (string_bytes text.new ≡ string_bytes text.old ++ hart_at y hart) }
-{
-    write!(
-        text,
-        "<text x='28' y='{y}' font-size='15' font-weight='bold'>h{hart}</text>\n"
-    )
-}
-
-// Adds the bars of a lane, all or the first and the last ones.
-fn write_lane_bars(
-    alloc: Global,
-    text: &mut String,
-    plan: &Plan,
-    shapes: &[Shape],
-    end: usize,
-    folded: bool,
-    stays: &[Stay],
-) -> Result<(), AllocError>
-    requires { end ≤ most_entries }
-    ensures { OnOk result (string_bytes text.new ≡ string_bytes text.old
-        ++ lane_bars plan.now shapes.now end folded stays.now) }
-{
-    if !folded {
-        return write_bars(alloc, text, plan, shapes, end, stays);
-    }
-    if stays.len() <= 2 * ends_of(plan) {
-        return write_bars(alloc, text, plan, shapes, end, stays);
-    }
-    write_ends(alloc, text, plan, shapes, end, stays)
-}
-
-// Adds the bars of the first and the last stays.
-fn write_ends(
-    alloc: Global,
-    text: &mut String,
-    plan: &Plan,
-    shapes: &[Shape],
-    end: usize,
-    stays: &[Stay],
-) -> Result<(), AllocError>
-    requires few { end ≤ most_entries }
-    requires many { 2 * ends_of plan.now < length stays.now }
-    ensures { OnOk result (string_bytes text.new ≡ string_bytes text.old
-        ++ end_bars plan.now shapes.now end stays.now) }
-{
-    let ends = ends_of(plan);
-    let first = &stays[..ends];
-    let last = &stays[stays.len() - ends..];
-    write_bars(alloc, text, plan, shapes, end, first)?;
-    write_bars(alloc, text, plan, shapes, end, last)
 }
 
 // Adds the bars of these stays.
@@ -142,7 +50,7 @@ fn write_bars(
     Ok(())
 }
 
-// Adds the bar of a stay.
+// Adds the bars of a stay.
 fn write_bar(
     alloc: Global,
     text: &mut String,
@@ -155,13 +63,229 @@ fn write_bar(
     ensures { OnOk result (string_bytes text.new ≡ string_bytes text.old
         ++ bar_text plan.now shapes.now end stay) }
 {
-    let step = step_of(end);
+    let first = row_of(end, stay.first as usize);
+    write_parts(
+        alloc,
+        text,
+        plan,
+        shapes,
+        end,
+        stay,
+        first,
+        row_count(end, stay),
+    )
+}
+
+// In how many rows the stay has places.
+fn row_count(end: usize, stay: Stay) -> usize
+    requires { end ≤ most_entries }
+    ensures same { result ≡ row_count end stay }
+    ensures few { result ≤ 4294967296 }
+{
+    let last = last_or(end, stay.last);
+    (row_of(end, last) + 1).saturating_sub(row_of(end, stay.first as usize))
+}
+
+// The last place of a stay.
+fn last_or(end: usize, last: Option<u32>) -> usize
+    requires { end ≤ most_entries }
+    ensures same { result ≡ last_or end last }
+    ensures few { result ≤ 4294967295 }
+{
+    match last {
+        None => end,
+        Some(last) => last as usize,
+    }
+}
+
+// Adds the parts of a stay in so many rows, from this one on.
+fn write_parts(
+    alloc: Global,
+    text: &mut String,
+    plan: &Plan,
+    shapes: &[Shape],
+    end: usize,
+    stay: Stay,
+    row: usize,
+    count: usize,
+) -> Result<(), AllocError>
+    requires few { end ≤ most_entries }
+    requires low { row ≤ 4294967295 }
+    requires rows { row + count ≤ 4294967296 }
+    ensures { OnOk result (string_bytes text.new ≡ string_bytes text.old
+        ++ parts_text plan.now shapes.now end stay row count) }
+{
+    for i in 0..count {
+        write_part(alloc, text, plan, shapes, end, stay, row + i)?;
+    }
+    Ok(())
+}
+
+// Adds the part of a stay in a row, if the row is shown.
+fn write_part(
+    alloc: Global,
+    text: &mut String,
+    plan: &Plan,
+    shapes: &[Shape],
+    end: usize,
+    stay: Stay,
+    row: usize,
+) -> Result<(), AllocError>
+    requires few { end ≤ most_entries }
+    requires low { row ≤ 4294967296 }
+    ensures { OnOk result (string_bytes text.new ≡ string_bytes text.old
+        ++ part_text plan.now shapes.now end stay row) }
+{
+    if is_shown(end, row) {
+        write_shown(alloc, text, plan, shapes, end, stay, row)
+    } else {
+        Ok(())
+    }
+}
+
+// Adds the part of a stay in a row.
+fn write_shown(
+    alloc: Global,
+    text: &mut String,
+    plan: &Plan,
+    shapes: &[Shape],
+    end: usize,
+    stay: Stay,
+    row: usize,
+) -> Result<(), AllocError>
+    requires few { end ≤ most_entries }
+    requires low { row ≤ 4294967296 }
+    ensures { OnOk result (string_bytes text.new ≡ string_bytes text.old
+        ++ shown_part plan.now shapes.now end stay row) }
+{
     let level = level_of(plan, stay.site);
-    let kind = kind_of(shapes, stay.site);
-    let x = place_x(step, stay.first as usize);
-    let width = times(step, places_of(stay, end));
-    let y = bar_y(stay.hart, level);
-    write_placed(alloc, text, x, y, width, stay.site, level, kind)
+    let first = first_in(end, stay, row);
+    let places = (last_in(end, stay, row) + 1).saturating_sub(first);
+    let x = place_x(end, first);
+    let y = bar_y(row_y(plan, end, row), stay.hart, level);
+    let width = times(step_of(end), places);
+    let title = stay_title(alloc, shapes, stay)?;
+    write_placed(
+        alloc,
+        text,
+        x,
+        y,
+        width,
+        title.as_str(),
+        stay,
+        shape_of(shapes, stay.site),
+        level,
+    )
+}
+
+// The first place of a stay in a row.
+fn first_in(end: usize, stay: Stay, row: usize) -> usize
+    requires few { end ≤ most_entries }
+    requires low { row ≤ 4294967296 }
+    ensures same { result ≡ first_in end stay row }
+    ensures bound { result ≤ 3500000000000 }
+{
+    (stay.first as usize).max(times(per_row(end), row))
+}
+
+// The last place of a stay in a row.
+fn last_in(end: usize, stay: Stay, row: usize) -> usize
+    requires few { end ≤ most_entries }
+    requires low { row ≤ 4294967296 }
+    ensures same { result ≡ last_in end stay row }
+    ensures bound { result ≤ 4294967295 }
+{
+    last_or(end, stay.last).min(times(per_row(end), row) + (per_row(end) - 1))
+}
+
+// The title of a bar.
+fn stay_title(alloc: Global, shapes: &[Shape], stay: Stay) -> Result<String, AllocError>
+    ensures { IfOk result (λ title. string_bytes title ≡ stay_title shapes.now stay) }
+{
+    let name = site_name(alloc, stay.site)?;
+    let about = about_text(alloc, shape_of(shapes, stay.site), stay.hart)?;
+    let since = since_text(alloc, stay.first)?;
+    let until = until_text(alloc, stay.last)?;
+    title_by(
+        alloc,
+        stay.hart,
+        name.as_str(),
+        about.as_str(),
+        since.as_str(),
+        until.as_str(),
+    )
+}
+
+// A title of these parts.
+#[tactic(auto, unfolding(crate::specs::SvgBars::title_by))]
+fn title_by(
+    alloc: Global,
+    hart: u8,
+    name: &str,
+    about: &str,
+    since: &str,
+    until: &str,
+) -> Result<String, AllocError>
+    ensures { IfOk result (λ title. string_bytes title
+        ≡ title_by hart name.now about.now since.now until.now) }
+{
+    format!(in alloc; "h{hart} in {name}{about}{since}{until}")
+}
+
+// What the site is; the base is where the body runs, or where a hart is idle.
+fn about_text(alloc: Global, shape: Option<Shape>, hart: u8) -> Result<String, AllocError>
+    ensures { IfOk result (λ about. string_bytes about ≡ about_text shape hart) }
+{
+    match shape {
+        None => String::from_str(alloc, about_base(hart)),
+        Some(shape) => about_shape(alloc, shape),
+    }
+}
+
+// What a hart does in the base.
+fn about_base(hart: u8) -> &'static str
+    ensures { result.now ≡ about_text None hart }
+{
+    if hart == 0 {
+        ", the program's body"
+    } else {
+        ", idle"
+    }
+}
+
+// The kind of a site and its line.
+fn about_shape(alloc: Global, shape: Shape) -> Result<String, AllocError>
+    ensures { IfOk result (λ about. string_bytes about ≡ about_text (Some shape) 0) }
+{
+    about_by(alloc, kind_name(shape.kind), shape.line)
+}
+
+// A kind and a line.
+fn about_by(alloc: Global, kind: &str, line: u32) -> Result<String, AllocError>
+    ensures { IfOk result (λ about. string_bytes about ≡ about_by kind.now line) }
+{
+    format!(in alloc; ", {kind}, line {line}")
+}
+
+// Which entry brings the hart.
+fn since_text(alloc: Global, first: u32) -> Result<String, AllocError>
+    ensures { IfOk result (λ since. string_bytes since ≡ since_text first) }
+{
+    if first == 0 {
+        return String::from_str(alloc, ", from the start");
+    }
+    let entry = first - 1;
+    format!(in alloc; ", from entry {entry}")
+}
+
+// Which entry takes the hart away.
+fn until_text(alloc: Global, last: Option<u32>) -> Result<String, AllocError>
+    ensures { IfOk result (λ until. string_bytes until ≡ until_text last) }
+{
+    match last {
+        None => String::from_str(alloc, " to the end"),
+        Some(last) => format!(in alloc; " to entry {last}"),
+    }
 }
 
 // Adds the bar at its place.
@@ -171,34 +295,37 @@ fn write_placed(
     x: usize,
     y: usize,
     width: usize,
-    site: u16,
+    title: &str,
+    stay: Stay,
+    shape: Option<Shape>,
     level: usize,
-    kind: Option<Kind>,
 ) -> Result<(), AllocError>
-    requires left { x ≤ 500000000000 }
-    requires upper { y ≤ 40000 }
-    requires wide { width ≤ 400000000000 }
+    requires left { x ≤ 4000000000000 }
+    requires upper { y ≤ 6000000000000 }
+    requires wide { width ≤ 4000000000000 }
     ensures { OnOk result (string_bytes text.new ≡ string_bytes text.old
-        ++ placed_bar x y width site level kind) }
+        ++ placed_bar x y width title.now stay shape level) }
 {
-    write_rect(text, x, y, width, fill(kind, level))?;
-    write_label(alloc, text, x, y, width, site, kind)
+    write_rect(text, x, y, width, fill(shape, stay.hart, level), title)?;
+    write_label(alloc, text, x, y, width, stay.site, shape)
 }
 
-/// Adds a rectangle.
+/// Adds a rectangle with a title.
+#[tactic(auto, unfolding(crate::specs::SvgBars::rect_text))]
 pub(crate) fn write_rect(
     text: &mut String,
     x: usize,
     y: usize,
     width: usize,
     fill: &str,
+    title: &str,
 ) -> Result<(), AllocError>
     ensures { OnOk result (string_bytes text.new ≡ string_bytes text.old
-        ++ rect_text x y width fill.now) }
+        ++ rect_text x y width fill.now title.now) }
 {
     write!(
         text,
-        "<rect x='{x}' y='{y}' width='{width}' height='18' fill='{fill}'/>\n"
+        "<rect x='{x}' y='{y}' width='{width}' height='14' fill='{fill}'><title>{title}</title></rect>\n"
     )
 }
 
@@ -210,24 +337,43 @@ fn write_label(
     y: usize,
     width: usize,
     site: u16,
-    kind: Option<Kind>,
+    shape: Option<Shape>,
 ) -> Result<(), AllocError>
-    requires left { x ≤ 500000000000 }
-    requires upper { y ≤ 40000 }
-    requires wide { width ≤ 400000000000 }
+    requires left { x ≤ 4000000000000 }
+    requires upper { y ≤ 6000000000000 }
+    requires wide { width ≤ 4000000000000 }
     ensures { OnOk result (string_bytes text.new ≡ string_bytes text.old
-        ++ label_text x y width site kind) }
+        ++ label_text x y width (site_name site) shape) }
 {
-    if width < 34 {
+    let name = site_name(alloc, site)?;
+    write_label_of(text, x, y, width, name.as_str(), shape)
+}
+
+// Adds a label with this name, where there is room.
+fn write_label_of(
+    text: &mut String,
+    x: usize,
+    y: usize,
+    width: usize,
+    name: &str,
+    shape: Option<Shape>,
+) -> Result<(), AllocError>
+    requires left { x ≤ 4000000000000 }
+    requires upper { y ≤ 6000000000000 }
+    requires wide { width ≤ 4000000000000 }
+    ensures { OnOk result (string_bytes text.new ≡ string_bytes text.old
+        ++ label_text x y width name.now shape) }
+{
+    let letters = name.len();
+    if width / 7 <= letters {
         return Ok(());
     }
-    let name = site_name(alloc, site)?;
     write_words(
         text,
         x + width / 2,
-        y + 13,
-        name.as_str(),
-        kind_label(kind, width),
+        y + 11,
+        name,
+        kind_label(shape, letters, width),
     )
 }
 
@@ -245,40 +391,66 @@ fn write_words(
     write!(text, "<text x='{x}' y='{y}'>{name}{word}</text>\n")
 }
 
-// The kind of a bar's site, where there is room for it.
-fn kind_label(kind: Option<Kind>, width: usize) -> &'static str
-    ensures { result.now ≡ kind_label kind width }
+// The kind of a bar's site, where there is room for it behind so many letters.
+fn kind_label(shape: Option<Shape>, letters: usize, width: usize) -> &'static str
+    ensures { result.now ≡ kind_label shape letters width }
 {
-    if width < 64 {
+    if (width / 7).saturating_sub(5) <= letters {
         return "";
     }
-    match kind {
+    match shape {
         None => "",
-        Some(Kind::Pool) => " pool",
-        Some(Kind::Team) => " team",
+        Some(shape) => kind_word(shape.kind),
     }
 }
 
-// What schedules the site; the base has no kind.
-fn kind_of(shapes: &[Shape], site: u16) -> Option<Kind>
-    ensures { result ≡ kind_of shapes.now site }
+// The name of a kind behind a blank.
+fn kind_word(kind: Kind) -> &'static str
+    ensures { result.now ≡ codes " " ++ kind_text kind }
+{
+    match kind {
+        Kind::Pool => " pool",
+        Kind::Team => " team",
+    }
+}
+
+// What the program says of the site; the base has no shape.
+fn shape_of(shapes: &[Shape], site: u16) -> Option<Shape>
+    ensures { result ≡ shape_of shapes.now site }
 {
     if site == 0 {
         return None;
     }
-    match shapes.get(site as usize - 1).copied() {
-        None => None,
-        Some(shape) => Some(shape.kind),
+    shapes.get(site as usize - 1).copied()
+}
+
+/// The colour of a bar and its outline.
+pub(crate) fn fill(shape: Option<Shape>, hart: u8, level: usize) -> &'static str
+    ensures { result.now ≡ fill_text shape hart level }
+{
+    match shape {
+        None => base_fill(hart),
+        Some(shape) => kind_fill(shape.kind, level),
+    }
+}
+
+/// The colour of a hart in the base.
+pub(crate) fn base_fill(hart: u8) -> &'static str
+    ensures { result.now ≡ base_fill hart }
+{
+    if hart == 0 {
+        "#e9f3e4' stroke='#4f7a3a"
+    } else {
+        "#e3e6e9' stroke='#9aa4ad"
     }
 }
 
 /// The colour of a site and its outline, by its kind and depth.
-pub(crate) fn fill(kind: Option<Kind>, level: usize) -> &'static str
-    ensures { result.now ≡ fill_text kind level }
+pub(crate) fn kind_fill(kind: Kind, level: usize) -> &'static str
+    ensures { result.now ≡ kind_fill kind level }
 {
     match kind {
-        None => "#e3e6e9' stroke='#9aa4ad",
-        Some(Kind::Pool) => {
+        Kind::Pool => {
             if level == 1 {
                 "#cfe3f8' stroke='#2c5d8f"
             } else if level == 2 {
@@ -287,7 +459,7 @@ pub(crate) fn fill(kind: Option<Kind>, level: usize) -> &'static str
                 "#6fabe4' stroke='#2c5d8f"
             }
         }
-        Some(Kind::Team) => {
+        Kind::Team => {
             if level == 1 {
                 "#fbe3bd' stroke-dasharray='4 2' stroke='#8a5a12"
             } else if level == 2 {

@@ -36,8 +36,8 @@ pub(crate) fn board_after(alloc: Global, plan: &Plan, list: &[Entry]) -> Result<
     Ok(board)
 }
 
-// Admits the entry, or leaves the table as it is.
-fn admit(board: &mut Board, entry: Entry)
+/// Admits the entry, or leaves the table as it is.
+pub(crate) fn admit(board: &mut Board, entry: Entry)
     ensures { board.new ≡ record {
       plan = board.old.plan;
       state = or_same board.old.state (admit_of board.old.plan board.old.state entry);

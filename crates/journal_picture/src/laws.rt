@@ -1,6 +1,7 @@
-//! The laws of stays, each the contract of a function that does nothing. They hold for every plan and every list of entries;
-//! `specs/Laws.antt` says them.
-ghost use Rattle.journal_picture.specs.Laws.{OneStayAtEachPlace, StaysFollowOneAnother, GuestsAreWithTheHome};
+//! The laws of stays, of the strip and of escaped texts, each the contract of a function that does nothing. They hold for every plan
+//! and every list of entries; `specs/Laws.antt` and `specs/Strip.antt` say them.
+ghost use Rattle.journal_picture.specs.Laws.{EscapedHasNoMarkup, OneStayAtEachPlace, StaysFollowOneAnother, GuestsAreWithTheHome};
+ghost use Rattle.journal_picture.specs.Strip.{RedIsMissed, StripTellsStates};
 
 /// At each place up to which a list is legal each hart is in exactly one of its stays, and that is at the site that holds it.
 pub fn one_stay_at_each_place()
@@ -15,4 +16,19 @@ pub fn stays_follow_one_another()
 /// As long as a hart is at a site, the site's home is at the site or at one within it.
 pub fn guests_are_with_the_home()
     ensures { GuestsAreWithTheHome }
+{}
+
+/// As far as a list is legal, the strip has at each place the figures of the table's state there.
+pub fn strip_tells_states()
+    ensures { StripTellsStates }
+{}
+
+/// The strip is red exactly where some live child of the base has an unmet wish while a hart other than hart 0 is in the base.
+pub fn red_is_missed()
+    ensures { RedIsMissed }
+{}
+
+/// Whatever is told, its escaped form has no `<`.
+pub fn escaped_has_no_markup()
+    ensures { EscapedHasNoMarkup }
 {}

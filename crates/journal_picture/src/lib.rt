@@ -1,8 +1,10 @@
-//! A journal as a picture: where each hart was from when to when.
+//! A journal as a picture: where each hart was from when to when, and at each place how many wishes are unmet and how many harts
+//! are idle.
 //!
 //! `run_picture` draws the journal of a run with it. The height of a bar shows how deep its site is and the outline shows the
-//! kind, so no colour is needed. The caller passes the verdict as text, so a picture needs no language and no audit. Begin with
-//! `stays_of` in `stay.rt` and `text_picture` in `text.rt`; the tests of `picture_tests` draw small journals.
+//! kind, so no colour is needed. A long journal is drawn in rows. The caller passes the verdict as text, so a picture needs no
+//! language and no audit. Begin with `stays_of` in `stay.rt` and `text_picture` in `text.rt`; the tests of `picture_tests` draw
+//! small journals.
 #![tactic(auto)]
 
 mod axis;
@@ -10,9 +12,11 @@ mod bars;
 mod drawn;
 mod lanes;
 pub mod laws;
+mod marks;
 mod scale;
 mod shape;
 mod stay;
+mod strip;
 mod svg;
 mod text;
 mod tree;
@@ -20,5 +24,6 @@ mod words;
 
 pub use shape::{Kind, Shape};
 pub use stay::{Stay, stays_of};
+pub use strip::{Figures, strip_of};
 pub use svg::svg_picture;
 pub use text::text_picture;

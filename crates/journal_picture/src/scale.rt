@@ -1,54 +1,121 @@
 //! Where things stand in the picture, in its units.
 ghost use Rattle.std.specs.Prelude.{◌≡◌, ◌≤◌, ◌*◌};
 ghost use Rattle.transfer_table.specs.Plan.{most_entries};
-ghost use Rattle.journal_picture.specs.SvgPicture.{bar_y, ends_of, every, lane_y, lanes_bottom, level_of, mark_y, place_x, step_of, width_of};
+ghost use Rattle.journal_picture.specs.Scale.{bar_y, entry_x, every, is_shown, lane_y, level_of, per_row, place_x, row_height, row_of, row_y, rows_bottom, rows_of, slot_of, step_of, width_of};
 
 use crate::tree::depth_of;
 use transfer_table::Plan;
 
-/// How wide a place is, by the number of entries.
-pub(crate) fn step_of(entries: usize) -> usize
-    requires { entries ≤ most_entries }
-    ensures same { result ≡ step_of entries }
-    ensures some { 2 ≤ result }
+/// How wide a place is, in a list whose last place is this.
+pub(crate) fn step_of(end: usize) -> usize
+    requires { end ≤ most_entries }
+    ensures same { result ≡ step_of end }
+    ensures some { 8 ≤ result }
     ensures few { result ≤ 72 }
 {
-    2usize.max(72usize.min(1440 / (entries + 1)))
+    8usize.max(72usize.min(8328 / (end + 1)))
 }
 
-/// So many places of this width.
-pub(crate) fn times(step: usize, places: usize) -> usize
-    requires narrow { step ≤ 72 }
-    requires few { places ≤ 4294967296 }
-    ensures same { result ≡ step * places }
-    ensures bound { result ≤ 400000000000 }
+/// How many places a row has.
+pub(crate) fn per_row(end: usize) -> usize
+    requires { end ≤ most_entries }
+    ensures same { result ≡ per_row end }
+    ensures some { 1 ≤ result }
+    ensures few { result ≤ 173 }
 {
-    step * places
+    1388 / step_of(end)
+}
+
+/// The row of a place.
+pub(crate) fn row_of(end: usize, place: usize) -> usize
+    requires { end ≤ most_entries }
+    ensures same { result ≡ row_of end place }
+    ensures few { result ≤ place }
+{
+    place / per_row(end)
+}
+
+/// How many rows the list has.
+pub(crate) fn rows_of(end: usize) -> usize
+    requires { end ≤ most_entries }
+    ensures same { result ≡ rows_of end }
+    ensures few { result ≤ 65536 }
+{
+    row_of(end, end) + 1
+}
+
+/// Whether a row is shown.
+pub(crate) fn is_shown(end: usize, row: usize) -> bool
+    requires few { end ≤ most_entries }
+    requires low { row ≤ 5000000000 }
+    ensures { result ≡ is_shown end row }
+{
+    row < 16 || rows_of(end) <= row + 16
+}
+
+/// The position of a row that is shown.
+pub(crate) fn slot_of(end: usize, row: usize) -> usize
+    requires { end ≤ most_entries }
+    ensures same { result ≡ slot_of end row }
+    ensures few { result ≤ 31 }
+{
+    if row < 16 {
+        return row;
+    }
+    31usize.min(row.saturating_sub(rows_of(end).saturating_sub(32)))
+}
+
+/// A width, so many times.
+pub(crate) fn times(width: usize, count: usize) -> usize
+    requires narrow { width ≤ 800 }
+    requires few { count ≤ 4294967296 }
+    ensures same { result ≡ width * count }
+    ensures bound { result ≤ 3435973836800 }
+{
+    width * count
 }
 
 /// The left end of a place.
-pub(crate) fn place_x(step: usize, place: usize) -> usize
-    requires narrow { step ≤ 72 }
-    requires few { place ≤ 4294967296 }
-    ensures same { result ≡ place_x step place }
-    ensures bound { result ≤ 500000000000 }
+pub(crate) fn place_x(end: usize, place: usize) -> usize
+    requires { end ≤ most_entries }
+    ensures same { result ≡ place_x end place }
+    ensures bound { result ≤ 4000000000000 }
 {
-    56 + times(step, place)
+    56 + times(step_of(end), place % per_row(end))
+}
+
+/// The right end of a place.
+pub(crate) fn entry_x(end: usize, place: usize) -> usize
+    requires { end ≤ most_entries }
+    ensures { result ≡ entry_x end place }
+{
+    place_x(end, place) + step_of(end)
+}
+
+/// The height of a row.
+pub(crate) fn row_height(plan: &Plan) -> usize
+    ensures same { result ≡ row_height plan.now }
+    ensures bound { result ≤ 800 }
+{
+    96 + 44 * plan.harts() as usize
+}
+
+/// The upper end of a row.
+pub(crate) fn row_y(plan: &Plan, end: usize, row: usize) -> usize
+    requires { end ≤ most_entries }
+    ensures same { result ≡ row_y plan.now end row }
+    ensures bound { result ≤ 4000000000000 }
+{
+    76 + times(row_height(plan), slot_of(end, row))
 }
 
 /// The upper end of a hart's lane.
-pub(crate) fn lane_y(hart: u8) -> usize
-    ensures same { result ≡ lane_y hart }
-    ensures bound { result ≤ 30000 }
+pub(crate) fn lane_y(top: usize, hart: u8) -> usize
+    requires { top ≤ 4000000000000 }
+    ensures same { result ≡ lane_y top hart }
+    ensures bound { result ≤ 5000000000000 }
 {
-    120 + 84 * hart as usize
-}
-
-/// The foot of the marks of a hart's lane.
-pub(crate) fn mark_y(hart: u8) -> usize
-    ensures { result ≡ mark_y hart }
-{
-    116 + 84 * hart as usize
+    top + 40 + 44 * hart as usize
 }
 
 /// How high a site stands; deeper ones stand higher, down to depth 3.
@@ -60,43 +127,37 @@ pub(crate) fn level_of(plan: &Plan, site: u16) -> usize
 }
 
 /// The upper end of a bar.
-pub(crate) fn bar_y(hart: u8, level: usize) -> usize
-    requires { level ≤ 3 }
-    ensures same { result ≡ bar_y hart level }
-    ensures bound { result ≤ 40000 }
+pub(crate) fn bar_y(top: usize, hart: u8, level: usize) -> usize
+    requires high { top ≤ 4000000000000 }
+    requires few { level ≤ 3 }
+    ensures same { result ≡ bar_y top hart level }
+    ensures bound { result ≤ 6000000000000 }
 {
-    lane_y(hart) + 42 - 14 * level
+    lane_y(top, hart) + 26 - 6 * level
 }
 
-/// The lower end of the lanes.
-pub(crate) fn lanes_bottom(plan: &Plan) -> usize
-    ensures same { result ≡ lanes_bottom plan.now }
-    ensures bound { result ≤ 30000 }
+/// The lower end of all rows.
+pub(crate) fn rows_bottom(plan: &Plan, end: usize) -> usize
+    requires { end ≤ most_entries }
+    ensures same { result ≡ rows_bottom plan.now end }
+    ensures bound { result ≤ 4000000000000 }
 {
-    lane_y(plan.harts()) - 14
-}
-
-/// How many of a lane's first stays a folded picture has, and how many of its last.
-pub(crate) fn ends_of(plan: &Plan) -> usize
-    ensures same { result ≡ ends_of plan.now }
-    ensures few { result ≤ 512 }
-{
-    512usize.min(2048 / plan.harts() as usize)
+    76 + times(row_height(plan), 32usize.min(rows_of(end)))
 }
 
 /// The width of the picture.
-pub(crate) fn width_of(entries: usize) -> usize
-    requires { entries ≤ most_entries }
-    ensures { result ≡ width_of entries }
+pub(crate) fn width_of(end: usize) -> usize
+    requires { end ≤ most_entries }
+    ensures { result ≡ width_of end }
 {
-    600usize.max(place_x(step_of(entries), entries + 1) + 56)
+    700usize.max(112 + times(step_of(end), per_row(end).min(end + 1)))
 }
 
 /// Every how many entries there is a number.
-pub(crate) fn every(step: usize) -> usize
-    requires { 2 ≤ step }
-    ensures same { result ≡ every step }
+pub(crate) fn every(end: usize) -> usize
+    requires { end ≤ most_entries }
+    ensures same { result ≡ every end }
     ensures some { 1 ≤ result }
 {
-    1 + 36 / step
+    1 + 36 / step_of(end)
 }

@@ -1,22 +1,28 @@
 //! The picture as SVG.
 ghost use Rattle.std.specs.Prelude.{◌≡◌, ◌≤◌, ◌++◌, IfOk, OnOk, length, string_bytes};
 ghost use Rattle.transfer_table.specs.Plan.{site_count, most_entries};
-ghost use Rattle.journal_picture.specs.SvgPicture.{end_svg, escaped, escaped_byte, fault_svg, folded_note, frame_svg, head_of, head_svg, legend_svg, mark_svg, marks_note, marks_or_note, picture_svg, shown_svg, svg_of, svg_picture, swatch_svg, swatches_svg, title_of, title_svg, words_svg};
+ghost use Rattle.journal_picture.specs.SvgPicture.{base_swatches, end_svg, escaped, escaped_byte, frame_svg, head_of, head_svg, legend_svg, marks_note, note_svg, over_svg, picture_svg, rows_note, shown_svg, site_swatches, svg_of, svg_picture, swatch_svg, swatches_svg, title_of, title_svg, under_svg, words_svg};
 
-use crate::axis::{write_marks, write_ticks};
-use crate::bars::{fill, is_folded, write_lanes, write_rect};
+use crate::axis::{write_at, write_rows, write_ticks};
+use crate::bars::{base_fill, kind_fill, write_lanes, write_rect};
 use crate::drawn::{before, board_after};
-use crate::scale::{ends_of, lanes_bottom, place_x, step_of, width_of};
+use crate::marks::{write_fault, write_marks, write_strip};
+use crate::scale::{rows_bottom, rows_of, step_of, width_of};
 use crate::shape::{Kind, Shape};
 use std::alloc::{AllocError, Global};
 use transfer_table::{Board, Entry, Plan, first_fault};
 
 /// The picture of the list as SVG 1.1, up to its first fault; the plan's sites have these shapes. What is told of the list stands
-/// below the title, with `<` and `&` escaped; in place of a byte that is no printable letter of ASCII and no line's end stands `?`. The list has at most 65,535 entries. Which sites are meant to be entered is a truth value for each, that of
-/// site `s` at place `s - 1`.
+/// below the title, with `<` and `&` escaped; in place of a byte that is no printable letter of ASCII and no line's end stands `?`.
+/// The list has at most 65,535 entries. Which sites are meant to be entered is a truth value for each, that of site `s` at place
+/// `s - 1`.
 ///
-/// It has at most 4,096 bars: if there are more stays, each lane has its first 512 and its last 512, with more than four harts as many as
-/// 4,096 bars allow, and the picture says so.
+/// The places stand in rows of at most 1,500 units. A picture has at most 32 rows: if there are more, the first 16 and the last 16
+/// are shown, and the picture says so.
+///
+/// # Errors
+///
+/// An allocation failed.
 pub fn svg_picture(
     alloc: Global,
     plan: &Plan,
@@ -49,9 +55,8 @@ fn svg_of(
         (λ text. text.items ≡ svg_of plan.now shapes.now list.now faulty told.now) }
 {
     let board = board_after(alloc, plan, list)?;
-    let folded = is_folded(alloc, plan, list)?;
     let mut text = String::new(alloc);
-    write_shown(alloc, &mut text, &board, shapes, list, folded, faulty)?;
+    write_shown(alloc, &mut text, &board, shapes, list, faulty)?;
     ended(text.into_bytes(), told)
 }
 
@@ -94,104 +99,106 @@ fn write_shown(
     board: &Board,
     shapes: &[Shape],
     list: &[Entry],
-    folded: bool,
     faulty: bool,
 ) -> Result<(), AllocError>
     requires { length list.now ≤ most_entries }
     ensures { OnOk result (string_bytes text.new ≡ string_bytes text.old
-        ++ shown_svg board.now.plan board.now.state shapes.now list.now folded faulty) }
+        ++ shown_svg board.now.plan board.now.state shapes.now list.now faulty) }
 {
-    write_frame(text, board.plan(), list)?;
-    write_picture(alloc, text, board, shapes, list, folded, faulty)?;
+    write_frame(text, board.plan(), list.len())?;
+    write_picture(alloc, text, board, shapes, list, faulty)?;
     text.push_str("<text x='16' y='52' font-size='14' text-anchor='start'>")
 }
 
-// Adds the frame: head, title, legend and axis.
-fn write_frame(text: &mut String, plan: &Plan, list: &[Entry]) -> Result<(), AllocError>
-    requires { length list.now ≤ most_entries }
-    ensures { OnOk result (string_bytes text.new ≡ string_bytes text.old
-        ++ frame_svg plan.now list.now) }
+// Adds the frame: head, title, note and legend.
+fn write_frame(text: &mut String, plan: &Plan, end: usize) -> Result<(), AllocError>
+    requires { end ≤ most_entries }
+    ensures { OnOk result (string_bytes text.new ≡ string_bytes text.old ++ frame_svg plan.now end) }
 {
-    let entries = list.len();
-    write_head(text, plan, entries)?;
-    write_title(text, plan, entries)?;
-    write_legend(text, step_of(entries), lanes_bottom(plan) + 28)?;
-    write_ticks(text, step_of(entries), lanes_bottom(plan), list)
+    write_head(text, plan, end)?;
+    write_title(text, plan, end)?;
+    write_note(text, rows_of(end))?;
+    write_legend(text, step_of(end), rows_bottom(plan, end) + 8)
 }
 
-// Adds lanes, marks and the fault.
+// Adds the rows, the bars, and what lies over them.
 fn write_picture(
     alloc: Global,
     text: &mut String,
     board: &Board,
     shapes: &[Shape],
     list: &[Entry],
-    folded: bool,
     faulty: bool,
 ) -> Result<(), AllocError>
     requires { length list.now ≤ most_entries }
     ensures { OnOk result (string_bytes text.new ≡ string_bytes text.old
-        ++ picture_svg board.now.plan board.now.state shapes.now list.now folded faulty) }
+        ++ picture_svg board.now.plan board.now.state shapes.now list.now faulty) }
 {
-    let plan = board.plan();
-    let step = step_of(list.len());
-    write_lanes(alloc, text, plan, shapes, list, folded)?;
-    write_marks_or_note(alloc, text, board, list, folded)?;
-    write_fault(
-        text,
-        place_x(step, list.len() + 1),
-        lanes_bottom(plan),
-        faulty,
-    )
+    write_under(alloc, text, board.plan(), list)?;
+    write_lanes(alloc, text, board.plan(), shapes, list)?;
+    write_over(alloc, text, board, list, faulty)
 }
 
-// Adds the marks, or that the picture is folded.
-fn write_marks_or_note(
+// Adds what lies under the bars.
+fn write_under(
+    alloc: Global,
+    text: &mut String,
+    plan: &Plan,
+    list: &[Entry],
+) -> Result<(), AllocError>
+    requires { length list.now ≤ most_entries }
+    ensures { OnOk result (string_bytes text.new ≡ string_bytes text.old
+        ++ under_svg plan.now list.now) }
+{
+    write_rows(text, plan, list.len(), rows_of(list.len()))?;
+    write_ticks(alloc, text, plan, list.len(), list)
+}
+
+// Adds what lies over the bars.
+fn write_over(
     alloc: Global,
     text: &mut String,
     board: &Board,
     list: &[Entry],
-    folded: bool,
+    faulty: bool,
 ) -> Result<(), AllocError>
     requires { length list.now ≤ most_entries }
     ensures { OnOk result (string_bytes text.new ≡ string_bytes text.old
-        ++ marks_or_note board.now.plan board.now.state list.now folded) }
+        ++ over_svg board.now.plan board.now.state list.now faulty) }
 {
-    if !folded {
-        return write_marks(alloc, text, board, step_of(list.len()), list);
-    }
-    write_note(text, ends_of(board.plan()))
+    write_marks(alloc, text, board, list.len(), list)?;
+    write_strip(alloc, text, board.plan(), list.len(), list)?;
+    write_fault(text, board.plan(), list.len(), faulty)
 }
 
-// Adds that the picture is folded.
-fn write_note(text: &mut String, ends: usize) -> Result<(), AllocError>
-    ensures { OnOk result (string_bytes text.new ≡ string_bytes text.old ++ folded_note ends) }
+// Adds that rows are left out, if some are.
+fn write_note(text: &mut String, rows: usize) -> Result<(), AllocError>
+    ensures { OnOk result (string_bytes text.new ≡ string_bytes text.old ++ note_svg rows) }
+{
+    if rows <= 32 {
+        Ok(())
+    } else {
+        write_rows_note(text, rows)
+    }
+}
+
+// Adds that rows are left out.
+#[tactic(auto, unfolding(crate::specs::SvgPicture::rows_note))]
+fn write_rows_note(text: &mut String, rows: usize) -> Result<(), AllocError>
+    ensures { OnOk result (string_bytes text.new ≡ string_bytes text.old ++ rows_note rows) }
 {
     write!(
         text,
-        "<text x='56' y='68' text-anchor='start'>folded: the first and the last {ends} stays of each hart, without requests</text>\n"
-    )
-}
-
-// Adds the mark of the fault, if there is one.
-fn write_fault(text: &mut String, x: usize, bottom: usize, faulty: bool) -> Result<(), AllocError>
-    ensures { OnOk result (string_bytes text.new ≡ string_bytes text.old ++ fault_svg x bottom faulty) }
-{
-    if !faulty {
-        return Ok(());
-    }
-    write!(
-        text,
-        "<path d='M{x} 104V{bottom}' stroke='#b00020' stroke-width='3' stroke-dasharray='6 3'/>\n<text x='{x}' y='98' fill='#b00020' font-weight='bold'>fault</text>\n"
+        "<text x='260' y='72' text-anchor='start'>of {rows} rows the first 16 and the last 16 are shown</text>\n"
     )
 }
 
 // Adds the head.
-fn write_head(text: &mut String, plan: &Plan, entries: usize) -> Result<(), AllocError>
-    requires { entries ≤ most_entries }
-    ensures { OnOk result (string_bytes text.new ≡ string_bytes text.old ++ head_svg plan.now entries) }
+fn write_head(text: &mut String, plan: &Plan, end: usize) -> Result<(), AllocError>
+    requires { end ≤ most_entries }
+    ensures { OnOk result (string_bytes text.new ≡ string_bytes text.old ++ head_svg plan.now end) }
 {
-    write_head_of(text, width_of(entries), lanes_bottom(plan) + 92)
+    write_head_of(text, width_of(end), rows_bottom(plan, end) + 76)
 }
 
 // Adds the head of a picture of this size.
@@ -201,15 +208,15 @@ fn write_head_of(text: &mut String, width: usize, height: usize) -> Result<(), A
 {
     write!(
         text,
-        "<svg xmlns='http://www.w3.org/2000/svg' version='1.1' width='{width}' height='{height}' font-family='Helvetica, Arial, sans-serif' font-size='12' text-anchor='middle'>\n<rect width='100%' height='100%' fill='#ffffff'/>\n"
+        "<svg xmlns='http://www.w3.org/2000/svg' version='1.1' width='{width}' height='{height}' viewBox='0 0 {width} {height}' font-family='Helvetica, Arial, sans-serif' font-size='11' text-anchor='middle'>\n<rect width='100%' height='100%' fill='#ffffff'/>\n"
     )
 }
 
 // Adds the title.
-fn write_title(text: &mut String, plan: &Plan, entries: usize) -> Result<(), AllocError>
-    ensures { OnOk result (string_bytes text.new ≡ string_bytes text.old ++ title_svg plan.now entries) }
+fn write_title(text: &mut String, plan: &Plan, end: usize) -> Result<(), AllocError>
+    ensures { OnOk result (string_bytes text.new ≡ string_bytes text.old ++ title_svg plan.now end) }
 {
-    write_title_of(text, plan.harts(), plan.sites(), entries)
+    write_title_of(text, plan.harts(), plan.sites(), end)
 }
 
 // Adds the title by these numbers.
@@ -225,32 +232,49 @@ fn write_title_of(
 {
     write!(
         text,
-        "<text x='16' y='30' font-size='19' font-weight='bold' text-anchor='start'>Lithe, harts {harts}, sites {sites}, entries {entries}</text>\n"
+        "<text x='16' y='30' font-size='19' font-weight='bold' text-anchor='start'>Lithe, harts {harts}, sites {sites}, entries {entries}</text>\n<text x='56' y='72' text-anchor='start'>entries in order, not time</text>\n"
     )
 }
 
 // Adds the legend at this upper end.
 fn write_legend(text: &mut String, step: usize, y: usize) -> Result<(), AllocError>
-    requires { y ≤ 100000 }
+    requires { y ≤ 5000000000000 }
     ensures { OnOk result (string_bytes text.new ≡ string_bytes text.old ++ legend_svg step y) }
 {
     text.push_str("<g text-anchor='start'>\n")?;
     write_swatches(text, y)?;
-    write_words(text, y + 13, y + 38, marks_note(step))
+    write_words(text, y + 32, y + 50, marks_note(step))
 }
 
 // Adds the colours of the legend.
 fn write_swatches(text: &mut String, y: usize) -> Result<(), AllocError>
-    requires { y ≤ 100000 }
+    requires { y ≤ 5000000000000 }
     ensures { OnOk result (string_bytes text.new ≡ string_bytes text.old ++ swatches_svg y) }
 {
-    write_swatch(text, 56, y, fill(None, 0), "the base")?;
-    write_swatch(text, 156, y, fill(Some(Kind::Pool), 1), "a pool (par)")?;
-    write_swatch(text, 276, y, fill(Some(Kind::Team), 1), "a team")
+    write_base_swatches(text, y)?;
+    write_site_swatches(text, y)
+}
+
+// Adds the colours of the base.
+fn write_base_swatches(text: &mut String, y: usize) -> Result<(), AllocError>
+    requires { y ≤ 5000000000000 }
+    ensures { OnOk result (string_bytes text.new ≡ string_bytes text.old ++ base_swatches y) }
+{
+    write_swatch(text, 56, y, base_fill(0), "the program's body")?;
+    write_swatch(text, 216, y, base_fill(1), "an idle hart")
+}
+
+// Adds the colours of sites, and that of a missed wish.
+fn write_site_swatches(text: &mut String, y: usize) -> Result<(), AllocError>
+    requires { y ≤ 5000000000000 }
+    ensures { OnOk result (string_bytes text.new ≡ string_bytes text.old ++ site_swatches y) }
+{
+    write_swatch(text, 336, y, kind_fill(Kind::Pool, 1), "a pool (par)")?;
+    write_swatch(text, 456, y, kind_fill(Kind::Team, 1), "a team")?;
+    write_swatch(text, 556, y, "#f6b3b9' stroke='#b00020", "a missed wish")
 }
 
 // Adds a colour of the legend and what it means.
-#[tactic(auto, unfolding(crate::specs::SvgPicture::swatch_svg))]
 fn write_swatch(
     text: &mut String,
     x: usize,
@@ -259,19 +283,12 @@ fn write_swatch(
     words: &str,
 ) -> Result<(), AllocError>
     requires left { x ≤ 100000 }
-    requires upper { y ≤ 100000 }
+    requires upper { y ≤ 5000000000000 }
     ensures { OnOk result (string_bytes text.new ≡ string_bytes text.old
         ++ swatch_svg x y fill.now words.now) }
 {
-    write_rect(text, x, y, 24, fill)?;
-    write_beside(text, x + 32, y + 13, words)
-}
-
-// Adds words of the legend.
-fn write_beside(text: &mut String, x: usize, y: usize, words: &str) -> Result<(), AllocError>
-    ensures { OnOk result (string_bytes text.new ≡ string_bytes text.old ++ mark_svg x y words.now) }
-{
-    write!(text, "<text x='{x}' y='{y}'>{words}</text>\n")
+    write_rect(text, x, y, 24, fill, words)?;
+    write_at(text, x + 32, y + 11, words)
 }
 
 // Adds what the legend says of heights and marks.
@@ -282,7 +299,7 @@ fn write_words(text: &mut String, first: usize, second: usize, note: &str) -> Re
 {
     write!(
         text,
-        "<text x='372' y='{first}'>higher: deeper in the tree</text>\n<text x='56' y='{second}'>{note}</text>\n</g>\n"
+        "<text x='56' y='{first}'>higher: deeper in the tree. a missed wish: a child of the base has an unmet wish while a hart is idle.</text>\n<text x='56' y='{second}'>{note}</text>\n</g>\n"
     )
 }
 
@@ -290,9 +307,9 @@ fn write_words(text: &mut String, first: usize, second: usize, note: &str) -> Re
 fn marks_note(step: usize) -> &'static str
     ensures { result.now ≡ marks_note step }
 {
-    if step < 48 {
-        "a line: the home requests harts. a dot: wishes that nobody met."
+    if step < 40 {
+        "a line: the home requests harts. a dot: wishes that nobody met. red and slanted: a skip."
     } else {
-        "+1: the home requests a hart. 1 unmet: a wish that nobody met."
+        "+1: the home requests a hart. 1 unmet: a wish that nobody met. skip: a site that isn't entered."
     }
 }

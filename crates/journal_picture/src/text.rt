@@ -1,12 +1,14 @@
 //! The picture in text.
 ghost use Rattle.std.specs.Prelude.{◌≡◌, ◌≤◌, ◌++◌, ◌*◌, ◌+◌, IfOk, OnOk, length, take, drop, string_bytes, true};
+ghost use Rattle.transfer_table.specs.Entry.{hart_of, site_of};
 ghost use Rattle.transfer_table.specs.Plan.{site_count, most_entries};
-ghost use Rattle.journal_picture.specs.TextPicture.{band_count, band_text, bands_text, deed, deeds_line, deeds_text, hart_name, lanes_text, mark_text, numbers_line, numbers_text, shown_text, sites_text, text_of, text_picture};
+ghost use Rattle.journal_picture.specs.TextPicture.{asking, at_sites_line, at_sites_text, band_count, band_text, bands_text, deed, deed_lines, deeds_line, deeds_text, doer, doers_line, doers_text, hart_name, idle_line, idle_words, idles_text, lanes_text, mark_text, numbers_line, numbers_text, shown_text, sites_text, strip_lines, text_of, text_picture, unmet_line, unmets_text};
 ghost use Rattle.journal_picture.specs.Drawn.{state_after};
 
 use crate::drawn::{before, board_after};
 use crate::lanes::{Lane, lanes_of};
 use crate::shape::Shape;
+use crate::strip::{Figures, strip_of};
 use crate::tree::write_tree;
 use crate::words::{site_name, write_cell, write_name};
 use std::alloc::{AllocError, Global};
@@ -49,9 +51,12 @@ fn text_of(
         (λ text. text.items ≡ text_of plan.now shapes.now list.now faulty told.now) }
 {
     let lanes = lanes_of(alloc, plan, list)?;
+    let strip = strip_of(alloc, plan, list)?;
     let board = board_after(alloc, plan, list)?;
     let mut text = String::new(alloc);
-    write_shown(alloc, &mut text, &board, shapes, list, &lanes, faulty)?;
+    write_shown(
+        alloc, &mut text, &board, shapes, list, &lanes, &strip, faulty,
+    )?;
     let mut bytes = text.into_bytes();
     bytes.extend_from_slice(told)?;
     Ok(bytes)
@@ -65,16 +70,19 @@ fn write_shown(
     shapes: &[Shape],
     list: &[Entry],
     lanes: &[Lane],
+    strip: &[Figures],
     faulty: bool,
 ) -> Result<(), AllocError>
     requires few { length list.now ≤ most_entries }
     requires shapes { length shapes.now ≡ site_count board.now.plan }
     ensures { OnOk result (string_bytes text.new ≡ string_bytes text.old
-        ++ shown_text board.now.plan board.now.state shapes.now list.now lanes.now faulty) }
+        ++ shown_text board.now.plan board.now.state shapes.now list.now lanes.now strip.now faulty) }
 {
-    write_bands(alloc, text, list, lanes, faulty)?;
+    write_bands(alloc, text, list, lanes, strip, faulty)?;
     write_tree(text, board, shapes)?;
-    text.push_str("\nreg registers a site, req requests harts, unreg unregisters the site\n")
+    text.push_str(
+        "\nreg registers a site, req requests harts, unreg unregisters the site\nunm unmet wishes, idl idle harts, ! a child of the base has an unmet wish while a hart is idle\n",
+    )
 }
 
 // Adds all bands.
@@ -83,15 +91,16 @@ fn write_bands(
     text: &mut String,
     list: &[Entry],
     lanes: &[Lane],
+    strip: &[Figures],
     faulty: bool,
 ) -> Result<(), AllocError>
     requires few { length list.now ≤ most_entries }
     ensures { OnOk result (string_bytes text.new ≡ string_bytes text.old
-        ++ bands_text faulty list.now lanes.now 0 (band_count (length list.now))) }
+        ++ bands_text faulty list.now lanes.now strip.now 0 (band_count (length list.now))) }
 {
     let count = band_count(list.len());
     for band in 0..count {
-        write_band(alloc, text, list, lanes, faulty, 14 * band)?;
+        write_band(alloc, text, list, lanes, strip, faulty, 14 * band)?;
     }
     Ok(())
 }
@@ -111,19 +120,116 @@ fn write_band(
     text: &mut String,
     list: &[Entry],
     lanes: &[Lane],
+    strip: &[Figures],
     faulty: bool,
     at: usize,
 ) -> Result<(), AllocError>
     requires few { at ≤ 1000000 }
     ensures { OnOk result (string_bytes text.new ≡ string_bytes text.old
-        ++ band_text faulty list.now lanes.now at) }
+        ++ band_text faulty list.now lanes.now strip.now at) }
 {
     let shown = window(list, at, 14);
     let last = list.len() <= at + 14;
     write_numbers_line(alloc, text, faulty, last, at, shown)?;
-    write_deeds_line(text, shown)?;
+    write_deed_lines(alloc, text, shown)?;
     write_lanes(alloc, text, at, lanes)?;
+    write_strip_lines(alloc, text, at, strip)
+}
+
+// Adds the lines of what the entries do, whose they are, and of which site.
+fn write_deed_lines(alloc: Global, text: &mut String, shown: &[Entry]) -> Result<(), AllocError>
+    ensures { OnOk result (string_bytes text.new ≡ string_bytes text.old ++ deed_lines shown.now) }
+{
+    write_deeds_line(text, shown)?;
+    write_doers_line(alloc, text, shown)?;
+    write_at_sites_line(alloc, text, shown)
+}
+
+// Adds the line of whose the entries are.
+fn write_doers_line(alloc: Global, text: &mut String, shown: &[Entry]) -> Result<(), AllocError>
+    ensures { OnOk result (string_bytes text.new ≡ string_bytes text.old ++ doers_line shown.now) }
+{
+    text.push_str("         ")?;
+    write_doers(alloc, text, shown)?;
     text.push_str("\n")
+}
+
+// Adds the line of the sites that the entries are of.
+fn write_at_sites_line(alloc: Global, text: &mut String, shown: &[Entry]) -> Result<(), AllocError>
+    ensures { OnOk result (string_bytes text.new ≡ string_bytes text.old
+        ++ at_sites_line shown.now) }
+{
+    text.push_str("         ")?;
+    write_at_sites(alloc, text, shown)?;
+    text.push_str("\n")
+}
+
+// Adds the lines of the strip, and an empty one.
+fn write_strip_lines(
+    alloc: Global,
+    text: &mut String,
+    at: usize,
+    strip: &[Figures],
+) -> Result<(), AllocError>
+    ensures { OnOk result (string_bytes text.new ≡ string_bytes text.old
+        ++ strip_lines (take 15 (drop at strip.now))) }
+{
+    let shown = window(strip, at, 15);
+    write_unmet_line(alloc, text, shown)?;
+    write_idle_line(alloc, text, shown)
+}
+
+// Adds the line of the unmet wishes.
+fn write_unmet_line(alloc: Global, text: &mut String, shown: &[Figures]) -> Result<(), AllocError>
+    ensures { OnOk result (string_bytes text.new ≡ string_bytes text.old ++ unmet_line shown.now) }
+{
+    text.push_str("unm")?;
+    write_unmets(alloc, text, shown)?;
+    text.push_str("\n")
+}
+
+// Adds the line of the idle harts, and an empty one.
+fn write_idle_line(alloc: Global, text: &mut String, shown: &[Figures]) -> Result<(), AllocError>
+    ensures { OnOk result (string_bytes text.new ≡ string_bytes text.old ++ idle_line shown.now) }
+{
+    text.push_str("idl")?;
+    write_idles(alloc, text, shown)?;
+    text.push_str("\n\n")
+}
+
+// Adds how many wishes are unmet at each place.
+fn write_unmets(alloc: Global, text: &mut String, shown: &[Figures]) -> Result<(), AllocError>
+    ensures { OnOk result (string_bytes text.new ≡ string_bytes text.old ++ unmets_text shown.now) }
+{
+    for figures in shown {
+        let unmet = figures.unmet;
+        let unmet = format!(in alloc; "{unmet}")?;
+        write_cell(text, unmet.as_str())?;
+    }
+    Ok(())
+}
+
+// Adds how many harts are idle at each place.
+fn write_idles(alloc: Global, text: &mut String, shown: &[Figures]) -> Result<(), AllocError>
+    ensures { OnOk result (string_bytes text.new ≡ string_bytes text.old ++ idles_text shown.now) }
+{
+    for figures in shown {
+        let idle = idle_words(alloc, *figures)?;
+        write_cell(text, idle.as_str())?;
+    }
+    Ok(())
+}
+
+// How many harts are idle at a place, with a mark where a lender missed a wish.
+fn idle_words(alloc: Global, figures: Figures) -> Result<String, AllocError>
+    ensures { IfOk result (λ words. string_bytes words ≡ idle_words figures) }
+{
+    let idle = figures.idle;
+    if figures.missed {
+        format!(in alloc; "!{idle}")
+    } else {
+        format!(in alloc; "{idle}")
+    }
 }
 
 // Adds the line of the entries' numbers.
@@ -212,6 +318,78 @@ fn write_deeds(text: &mut String, shown: &[Entry]) -> Result<(), AllocError>
         write_cell(text, deed(*entry))?;
     }
     Ok(())
+}
+
+// Adds whose entries they are, and how many harts they ask for.
+fn write_doers(alloc: Global, text: &mut String, shown: &[Entry]) -> Result<(), AllocError>
+    ensures { OnOk result (string_bytes text.new ≡ string_bytes text.old ++ doers_text shown.now) }
+{
+    for entry in shown {
+        let name = doer(alloc, *entry)?;
+        write_cell(text, name.as_str())?;
+    }
+    Ok(())
+}
+
+// Whose entry it is, and how many harts it asks for.
+fn doer(alloc: Global, entry: Entry) -> Result<String, AllocError>
+    ensures { IfOk result (λ name. string_bytes name ≡ doer entry) }
+{
+    match entry {
+        Entry::Request { hart, count, .. } => asking(alloc, hart, count),
+        Entry::Register { hart, .. }
+        | Entry::Enter { hart, .. }
+        | Entry::Yield { hart, .. }
+        | Entry::Unregister { hart, .. }
+        | Entry::Skip { hart, .. } => format!(in alloc; "h{hart}"),
+    }
+}
+
+// A hart and how many harts it asks for.
+fn asking(alloc: Global, hart: u8, count: u8) -> Result<String, AllocError>
+    ensures { IfOk result (λ name. string_bytes name ≡ asking hart count) }
+{
+    format!(in alloc; "h{hart}+{count}")
+}
+
+// Adds the sites that the entries are of.
+fn write_at_sites(alloc: Global, text: &mut String, shown: &[Entry]) -> Result<(), AllocError>
+    ensures { OnOk result (string_bytes text.new ≡ string_bytes text.old
+        ++ at_sites_text shown.now) }
+{
+    for entry in shown {
+        let name = site_name(alloc, site_of(*entry))?;
+        write_cell(text, name.as_str())?;
+    }
+    Ok(())
+}
+
+/// The hart that makes the entry.
+pub(crate) fn hart_of(entry: Entry) -> u8
+    ensures { result ≡ hart_of entry }
+{
+    match entry {
+        Entry::Register { hart, .. }
+        | Entry::Request { hart, .. }
+        | Entry::Enter { hart, .. }
+        | Entry::Yield { hart, .. }
+        | Entry::Unregister { hart, .. }
+        | Entry::Skip { hart, .. } => hart,
+    }
+}
+
+/// The site that the entry is of.
+pub(crate) fn site_of(entry: Entry) -> u16
+    ensures { result ≡ site_of entry }
+{
+    match entry {
+        Entry::Register { site, .. }
+        | Entry::Request { site, .. }
+        | Entry::Enter { site, .. }
+        | Entry::Yield { site, .. }
+        | Entry::Unregister { site, .. }
+        | Entry::Skip { site, .. } => site,
+    }
 }
 
 /// What the entry does, in a short word.

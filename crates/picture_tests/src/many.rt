@@ -23,6 +23,8 @@ const LENT: [Entry; 5] = [
 
 const LENT_TEXT: &[u8] = b"    entry     0     1     2     3     4
             reg   req enter yield unreg
+             h0  h0+1   h10   h10    h0
+             s1    s1    s1    s1    s1
 h0   base    s1    s1    s1    s1  base
 h1   base  base  base  base  base  base
 h2   base  base  base  base  base  base
@@ -39,11 +41,14 @@ h12  base  base  base  base  base  base
 h13  base  base  base  base  base  base
 h14  base  base  base  base  base  base
 h15  base  base  base  base  base  base
+unm     0     0     1     0     0     0
+idl    15    15   !15    14    15    15
 
 base
   s1 pool, line 3, home h0
 
 reg registers a site, req requests harts, unreg unregisters the site
+unm unmet wishes, idl idle harts, ! a child of the base has an unmet wish while a hart is idle
 legal 5
 ";
 

@@ -1,4 +1,4 @@
-use Rattle.std.proofs.Common.{◌≡◌, ◌++◌, string_bytes, rules}
+use Rattle.std.proofs.Common.{◌≡◌, ◌++◌, length, string_bytes, rules}
 use Rattle.journal_picture.specs.SvgPicture.{frame_svg, picture_svg, shown_svg, told_start}
 use Rattle.journal_picture.proofs.Written.{on_three, on_pushed}
 use Rattle.journal_picture.proofs.svg.write_shown.Goals as goal
@@ -12,7 +12,7 @@ returns c =
     let first = string_bytes c.write_frame.new.text in
     let second = string_bytes c.write_picture.new.text in
     let third = string_bytes c.push_str.new.self in
-    let frame : first ≡ old ++ frame_svg b.plan es = search rules in
-    on_three c.push_str.result old first second third (frame_svg b.plan es)
-    (picture_svg b.plan b.state c.args.shapes.now es c.args.folded c.args.faulty) told_start frame c.in_ok-write_picture.ensures
+    let frame : first ≡ old ++ frame_svg b.plan (length es) = search rules in
+    on_three c.push_str.result old first second third (frame_svg b.plan (length es))
+    (picture_svg b.plan b.state c.args.shapes.now es c.args.faulty) told_start frame c.in_ok-write_picture.ensures
     (on_pushed c.push_str.result third second told_start c.push_str.ensures.bytes)

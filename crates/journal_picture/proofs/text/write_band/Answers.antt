@@ -1,6 +1,5 @@
-use Rattle.std.proofs.Common.{◌≡◌, ◌++◌, ◌+◌, nat_le, OnOk, length, take, drop, string_bytes, rules}
-use Rattle.std.specs.Prelude.{codes}
-use Rattle.journal_picture.specs.TextPicture.{numbers_line, deeds_line, lanes_text}
+use Rattle.std.proofs.Common.{◌≡◌, ◌++◌, ◌+◌, nat_le, length, take, drop, string_bytes, rules}
+use Rattle.journal_picture.specs.TextPicture.{numbers_line, deed_lines, lanes_text, strip_lines}
 use Rattle.journal_picture.proofs.Written.{on_four}
 use Rattle.journal_picture.proofs.text.write_band.Goals as goal
 
@@ -11,11 +10,11 @@ returns c =
     let shown = take 14 (drop at es) in
     let old = string_bytes c.args.text.now in
     let first = string_bytes c.write_numbers_line.new.text in
-    let second = string_bytes c.write_deeds_line.new.text in
+    let second = string_bytes c.write_deed_lines.new.text in
     let third = string_bytes c.write_lanes.new.text in
-    let fourth = string_bytes c.push_str.new.self in
+    let fourth = string_bytes c.write_strip_lines.new.text in
     let numbers = numbers_line c.args.faulty (nat_le (length es) (at + 14)) at shown in
     let head : first ≡ old ++ numbers = search rules in
-    let deeds : second ≡ first ++ deeds_line shown = search rules in
-    let line : OnOk c.push_str.result (fourth ≡ third ++ codes "\n") = search rules in
-    on_four c.push_str.result old first second third fourth numbers (deeds_line shown) (lanes_text at 0 c.args.lanes.now) (codes "\n") head deeds c.in_ok-write_lanes.ensures line
+    let deeds : second ≡ first ++ deed_lines shown = search rules in
+    on_four c.write_strip_lines.result old first second third fourth numbers (deed_lines shown) (lanes_text at 0 c.args.lanes.now)
+    (strip_lines (take 15 (drop at c.args.strip.now))) head deeds c.in_ok-write_lanes.ensures c.write_strip_lines.ensures

@@ -1,9 +1,0 @@
-use Rattle.std.proofs.Common.{◌≡◌, ◌++◌, drop, string_bytes}
-use Rattle.journal_picture.specs.SvgPicture.{marks_text}
-use Rattle.journal_picture.proofs.axis.write_marks.Given as goal
-
--- the text so far, and the marks of the other entries
-abbrev pub invariant-loop-k : goal.invariant-loop-k
-invariant-loop-k l =
-    string_bytes l.text ++ marks_text l.board.plan l.board.state l.step l.k (drop l.k l.list)
-    ≡ string_bytes l.fn.text ++ marks_text l.board.plan l.board.state l.step 0 l.list

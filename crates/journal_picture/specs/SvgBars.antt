@@ -1,0 +1,134 @@
+-- The bars of the picture: for each stay of a hart a bar in each row in which the stay has places.
+use Rattle.std.specs.Prelude.{ℕ, zero, suc, ◌+◌, ◌-◌, ◌*◌, ◌/◌, ◌==◌, nat_le, min, max, if◌then◌else◌, List, [], ◌∷◌, ◌++◌, codes, length, slice_get, Option, Some, None}
+use Rattle.std.specs.List.{concat, flat_map}
+use Rattle.std.specs.Fmt.{decimal}
+use Rattle.transfer_table.specs.Plan.{Plan}
+use Rattle.transfer_table.specs.declared.entry.Entry.{Entry}
+use Rattle.journal_picture.specs.declared.stay.Stay.{Stay}
+use Rattle.journal_picture.specs.declared.shape.Kind.{Kind}
+use Rattle.journal_picture.specs.declared.shape.Kind.TheVariants.{Pool, Team}
+use Rattle.journal_picture.specs.declared.shape.Shape.{Shape}
+use Rattle.journal_picture.specs.Stays.{stays_of}
+use Rattle.journal_picture.specs.Scale.{step_of, per_row, row_of, is_shown, place_x, row_y, level_of, bar_y}
+use Rattle.journal_picture.specs.TextPicture.{kind_text, last_or, site_name}
+
+-- What the program says of the site; the base has no shape.
+abbrev pub shape_of : List Shape → ℕ → Option Shape
+shape_of shapes s = if s == 0 then None else slice_get shapes (s - 1)
+
+-- ---- colours by kind and depth; the outline of a team is dashed
+
+abbrev pub kind_fill : Kind → ℕ → List ℕ
+kind_fill Pool level =
+    if level == 1 then codes "#cfe3f8' stroke='#2c5d8f" else
+    if level == 2 then codes "#9fc8f0' stroke='#2c5d8f" else codes "#6fabe4' stroke='#2c5d8f"
+kind_fill Team level =
+    if level == 1 then codes "#fbe3bd' stroke-dasharray='4 2' stroke='#8a5a12" else
+    if level == 2 then codes "#f6c987' stroke-dasharray='4 2' stroke='#8a5a12"
+    else codes "#eba94d' stroke-dasharray='4 2' stroke='#8a5a12"
+
+-- In the base hart 0 runs the program's body; another hart there is idle.
+abbrev pub base_fill : ℕ → List ℕ
+base_fill h = if h == 0 then codes "#e9f3e4' stroke='#4f7a3a" else codes "#e3e6e9' stroke='#9aa4ad"
+
+abbrev pub fill_text : Option Shape → ℕ → ℕ → List ℕ
+fill_text None h level = base_fill h
+fill_text (Some shape) h level = kind_fill shape.kind level
+
+-- ---- the title of a bar: the hart, the site with its kind and line, and from which entry to which the hart is there
+
+abbrev pub about_by : List ℕ → ℕ → List ℕ
+about_by kind line = concat (codes ", " ∷ kind ∷ codes ", line " ∷ decimal line ∷ [])
+
+abbrev pub about_text : Option Shape → ℕ → List ℕ
+about_text None h = if h == 0 then codes ", the program's body" else codes ", idle"
+about_text (Some shape) h = about_by (kind_text shape.kind) shape.line
+
+abbrev pub since_text : ℕ → List ℕ
+since_text first =
+    if first == 0 then codes ", from the start" else codes ", from entry " ++ decimal (first - 1)
+
+abbrev pub until_text : Option ℕ → List ℕ
+until_text None = codes " to the end"
+until_text (Some last) = codes " to entry " ++ decimal last
+
+unfoldable pub title_by : ℕ → List ℕ → List ℕ → List ℕ → List ℕ → List ℕ
+title_by h name about since until =
+    concat (codes "h" ∷ decimal h ∷ codes " in " ∷ name ∷ about ∷ since ∷ until ∷ [])
+
+abbrev pub stay_title : List Shape → Stay → List ℕ
+stay_title shapes stay =
+    title_by stay.hart (site_name stay.site) (about_text (shape_of shapes stay.site) stay.hart)
+    (since_text stay.first) (until_text stay.last)
+
+-- ---- a bar
+
+unfoldable pub rect_text : ℕ → ℕ → ℕ → List ℕ → List ℕ → List ℕ
+rect_text x y width fill title =
+    concat (codes "<rect x='" ∷ decimal x ∷ codes "' y='" ∷ decimal y ∷ codes "' width='" ∷
+    decimal width ∷ codes "' height='14' fill='" ∷ fill ∷ codes "'><title>" ∷ title ∷
+    codes "</title></rect>\n" ∷ [])
+
+abbrev pub words_text : ℕ → ℕ → List ℕ → List ℕ → List ℕ
+words_text x y name word =
+    concat (codes "<text x='" ∷ decimal x ∷ codes "' y='" ∷ decimal y ∷ codes "'>" ∷ name ∷
+    word ∷ codes "</text>\n" ∷ [])
+
+-- The label of a bar where it is wide enough: the site, and the kind too where there is room for both.
+abbrev pub kind_label : Option Shape → ℕ → ℕ → List ℕ
+kind_label None letters width = []
+kind_label (Some shape) letters width =
+    if nat_le (width / 7 - 5) letters then [] else codes " " ++ kind_text shape.kind
+
+abbrev pub label_text : ℕ → ℕ → ℕ → List ℕ → Option Shape → List ℕ
+label_text x y width name shape =
+    if nat_le (width / 7) (length name) then []
+    else words_text (x + width / 2) (y + 11) name (kind_label shape (length name) width)
+
+abbrev pub placed_bar : ℕ → ℕ → ℕ → List ℕ → Stay → Option Shape → ℕ → List ℕ
+placed_bar x y width title stay shape level =
+    rect_text x y width (fill_text shape stay.hart level) title
+    ++ label_text x y width (site_name stay.site) shape
+
+-- ---- the parts of a stay, in a list whose last place is this
+
+-- Its first place in a row, and its last.
+abbrev pub first_in : ℕ → Stay → ℕ → ℕ
+first_in end stay row = max stay.first (per_row end * row)
+
+abbrev pub last_in : ℕ → Stay → ℕ → ℕ
+last_in end stay row = min (last_or end stay.last) (per_row end * row + (per_row end - 1))
+
+abbrev pub shown_part : Plan → List Shape → ℕ → Stay → ℕ → List ℕ
+shown_part p shapes end stay row =
+    placed_bar (place_x end (first_in end stay row))
+    (bar_y (row_y p end row) stay.hart (level_of p stay.site))
+    (step_of end * (last_in end stay row + 1 - first_in end stay row)) (stay_title shapes stay) stay
+    (shape_of shapes stay.site) (level_of p stay.site)
+
+abbrev pub part_text : Plan → List Shape → ℕ → Stay → ℕ → List ℕ
+part_text p shapes end stay row =
+    if is_shown end row then shown_part p shapes end stay row else []
+
+-- Those in so many rows, from this one on.
+abbrev pub parts_text : Plan → List Shape → ℕ → Stay → ℕ → ℕ → List ℕ
+parts_text p shapes end stay row zero = []
+parts_text p shapes end stay row (suc n) =
+    part_text p shapes end stay row ++ parts_text p shapes end stay (row + 1) n
+
+-- In how many rows a stay has places.
+abbrev pub row_count : ℕ → Stay → ℕ
+row_count end stay = row_of end (last_or end stay.last) + 1 - row_of end stay.first
+
+abbrev pub bar_text : Plan → List Shape → ℕ → Stay → List ℕ
+bar_text p shapes end stay =
+    parts_text p shapes end stay (row_of end stay.first) (row_count end stay)
+
+abbrev pub bars_text : Plan → List Shape → ℕ → List Stay → List ℕ
+bars_text p shapes end stays = flat_map (λ stay. bar_text p shapes end stay) stays
+
+-- The bars of so many harts, from this one on.
+abbrev pub lanes_svg : Plan → List Shape → List Entry → ℕ → ℕ → List ℕ
+lanes_svg p shapes es h zero = []
+lanes_svg p shapes es h (suc n) =
+    bars_text p shapes (length es) (stays_of p h es) ++ lanes_svg p shapes es (h + 1) n
