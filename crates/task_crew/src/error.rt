@@ -10,6 +10,6 @@ pub enum RunError<E> {
     LevelCount(u8),
     /// The task failed with this error, or memory ran out.
     Task(E),
-    /// The task has its output, but the board did not end, since a hart is still in a site.
+    /// All tasks have ended, but the board did not, since a hart is still in a site.
     NotEnded(NotEnded),
 }

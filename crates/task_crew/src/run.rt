@@ -1,10 +1,11 @@
 //! The harts of a run.
 ghost use Rattle.std.specs.Prelude.{◌≡◌, ◌<◌, ◌≤◌, ◌⊎◌, IfOk, IfErr, vec_len, alloc_error, Err, []};
 ghost use Rattle.std.specs.List.{All};
+ghost use Rattle.open_table.specs.declared.table.Size.{Size};
 ghost use Rattle.open_board.specs.Of.{IsOf};
-ghost use Rattle.open_board.specs.Ending.{HasFinished, CantEnd};
+ghost use Rattle.open_board.specs.Ending.{CantEnd};
 ghost use Rattle.task_table.specs.Slots.{Ends};
-ghost use Rattle.task_crew.specs.Runs.{RunFails, IsSeatOf};
+ghost use Rattle.task_crew.specs.Runs.{RunFails, IsSeatOf, AllAreHome};
 
 use crate::error::RunError;
 use open_board::{EndRefused, NotEnded, OpenBoard, OpenSeat};
@@ -32,7 +33,7 @@ type FourMore<L> = OneMore<OneMore<OneMore<OneMore<L>>>>;
 /// # Errors
 ///
 /// `HartCount` and `LevelCount` exactly if the number is out of range; nothing is started then. `Task` if the task fails or memory
-/// runs out. `NotEnded` if a hart is still in a site.
+/// runs out. `NotEnded` if the board doesn't end, since a hart is still in a site.
 ///
 /// # Memory
 ///
@@ -52,6 +53,8 @@ where
     ensures output { IfOk result (λ output. T.gives task output) }
     ensures error { IfErr result
         (RunFails harts levels (T.fails task) (T.Error.from_gives alloc_error)) }
+    ensures home { (2 ≤ harts) → IfOk result
+        (λ _. (size : Size) × (size.harts ≡ harts) × AllAreHome size) }
     ensures harts { (harts ≡ 0) ⊎ (64 < harts) → result ≡ Err (RunError.HartCount harts) }
     ensures levels { (1 ≤ harts) → (harts ≤ 64) → (16 < levels) → result
         ≡ Err (RunError.LevelCount levels) }
@@ -94,6 +97,7 @@ where
     requires levels { levels ≤ 16 }
     ensures output { IfOk result (λ output. T.gives task output) }
     ensures error { IfErr result (RunFails 1 0 (T.fails task) (T.Error.from_gives alloc_error)) }
+    ensures home { IfOk result (λ _. AllAreHome board.size) }
 {
     let crew = match Crew::<T, B>::new(alloc, board) {
         Ok(crew) => crew,
@@ -103,20 +107,19 @@ where
         Ok(ran) => ran,
         Err(error) => return Err(RunError::Task(T::Error::from(error))),
     };
-    let output = match outcome {
-        Ok(output) => output,
-        Err(error) => return Err(RunError::Task(error)),
-    };
-    match go_home(crew.into_board(), seats) {
-        Ok(()) => Ok(output),
-        Err(why) => Err(RunError::NotEnded(why)),
+    if let Err(why) = go_home(crew.into_board(), seats) {
+        return Err(RunError::NotEnded(why));
+    }
+    match outcome {
+        Ok(output) => Ok(output),
+        Err(error) => Err(RunError::Task(error)),
     }
 }
 
 // Ends a board: all harts are at the base again.
 fn go_home(board: OpenBoard, seats: Vec<OpenSeat>) -> Result<(), NotEnded>
     requires { All (IsOf board) seats.items }
-    ensures ended { IfOk result (λ _. HasFinished board.size seats.items) }
+    ensures ended { IfOk result (λ _. AllAreHome board.size) }
     ensures refused { IfErr result (CantEnd board.size seats.items) }
 {
     match board.checked_end(seats) {

@@ -7,25 +7,26 @@ mod inputs;
 mod runs;
 mod words;
 
-use crate::runs::check_sum;
+use crate::runs::{Ran, run_demo};
 use crate::words::{DemoError, demo_of};
 use outside_words::{NoWords, words_of};
+use std::alloc::Global;
 use std::io;
 use std::process::ExitCode;
 use std::sync::Wait;
 use std::thread::Threads;
-use std::time::{Clock, Instant};
+use std::time::Clock;
 
-// Reads the words, runs what they ask for, and returns the check sum.
-fn run<R: Threads + Wait + Sync>(
+// Runs what the words ask for.
+fn run<R: Threads + Wait + Clock + Sync>(
     rt: &R,
-    alloc: std::alloc::Global,
+    alloc: Global,
     words: Result<Vec<String>, NoWords>,
-) -> Result<u64, DemoError> {
+) -> Result<Ran, DemoError> {
     match words {
         Ok(words) => {
             let demo = demo_of(alloc, &words)?;
-            check_sum(rt, alloc, &demo)
+            run_demo(rt, alloc, &demo)
         }
         Err(NoWords::NotText) => Err(DemoError::NoForm),
         Err(NoWords::NoMemory) => Err(DemoError::OutOfMemory),
@@ -34,13 +35,11 @@ fn run<R: Threads + Wait + Sync>(
 
 fn main(rt: HostRuntime) -> io::Result<ExitCode> {
     let words = words_of(&rt);
-    let start = Instant::now(&rt)?;
-    let outcome = run(&rt, rt.alloc(), words);
-    let took = start.elapsed(&rt)?.as_millis();
-    match outcome {
-        Ok(sum) => {
+    match run(&rt, rt.alloc(), words) {
+        Ok(Ran { sum, took }) => {
+            let millis = took.as_millis();
             println!(rt; "{sum}")?;
-            eprintln!(rt; "{took} ms")?;
+            eprintln!(rt; "{millis} ms")?;
             Ok(ExitCode::SUCCESS)
         }
         Err(error) => {

@@ -39,6 +39,8 @@ pub enum DemoError {
     NotInRange(&'static str, u64, u64),
     /// Memory ran out.
     OutOfMemory,
+    /// The clock can't be read.
+    NoClock,
     /// The harts couldn't end their run.
     NotEnded,
 }
@@ -50,6 +52,7 @@ impl DemoError {
             DemoError::NoForm => 2,
             DemoError::NotInRange(_, _, _) => 2,
             DemoError::OutOfMemory => 1,
+            DemoError::NoClock => 1,
             DemoError::NotEnded => 1,
         }
     }
@@ -66,7 +69,8 @@ impl fmt::Display for DemoError {
                 write!(f, "--{name} takes a number from {least} to {most}")
             }
             DemoError::OutOfMemory => write!(f, "out of memory"),
-            DemoError::NotEnded => write!(f, "the harts could not end their run"),
+            DemoError::NoClock => write!(f, "the clock can't be read"),
+            DemoError::NotEnded => write!(f, "the harts did not end their run"),
         }
     }
 }
