@@ -1,6 +1,6 @@
 -- Seats of a board.
-use Rattle.std.proofs.Common.{◌≡◌, ◌<◌, ◌⊎◌, ◌∙◌, ℕ, Result, Ok, Err, IfErr, List, [], ◌∷◌, All, sym, ⊎_elim, arith}
-use Rattle.std.proofs.lemmas.List.Elements.{All-head, All-tail, All-nil, All-cons}
+use Rattle.std.proofs.Common.{◌≡◌, ◌<◌, ◌⊎◌, ◌∙◌, ℕ, Result, Ok, Err, IfErr, List, [], ◌∷◌, ◌++◌, All, sym, subst, ⊎_elim, arith}
+use Rattle.std.proofs.lemmas.List.Elements.{All-head, All-tail, All-nil, All-cons, All-append}
 use Rattle.atomic_table.specs.Seated.{TableId}
 use Rattle.open_table.specs.declared.table.Size.{Size}
 use Rattle.open_board.specs.declared.board.OpenBoard.{OpenBoard}
@@ -26,6 +26,13 @@ of_board b table size (q ∷ qs) t s h =
     let one = All-head (IsSeatOf table size) q qs h in
     let is : IsOf b q = record { board = one.0 ∙ sym t; size = one.1 ∙ sym s } in
     All-cons (IsOf b) q qs is (of_board b table size qs t s (All-tail (IsSeatOf table size) q qs h))
+
+-- one seat more
+pub one_more : (table : TableId) (size : Size) (made new : List OpenSeat) (seat : OpenSeat) → IsSeatOf table size seat → new ≡ made ++ seat ∷ []
+    → All (IsSeatOf table size) made → All (IsSeatOf table size) new
+one_more table size made new q is e h =
+    let P = IsSeatOf table size in
+    subst (All P) (sym e) (All-append P made (q ∷ []) h (All-cons P q [] is (All-nil P)))
 
 -- a failure of a run on one hart without levels is not a wrong number of these
 fails_wider : {E : Type 0} (harts levels : ℕ) (fails memory : E → Type 0) (why : RunError E) → RunFails 1 0 fails memory why → RunFails harts levels fails memory why
