@@ -15,7 +15,12 @@ pub fn numbers(alloc: Global, count: u32, seed: u64) -> Result<Vec<u64>, AllocEr
 }
 
 /// So many rows of so many numbers, each row from a seed of its own.
-pub fn rows(alloc: Global, count: u32, length: u32, seed: u64) -> Result<Vec<Vec<u64>>, AllocError> {
+pub fn rows(
+    alloc: Global,
+    count: u32,
+    length: u32,
+    seed: u64,
+) -> Result<Vec<Vec<u64>>, AllocError> {
     let mut rows = Vec::with_capacity(alloc, count as usize)?;
     for row in 0..count {
         rows.push(numbers(alloc, length, seed.wrapping_add(u64::from(row)))?)?;
