@@ -1,0 +1,153 @@
+//! Tasks inside tasks, whose leaves come to a gate.
+ghost use Rattle.std.specs.Prelude.{◌≡◌, ◌<◌, ◌≤◌, ◌-◌, IfOk};
+ghost use Rattle.std.specs.List.{All};
+
+use crate::gates::Gate;
+use std::alloc::{AllocError, Global};
+use std::sync::Wait;
+use std::test::Fail;
+use std::thread::Threads;
+use task_crew::{RunError, run_on};
+use tasks::{Harts, Task, TaskKind};
+
+/// A task with so many levels of tasks inside it, each of so many tasks. Its output is the number of its leaves. Each leaf passes the
+/// gate, but for those of tasks that are quiet, of which each level has one if the tree is lopsided.
+#[derive(Drop)]
+pub struct Tree<'p> {
+    levels: u8,
+    width: u8,
+    lopsided: bool,
+    quiet: bool,
+    gate: &'p Gate,
+}
+
+impl<'p> TaskKind for Tree<'p> {
+    type Output = u64;
+
+    type Error = AllocError;
+
+    ghost gives = { λ _ _. Unit {0} };
+
+    ghost fails = { λ _ _. Unit {0} };
+
+    ghost depth = { λ task. task.levels };
+}
+
+impl<'p> Task for Tree<'p> {
+    fn run<H: Harts<Self>>(self, alloc: Global, harts: &mut H) -> Result<u64, AllocError> {
+        if self.levels == 0 {
+            if !self.quiet {
+                self.gate.pass();
+            }
+            return Ok(1);
+        }
+        let leaves = harts.fork_join(alloc, branches_of(alloc, &self)?)?;
+        Ok(
+            leaves
+                .iter()
+                .fold(0u64, |sum, part| sum.wrapping_add(*part)),
+        )
+    }
+}
+
+// The tasks inside a task. If the tree is lopsided, only the first has tasks inside it until the last level.
+fn branches_of<'p>(alloc: Global, tree: &Tree<'p>) -> Result<Vec<Tree<'p>>, AllocError>
+    requires { 0 < tree.now.levels }
+    ensures { IfOk result (All (λ branch. branch.levels < tree.now.levels)) }
+{
+    let mut branches = Vec::with_capacity(alloc, tree.width as usize)?;
+    'branches: for place in 0..tree.width {
+        let quiet = tree.lopsided && tree.levels > 1 && place > 0;
+        branches.push(Tree {
+            levels: if quiet { 0 } else { tree.levels - 1 },
+            width: tree.width,
+            lopsided: tree.lopsided,
+            quiet: tree.quiet || quiet,
+            gate: tree.gate,
+        })?;
+    }
+    Ok(branches)
+}
+
+// The number of leaves of a tree that runs on so many harts. `None` if the run has no output, or the gate's looks ran out.
+fn leaves<R: Threads + Wait + Sync>(
+    rt: &R,
+    alloc: Global,
+    harts: u8,
+    tree: (u8, u8, bool),
+    wanted: u64,
+) -> Option<u64> {
+    let gate = Gate::new(wanted);
+    let (levels, width, lopsided) = tree;
+    let task = Tree {
+        levels,
+        width,
+        lopsided,
+        quiet: false,
+        gate: &gate,
+    };
+    let leaves = run_on(rt, alloc, harts, levels, task).ok()?;
+    if gate.has_run_out() || gate.count() < wanted {
+        return None;
+    }
+    Some(leaves)
+}
+
+#[test]
+fn two_tasks_meet_on_two_harts(rt: HostRuntime) -> Result<(), Fail> {
+    assert_eq!(rt; leaves(&rt, rt.alloc(), 2, (1, 2, false), 2), Some(2));
+    Ok(())
+}
+
+#[test]
+fn nested_tasks_meet_on_two_harts(rt: HostRuntime) -> Result<(), Fail> {
+    assert_eq!(rt; leaves(&rt, rt.alloc(), 2, (2, 2, true), 2), Some(3));
+    assert_eq!(rt; leaves(&rt, rt.alloc(), 2, (3, 2, true), 2), Some(4));
+    Ok(())
+}
+
+#[test]
+fn nested_tasks_meet_on_four_harts(rt: HostRuntime) -> Result<(), Fail> {
+    assert_eq!(rt; leaves(&rt, rt.alloc(), 4, (1, 4, false), 4), Some(4));
+    assert_eq!(rt; leaves(&rt, rt.alloc(), 4, (2, 2, false), 4), Some(4));
+    assert_eq!(rt; leaves(&rt, rt.alloc(), 4, (3, 2, true), 2), Some(4));
+    Ok(())
+}
+
+#[test]
+fn nested_tasks_meet_on_sixteen_harts(rt: HostRuntime) -> Result<(), Fail> {
+    assert_eq!(rt; leaves(&rt, rt.alloc(), 16, (1, 16, false), 16), Some(16));
+    assert_eq!(rt; leaves(&rt, rt.alloc(), 16, (2, 4, false), 16), Some(16));
+    assert_eq!(rt; leaves(&rt, rt.alloc(), 16, (3, 2, false), 8), Some(8));
+    Ok(())
+}
+
+#[test]
+fn sixty_four_tasks_meet_on_sixty_four_harts(rt: HostRuntime) -> Result<(), Fail> {
+    assert_eq!(rt; leaves(&rt, rt.alloc(), 64, (2, 8, false), 64), Some(64));
+    Ok(())
+}
+
+#[test]
+fn two_hundred_runs_meet(rt: HostRuntime) -> Result<(), Fail> {
+    for _round in 0..200 {
+        assert_eq!(rt; leaves(&rt, rt.alloc(), 4, (2, 2, false), 4), Some(4));
+    }
+    Ok(())
+}
+
+#[test]
+fn one_hart_runs_all(rt: HostRuntime) -> Result<(), Fail> {
+    assert_eq!(rt; leaves(&rt, rt.alloc(), 1, (5, 3, false), 1), Some(243));
+    assert_eq!(rt; leaves(&rt, rt.alloc(), 1, (0, 0, false), 1), Some(1));
+    Ok(())
+}
+
+#[test]
+fn deep_trees_have_all_leaves(rt: HostRuntime) -> Result<(), Fail> {
+    assert_eq!(rt; leaves(&rt, rt.alloc(), 3, (10, 2, false), 1), Some(1024));
+    assert_eq!(rt; leaves(&rt, rt.alloc(), 7, (5, 3, false), 1), Some(243));
+    assert_eq!(rt; leaves(&rt, rt.alloc(), 4, (16, 1, false), 1), Some(1));
+    assert_eq!(rt; leaves(&rt, rt.alloc(), 4, (1, 0, false), 0), Some(0));
+    Ok(())
+}

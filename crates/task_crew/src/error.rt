@@ -1,0 +1,15 @@
+//! Why a run has no output.
+use open_board::NotEnded;
+
+/// Why a run has no output.
+#[derive(Debug, Drop, PartialEq)]
+pub enum RunError<E> {
+    /// The number of harts is not 1 to 64. Nothing was started.
+    HartCount(u8),
+    /// There are more than 16 levels. Nothing was started.
+    LevelCount(u8),
+    /// The task failed with this error, or memory ran out.
+    Task(E),
+    /// All tasks have ended, but the board did not, since a hart is still in a site.
+    NotEnded(NotEnded),
+}

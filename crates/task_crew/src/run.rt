@@ -1,0 +1,358 @@
+//! The harts of a run.
+ghost use Rattle.std.specs.Prelude.{◌≡◌, ◌<◌, ◌≤◌, ◌⊎◌, IfOk, IfErr, vec_len, alloc_error, Err, []};
+ghost use Rattle.std.specs.List.{All};
+ghost use Rattle.open_table.specs.declared.table.Size.{Size};
+ghost use Rattle.open_board.specs.Of.{IsOf};
+ghost use Rattle.open_board.specs.Ending.{CantEnd};
+ghost use Rattle.task_table.specs.Slots.{Ends};
+ghost use Rattle.task_crew.specs.Runs.{RunFails, IsSeatOf, AllAreHome};
+
+use crate::error::RunError;
+use open_board::{EndRefused, NotEnded, OpenBoard, OpenSeat};
+use std::alloc::{AllocError, Global};
+use std::marker::Brand;
+use std::sync::Wait;
+use std::thread;
+use std::thread::Threads;
+use task_sites::{Crew, Hart, Levels, Naming, NoLevel, OneMore, serve_base};
+use task_table::Outcome;
+use tasks::{Task, run_alone};
+
+/// The most harts of a run.
+pub const MOST_HARTS: u8 = 64;
+
+/// The most levels of a run.
+pub const MOST_LEVELS: u8 = 16;
+
+// Four levels more than `L`. Why four at a time: a goal that names sixteen is too large to prove.
+type FourMore<L> = OneMore<OneMore<OneMore<OneMore<L>>>>;
+
+/// Runs a task on so many harts, with at most `levels` levels of tasks inside it, and returns its output. `harts` is 1 to 64, and
+/// `levels` is 0 to 16. Once it returns, all tasks have ended, and all threads that it started.
+///
+/// # Errors
+///
+/// `HartCount` and `LevelCount` exactly if the number is out of range; nothing is started then. `Task` if the task fails or memory
+/// runs out. `NotEnded` if the board doesn't end, since a hart is still in a site.
+///
+/// # Memory
+///
+/// On two harts and more: `64 * (harts * levels + 1)` bytes for the board, a few words for each of the `harts * levels` sites, and
+/// some cache lines for each hart.
+pub fn run_on<T: Task + Send, R: Threads + Wait + Sync>(
+    rt: &R,
+    alloc: Global,
+    harts: u8,
+    levels: u8,
+    task: T,
+) -> Result<T::Output, RunError<T::Error>>
+where
+    T::Output: Send,
+    T::Error: Send,
+    requires { T.depth task ≤ levels }
+    ensures output { IfOk result (λ output. T.gives task output) }
+    ensures error { IfErr result
+        (RunFails harts levels (T.fails task) (T.Error.from_gives alloc_error)) }
+    ensures home { (2 ≤ harts) → IfOk result
+        (λ _. (size : Size) × (size.harts ≡ harts) × AllAreHome size) }
+    ensures harts { (harts ≡ 0) ⊎ (64 < harts) → result ≡ Err (RunError.HartCount harts) }
+    ensures levels { (1 ≤ harts) → (harts ≤ 64) → (16 < levels) → result
+        ≡ Err (RunError.LevelCount levels) }
+{
+    if harts == 0 || harts > MOST_HARTS {
+        return Err(RunError::HartCount(harts));
+    }
+    if levels > MOST_LEVELS {
+        return Err(RunError::LevelCount(levels));
+    }
+    if harts == 1 {
+        return match run_alone(alloc, task) {
+            Ok(output) => Ok(output),
+            Err(error) => Err(RunError::Task(error)),
+        };
+    }
+    match OpenBoard::new(alloc, harts, levels.max(1)) {
+        Ok((board, seats)) => run_named::<Brand, T, R>(rt, alloc, board, seats, levels, task),
+        Err(error) => Err(RunError::Task(T::Error::from(error))),
+    }
+}
+
+// Runs a task on the harts of a board, and ends the board.
+fn run_named<B: Naming + Send + Sync, T: Task + Send, R: Threads + Wait + Sync>(
+    rt: &R,
+    alloc: Global,
+    board: OpenBoard,
+    seats: Vec<OpenSeat>,
+    levels: u8,
+    task: T,
+) -> Result<T::Output, RunError<T::Error>>
+where
+    T::Output: Send,
+    T::Error: Send,
+    requires board { board.table.shared.table_id ≡ B.table }
+    requires size { board.size ≡ B.size }
+    requires seats { All (IsOf board) seats.items }
+    requires some { 1 ≤ vec_len seats }
+    requires depth { T.depth task ≤ levels }
+    requires levels { levels ≤ 16 }
+    ensures output { IfOk result (λ output. T.gives task output) }
+    ensures error { IfErr result (RunFails 1 0 (T.fails task) (T.Error.from_gives alloc_error)) }
+    ensures home { IfOk result (λ _. AllAreHome board.size) }
+{
+    let crew = match Crew::<T, B>::new(alloc, board) {
+        Ok(crew) => crew,
+        Err(error) => return Err(RunError::Task(T::Error::from(error))),
+    };
+    let (outcome, seats) = match run_crew(rt, alloc, &crew, seats, levels, task) {
+        Ok(ran) => ran,
+        Err(error) => return Err(RunError::Task(T::Error::from(error))),
+    };
+    if let Err(why) = go_home(crew.into_board(), seats) {
+        return Err(RunError::NotEnded(why));
+    }
+    match outcome {
+        Ok(output) => Ok(output),
+        Err(error) => Err(RunError::Task(error)),
+    }
+}
+
+// Ends a board: all harts are at the base again.
+fn go_home(board: OpenBoard, seats: Vec<OpenSeat>) -> Result<(), NotEnded>
+    requires { All (IsOf board) seats.items }
+    ensures ended { IfOk result (λ _. AllAreHome board.size) }
+    ensures refused { IfErr result (CantEnd board.size seats.items) }
+{
+    match board.checked_end(seats) {
+        Ok(()) => Ok(()),
+        Err(refused) => {
+            let EndRefused {
+                board: _,
+                seats: _,
+                why,
+            } = refused;
+            Err(why)
+        }
+    }
+}
+
+// Runs a task on the first of the harts, while the others are lent to the sites inside it. Returns the outcome and the seats.
+fn run_crew<B, T, R>(
+    rt: &R,
+    alloc: Global,
+    crew: &Crew<T, B>,
+    seats: Vec<OpenSeat>,
+    levels: u8,
+    task: T,
+) -> Result<(Outcome<T>, Vec<OpenSeat>), AllocError>
+where
+    B: Naming + Send + Sync,
+    T: Task + Send,
+    R: Threads + Wait + Sync,
+    T::Output: Send,
+    T::Error: Send,
+    requires seats { All (IsSeatOf B.table B.size) seats.items }
+    requires some { 1 ≤ vec_len seats }
+    requires depth { T.depth task ≤ levels }
+    requires levels { levels ≤ 16 }
+    ensures outcome { IfOk result
+        (λ r. Ends T.gives T.fails (T.Error.from_gives alloc_error) task r.0) }
+    ensures seats { IfOk result (λ r. All (IsSeatOf B.table B.size) r.1.items) }
+{
+    run_over_four::<B, T, R, FourMore<NoLevel>>(rt, alloc, crew, seats, levels, task)
+}
+
+// The same, with twelve levels more than `L`.
+fn run_over_four<B, T, R, L>(
+    rt: &R,
+    alloc: Global,
+    crew: &Crew<T, B>,
+    seats: Vec<OpenSeat>,
+    levels: u8,
+    task: T,
+) -> Result<(Outcome<T>, Vec<OpenSeat>), AllocError>
+where
+    B: Naming + Send + Sync,
+    T: Task + Send,
+    R: Threads + Wait + Sync,
+    L: Levels<T, R, B> + Send + Sync,
+    T::Output: Send,
+    T::Error: Send,
+    requires count { 4 ≤ L.count }
+    requires seats { All (IsSeatOf B.table B.size) seats.items }
+    requires some { 1 ≤ vec_len seats }
+    requires depth { T.depth task ≤ levels }
+    requires levels { levels ≤ 16 }
+    ensures outcome { IfOk result
+        (λ r. Ends T.gives T.fails (T.Error.from_gives alloc_error) task r.0) }
+    ensures seats { IfOk result (λ r. All (IsSeatOf B.table B.size) r.1.items) }
+{
+    run_over_eight::<B, T, R, FourMore<L>>(rt, alloc, crew, seats, levels, task)
+}
+
+// The same, with eight levels more than `L`.
+fn run_over_eight<B, T, R, L>(
+    rt: &R,
+    alloc: Global,
+    crew: &Crew<T, B>,
+    seats: Vec<OpenSeat>,
+    levels: u8,
+    task: T,
+) -> Result<(Outcome<T>, Vec<OpenSeat>), AllocError>
+where
+    B: Naming + Send + Sync,
+    T: Task + Send,
+    R: Threads + Wait + Sync,
+    L: Levels<T, R, B> + Send + Sync,
+    T::Output: Send,
+    T::Error: Send,
+    requires count { 8 ≤ L.count }
+    requires seats { All (IsSeatOf B.table B.size) seats.items }
+    requires some { 1 ≤ vec_len seats }
+    requires depth { T.depth task ≤ levels }
+    requires levels { levels ≤ 16 }
+    ensures outcome { IfOk result
+        (λ r. Ends T.gives T.fails (T.Error.from_gives alloc_error) task r.0) }
+    ensures seats { IfOk result (λ r. All (IsSeatOf B.table B.size) r.1.items) }
+{
+    run_over_twelve::<B, T, R, FourMore<L>>(rt, alloc, crew, seats, levels, task)
+}
+
+// The same, with four levels more than `L`.
+fn run_over_twelve<B, T, R, L>(
+    rt: &R,
+    alloc: Global,
+    crew: &Crew<T, B>,
+    seats: Vec<OpenSeat>,
+    levels: u8,
+    task: T,
+) -> Result<(Outcome<T>, Vec<OpenSeat>), AllocError>
+where
+    B: Naming + Send + Sync,
+    T: Task + Send,
+    R: Threads + Wait + Sync,
+    L: Levels<T, R, B> + Send + Sync,
+    T::Output: Send,
+    T::Error: Send,
+    requires count { 12 ≤ L.count }
+    requires seats { All (IsSeatOf B.table B.size) seats.items }
+    requires some { 1 ≤ vec_len seats }
+    requires depth { T.depth task ≤ levels }
+    requires levels { levels ≤ 16 }
+    ensures outcome { IfOk result
+        (λ r. Ends T.gives T.fails (T.Error.from_gives alloc_error) task r.0) }
+    ensures seats { IfOk result (λ r. All (IsSeatOf B.table B.size) r.1.items) }
+{
+    run_crew_with::<B, T, R, FourMore<L>>(rt, alloc, crew, seats, levels, task)
+}
+
+// The same, with the levels of `L`.
+fn run_crew_with<B, T, R, L>(
+    rt: &R,
+    alloc: Global,
+    crew: &Crew<T, B>,
+    mut seats: Vec<OpenSeat>,
+    levels: u8,
+    task: T,
+) -> Result<(Outcome<T>, Vec<OpenSeat>), AllocError>
+where
+    B: Naming + Send + Sync,
+    T: Task + Send,
+    R: Threads + Wait + Sync,
+    L: Levels<T, R, B> + Send + Sync,
+    T::Output: Send,
+    T::Error: Send,
+    requires seats { All (IsSeatOf B.table B.size) seats.items }
+    requires some { 1 ≤ vec_len seats }
+    requires depth { T.depth task ≤ levels }
+    requires levels { levels ≤ L.count }
+    ensures outcome { IfOk result
+        (λ r. Ends T.gives T.fails (T.Error.from_gives alloc_error) task r.0) }
+    ensures seats { IfOk result (λ r. All (IsSeatOf B.table B.size) r.1.items) }
+{
+    let room = Vec::with_capacity(alloc, seats.len())?;
+    let home: Hart<'_, T, R, B> = Hart::new(rt, crew, seats.remove(0));
+    let guests = seated(rt, alloc, crew, seats)?;
+    let (guests, (home, outcome)) = thread::join(
+        rt,
+        move || serve_all::<B, T, R, L>(rt, alloc, guests),
+        move || -> (Hart<'_, T, R, B>, Outcome<T>)
+            requires { (T.depth task ≤ levels) × (levels ≤ L.count) }
+            ensures { Ends T.gives T.fails (T.Error.from_gives alloc_error) task result.1 }
+        { run_home::<B, T, R, L>(alloc, crew, home, levels, task) },
+    );
+    Ok((outcome, seats_of(room, home, guests)?))
+}
+
+// Seats the harts of a crew, the last first.
+fn seated<'c, B: Naming, T: Task, R>(
+    rt: &'c R,
+    alloc: Global,
+    crew: &'c Crew<T, B>,
+    mut seats: Vec<OpenSeat>,
+) -> Result<Vec<Hart<'c, T, R, B>>, AllocError>
+    requires { All (IsSeatOf B.table B.size) seats.items }
+{
+    let mut harts = Vec::with_capacity(alloc, seats.len())?;
+    'seats: while let Some(seat) = seats.pop() {
+        harts.push(Hart::new(rt, crew, seat))?;
+    }
+    Ok(harts)
+}
+
+// Runs a task on a hart, and ends the run.
+fn run_home<'c, B: Naming, T: Task, R: Wait, L: Levels<T, R, B>>(
+    alloc: Global,
+    crew: &Crew<T, B>,
+    home: Hart<'c, T, R, B>,
+    levels: u8,
+    task: T,
+) -> (Hart<'c, T, R, B>, Outcome<T>)
+    requires depth { T.depth task ≤ levels }
+    requires levels { levels ≤ L.count }
+    ensures { Ends T.gives T.fails (T.Error.from_gives alloc_error) task result.1 }
+{
+    let outcome = L::run_task(alloc, &home, levels, task);
+    crew.end();
+    (home, outcome)
+}
+
+// Lends the harts, each on a thread, until the run has ended.
+fn serve_all<'c, B, T, R, L>(
+    rt: &R,
+    alloc: Global,
+    mut guests: Vec<Hart<'c, T, R, B>>,
+) -> Vec<Hart<'c, T, R, B>>
+where
+    B: Naming + Send + Sync,
+    T: Task + Send,
+    R: Threads + Wait + Sync,
+    L: Levels<T, R, B> + Send + Sync,
+    T::Output: Send,
+    T::Error: Send,
+{
+    let parts = guests.len().max(1);
+    thread::for_each_mut(
+        rt,
+        guests.as_mut_slice(),
+        parts,
+        &|_, guest| serve_base::<T, R, B, L>(alloc, guest),
+    );
+    guests
+}
+
+// The seats of all harts, in the order of their numbers.
+fn seats_of<'c, B: Naming, T: Task, R>(
+    room: Vec<OpenSeat>,
+    home: Hart<'c, T, R, B>,
+    mut guests: Vec<Hart<'c, T, R, B>>,
+) -> Result<Vec<OpenSeat>, AllocError>
+    requires { room.items ≡ [] }
+    ensures { IfOk result (λ seats. All (IsSeatOf B.table B.size) seats.items) }
+{
+    let mut seats = room;
+    seats.push(home.into_seat())?;
+    'guests: while let Some(guest) = guests.pop() {
+        seats.push(guest.into_seat())?;
+    }
+    Ok(seats)
+}

@@ -1,0 +1,105 @@
+//! How tasks of a table are run, and how their outcomes are collected.
+ghost use Rattle.std.specs.Prelude.{◌≡◌, ◌<◌, ◌≤◌, ◌+◌, ◌⊎◌, ℕ, length, vec_len, vec_capacity, All, IfOk, IfErr, alloc_error};
+ghost use Rattle.std.specs.List.{AllZip};
+ghost use mathlib.Core.Option.{some};
+ghost use lib.ListN.{get_elem?};
+ghost use Rattle.task_table.specs.Slots.{Ends};
+ghost use Rattle.tasks.specs.Failures.{FirstFailure};
+ghost use Rattle.task_sites.specs.Collected.{Keeps};
+
+use std::alloc::Global;
+use std::sync::Wait;
+use std::thread;
+use task_table::{Outcome, TaskSeat, TaskTable};
+use tasks::{Harts, Task, TaskKind};
+
+// Runs the task at a place, unless a hart has claimed it. Returns whether it ran the task.
+pub(crate) fn run_at<T: Task, H: Harts<T>>(
+    table: &TaskTable<T>,
+    alloc: Global,
+    harts: &mut H,
+    place: usize,
+) -> bool
+    requires place { place < length table.now.table.shared.key.value.items }
+    requires shallow { All (λ task. T.depth task ≤ H.levels harts.old)
+        table.now.table.shared.key.value.items }
+    ensures { H.levels harts.new ≡ H.levels harts.old }
+{
+    let mut seat = table.seat();
+    let Some(task) = table.claim(&mut seat, place) else {
+        return false;
+    };
+    let outcome = task.run(alloc, harts);
+    table.give(&mut seat, place, outcome);
+    true
+}
+
+// Collects the outcomes of all tasks in order. It waits for tasks that other harts run.
+pub(crate) fn collect_all<T: TaskKind, R: Wait>(
+    rt: &R,
+    table: &TaskTable<T>,
+    mut outputs: Vec<T::Output>,
+) -> Result<Vec<T::Output>, T::Error>
+    requires some { 0 < length table.now.table.shared.key.value.items }
+    requires empty { vec_len outputs ≡ 0 }
+    requires room { length table.now.table.shared.key.value.items ≤ vec_capacity outputs }
+    ensures outputs { IfOk result (λ all. AllZip T.gives table.now.table.shared.key.value.items
+        all.items) }
+    ensures error { IfErr result
+        (λ error. FirstFailure T.gives T.fails table.now.table.shared.key.value.items error
+        ⊎ T.Error.from_gives alloc_error error) }
+{
+    let count = table.count();
+    let mut seat = table.seat();
+    let mut first = None;
+    let mut place = 0;
+    'places: while place < count {
+        let outcome = wait_for(rt, table, &mut seat, place);
+        keep(&mut outputs, &mut first, outcome);
+        place += 1;
+    }
+    match first {
+        None => Ok(outputs),
+        Some(error) => Err(error),
+    }
+}
+
+// Keeps one outcome more: an output goes to the end while no task has failed, and the first error stays.
+fn keep<O: Drop, E: Drop>(outputs: &mut Vec<O>, first: &mut Option<E>, outcome: Result<O, E>)
+    requires room { vec_len outputs.old < vec_capacity outputs.old }
+    ensures keeps { Keeps outputs.old.items first.old outcome outputs.new.items first.new }
+    ensures room { vec_capacity outputs.new ≡ vec_capacity outputs.old }
+    ensures len { vec_len outputs.new ≤ vec_len outputs.old + 1 }
+{
+    if first.is_some() {
+        return;
+    }
+    match outcome {
+        Ok(output) => outputs.push_reserved(output),
+        Err(error) => *first = Some(error),
+    }
+}
+
+// The outcome of the task at a place. It waits for the hart that runs the task.
+fn wait_for<T: TaskKind, R: Wait>(
+    rt: &R,
+    table: &TaskTable<T>,
+    seat: &mut TaskSeat<T>,
+    place: usize,
+) -> Outcome<T>
+    requires of { seat.old.table_id ≡ table.now.table.shared.table_id }
+    requires knows { seat.old.me.0.tasks ≡ table.now.table.shared.key }
+    requires place { place < length table.now.table.shared.key.value.items }
+    ensures of { seat.new.table_id ≡ seat.old.table_id }
+    ensures knows { seat.new.me.0.tasks ≡ seat.old.me.0.tasks }
+    ensures outcome { (task : T) → get_elem? table.now.table.shared.key.value.items place ≡ some task
+        → Ends T.gives T.fails (T.Error.from_gives alloc_error) task result }
+{
+    'tries: for _ in rt.forever() {
+        if let Some(outcome) = table.collect(seat, place) {
+            return outcome;
+        }
+        thread::yield_now();
+    }
+    unreachable!()
+}

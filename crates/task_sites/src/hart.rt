@@ -1,0 +1,276 @@
+//! One hart of a crew: its transfers, and what it looks at while it has no task.
+ghost use Rattle.std.specs.Prelude.{◌≡◌};
+
+use crate::board::{CrewSeat, Naming};
+use crate::countdown::Countdown;
+use crate::crew::Crew;
+use crate::site::Site;
+use crossbeam_utils::Backoff;
+use open_board::{Entered, OpenSeat, Refused};
+use std::alloc::Global;
+use std::cell::{Cell, RefCell};
+use std::sync::{Arc, Wait};
+use tasks::TaskKind;
+
+/// One hart of a crew. Why cells: the tasks inside a task reach their hart by a shared reference.
+#[derive(Drop)]
+pub struct Hart<'c, T: TaskKind, R, B: Naming> {
+    pub(crate) rt: &'c R,
+    crew: &'c Crew<T, B>,
+    number: u8,
+    seat: RefCell<CrewSeat<B>>,
+    // The sites of this hart that may want harts, as the crew shows them.
+    wishes: Cell<u64>,
+    // How many harts the task that runs may count on.
+    share: Cell<u8>,
+}
+
+impl<'c, T: TaskKind, R, B: Naming> Hart<'c, T, R, B> {
+    /// Seats a hart of a crew.
+    pub fn new(rt: &'c R, crew: &'c Crew<T, B>, seat: OpenSeat) -> Hart<'c, T, R, B>
+        requires board { seat.seat.table_id ≡ B.table }
+        requires size { seat.seat.me.0.size ≡ B.size }
+    {
+        let number = seat.hart();
+        Hart {
+            rt,
+            crew,
+            number,
+            seat: RefCell::new(CrewSeat::new(seat)),
+            wishes: Cell::new(0),
+            share: Cell::new(crew.harts),
+        }
+    }
+
+    /// Gives back the seat.
+    pub fn into_seat(self) -> OpenSeat
+        ensures board { result.seat.table_id ≡ B.table }
+        ensures size { result.seat.me.0.size ≡ B.size }
+    {
+        let Hart {
+            rt: _,
+            crew: _,
+            number: _,
+            seat,
+            wishes: _,
+            share: _,
+        } = self;
+        seat.into_inner().into_seat()
+    }
+
+    /// The number of harts in the crew.
+    pub(crate) fn crew_size(&self) -> u8 {
+        self.crew.harts
+    }
+
+    /// Whether the run has still to end: 1 or 0.
+    pub(crate) fn run(&self) -> &Countdown {
+        self.crew.run()
+    }
+
+    /// How many harts the task that runs may count on.
+    pub(crate) fn share(&self) -> u8 {
+        self.share.get()
+    }
+
+    /// Sets how many harts the task that runs may count on. Returns how many it was before.
+    pub(crate) fn set_share(&self, share: u8) -> u8 {
+        self.share.replace(share)
+    }
+
+    // The site that the hart is in; 0 is the base.
+    fn owner(&self) -> u16 {
+        match self.seat.try_borrow() {
+            Ok(seat) => seat.owner(),
+            Err(_) => 0,
+        }
+    }
+
+    // Shows whether the site of which this hart is the home may want harts.
+    fn show_wish(&self, site: u16, wants: bool) {
+        let levels = self.crew.levels.max(1) as u16;
+        let bit = 1u64.wrapping_shl(site.wrapping_sub(1).wrapping_rem(levels) as u32);
+        let before = self.wishes.get();
+        let wishes = if wants { before | bit } else { before & !bit };
+        self.wishes.set(wishes);
+        self.crew.show_wishes(self.number, wishes);
+    }
+}
+
+impl<'c, T: TaskKind, R: Wait, B: Naming> Hart<'c, T, R, B> {
+    /// Registers a site for the tasks below the hart's owner and asks for so many harts. Returns the site's number, or `None` if the
+    /// hart is the home of as many sites as the board has levels: nothing is changed then.
+    pub(crate) fn open(&self, tasks: &Arc<Site<T>, Global>, wish: u8) -> Option<u16> {
+        let parent = self.owner();
+        let site = self.register()?;
+        if self.crew.lay(self.rt, site, tasks) && self.request(wish) {
+            self.show_wish(site, true);
+            self.crew.perches.wake(parent, wish as usize);
+        }
+        Some(site)
+    }
+
+    // Registers a site below the hart's owner.
+    fn register(&self) -> Option<u16> {
+        match self.seat.try_borrow_mut() {
+            Ok(mut seat) => self.crew.board.register(&mut seat).ok(),
+            Err(_) => None,
+        }
+    }
+
+    // Asks for so many harts at the site of which the hart is the home. Returns whether it has asked.
+    fn request(&self, wish: u8) -> bool {
+        match self.seat.try_borrow_mut() {
+            Ok(mut seat) => self.crew.board.request(&mut seat, wish).is_ok(),
+            Err(_) => false,
+        }
+    }
+
+    // Closes the site of which the hart is the home.
+    fn close(&self) {
+        if let Ok(mut seat) = self.seat.try_borrow_mut() {
+            let _closed = self.crew.board.close(&mut seat);
+        }
+    }
+
+    // Tries to enter the site. Returns whether the hart is inside.
+    fn has_entered(&self, site: u16) -> bool {
+        match self.seat.try_borrow_mut() {
+            Ok(mut seat) => {
+                let entered = self.crew.board.try_enter(&mut seat, site);
+                entered == Ok(Entered::Inside)
+            }
+            Err(_) => false,
+        }
+    }
+
+    /// Closes the site of which the hart is the home, waits until its guests have left, and ends it.
+    pub(crate) fn shut(&self, site: u16) {
+        self.show_wish(site, false);
+        self.close();
+        self.crew.clear(self.rt, site);
+        self.crew.perches.wake(site, self.crew.harts as usize);
+        let backoff = Backoff::new();
+        'looks: for _ in self.rt.forever() {
+            if self.has_unregistered() {
+                return;
+            }
+            if !backoff.is_completed() {
+                backoff.snooze();
+            } else if self.rest_at_end(site) {
+                return;
+            }
+        }
+        unreachable!()
+    }
+
+    // Ends the site of which the hart is the home, unless a guest is inside. Returns whether no guest is inside.
+    fn has_unregistered(&self) -> bool {
+        match self.seat.try_borrow_mut() {
+            Ok(mut seat) => {
+                let ended = self.crew.board.unregister(&mut seat);
+                !matches!(ended, Err(Refused::NotEmpty { .. }))
+            }
+            Err(_) => true,
+        }
+    }
+
+    // Sleeps until a guest has left the site of which the hart is the home. Returns whether it has ended the site.
+    fn rest_at_end(&self, site: u16) -> bool {
+        let perches = &self.crew.perches;
+        let hart = self.number;
+        perches.announce(hart, site);
+        let has_ended = self.has_unregistered();
+        if !has_ended {
+            perches.sleep(self.rt, hart);
+        }
+        let _chosen = perches.retract(hart);
+        has_ended
+    }
+
+    /// Enters a site below the hart's owner that wants harts. Returns its tasks, or `None` if the hart found no such site: it is
+    /// where it was then.
+    pub(crate) fn enter_wish(&self) -> Option<Arc<Site<T>, Global>> {
+        let harts = self.crew.harts;
+        for step in 1..harts {
+            let home = ((self.number as u16 + step as u16) % harts as u16) as u8;
+            let wishes = self.crew.wishes_of(home);
+            if wishes != 0 {
+                if let Some(tasks) = self.enter_of(home, wishes) {
+                    return Some(tasks);
+                }
+            }
+        }
+        None
+    }
+
+    // Enters one of the sites of a home below the hart's owner.
+    fn enter_of(&self, home: u8, wishes: u64) -> Option<Arc<Site<T>, Global>> {
+        let levels = self.crew.levels;
+        for level in 0..levels {
+            if wishes.wrapping_shr(level as u32) % 2 == 1 {
+                let site = 1 + home as u16 * levels as u16 + level as u16;
+                if self.has_entered(site) {
+                    return self.tasks_inside(site);
+                }
+            }
+        }
+        None
+    }
+
+    // The tasks of the site that the hart has entered. Without tasks the hart leaves it.
+    fn tasks_inside(&self, site: u16) -> Option<Arc<Site<T>, Global>> {
+        let laid = self.crew.laid(self.rt, site);
+        if laid.is_none() {
+            self.leave();
+        }
+        laid
+    }
+
+    /// Leaves the site that the hart is a guest of.
+    pub(crate) fn leave(&self) {
+        let site = self.owner();
+        if let Ok(mut seat) = self.seat.try_borrow_mut() {
+            let _left = self.crew.board.yield_hart(&mut seat);
+        }
+        self.wake_home(site);
+    }
+
+    /// Wakes the home of the hart's owner, if it rests there.
+    pub(crate) fn wake_owner(&self) {
+        self.wake_home(self.owner());
+    }
+
+    // Wakes the home of the site, if it rests there.
+    fn wake_home(&self, site: u16) {
+        let levels = self.crew.levels.max(1) as u16;
+        let home = site.wrapping_sub(1).wrapping_div(levels);
+        self.crew.perches.wake_hart((home % 256) as u8, site);
+    }
+
+    /// Sleeps at the hart's owner until there is a wish below it, or the count is down. Returns the tasks of a site that the hart has
+    /// entered instead, if there was a wish.
+    pub(crate) fn rest(&self, left: &Countdown) -> Option<Arc<Site<T>, Global>> {
+        let owner = self.owner();
+        self.crew.perches.announce(self.number, owner);
+        if left.is_down() {
+            self.pass_on(owner);
+            return None;
+        }
+        let entered = self.enter_wish();
+        if entered.is_some() {
+            self.pass_on(owner);
+        } else {
+            self.crew.perches.sleep(self.rt, self.number);
+            let _chosen = self.crew.perches.retract(self.number);
+        }
+        entered
+    }
+
+    // Takes back that the hart rests. If another hart had chosen to wake it, a further hart that rests there wakes instead.
+    fn pass_on(&self, owner: u16) {
+        if self.crew.perches.retract(self.number) {
+            self.crew.perches.wake(owner, 1);
+        }
+    }
+}
