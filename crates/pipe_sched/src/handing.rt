@@ -69,6 +69,23 @@ impl<'p> PipeState<'p> {
         }
     }
 
+    // How many pieces became due where the piece of this member in this phase was filled: only the member's next piece and the
+    // next member's of the phase can.
+    pub(crate) fn count_due_after(&self, member: u8, phase: u8) -> u8 {
+        let own = self.looks_ready(member, phase.saturating_add(1));
+        let above = self.looks_ready(member.saturating_add(1), phase);
+        u8::from(own).saturating_add(u8::from(above))
+    }
+
+    // Whether there is the piece of a member in a phase, and it looks ready.
+    fn looks_ready(&self, member: u8, phase: u8) -> bool {
+        let phases = usize::from(self.nested.phases());
+        let place = usize::from(member) * phases + usize::from(phase);
+        usize::from(phase) < phases
+            && place < self.slots.len()
+            && looks_ready(&self.slots, phases, place)
+    }
+
     // The job of a piece before which all are filled.
     fn due_job(&self, member: u8, phase: u8) -> Result<Job<'p>, AllocError>
         requires { IsReady (phases_in self.now.nested) self.now.marks member phase }

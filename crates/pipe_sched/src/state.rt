@@ -119,11 +119,13 @@ fn waiting_slots<'p>(alloc: Global, count: usize) -> Result<Vec<Slot<'p>>, Alloc
 }
 
 // Whether each piece is filled or failed.
+//
+// Why from the last place on: its piece comes after all others, so until they are settled the first look decides.
 fn are_settled(slots: &[Slot]) -> bool
     ensures { IsTrue result ↔ AreSettled slots.now }
 {
-    for slot in slots {
-        if !slot.is_settled() {
+    for place in (0..slots.len()).rev() {
+        if !slots[place].is_settled() {
             return false;
         }
     }
