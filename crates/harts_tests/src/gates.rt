@@ -106,8 +106,8 @@ pub struct MeetingGate {
     ran_out: Mutex<bool>,
 }
 
-/// How often the gate looks at most.
-const LOOKS: u32 = 400_000_000;
+/// How often a gate looks at most.
+pub const LOOKS: u32 = 400_000_000;
 
 impl MeetingGate {
     /// A gate that nobody has passed.
@@ -209,18 +209,37 @@ impl Gate for CrowdGate {
     }
 }
 
-/// A gate that holds the hart that reports member 1 in phase 0 until member 0 is reported in phase 1, for so many looks at most.
+/// A member in a phase.
+#[derive(Clone, Copy, Debug)]
+pub struct Spot {
+    pub phase: u8,
+    pub place: u8,
+}
+
+/// A gate that holds the hart that reports one piece until another piece is reported, for so many looks at most.
 #[derive(Drop)]
 pub struct OvertakingGate {
     noted: NotingGate,
+    held: Spot,
+    awaited: Spot,
+    looks: u32,
     ran_out: Mutex<bool>,
 }
 
 impl OvertakingGate {
-    /// A gate that nobody has passed.
-    pub fn new(alloc: Global) -> Result<OvertakingGate, AllocError> {
+    /// A gate that no hart has passed, which holds the hart of the one piece until the other is reported, for so many looks at
+    /// most.
+    pub fn new(
+        alloc: Global,
+        held: Spot,
+        awaited: Spot,
+        looks: u32,
+    ) -> Result<OvertakingGate, AllocError> {
         Ok(OvertakingGate {
             noted: NotingGate::new(alloc)?,
+            held,
+            awaited,
+            looks,
             ran_out: Mutex::new(false),
         })
     }
@@ -230,16 +249,16 @@ impl OvertakingGate {
         &self.noted
     }
 
-    /// Whether a hart was held until its looks ran out.
+    /// Whether the hart was held until its looks ran out.
     pub fn has_run_out<R: Wait>(&self, rt: &R) -> bool {
         *self.ran_out.lock(rt)
     }
 
-    // Looks until member 0 was reported in phase 1.
+    // Looks until the piece that is awaited was reported.
     fn hold<R: Wait>(&self, rt: &R) {
         let backoff = Backoff::new();
-        for _ in 0..LOOKS {
-            if self.noted.has(rt, 1, 0) {
+        for _ in 0..self.looks {
+            if self.noted.has(rt, self.awaited.phase, self.awaited.place) {
                 return;
             }
             backoff.snooze();
@@ -257,7 +276,7 @@ impl Gate for OvertakingGate {
             place,
         };
         let _ = self.noted.note(rt, report);
-        if phase == 0 && place == 1 {
+        if phase == self.held.phase && place == self.held.place {
             self.hold(rt);
         }
     }

@@ -1,7 +1,7 @@
 //! Runs whose members overtake.
 ghost use Rattle.std.specs.Prelude.{◌≤◌};
 
-use crate::gates::{OvertakingGate, Report};
+use crate::gates::{LOOKS, OvertakingGate, Report, Spot};
 use crate::meeting::{are_brought, times};
 use crate::runs::{NESTED, TURNS, TWO_BRANCHES, is_right, output_of};
 use array_tree::Program;
@@ -29,15 +29,46 @@ fn are_all_six(reports: &[Report]) -> bool {
     reports.len() == 6 && first && second
 }
 
+// Member 1 in phase 0, and member 0 in phase 1.
+const ABOVE: Spot = Spot { phase: 0, place: 1 };
+
+const AHEAD: Spot = Spot { phase: 1, place: 0 };
+
 #[test]
 fn a_member_goes_on_while_one_above_it_is_held(rt: HostRuntime) -> Result<(), Fail> {
-    let gate = OvertakingGate::new(rt.alloc())?;
+    let gate = OvertakingGate::new(rt.alloc(), ABOVE, AHEAD, LOOKS)?;
     let output = output_of(&rt, PIPE, TWO_STEPS, &gate)?;
     assert!(rt; !gate.has_run_out(&rt));
     assert!(rt; output.starts_with(b"a = 1 2 3 4 5 6\nb = 10 10 20 20 30 30\n"));
     let reports = gate.noted().reports(&rt, rt.alloc())?;
     assert!(rt; are_all_six(&reports));
     assert!(rt; are_brought(rt.alloc(), &output, &reports)?);
+    Ok(())
+}
+
+// Whether the member above is begun by another hart while the first member is held in its second phase. A guest that came before
+// the first piece was filled, and left, begins nothing.
+fn is_shared<R: AllocGlobal + Threads + Wait + Sync>(rt: &R) -> Result<bool, Fail> {
+    let gate = OvertakingGate::new(rt.alloc(), AHEAD, ABOVE, 1_000_000)?;
+    let output = output_of(rt, PIPE, TWO_STEPS, &gate)?;
+    let reports = gate.noted().reports(rt, rt.alloc())?;
+    let right = output.starts_with(b"a = 1 2 3 4 5 6\nb = 10 10 20 20 30 30\n");
+    if !right || !are_all_six(&reports) {
+        return Err(Fail::new("another output, or other pieces"));
+    }
+    Ok(!gate.has_run_out(rt))
+}
+
+#[test]
+fn a_guest_that_comes_early_stays_for_the_pieces_to_come(rt: HostRuntime) -> Result<(), Fail> {
+    let mut shared = 0u32;
+    for _ in 0..20 {
+        if is_shared(&rt)? {
+            shared = shared.saturating_add(1);
+        }
+    }
+    // Where the system lets the home wait for a processor, a guest may lose its patience.
+    assert!(rt; shared >= 15);
     Ok(())
 }
 

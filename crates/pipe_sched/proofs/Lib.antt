@@ -6,6 +6,7 @@ pub mod Writes
 pub mod Stores
 pub mod Whole
 pub mod Told
+pub mod Next
 pub mod Failing
 pub mod Scheduling
 pub mod Crossings

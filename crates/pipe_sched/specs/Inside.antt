@@ -1,5 +1,5 @@
 -- What only private contracts and proofs need: the places of a pipeline with what they hold.
-use Rattle.std.specs.Prelude.{◌≡◌, ℕ, zero, suc, ◌+◌, ◌-◌, ◌*◌, ◌%◌, ◌<◌, ◌≤◌, List, [], ◌∷◌, ◌++◌, true, map, length, slice_get, slice_index_or, get_or, Some}
+use Rattle.std.specs.Prelude.{◌≡◌, ◌↔◌, ℕ, zero, suc, ◌+◌, ◌-◌, ◌*◌, ◌%◌, ◌<◌, ◌≤◌, List, [], ◌∷◌, ◌++◌, true, map, length, slice_get, slice_index_or, get_or, Some}
 use Rattle.array_tree.specs.Trees.{statement_of}
 use Rattle.array_meaning.specs.Stores.{Store, Write}
 use Rattle.array_jobs.specs.Jobs.{JobParts, job_of}
@@ -58,6 +58,17 @@ pub record IsKept (nested : NestedParts) (slots : List Slot) : Type 0 where
   pub right : (j k : ℕ) (own : Slot) → k < phases_in nested →
       slice_get slots (j * phases_in nested + k) ≡ Some own → IsRight (nested_of nested) j k own
   pub order : AreInOrder (phases_in nested) (map mark_of slots)
+
+-- For each member the first phase of which no piece was handed out: just those before it are begun.
+abbrev pub AreNext : ℕ → List Mark → List ℕ → Type 0
+AreNext phases marks next = (j k : ℕ) (mark : Mark) → IsAt phases marks j k mark
+    → (is_begun mark ≡ true) ↔ (k < get_or next j 0)
+
+-- What the type keeps of these beside the places.
+pub record IsHeld (nested : NestedParts) (slots : List Slot) (next : List ℕ) : Type 0 where
+  pub kept : IsKept nested slots
+  pub members : length next ≡ members_in nested
+  pub begun : AreNext (phases_in nested) (map mark_of slots) next
 
 -- Each slot is settled: filled, barred or lost.
 abbrev pub AreSettled : List Slot → Type 0

@@ -14,9 +14,17 @@ use sched_api::{Call, Next, Scheduler};
 use std::marker::PhantomData;
 use std::sync::Wait;
 
+/// How many times a hart that finds nothing snoozes inside one call of `enter`, at most, before it returns Nothing.
+///
+/// Why: a guest that leaves while pieces are out doesn't come back, since the wish that it met is spent.
+const SNOOZES: u32 = 100;
+
 /// One hart's hand on a shared pipe. Its calls do what those of `Pipe` do, under the lock, for which each may wait but `site`
 /// and the callbacks that change no list. Once the pipe is handed out, `enter` returns Nothing and `unblock` gives its context
 /// back.
+///
+/// Where `enter` finds nothing and the pipe isn't full, it snoozes, a bounded number of times, until the pipe shows beside the
+/// lock that it has something for a hart, and looks again.
 #[derive(Drop)]
 pub struct PipeHand<'a, 'p, R> {
     /// The pipe.
@@ -45,8 +53,13 @@ impl<'a, 'p, R: Wait + 'a> PipeHand<'a, 'p, R> {
     pub fn deposit(&self, rt: &R, piece: Piece<'p>) -> Deposit<'p>
         ensures { GivesBack piece.entry result }
     {
+        let (member, phase) = (piece.job.place, piece.job.phase);
         let mut kept = self.shared.kept().lock(rt);
-        under_lock::deposit(&mut kept, piece)
+        let answer = under_lock::deposit(&mut kept, piece);
+        if matches!(&answer, Deposit::Kept) {
+            self.shared.shown().show_filled(&kept, member, phase);
+        }
+        answer
     }
 
     /// What `fail` of the pipe does. Where the piece isn't handed out, or is filled or failed, and isn't the one that is due, it
@@ -54,10 +67,15 @@ impl<'a, 'p, R: Wait + 'a> PipeHand<'a, 'p, R> {
     pub fn fail(&self, rt: &R, member: u8, phase: u8) {
         let mut kept = self.shared.kept().lock(rt);
         under_lock::fail(&mut kept, member, phase);
+        self.shared.shown().show_full(&kept);
     }
 
-    /// Whether every piece of the pipe is filled or failed. One that was handed out is full.
+    /// Whether every piece of the pipe is filled or failed. One that was handed out is full. The lock isn't taken as long as it
+    /// isn't shown beside it.
     pub fn is_full(&self, rt: &R) -> bool {
+        if !self.shared.shown().is_full() {
+            return false;
+        }
         match self.shared.kept().lock(rt).as_ref() {
             Some(pipe) => pipe.is_full(),
             None => true,
@@ -78,6 +96,16 @@ impl<'a, 'p, R: Wait + 'a> PipeHand<'a, 'p, R> {
     {
         let mut kept = self.shared.kept().lock(rt);
         under_lock::take_full(&mut kept)
+    }
+
+    // Looks under the lock for what the pipe has for the hart.
+    fn look(&mut self, rt: &R) -> Next<PipeWork<'p>>
+        ensures { AnswersHand self.old result self.new }
+    {
+        let mut kept = self.shared.kept().lock(rt);
+        let next = self.looks.enter(&mut kept);
+        self.shared.shown().show_given(&kept, &next);
+        next
     }
 }
 
@@ -112,7 +140,9 @@ impl<'a, 'p, R: Wait + 'a> Scheduler for PipeHand<'a, 'p, R> {
 
     fn request(&mut self, hold: &'a R, child: u16, count: u8) -> PipeHeard {
         let mut kept = self.shared.kept().lock(hold);
-        under_lock::request(&mut kept, child, count)
+        let heard = under_lock::request(&mut kept, child, count);
+        self.shared.shown().add_offers(count);
+        heard
     }
 
     fn yielded(&mut self, _hold: &'a R, child: u16) -> PipeHeard {
@@ -120,8 +150,20 @@ impl<'a, 'p, R: Wait + 'a> Scheduler for PipeHand<'a, 'p, R> {
     }
 
     fn enter(&mut self, hold: &'a R) -> Next<PipeWork<'p>> {
-        let mut kept = self.shared.kept().lock(hold);
-        self.looks.enter(&mut kept)
+        let mut next = self.look(hold);
+        let mut snoozes = SNOOZES;
+        for _ in hold.forever() {
+            if !matches!(&next, Next::Nothing) {
+                return next;
+            }
+            match self.shared.shown().stay(snoozes) {
+                Some(left) => snoozes = left,
+                None => return next,
+            }
+            next = self.look(hold);
+            self.shared.shown().arrive();
+        }
+        unreachable!()
     }
 
     fn block(&mut self, _hold: &'a R) -> PipeHeard {
@@ -130,6 +172,8 @@ impl<'a, 'p, R: Wait + 'a> Scheduler for PipeHand<'a, 'p, R> {
 
     fn unblock(&mut self, hold: &'a R, c: PipeWork<'p>) -> Result<(), PipeWork<'p>> {
         let mut kept = self.shared.kept().lock(hold);
-        under_lock::unblock(&mut kept, c)
+        under_lock::unblock(&mut kept, c)?;
+        self.shared.shown().add_offers(1);
+        Ok(())
     }
 }

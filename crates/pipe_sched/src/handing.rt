@@ -1,11 +1,11 @@
 //! Handing out the piece that is due.
-ghost use Rattle.std.specs.Prelude.{◌≡◌, ◌↔◌, ◌<◌, ℕ, IsTrue, IfOk, OnErr, IfSome, IfNone, length};
+ghost use Rattle.std.specs.Prelude.{◌≡◌, ◌↔◌, ◌+◌, ◌*◌, ◌<◌, ◌≤◌, ℕ, IsTrue, IfOk, OnErr, IfSome, IfNone, map, length};
 ghost use Rattle.array_meaning.specs.Stores.{after};
 ghost use Rattle.array_jobs.specs.Jobs.{job_of};
 ghost use Rattle.step_eval.specs.Nests.{nested_of};
 ghost use Rattle.pipe_sched.specs.Slots.{Out, Filled, IsDue, NoneIsDue, IsMarked, IsReady, marked_pipe, phases_in};
 ghost use Rattle.pipe_sched.specs.Pipes.{Gives, GivesAfterFailing, HandsOut, IsJobAt, piped_writes, piped_store};
-ghost use Rattle.pipe_sched.specs.Inside.{LooksReady, written_with};
+ghost use Rattle.pipe_sched.specs.Inside.{mark_of, AreNext, LooksReady, written_with};
 
 use crate::merging::{first_store, merge_phase};
 use crate::slot::Slot;
@@ -63,10 +63,27 @@ impl<'p> PipeState<'p> {
         ensures none { IfNone result (NoneIsDue self.now) }
     {
         let phases = usize::from(self.nested.phases());
-        match first_ready(&self.slots, phases) {
+        match first_ready(&self.slots, phases, &self.next) {
             Some(place) => Some(((place / phases) as u8, (place % phases) as u8)),
             None => None,
         }
+    }
+
+    // How many pieces became due where the piece of this member in this phase was filled: only the member's next piece and the
+    // next member's of the phase can.
+    pub(crate) fn count_due_after(&self, member: u8, phase: u8) -> u8 {
+        let own = self.looks_ready(member, phase.saturating_add(1));
+        let above = self.looks_ready(member.saturating_add(1), phase);
+        u8::from(own).saturating_add(u8::from(above))
+    }
+
+    // Whether there is the piece of a member in a phase, and it looks ready.
+    fn looks_ready(&self, member: u8, phase: u8) -> bool {
+        let phases = usize::from(self.nested.phases());
+        let place = usize::from(member) * phases + usize::from(phase);
+        usize::from(phase) < phases
+            && place < self.slots.len()
+            && looks_ready(&self.slots, phases, place)
     }
 
     // The job of a piece before which all are filled.
@@ -138,22 +155,44 @@ impl<'p> PipeState<'p> {
     {
         let phases = usize::from(self.nested.phases());
         self.slots[usize::from(member) * phases + usize::from(phase)] = Slot::Out(job);
+        self.next[usize::from(member)] = phase + 1;
     }
 }
 
-// The first place that looks ready, if there is one.
-fn first_ready(slots: &[Slot], phases: usize) -> Option<usize>
-    requires { 0 < phases }
+// The first place that looks ready, if there is one. Of each member only the first piece can be that wasn't handed out.
+fn first_ready(slots: &[Slot], phases: usize, next: &[u8]) -> Option<usize>
+    requires phases { 0 < phases }
+    requires places { length slots.now ≡ length next.now * phases }
+    requires next { AreNext phases (map mark_of slots.now) next.now }
     ensures there { IfSome result (λ place. (place < length slots.now) × LooksReady phases slots.now place) }
     ensures first { IfSome result (λ place. (i : ℕ) → i < place → ¬ LooksReady phases slots.now i) }
     ensures none { IfNone result ((i : ℕ) → i < length slots.now → ¬ LooksReady phases slots.now i) }
 {
-    for place in 0..slots.len() {
-        if looks_ready(slots, phases, place) {
+    for member in 0..next.len() {
+        let phase = usize::from(next[member]);
+        if let Some(place) = ready_place(slots, phases, member, phase) {
             return Some(place);
         }
     }
     None
+}
+
+// The place of a member in a phase, if there is this phase and the place looks ready.
+fn ready_place(slots: &[Slot], phases: usize, member: usize, phase: usize) -> Option<usize>
+    requires phases { 0 < phases }
+    requires row { member * phases + phases ≤ length slots.now }
+    ensures there { IfSome result
+        (λ place. (place ≡ member * phases + phase) × (phase < phases) × LooksReady phases slots.now place) }
+    ensures none { IfNone result (phase < phases → ¬ LooksReady phases slots.now (member * phases + phase)) }
+{
+    if phase >= phases {
+        return None;
+    }
+    let place = member * phases + phase;
+    if !looks_ready(slots, phases, place) {
+        return None;
+    }
+    Some(place)
 }
 
 // Whether the piece at a place waits, and those are filled that come right before it. Two neighbours decide, since all before a

@@ -14,6 +14,7 @@ mod looks;
 mod merging;
 mod pipe;
 mod shared;
+mod shown;
 mod slot;
 mod state;
 mod under_lock;

@@ -147,6 +147,12 @@ impl<'p> Pipe<'p> {
         self.state.may_fail(member, phase)
     }
 
+    // How many pieces became due where the piece of this member in this phase was filled: only the member's next piece and the
+    // next member's of the phase can.
+    pub(crate) fn count_due_after(&self, member: u8, phase: u8) -> u8 {
+        self.state.count_due_after(member, phase)
+    }
+
     /// Whether every piece is filled or failed.
     pub fn is_full(&self) -> bool
         ensures { IsTrue result ↔ IsFull self.now.state }

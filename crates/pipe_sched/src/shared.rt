@@ -2,16 +2,19 @@
 ghost use Rattle.std.specs.Prelude.{◌≡◌, IfOk};
 
 use crate::pipe::Pipe;
+use crate::shown::Shown;
 use std::alloc::{AllocError, Global};
 use std::marker::Model;
 use std::sync::Mutex;
 use step_eval::Nested;
 
-/// A pipe that harts share until it is handed out. Beside the lock stands its construct, which never changes.
+/// A pipe that harts share until it is handed out. Beside the lock stand its construct, which never changes, and what the pipe
+/// showed when its lock was held last.
 #[derive(Drop)]
 pub struct SharedPipe<'p> {
     lock: Mutex<Option<Pipe<'p>>>,
     nested: Nested<'p>,
+    shown: Shown,
 }
 
 impl<'p> Model for SharedPipe<'p> {
@@ -37,9 +40,11 @@ impl<'p> SharedPipe<'p> {
         ensures { IfOk result (λ shared. shared ≡ pipe.entry.state.nested) }
     {
         let nested = pipe.nested().copy()?;
+        let shown = Shown::new(&pipe);
         Ok(SharedPipe {
             lock: Mutex::new(Some(pipe)),
             nested,
+            shown,
         })
     }
 
@@ -53,5 +58,10 @@ impl<'p> SharedPipe<'p> {
     // The lock, with the pipe behind it until that is handed out.
     pub(crate) fn kept(&self) -> &Mutex<Option<Pipe<'p>>> {
         &self.lock
+    }
+
+    // What the pipe showed when its lock was held last.
+    pub(crate) fn shown(&self) -> &Shown {
+        &self.shown
     }
 }

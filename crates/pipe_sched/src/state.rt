@@ -24,6 +24,8 @@ pub struct PipeState<'p> {
     pub(crate) nested: Nested<'p>,
     // Member by member, and then by phase: so the first slot that is due is that of the lowest member.
     pub(crate) slots: Vec<Slot<'p>>,
+    // For each member the first phase of which no piece was handed out.
+    pub(crate) next: Vec<u8>,
 }
 
 impl<'p> Model for PipeState<'p> {
@@ -33,7 +35,7 @@ impl<'p> Model for PipeState<'p> {
     ghost use Rattle.array_tree.specs.contracts.tree.Stmt as stmt_type;
     ghost use Rattle.array_tree.specs.contracts.tree.Block as block_type;
     ghost use Rattle.pipe_sched.specs.Slots.{PipeParts};
-    ghost use Rattle.pipe_sched.specs.Inside.{mark_of, IsKept};
+    ghost use Rattle.pipe_sched.specs.Inside.{mark_of, IsHeld};
 
     ghost Value = { PipeParts };
 
@@ -41,7 +43,7 @@ impl<'p> Model for PipeState<'p> {
 
     ghost view = { λ pipe. record { nested = pipe.nested; marks = map mark_of pipe.slots.items } };
 
-    ghost invariant = { λ pipe. IsKept pipe.nested pipe.slots.items };
+    ghost invariant = { λ pipe. IsHeld pipe.nested pipe.slots.items pipe.next.items };
 }
 
 impl<'p> PipeState<'p> {
@@ -56,10 +58,12 @@ impl<'p> PipeState<'p> {
         let _site = nested.site;
         let count = usize::from(nested.members()) * usize::from(nested.phases());
         let slots = waiting_slots(alloc, count)?;
+        let next = vec![in alloc; 0; usize::from(nested.members())]?;
         Ok(PipeState {
             alloc,
             nested,
             slots,
+            next,
         })
     }
 
@@ -115,11 +119,13 @@ fn waiting_slots<'p>(alloc: Global, count: usize) -> Result<Vec<Slot<'p>>, Alloc
 }
 
 // Whether each piece is filled or failed.
+//
+// Why from the last place on: its piece comes after all others, so until they are settled the first look decides.
 fn are_settled(slots: &[Slot]) -> bool
     ensures { IsTrue result ↔ AreSettled slots.now }
 {
-    for slot in slots {
-        if !slot.is_settled() {
+    for place in (0..slots.len()).rev() {
+        if !slots[place].is_settled() {
             return false;
         }
     }

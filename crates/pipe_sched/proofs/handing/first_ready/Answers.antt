@@ -1,9 +1,22 @@
-use Rattle.std.proofs.Common.{sym, ◌∙◌, below_more}
-use Rattle.std.proofs.lemmas.Bool.{false≢true}
-use Rattle.pipe_sched.specs.Inside.{LooksReady}
+use Rattle.std.proofs.Common.{◌≡◌, ◌+◌, ◌*◌, ◌<◌, ◌≤◌, length, get_or, sym, ◌∙◌, arith}
+use Rattle.pipe_sched.proofs.Next.{row_within, none_in_row, none_before_next}
 use Rattle.pipe_sched.proofs.handing.first_ready.Goals as goal
 
-pub loop-place-preserved : goal.loop-place-preserved
-loop-place-preserved c =
-    below_more (λ i. LooksReady c.args.phases c.args.slots.now i → ⊥) c.loop-place.place c.loop-place.invariant
-    (λ look. false≢true (sym c.if-looks_ready.false ∙ c.looks_ready.ensures.1 look))
+pub loop-member-init : goal.loop-member-init
+loop-member-init c = λ i less look. omega arith
+
+pub ready_place-requires-clause-row : goal.ready_place-requires-clause-row
+ready_place-requires-clause-row c =
+    row_within c.loop-member.member c.args.phases (length c.args.next.now) (length c.args.slots.now) c.loop-member-test.true c.requires.places
+
+pub returns-in-Some-clause-first : goal.returns-in-Some-clause-first
+returns-in-Some-clause-first c =
+    let room = row_within c.loop-member.member c.args.phases (length c.args.next.now) (length c.args.slots.now) c.loop-member-test.true c.requires.places in
+    none_before_next c.args.phases c.args.slots.now c.args.next.now c.loop-member.member c.from-phase.result c.in-Some.place c.requires.next room c.from-phase.ensures
+    c.in-Some.ensures.there.0 c.in-Some.ensures.there.1 c.loop-member.invariant
+
+pub loop-member-preserved : goal.loop-member-preserved
+loop-member-preserved c =
+    let room = row_within c.loop-member.member c.args.phases (length c.args.next.now) (length c.args.slots.now) c.loop-member-test.true c.requires.places in
+    none_in_row c.args.phases c.args.slots.now c.args.next.now c.loop-member.member c.from-phase.result c.requires.next room c.from-phase.ensures
+    c.in_default.ensures.none c.loop-member.invariant

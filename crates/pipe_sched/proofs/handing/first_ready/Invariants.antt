@@ -1,6 +1,7 @@
-use Rattle.std.proofs.Common.{ℕ, ◌<◌}
+use Rattle.std.proofs.Common.{ℕ, ◌*◌, ◌<◌}
 use Rattle.pipe_sched.specs.Inside.{LooksReady}
 use Rattle.pipe_sched.proofs.handing.first_ready.Given as goal
 
-abbrev pub invariant-loop-place : goal.invariant-loop-place
-invariant-loop-place l = (i : ℕ) → i < l.place → LooksReady l.phases l.slots i → ⊥
+-- no place of the members so far looks ready
+abbrev pub invariant-loop-member : goal.invariant-loop-member
+invariant-loop-member l = (i : ℕ) → i < l.member * l.phases → LooksReady l.phases l.slots i → ⊥

@@ -13,11 +13,11 @@ use Rattle.pipe_sched.proofs.state.PipeState.due_job.Goals as goal
 
 pub job_at-requires-clause-place : goal.job_at-requires-clause-place
 job_at-requires-clause-place c =
-    (room_for c.self.inside.nested c.self.inside.slots.items c.args.self.now c.args.member c.args.phase c.self.view_is c.self.invariant c.requires).member
+    (room_for c.self.inside.nested c.self.inside.slots.items c.args.self.now c.args.member c.args.phase c.self.view_is c.self.invariant.kept c.requires).member
 
 pub job_at-requires-clause-phase : goal.job_at-requires-clause-phase
 job_at-requires-clause-phase c =
-    (room_for c.self.inside.nested c.self.inside.slots.items c.args.self.now c.args.member c.args.phase c.self.view_is c.self.invariant c.requires).phase
+    (room_for c.self.inside.nested c.self.inside.slots.items c.args.self.now c.args.member c.args.phase c.self.view_is c.self.invariant.kept c.requires).phase
 
 pub job_at-requires-clause-cells : goal.job_at-requires-clause-cells
 job_at-requires-clause-cells c =

@@ -1,7 +1,8 @@
-use Rattle.std.proofs.Common.{◌≡◌, sym, ◌∙◌, subst}
+use Rattle.std.proofs.Common.{◌≡◌, map, sym, ◌∙◌, subst}
 use Rattle.pipe_sched.specs.Slots.{phases_in, follows}
-use Rattle.pipe_sched.specs.Inside.{IsKept}
-use Rattle.pipe_sched.proofs.Kept.{kept_failed}
+use Rattle.pipe_sched.specs.Inside.{mark_of, IsHeld}
+use Rattle.pipe_sched.proofs.Kept.{kept_failed, told_failed}
+use Rattle.pipe_sched.proofs.Next.{next_failed}
 use Rattle.pipe_sched.proofs.Told.{failing_whole, failing_is_told, fails_here}
 use Rattle.pipe_sched.proofs.state.PipeState.fail.Goals as goal
 
@@ -11,7 +12,12 @@ invariant_of-self c =
     let n : c.from-phases.result ≡ phases_in c.self.inside.nested = c.from-phases.ensures ∙ c.phases.ensures.same in
     let whole = failing_whole items c.deref_mut.result.now c.fail_from.new.slots c.self.inside.slots.len c.from-phases.result c.from.result c.from-2.result
     (phases_in c.self.inside.nested) c.args.member c.args.phase c.deref_mut.ensures.value c.self.inside.slots.ok.0 n c.from.ensures c.from-2.ensures c.fail_from.ensures in
-    subst (IsKept c.self.inside.nested) (sym whole) (kept_failed c.self.inside.nested items (follows (phases_in c.self.inside.nested) c.args.member c.args.phase) c.self.invariant)
+    let test = follows (phases_in c.self.inside.nested) c.args.member c.args.phase in
+    subst (λ l. IsHeld c.self.inside.nested l c.self.inside.next.items) (sym whole) (record {
+      kept = kept_failed c.self.inside.nested items test c.self.invariant.kept;
+      members = c.self.invariant.members;
+      begun = rw (told_failed items test) (next_failed (phases_in c.self.inside.nested) (map mark_of items) c.self.inside.next.items test c.self.invariant.begun);
+    })
 
 pub returns-clause-same : goal.returns-clause-same
 returns-clause-same c =
@@ -27,4 +33,4 @@ returns-clause-failed c =
     let n : c.from-phases.result ≡ phases_in c.self.inside.nested = c.from-phases.ensures ∙ c.phases.ensures.same in
     let whole = failing_whole items c.deref_mut.result.now c.fail_from.new.slots c.self.inside.slots.len c.from-phases.result c.from.result c.from-2.result
     (phases_in c.self.inside.nested) c.args.member c.args.phase c.deref_mut.ensures.value c.self.inside.slots.ok.0 n c.from.ensures c.from-2.ensures c.fail_from.ensures in
-    fails_here c.self.inside.nested items _ c.args.self.now c.args.member c.args.phase c.self.view_is c.self.invariant c.requires whole
+    fails_here c.self.inside.nested items _ c.args.self.now c.args.member c.args.phase c.self.view_is c.self.invariant.kept c.requires whole

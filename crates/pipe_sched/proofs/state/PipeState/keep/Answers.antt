@@ -6,7 +6,8 @@ use Rattle.pipe_sched.specs.declared.slot.Slot.TheVariants as slot
 use Rattle.pipe_sched.specs.Slots.{Out, Filled, phases_in}
 use Rattle.pipe_sched.specs.Pipes.{IsJobAt}
 use Rattle.step_eval.specs.Nests.{nested_of}
-use Rattle.pipe_sched.proofs.Told.{place_is, place_within, filling_keeps, mark_is_told}
+use Rattle.pipe_sched.proofs.Told.{place_is, place_within, mark_is_told}
+use Rattle.pipe_sched.proofs.Next.{filling_holds}
 use Rattle.pipe_sched.proofs.state.PipeState.keep.Goals as goal
 
 pub index_mut-requires : goal.index_mut-requires
@@ -28,7 +29,7 @@ invariant_of-self c =
     let k = c.from-2.ensures ∙ ap (λ (j : JobParts). j.phase) c.job.view_is ∙ ap (λ (j : JobParts). j.phase) job in
     let is = place_is c.from.result c.from-phases.result c.from-2.result c.args.piece.job.place (phases_in c.self.inside.nested) c.args.piece.job.phase j n k in
     let P : JobParts → Type 0 = λ one. IsJobAt (nested_of c.args.self.now.nested) c.args.piece.job.place c.args.piece.job.phase (job_of one) in
-    filling_keeps c.self.inside.nested c.self.inside.slots.items c.args.self.now c.args.piece.job.place c.args.piece.job.phase _ c.piece.inside.job c.piece.inside.written
+    filling_holds c.self.inside.nested c.self.inside.slots.items c.self.inside.next.items c.args.self.now c.args.piece.job.place c.args.piece.job.phase _ c.piece.inside.job c.piece.inside.written
     c.self.view_is c.self.invariant c.requires.out (subst P (sym job) c.requires.own.own) c.piece.invariant is
 
 pub returns : goal.returns

@@ -21,5 +21,5 @@ returns-clause-some c =
     let n : c.from-phases.result ≡ phases_in c.self.inside.nested = c.from-phases.ensures ∙ c.phases.ensures.same in
     let place = c.from.result * c.from-phases.result + c.from-2.result in
     let is = place_is c.from.result c.from-phases.result c.from-2.result c.args.member (phases_in c.self.inside.nested) c.args.phase c.from.ensures n c.from-2.ensures in
-    seen c.self.inside.nested c.self.inside.slots.items c.args.self.now c.args.member c.args.phase place c.index.result.now c.self.view_is c.self.invariant is
+    seen c.self.inside.nested c.self.inside.slots.items c.args.self.now c.args.member c.args.phase place c.index.result.now c.self.view_is c.self.invariant.kept is
     (omega (arith, n)) (let len = c.self.inside.slots.ok.0 in omega (arith, len)) c.index.ensures

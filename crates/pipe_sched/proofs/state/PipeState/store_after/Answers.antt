@@ -27,5 +27,5 @@ returns c =
     let less = place_within c.self.inside.nested c.self.inside.slots.items c.args.self.now c.args.member c.args.phase _ Filled c.self.view_is c.requires is in
     IfOk-weaker c.store_left.result _ _
     (λ store e. left_is_told c.self.inside.nested c.self.inside.slots.items c.args.self.now c.args.member c.args.phase _ c.index.result.now store.cells
-    c.self.view_is c.self.invariant c.requires is less c.index.ensures e)
+    c.self.view_is c.self.invariant.kept c.requires is less c.index.ensures e)
     c.store_left.ensures

@@ -11,7 +11,7 @@ store_after-requires c = below_filled c.args.self.now c.args.member c.requires (
 pub returns-then-member-eq0 : goal.returns-then-member-eq0
 returns-then-member-eq0 c =
     IfOk-weaker c.first_store.result _ _
-    (λ store e. first_is_told c.self.inside.nested c.self.inside.slots.items c.args.self.now c.args.member store c.self.view_is c.self.invariant c.requires
+    (λ store e. first_is_told c.self.inside.nested c.self.inside.slots.items c.args.self.now c.args.member store c.self.view_is c.self.invariant.kept c.requires
     (search rules) (e ∙ ap (λ (p : PipeParts). p.nested.store) c.self.view_is))
     c.first_store.ensures
 
@@ -19,5 +19,5 @@ pub returns : goal.returns
 returns c =
     IfOk-weaker c.to_store.result _ _
     (λ store e. above_is_told c.self.inside.nested c.self.inside.slots.items c.args.self.now c.args.member c.in_ok-store.store store
-    c.self.view_is c.self.invariant c.requires (search rules) c.in_ok-store.ensures e)
+    c.self.view_is c.self.invariant.kept c.requires (search rules) c.in_ok-store.ensures e)
     c.to_store.ensures.values

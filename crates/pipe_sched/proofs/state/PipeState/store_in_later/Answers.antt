@@ -10,7 +10,7 @@ store_after-requires c = earlier_filled c.args.self.now c.args.member c.args.pha
 
 pub merge_phase-requires-clause-there : goal.merge_phase-requires-clause-there
 merge_phase-requires-clause-there c =
-    let room = room_for c.self.inside.nested c.self.inside.slots.items c.args.self.now c.args.member c.args.phase c.self.view_is c.self.invariant c.requires.ready in
+    let room = room_for c.self.inside.nested c.self.inside.slots.items c.args.self.now c.args.member c.args.phase c.self.view_is c.self.invariant.kept c.requires.ready in
     let row : c.from-below.result * c.from-phases.result ≡ c.args.member * phases_in c.self.inside.nested
     = ap (λ m. m * c.from-phases.result) c.from-below.ensures ∙ ap (λ p. c.args.member * p) (c.from-phases.ensures ∙ c.phases.ensures.same) in
     let size = ap length c.deref.ensures.value in
@@ -19,7 +19,7 @@ merge_phase-requires-clause-there c =
 
 pub merge_phase-requires-clause-phase : goal.merge_phase-requires-clause-phase
 merge_phase-requires-clause-phase c =
-    let room = room_for c.self.inside.nested c.self.inside.slots.items c.args.self.now c.args.member c.args.phase c.self.view_is c.self.invariant c.requires.ready in
+    let room = room_for c.self.inside.nested c.self.inside.slots.items c.args.self.now c.args.member c.args.phase c.self.view_is c.self.invariant.kept c.requires.ready in
     let less = room.phase in
     let n : c.from-phases.result ≡ phases_in c.self.inside.nested = c.from-phases.ensures ∙ c.phases.ensures.same in
     let from = c.from-own.ensures in
@@ -30,6 +30,6 @@ returns c =
     IfOk-weaker c.to_store.result _ _
     (λ store e. later_is_told c.self.inside.nested c.self.inside.slots.items c.deref.result.now c.args.self.now c.args.member c.args.phase
     c.from-phases.result c.from-below.result c.from-own.result c.in_ok-store.store c.merge_phase.new.store store
-    c.self.view_is c.self.invariant c.requires.ready c.requires.later c.deref.ensures.value (c.from-phases.ensures ∙ c.phases.ensures.same)
+    c.self.view_is c.self.invariant.kept c.requires.ready c.requires.later c.deref.ensures.value (c.from-phases.ensures ∙ c.phases.ensures.same)
     c.from-below.ensures c.from-own.ensures c.in_ok-store.ensures c.merge_phase.ensures e)
     c.to_store.ensures.values

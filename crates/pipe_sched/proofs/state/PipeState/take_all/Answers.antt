@@ -12,21 +12,21 @@ use Rattle.pipe_sched.proofs.state.PipeState.take_all.Goals as goal
 pub merge_phases-requires-clause-there : goal.merge_phases-requires-clause-there
 merge_phases-requires-clause-there c =
     let size : length c.deref.result.now ≡ c.from-members.result * c.from-phases.result
-    = ap length c.deref.ensures.value ∙ c.self.invariant.count
+    = ap length c.deref.ensures.value ∙ c.self.invariant.kept.count
     ∙ ap (λ m. m * phases_in c.self.inside.nested) (sym (c.from-members.ensures ∙ c.members.ensures.same))
     ∙ ap (λ p. c.from-members.result * p) (sym (c.from-phases.ensures ∙ c.phases.ensures.same)) in
     omega (arith, size)
 
 pub written-requires : goal.written-requires
 written-requires c =
-    let small = small_store (nested_of c.self.inside.nested) c.self.invariant.fit in
+    let small = small_store (nested_of c.self.inside.nested) c.self.invariant.kept.fit in
     let size = merged_size (concat (concat (columns c.from-phases.result c.deref.result.now c.from-members.result c.from-phases.result))) c.self.inside.nested.store c.in_ok-store.store c.merge_phases.new.store c.in_ok-store.ensures c.merge_phases.ensures in
     omega (arith, small, size)
 
 pub returns-clause-written : goal.returns-clause-written
 returns-clause-written c =
     let told = all_told c.self.inside.nested c.self.inside.slots.items c.args.self c.deref.result.now c.from-members.result c.from-phases.result
-    c.in_ok-store.store c.merge_phases.new.store c.self.view_is c.self.invariant c.requires
+    c.in_ok-store.store c.merge_phases.new.store c.self.view_is c.self.invariant.kept c.requires
     (λ failed. false≢true (sym c.if-has_failed.false ∙ c.has_failed.ensures.1 failed))
     c.deref.ensures.value (c.from-members.ensures ∙ c.members.ensures.same) (c.from-phases.ensures ∙ c.phases.ensures.same) c.in_ok-store.ensures c.merge_phases.ensures in
     IfOk-weaker c.written.result _ _ (λ overlay e clear. e ∙ told clear) c.written.ensures
