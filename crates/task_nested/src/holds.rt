@@ -34,7 +34,7 @@ impl<'p> Holds<Part<Rows<'p>>> for Work<'p> {
     ghost same_outcome = { λ _ _ given. (given.0, given.2) };
 
     fn hold(task: Part<Rows<'p>>) -> Work<'p>
-        ensures { result ≡ Table task }
+        ensures { result ≡ Table task.entry }
     {
         Work::Table(task)
     }
@@ -94,7 +94,7 @@ impl<'p> Holds<Part<Sum<'p>>> for Work<'p> {
     ghost same_outcome = { λ _ _ given. (given.0, given.2) };
 
     fn hold(task: Part<Sum<'p>>) -> Work<'p>
-        ensures { result ≡ Added task }
+        ensures { result ≡ Added task.entry }
     {
         Work::Added(task)
     }
