@@ -1,5 +1,5 @@
 //! Tasks that fail while others run.
-ghost use Rattle.std.specs.Prelude.{◌≡◌, ◌<◌, ◌≤◌, IfOk};
+ghost use Rattle.std.specs.Prelude.{◌≡◌, ◌<◌, ◌≤◌, IfOk, false};
 ghost use Rattle.std.specs.List.{All};
 
 use std::alloc::{AllocError, Global};
@@ -53,8 +53,8 @@ impl<'p> TaskKind for Count<'p> {
 impl<'p> Task for Count<'p> {
     fn run<H: Harts<Self>>(self, alloc: Global, harts: &mut H) -> Result<u8, CountError> {
         if self.leads {
-            let numbers = harts.fork_join(alloc, numbers_of(alloc, self.ended)?)?;
-            return Ok(numbers.len() as u8);
+            let _numbers = harts.fork_join(alloc, numbers_of(alloc, self.ended)?)?;
+            return Ok(self.number);
         }
         self.ended.fetch_add(1, Ordering::SeqCst);
         if self.number == 3 || self.number == 5 {
@@ -66,7 +66,7 @@ impl<'p> Task for Count<'p> {
 
 // The numbers 0 to 7.
 fn numbers_of<'p>(alloc: Global, ended: &'p AtomicU64) -> Result<Vec<Count<'p>>, AllocError>
-    ensures { IfOk result (All (λ count. count.leads ≡ false)) }
+    ensures { IfOk result (λ made. All (λ count. count.leads ≡ false) made.items) }
 {
     let mut numbers = Vec::with_capacity(alloc, 8)?;
     'numbers: for number in 0..8u8 {

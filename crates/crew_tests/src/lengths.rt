@@ -1,5 +1,6 @@
 //! A small library of tasks, as an author writes it: the length of a text, by halves of the text. The page on schedulers walks through it.
-ghost use Rattle.std.specs.Prelude.{◌≡◌, ◌≤◌, Some, length, refl, IfOk, IfErr, alloc_error};
+ghost use Rattle.std.specs.Prelude.{◌≡◌, ◌≤◌, ℕ, Some, length, refl, IfOk, IfErr, alloc_error};
+ghost use Rattle.crew_tests.specs.declared.lengths.Length.{Length};
 
 use held_tasks::{Holds, join_as};
 use std::alloc::{AllocError, Global};
@@ -40,7 +41,7 @@ pub fn run_length<'p, V: Holds<Length<'p>>, H: Harts<V>>(
     task: Length<'p>,
 ) -> Result<usize, AllocError>
     requires { task.cuts ≤ H.levels harts.old }
-    ensures output { IfOk result (λ output. output ≡ length task.text.now) }
+    ensures output { IfOk result (λ output. output ≡ length task.entry.text.now) }
     ensures error { IfErr result (λ error. error ≡ alloc_error) }
     ensures levels { H.levels harts.new ≡ H.levels harts.old }
 {
@@ -70,13 +71,14 @@ impl<'p> Holds<Length<'p>> for Length<'p> {
     ghost same_outcome = { λ _ output given. (output, given) };
 
     fn hold(task: Length<'p>) -> Length<'p>
-        ensures { result ≡ task }
+        ensures { result ≡ task.entry }
     {
         task
     }
 
     fn output_of(output: usize) -> Option<usize>
-        ensures { result ≡ Some output }
+        ensures { (task : Length) → output ≡ length task.text.now → (own : ℕ) × (result ≡ Some own)
+            × (own ≡ length task.text.now) }
     {
         Some(output)
     }

@@ -53,7 +53,7 @@ impl<'p> Task for Tree<'p> {
 // The tasks inside a task. If the tree is lopsided, only the first has tasks inside it until the last level.
 fn branches_of<'p>(alloc: Global, tree: &Tree<'p>) -> Result<Vec<Tree<'p>>, AllocError>
     requires { 0 < tree.now.levels }
-    ensures { IfOk result (All (λ branch. branch.levels < tree.now.levels)) }
+    ensures { IfOk result (λ made. All (λ branch. branch.levels < tree.now.levels) made.items) }
 {
     let mut branches = Vec::with_capacity(alloc, tree.width as usize)?;
     'branches: for place in 0..tree.width {
