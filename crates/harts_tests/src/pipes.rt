@@ -67,8 +67,8 @@ fn a_guest_that_comes_early_stays_for_the_pieces_to_come(rt: HostRuntime) -> Res
             shared = shared.saturating_add(1);
         }
     }
-    // Where the system lets the home wait for a processor, a guest may lose its patience.
-    assert!(rt; shared >= 15);
+    // Why not all: if the home waits for a processor, the guest may give up and leave.
+    assert!(rt; shared >= 10);
     Ok(())
 }
 
