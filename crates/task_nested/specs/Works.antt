@@ -1,0 +1,36 @@
+-- What the application's tasks come to.
+use Rattle.std.specs.Prelude.{◌≡◌, ◌≤◌, ◌+◌, ◌%◌, ◌^◌, ℕ, Vec, length, sum}
+use Rattle.std.specs.List.{AllZip}
+use Rattle.std.specs.declared.alloc.Global.{Global}
+use Rattle.task_loops.specs.Ranges.{between}
+use Rattle.task_loops.specs.declared.fold.Part.{Part}
+use Rattle.task_loops.specs.declared.sums.Sum.{Sum}
+use Rattle.task_nested.specs.Rows.{IsSortOf, IsSummary}
+use Rattle.task_nested.specs.declared.rows.Rows.{Rows}
+use Rattle.task_nested.specs.declared.work.Summary.{Summary}
+use Rattle.task_nested.specs.declared.work.Work.{Work}
+use Rattle.task_nested.specs.declared.work.Work.TheVariants.{Table, Sorted, Added}
+use Rattle.task_nested.specs.declared.work.Done.{Done}
+use Rattle.task_nested.specs.declared.work.Done.TheVariants.{Summaries, Numbers, Total}
+
+-- A range of rows gives their summaries in order.
+abbrev pub GivesRows : Part Rows → Vec Summary Global → Type 0
+GivesRows part list = part.high ≤ length part.fold.rows.now → AllZip IsSummary (between part.low part.high part.fold.rows.now) list.items
+
+-- A range of a row gives its sum.
+abbrev pub GivesSum : Part Sum → ℕ → Type 0
+GivesSum part total = part.high ≤ length part.fold.numbers.now → total ≡ sum (between part.low part.high part.fold.numbers.now) % 2 ^ 64
+
+-- A range of rows gives their summaries in order, a list gives its numbers in order, and a range of a row gives its sum.
+abbrev pub gives_of : Work → Done → Type 0
+gives_of (Table part) done =
+    (list : Vec Summary Global) × (done ≡ Summaries list) × GivesRows part list
+gives_of (Sorted sort) done = (list : Vec ℕ Global) × (done ≡ Numbers list) × IsSortOf sort.items list
+gives_of (Added part) done =
+    (total : ℕ) × (done ≡ Total total) × GivesSum part total
+
+-- How many levels of tasks may be inside a task: each row of a table is sorted and added up, so many levels deep.
+abbrev pub depth_of : Work → ℕ
+depth_of (Table part) = part.cuts + part.fold.cuts
+depth_of (Sorted sort) = sort.cuts
+depth_of (Added part) = part.cuts + 0
