@@ -33,33 +33,21 @@ impl<'a, 'r, 'p, R: Wait + 'a> PoolHand<'a, 'r, 'p, R> {
 
     /// What `deposit` of the pool does. Where the pool was handed out, each piece is a Stranger.
     ///
-    /// The piece's job is compared before the lock is taken, with the copy that stands beside it. The type of a lock says nothing
-    /// of what stands beside it, so behind the lock the piece lies with its own job: the home compares all jobs of a pool that it
-    /// takes out.
+    /// The piece's job is compared before a lock is taken, with the copy that stands beside it. The type of a lock says nothing
+    /// of what stands beside it: what comes goes to a stripe, whose type keeps that its jobs start from one store, and of a stripe
+    /// that store alone is compared when all have come. A pool of few places has no stripes, and there the home compares all jobs.
     pub fn deposit(&self, rt: &R, piece: Piece<'p>) -> Deposit<'p>
         ensures { Receives self.now.shared.now piece.entry result }
     {
         if !self.shared.has_job(&piece.job) {
             return Deposit::Stranger(piece);
         }
-        match self.shared.kept().lock(rt).as_mut() {
-            Some(pool) => {
-                let deposit = pool.put(piece);
-                self.shared.show_full(pool);
-                deposit
-            }
-            None => Deposit::Stranger(piece),
-        }
+        self.shared.bring(rt, piece)
     }
 
     /// What `fail` of the pool does. Where the place isn't there, or is filled or failed, it does nothing.
     pub fn fail(&self, rt: &R, place: u8) {
-        if let Some(pool) = self.shared.kept().lock(rt).as_mut() {
-            if pool.is_open(place) {
-                pool.fail(place);
-                self.shared.show_full(pool);
-            }
-        }
+        self.shared.fail(rt, place);
     }
 
     /// Whether every place of the pool is filled or failed. One that was handed out is full. The lock isn't taken as long as

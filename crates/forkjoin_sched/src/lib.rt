@@ -14,6 +14,7 @@ mod offering;
 mod pieces;
 mod pool;
 mod shared;
+mod stripes;
 mod work;
 
 pub use hand::PoolHand;

@@ -1,13 +1,15 @@
 //! Pools that harts share.
 ghost use Rattle.std.specs.Prelude.{◌≡◌, ◌↔◌, length, IfOk, IsTrue, vec_len};
-ghost use Rattle.forkjoin_sched.specs.Shared.{HasJob};
+ghost use Rattle.forkjoin_sched.specs.Shared.{HasJob, Receives};
 
 use crate::pool::Pool;
-use array_jobs::{Job, copy_jobs};
+use crate::stripes::{STRIPES, Stripe, hand_on};
+use array_jobs::{Job, Piece, copy_jobs};
+use join_book::Deposit;
 use sched_api::Scheduler;
 use std::alloc::{AllocError, Global};
 use std::marker::Model;
-use std::sync::Mutex;
+use std::sync::{Mutex, Wait};
 use std::sync::atomic::{AtomicBool, AtomicU64, Ordering};
 
 /// A pool that harts share until it is handed out. Beside the lock stand its site and its jobs, which never change, how many
@@ -21,6 +23,10 @@ pub struct SharedPool<'p> {
     full: AtomicBool,
     slots: Vec<Mutex<Option<Job<'p>>>>,
     jobs: Vec<Job<'p>>,
+    // What came to the pool, where it has many places, until all has come. Who has one of these locks takes no other.
+    stripes: Vec<Mutex<Stripe<'p>>>,
+    // How many of the stripes' places still wait for their pieces.
+    left: AtomicU64,
 }
 
 impl<'p> Model for SharedPool<'p> {
@@ -52,6 +58,8 @@ impl<'p> SharedPool<'p> {
         let slots = empty_slots(alloc, jobs.len())?;
         let ready = pool.ready_count() as u64;
         let full = pool.is_full();
+        let stripes = stripes_of(alloc, &pool, jobs.len())?;
+        let left = count_open(&pool, jobs.len());
         Ok(SharedPool {
             site,
             lock: Mutex::new(Some(pool)),
@@ -59,6 +67,8 @@ impl<'p> SharedPool<'p> {
             full: AtomicBool::new(full),
             slots,
             jobs,
+            stripes,
+            left: AtomicU64::new(left),
         })
     }
 
@@ -109,6 +119,92 @@ impl<'p> SharedPool<'p> {
             .store(pool.ready_count() as u64, Ordering::SeqCst);
     }
 
+    // Keeps a piece whose job is that of its place. The caller has compared the job with the copy beside the lock.
+    pub(crate) fn bring<R: Wait>(&self, rt: &R, piece: Piece<'p>) -> Deposit<'p>
+        ensures { HasJob self.now piece.entry.job → Receives self.now piece.entry result }
+    {
+        let place = piece.job.place;
+        let Some(stripe) = self.stripes.get(usize::from(place % STRIPES)) else {
+            return self.put(rt, piece);
+        };
+        let kept = stripe.lock(rt).keep(place / STRIPES, piece);
+        match kept {
+            Ok(()) => {
+                self.count(rt);
+                Deposit::Kept
+            }
+            Err(piece) => self.give_back(rt, piece),
+        }
+    }
+
+    // Puts a piece into a pool that has no stripes.
+    fn put<R: Wait>(&self, rt: &R, piece: Piece<'p>) -> Deposit<'p>
+        ensures { HasJob self.now piece.entry.job → Receives self.now piece.entry result }
+    {
+        match self.lock.lock(rt).as_mut() {
+            Some(pool) => {
+                let deposit = pool.put(piece);
+                self.show_full(pool);
+                deposit
+            }
+            None => Deposit::Stranger(piece),
+        }
+    }
+
+    // What becomes of a piece that its stripe doesn't take.
+    fn give_back<R: Wait>(&self, rt: &R, piece: Piece<'p>) -> Deposit<'p>
+        ensures { HasJob self.now piece.entry.job → Receives self.now piece.entry result }
+    {
+        if self.lock.lock(rt).is_some() {
+            Deposit::Double(piece)
+        } else {
+            Deposit::Stranger(piece)
+        }
+    }
+
+    // Counts a place of the stripes that waits no more. After the last of them all that came goes to the pool.
+    fn count<R: Wait>(&self, rt: &R) {
+        if self.left.fetch_sub(1, Ordering::SeqCst) != 1 {
+            return;
+        }
+        let mut kept = self.lock.lock(rt);
+        if let Some(pool) = kept.as_mut() {
+            self.hand_all_on(rt, pool);
+            self.show_full(pool);
+        }
+    }
+
+    // Hands all that came to the stripes on to the pool, which is that of the lock.
+    fn hand_all_on<R: Wait>(&self, rt: &R, pool: &mut Pool<'p>) {
+        for stripe in &self.stripes {
+            hand_on(pool, &mut *stripe.lock(rt));
+        }
+    }
+
+    // Marks a place as failed, if it waits for its piece.
+    pub(crate) fn fail<R: Wait>(&self, rt: &R, place: u8) {
+        match self.stripes.get(usize::from(place % STRIPES)) {
+            Some(stripe) => {
+                let was_open = stripe.lock(rt).close(place / STRIPES);
+                if was_open {
+                    self.mark_failed(rt, place);
+                    self.count(rt);
+                }
+            }
+            None => self.mark_failed(rt, place),
+        }
+    }
+
+    // Marks a place of the pool behind the lock as failed, if it is open there.
+    fn mark_failed<R: Wait>(&self, rt: &R, place: u8) {
+        if let Some(pool) = self.lock.lock(rt).as_mut() {
+            if pool.is_open(place) {
+                pool.fail(place);
+                self.show_full(pool);
+            }
+        }
+    }
+
     // Whether every place of the pool was filled or failed when its lock was held last.
     pub(crate) fn shows_full(&self) -> bool {
         self.full.load(Ordering::SeqCst)
@@ -118,6 +214,30 @@ impl<'p> SharedPool<'p> {
     pub(crate) fn show_full(&self, pool: &Pool<'p>) {
         self.full.store(pool.is_full(), Ordering::SeqCst);
     }
+}
+
+// The stripes of a pool with so many places. Few places have none: what lies in a stripe is compared once more when all have come,
+// and that would be as dear as what the stripes spare.
+fn stripes_of<'p>(
+    alloc: Global,
+    pool: &Pool<'p>,
+    places: usize,
+) -> Result<Vec<Mutex<Stripe<'p>>>, AllocError> {
+    let count = if places < 2 * usize::from(STRIPES) { 0 } else { STRIPES };
+    let mut stripes = Vec::with_capacity(alloc, usize::from(count))?;
+    for number in 0..count {
+        stripes.push(Mutex::new(Stripe::new(alloc, pool, number)?))?;
+    }
+    Ok(stripes)
+}
+
+// How many of so many places wait for their pieces.
+fn count_open(pool: &Pool, places: usize) -> u64 {
+    let mut left = 0u64;
+    for place in 0..places {
+        left = left.saturating_add(u64::from(pool.is_open(place as u8)));
+    }
+    left
 }
 
 // So many empty slots.

@@ -1,5 +1,8 @@
 //! The schedulers of sites that a hart opens for all harts.
-ghost use Rattle.std.specs.Prelude.{◌≡◌, IfOk, IfSome, Some};
+ghost use Rattle.std.specs.Prelude.{◌≡◌, ◌↔◌, ◌<◌, IsTrue, IfOk, IfSome, Some, length, map};
+ghost use Rattle.array_meaning.specs.Stores.{Store};
+ghost use Rattle.array_jobs.specs.Jobs.{job_of};
+ghost use Rattle.forkjoin_sched.specs.Pools.{StartFrom, HaveOneStart};
 ghost use Rattle.array_tree.specs.Trees.{statement_of};
 ghost use Rattle.join_book.specs.Books.{IsFull};
 ghost use Rattle.loop_team.specs.Teams.{IsOver};
@@ -14,6 +17,7 @@ ghost use Rattle.hart_loop.specs.Openings.{IsMadeOf, IsSharedPoolOf, kept_in};
 use crate::hart_site::Keeper;
 use crate::members::Members;
 use array_eval::Overlay;
+use array_jobs::Job;
 use forkjoin_sched::{Pool, SharedPool};
 use hart_tools::Whole;
 use lone_hart::{open_pool, open_team, room_for_wishes, take_from_pool};
@@ -113,11 +117,54 @@ fn written_by_pool<'p>(
     requires full { IsFull pool.book }
     ensures { IfOk result (λ written. written.pairs ≡ nested_writes (nested_of nested.now)) }
 {
-    if pool.jobs() == shared.jobs() {
+    if has_jobs(&pool, shared.jobs()) {
         take_from_pool(nested, pool)
     } else {
         compute(alloc, nested)
     }
+}
+
+// Whether the pool's jobs are these, all of which start from one store. If the pool's do too, that store alone is compared, and of
+// each job the rest.
+fn has_jobs(pool: &Pool, jobs: &[Job]) -> bool
+    requires some { 0 < length jobs.now }
+    requires start { HaveOneStart jobs.now }
+    ensures { IsTrue result → map job_of pool.now.book.jobs ≡ map job_of jobs.now }
+{
+    if !pool.has_one_start() {
+        return pool.jobs() == jobs;
+    }
+    *pool.start() == jobs[0].store && have_same_work(pool.jobs(), jobs)
+}
+
+// Whether jobs that all start from one store are equal.
+fn have_same_work(xs: &[Job], ys: &[Job]) -> bool
+    requires { (start : Store) × StartFrom start xs.now × StartFrom start ys.now }
+    ensures { IsTrue result → map job_of xs.now ≡ map job_of ys.now }
+{
+    if xs.len() != ys.len() {
+        return false;
+    }
+    for place in 0..xs.len() {
+        if !are_same_work(&xs[place], &ys[place]) {
+            return false;
+        }
+    }
+    true
+}
+
+// Whether two jobs that start from one store are equal.
+fn are_same_work(a: &Job, b: &Job) -> bool
+    requires { a.now.store ≡ b.now.store }
+    ensures { IsTrue result ↔ (job_of a.now ≡ job_of b.now) }
+{
+    a.site == b.site
+        && a.phase == b.phase
+        && a.place == b.place
+        && a.first == b.first
+        && a.work == b.work
+        && a.vars == b.vars
+        && *a.arrays == *b.arrays
 }
 
 // What a `team` writes that was handed out.
