@@ -1,9 +1,9 @@
 //! Pools.
-ghost use Rattle.std.specs.Prelude.{◌≡◌, ◌↔◌, ◌<◌, IsTrue, IfOk, IsErr, Some, map, length, slice_get};
+ghost use Rattle.std.specs.Prelude.{◌≡◌, ◌↔◌, ◌<◌, IsTrue, IfOk, IsErr, map, length};
 ghost use Rattle.sched_api.specs.declared.hearing.Told.{Told};
 ghost use Rattle.sched_api.specs.Calls.{registered_told, unregistered_told, requested_told, yielded_told, blocked_told};
 ghost use Rattle.sched_api.specs.Wishes.{with_wishes, without_child};
-ghost use Rattle.array_jobs.specs.Jobs.{JobParts, job_of};
+ghost use Rattle.array_jobs.specs.Jobs.{job_of};
 ghost use Rattle.array_jobs.specs.Groups.{IsGroup};
 ghost use Rattle.work_agenda.specs.Agenda.{GivesReady};
 ghost use Rattle.join_book.specs.Books.{Open, Filled, Failed, IsMarked, IsPlaceOf, IsFull, HasFailed, Deposits, Puts, marked_book, all_writes};
@@ -11,7 +11,7 @@ ghost use Rattle.forkjoin_sched.specs.declared.work.PoolWork.TheVariants.{Begin}
 ghost use Rattle.forkjoin_sched.specs.Pools.{StartFrom, HaveOneStart, new_pool, roomy_pool, Answers, Hears, Takes, with_book, with_agenda, GivesJob};
 
 use crate::work::PoolWork;
-use array_eval::{Overlay, Store};
+use array_eval::Overlay;
 use array_jobs::{Job, Piece};
 use join_book::{Book, Deposit};
 use lithe_mutex::{Acquired, MutexState};
@@ -129,16 +129,6 @@ impl<'p> Pool<'p> {
         ensures { IsTrue result → HaveOneStart self.now.book.jobs }
     {
         self.alike
-    }
-
-    /// The store from which the first job starts.
-    pub fn start(&self) -> &Store
-        ensures { (job : JobParts) → slice_get self.now.book.jobs 0 ≡ Some job → result.now ≡ job.store }
-    {
-        match self.book.value() {
-            Some(book) => &book.jobs()[0].store,
-            None => unreachable!(),
-        }
     }
 
     /// How many contexts are ready to go on.

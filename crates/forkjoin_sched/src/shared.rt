@@ -9,8 +9,8 @@ use join_book::Deposit;
 use sched_api::Scheduler;
 use std::alloc::{AllocError, Global};
 use std::marker::Model;
-use std::sync::{Mutex, Wait};
 use std::sync::atomic::{AtomicBool, AtomicU64, Ordering};
+use std::sync::{Mutex, Wait};
 
 /// A pool that harts share until it is handed out. Beside the lock stand its site and its jobs, which never change, how many
 /// contexts are ready behind the lock, whether the pool is full, and a slot for each place, from which a hart takes the job
@@ -223,10 +223,16 @@ fn stripes_of<'p>(
     pool: &Pool<'p>,
     places: usize,
 ) -> Result<Vec<Mutex<Stripe<'p>>>, AllocError> {
-    let count = if places < 2 * usize::from(STRIPES) { 0 } else { STRIPES };
-    let mut stripes = Vec::with_capacity(alloc, usize::from(count))?;
-    for number in 0..count {
-        stripes.push(Mutex::new(Stripe::new(alloc, pool, number)?))?;
+    let mut stripes = Vec::new(alloc);
+    let Some(first) = pool.jobs().first() else {
+        return Ok(stripes);
+    };
+    if places < 2 * usize::from(STRIPES) {
+        return Ok(stripes);
+    }
+    for number in 0..STRIPES {
+        let stripe = Stripe::new(alloc, pool, &first.store, number)?;
+        stripes.push(Mutex::new(stripe))?;
     }
     Ok(stripes)
 }

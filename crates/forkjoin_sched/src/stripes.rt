@@ -1,10 +1,11 @@
 //! What came to a pool, a few places behind one lock.
-ghost use Rattle.std.specs.Prelude.{◌≡◌, ◌↔◌, ◌<◌, IsTrue, IfErr, IfSome, length};
-ghost use Rattle.forkjoin_sched.specs.Stripes.{StartsFrom};
+ghost use Rattle.std.specs.Prelude.{◌≡◌, ◌<◌, IsTrue, IfErr, IfSome, length};
+ghost use Rattle.forkjoin_sched.specs.Pools.{StartFrom, HaveOneStart};
+ghost use Rattle.forkjoin_sched.specs.Stripes.{StartsFrom, HasPiece};
 
 use crate::pool::Pool;
 use array_eval::Store;
-use array_jobs::Piece;
+use array_jobs::{Job, Piece};
 use std::alloc::{AllocError, Global};
 use std::mem;
 
@@ -36,11 +37,16 @@ pub(crate) struct Stripe<'p> {
 }
 
 impl<'p> Stripe<'p> {
-    /// The stripe of this number. It makes all room.
-    pub(crate) fn new(alloc: Global, pool: &Pool<'p>, number: u8) -> Result<Stripe<'p>, AllocError>
+    /// The stripe of this number of a pool whose first job starts from this store. It makes all room.
+    pub(crate) fn new(
+        alloc: Global,
+        pool: &Pool<'p>,
+        start: &Store,
+        number: u8,
+    ) -> Result<Stripe<'p>, AllocError>
         requires { number < STRIPES }
     {
-        let start = pool.start().copy()?;
+        let start = start.copy()?;
         let mut seats = Vec::with_capacity(alloc, pool.jobs().len() / usize::from(STRIPES) + 1)?;
         for row in 0..ROWS {
             let place = number + row * STRIPES;
@@ -91,28 +97,48 @@ impl<'p> Stripe<'p> {
         ensures start { self.new.start ≡ self.old.start }
         ensures piece { IfSome result (λ piece. piece.job.store ≡ self.old.start) }
     {
-        match mem::replace(self.seats.get_mut(usize::from(row))?, Seat::Gone) {
+        if !self.has_piece(row) {
+            return None;
+        }
+        match mem::replace(&mut self.seats[usize::from(row)], Seat::Gone) {
             Seat::Came(piece) => Some(piece),
-            Seat::Open | Seat::Gone => None,
+            Seat::Open | Seat::Gone => unreachable!(),
         }
     }
 
-    // Whether all its jobs start from this store.
-    fn starts_from(&self, store: &Store) -> bool
-        ensures { IsTrue result ↔ (self.now.start ≡ store.now) }
+    // Whether the piece of a row has come.
+    fn has_piece(&self, row: u8) -> bool
+        ensures { IsTrue result → HasPiece self.now.seats.items row }
     {
-        self.start == *store
+        match self.seats.get(usize::from(row)) {
+            Some(seat) => matches!(seat, Seat::Came(_)),
+            None => false,
+        }
+    }
+
+    // Whether the first of the jobs starts from its store.
+    fn starts_as(&self, jobs: &[Job]) -> bool
+        ensures { IsTrue result → HaveOneStart jobs.now → StartFrom self.now.start jobs.now }
+    {
+        match jobs.first() {
+            Some(first) => first.store == self.start,
+            None => false,
+        }
     }
 }
 
 // What a place waits for.
 fn seat_of<'p>(pool: &Pool<'p>, place: u8) -> Seat<'p> {
-    if pool.is_open(place) { Seat::Open } else { Seat::Gone }
+    if pool.is_open(place) {
+        Seat::Open
+    } else {
+        Seat::Gone
+    }
 }
 
 /// Hands all that came to a stripe on to its pool, and gives its room back. One store is compared.
 pub(crate) fn hand_on<'p>(pool: &mut Pool<'p>, stripe: &mut Stripe<'p>) {
-    let known = pool.has_one_start() && stripe.starts_from(pool.start());
+    let known = pool.has_one_start() && stripe.starts_as(pool.jobs());
     for row in 0..ROWS {
         if let Some(piece) = stripe.take(row) {
             let _ = pool.put_in(piece, known);

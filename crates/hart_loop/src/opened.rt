@@ -127,14 +127,15 @@ fn written_by_pool<'p>(
 // Whether the pool's jobs are these, all of which start from one store. If the pool's do too, that store alone is compared, and of
 // each job the rest.
 fn has_jobs(pool: &Pool, jobs: &[Job]) -> bool
-    requires some { 0 < length jobs.now }
-    requires start { HaveOneStart jobs.now }
+    requires { HaveOneStart jobs.now }
     ensures { IsTrue result → map job_of pool.now.book.jobs ≡ map job_of jobs.now }
 {
-    if !pool.has_one_start() {
-        return pool.jobs() == jobs;
+    match (pool.jobs().first(), jobs.first()) {
+        (Some(a), Some(b)) if pool.has_one_start() => {
+            a.store == b.store && have_same_work(pool.jobs(), jobs)
+        }
+        _ => pool.jobs() == jobs,
     }
-    *pool.start() == jobs[0].store && have_same_work(pool.jobs(), jobs)
 }
 
 // Whether jobs that all start from one store are equal.
