@@ -1,20 +1,20 @@
-//! Why a text spells no program.
+//! Why a text is no program.
 
 use array_tokens::TokenFault;
 
-/// The first fault of a text. A place is that of a byte, counted from 0.
+/// The first error of a text. Positions are bytes, counted from 0.
 #[derive(Clone, Copy, PartialEq, Eq, Debug, Drop)]
 pub enum SyntaxFault {
     /// The first byte of 128 or more, anywhere in the text.
     NotAscii { at: u32 },
-    /// The first place where no token begins.
+    /// The first position where no token begins.
     BadToken { at: u32 },
     /// The first token such that no program begins with the tokens up to and including it, or the end of a text
     /// that is right so far but not whole.
     Unexpected { at: u32 },
     /// The first digit of a number above 9223372036854775807.
     NumberTooLarge { at: u32 },
-    /// Want of memory.
+    /// An allocation failed.
     Memory,
     /// The 65th mark of one outermost expression, or the 33rd `{` that is open at once.
     TooNested { at: u32 },

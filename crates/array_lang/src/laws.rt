@@ -1,4 +1,4 @@
-//! Laws of the language. They are proved, and do nothing where they are called.
+//! Laws of the language, each the contract of a function with an empty body.
 
 ghost use Rattle.std.specs.Prelude.{◌≡◌, ◌≢◌, ℕ, List};
 ghost use Rattle.array_tree.specs.Trees.{ProgramTree};
@@ -11,7 +11,7 @@ pub fn one_program()
     ensures { (text : List ℕ) (p q : ProgramTree) → Spells text p → Spells text q → p ≡ q }
 {}
 
-/// Besides want of memory, a text has at most one fault, and none where it spells a program.
+/// Except for allocation failure, a text has at most one error, and none if it spells a program.
 pub fn one_fault()
     ensures one { (text : List ℕ) (f g : SyntaxFault) → HasFault text f → HasFault text g
         → f ≢ Memory → g ≢ Memory → f ≡ g }

@@ -1,9 +1,9 @@
-//! The array language: which texts spell a program, which program it is, and the first fault of the others.
+//! The parser of the array language: texts to programs, or to the first error of a text. `language_tests` has examples.
 //!
-//! What a text spells is said in `specs/Spelled.antt`: its tokens by `array_tokens`, the tree by the rules of
-//! `specs/Grammar.antt`, and the limits on nesting by `specs/Nesting.antt`. The parser descends through the tokens
-//! once. `specs/Parsing` is how it is proved: each of its functions says which way it takes a machine that reads token
-//! after token, and so finds the first one that can't come.
+//! `specs/Spelled.antt` defines which program a text spells: tokens by `array_tokens`, the tree by `specs/Grammar.antt`, the
+//! limits on nesting by `specs/Nesting.antt`. The parser descends recursively through the tokens, once. `specs/Parsing` has the
+//! invariants of its proof: each function states which path it takes through a machine that reads token after token, and so
+//! finds the first token with which no program continues.
 #![tactic(auto)]
 
 mod expressions;

@@ -14,8 +14,8 @@ const MOST_OPEN: u32 = 32;
 // How many marks an outermost expression has at most.
 const MOST_MARKS: u32 = 64;
 
-/// Where a token stands: outside of expressions, after the name that begins a statement, or inside an
-/// outermost expression with this many marks so far.
+/// The context of a token: outside of expressions, after the name that begins a statement, or inside an outermost expression
+/// with so many marks so far.
 #[derive(Clone, Copy, PartialEq, Eq, Debug, Drop)]
 pub enum Reach {
     Outside,
@@ -42,7 +42,7 @@ impl Reach {
         }
     }
 
-    // Where the token after this one stands.
+    // The context of the token after this one.
     fn after(self, kind: &Kind<'_>) -> Reach
         requires { marks_of self ≤ most_marks }
         ensures { result ≡ reach_after self (lexeme_of kind.now) }
@@ -77,7 +77,10 @@ fn is_over(depth: u32, reach: Reach) -> bool
     depth > MOST_OPEN || reach.marks() > MOST_MARKS
 }
 
-/// The place in the list of the first token that passes a limit.
+/// The index of the first token that passes a limit.
+///
+/// Why: the definition (`specs/Nesting.antt`) finds the token along the derivation. This function scans tokens alone, and its
+/// contract states that it is the same token.
 pub fn nested_at(tokens: &[Token<'_>]) -> Option<usize>
     ensures at { result ≡ first_nested (spots tokens.now) }
     ensures within { IfSome result (λ index. index < length tokens.now) }

@@ -15,7 +15,7 @@ pub enum Strength {
     Product,
 }
 
-/// The operator that a token is, and its strength.
+/// The operator of a token, and its binding strength; `None` if the token is no binary operator.
 pub fn operator_of(kind: &Kind<'_>) -> Option<(Strength, Op)>
     ensures { result ≡ operator_of (lexeme_of kind.now) }
 {

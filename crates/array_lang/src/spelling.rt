@@ -15,10 +15,17 @@ use array_tokens::{Token, tokens};
 use array_tree::Program;
 use std::alloc::Global;
 
-/// The program that the text spells, or the text's first fault.
+/// Parses a text.
 ///
-/// A fault of cutting the text into tokens comes before every fault of the grammar. Of an unexpected token and one
-/// that passes a limit on nesting, the one with the smaller place is told, and Unexpected at the same place.
+/// # Errors
+///
+/// The text's first error. Errors of tokens come before errors of the grammar. Of an unexpected token and a token that passes a
+/// limit on nesting, the one at the smaller position is reported, and `Unexpected` at the same position. `SyntaxFault::Memory`
+/// if an allocation fails.
+///
+/// # Memory
+///
+/// It allocates the tokens and the tree.
 pub fn parse(alloc: Global, text: &[u8]) -> Result<Program, SyntaxFault>
     requires { length text.now < 2 ^ 32 }
     // What is read is spelled.
@@ -51,8 +58,8 @@ fn whole(alloc: Global, tokens: &[Token<'_>], end: u32) -> Result<Program, Synta
     }
 }
 
-// The first fault of tokens of which this one passes a limit. Only the tokens up to it are read, which also bounds
-// how deep the parser goes.
+// The first error of tokens of which this one passes a limit. Why: it reads only the tokens up to this one, which also bounds
+// the parser's recursion.
 fn first_fault(alloc: Global, tokens: &[Token<'_>], index: usize) -> SyntaxFault
     requires over { first_nested (spots tokens.now) ≡ Some index }
     requires within { index < length tokens.now }
@@ -81,7 +88,7 @@ fn stop<'a, 't>(alloc: Global, tokens: &'a [Token<'t>]) -> Result<(), Stop<'a, '
     Ok(())
 }
 
-// The place of the first token, or where the text ends.
+// The position of the first token, or of the text's end.
 fn place(rest: &[Token<'_>], end: u32) -> u32
     ensures { result ≡ place_of end (spots rest.now) }
 {

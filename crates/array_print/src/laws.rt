@@ -1,4 +1,4 @@
-//! Laws of the printer. They are proved, and do nothing where they are called.
+//! Laws of the printer, each the contract of a function with an empty body.
 
 ghost use Rattle.std.specs.Prelude.{ℕ, List};
 ghost use Rattle.array_tree.specs.Trees.{ProgramTree};
@@ -7,13 +7,13 @@ ghost use Rattle.array_print.specs.Spellings.{SpellsButLines};
 ghost use Rattle.array_print.specs.Texts.{printed};
 ghost use Rattle.array_print.specs.Writable.{IsWritable};
 
-/// Where some text spells a program, its printed text spells it too, up to line numbers.
+/// If some text spells a program, the program's printed text spells it too, up to line numbers.
 pub fn printed_text_spells()
     ensures { (text : List ℕ) (p : ProgramTree) → Spells text p → SpellsButLines (printed p) p }
 {}
 
-/// A program whose names, numbers, blocks and nesting are such as texts have them is spelled by its printed text, up to line
-/// numbers; and a program that some text spells is such.
+/// The printed text of a program spells it, up to line numbers, if its names, numbers, blocks and nesting are within the limits
+/// of texts. A program that some text spells is within these limits.
 pub fn writable_programs_are_spelled()
     ensures spelled { (p : ProgramTree) → IsWritable p → SpellsButLines (printed p) p }
     ensures only { (text : List ℕ) (p : ProgramTree) → Spells text p → IsWritable p }

@@ -1,4 +1,5 @@
-//! The printer of the array language: programs to texts.
+//! The printer of the array language: programs to texts, such that the parser returns the program again, up to line numbers
+//! (equality after each line is set to 0). `language_tests` has examples.
 #![tactic(auto)]
 
 mod expressions;

@@ -10,9 +10,17 @@ use crate::statements::print_statements;
 use array_tree::{ArrayDecl, Program};
 use std::alloc::{AllocError, Global};
 
-/// The text of a program that some text spells, be it up to its line numbers. Each declaration and each statement begins a
-/// line of its own, after two spaces per open block; operands stand in parentheses where their binding strengths ask for
-/// it. The text spells the program up to its line numbers.
+/// The text of a program that some text spells, up to its line numbers. Each declaration and each statement begins a line of
+/// its own, after two spaces for each open block; `par {` counts as a block. Operands are in parentheses if their binding
+/// strengths require it. The text spells the program up to its line numbers.
+///
+/// # Errors
+///
+/// `AllocError` if an allocation fails.
+///
+/// # Memory
+///
+/// It allocates the text, and the margin of each block.
 pub fn print(alloc: Global, program: &Program) -> Result<Vec<u8>, AllocError>
     requires { IsSpelledButLines (program_of program.now) }
     ensures layout { IfOk result (λ text. text.items ≡ printed (program_of program.now)) }

@@ -8,7 +8,8 @@ use crate::expressions::{print_expression, print_number};
 use array_tree::{Block, Blocks, Expr, Name, Stmt};
 use std::alloc::{AllocError, Global};
 
-// Adds the text of a statement. The margin stands before each of its lines.
+// Adds the text of a statement. Each of its lines begins with the margin. Why: the margin is passed as text, one small
+// allocation a block, which needs no bound on depth.
 #[cycle(print)]
 fn print_statement(
     alloc: Global,
@@ -241,7 +242,7 @@ fn print_team_head(
     print_dealt(alloc, out, var, low, high, members)
 }
 
-// Adds a loop variable with its bounds, and the members to whom the iterations are dealt.
+// Adds a loop variable with its bounds, and the number of members that share the iterations.
 fn print_dealt(
     alloc: Global,
     out: &mut Vec<u8>,

@@ -176,11 +176,11 @@ program_same p q h =
 pub program_refl : (p : ProgramTree) → program_eq p p ≡ true
 program_refl p = and_true (declarations_refl p.arrays) (sequence_refl p.body)
 
--- A value of such a test tells whether the two are equal.
+-- The test is true exactly if the two are equal.
 decided : {X : Type 0} (eq : X → X → Bool) → ((x y : X) → eq x y ≡ true → x ≡ y) → ((x : X) → eq x x ≡ true) → (x y : X) (b : Bool) → b ≡ eq x y → IsTrue b ↔ (x ≡ y)
 decided eq same all x y b e = rw e (λ h. same x y h, λ p. subst (λ z. eq x z ≡ true) p (all x))
 
--- What `==` answers of two trees tells whether they are equal.
+-- `==` returns true exactly if the two trees are equal.
 pub expression_decided : (x y : Expression) (b : Bool) → b ≡ expression_eq x y → IsTrue b ↔ (x ≡ y)
 expression_decided = decided expression_eq expression_same expression_refl
 

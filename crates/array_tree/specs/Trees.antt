@@ -1,5 +1,5 @@
--- Programs as plain data, without where their parts lie in memory. All definitions of the language speak of these;
--- each Rust type of the tree has one view to them.
+-- Programs as plain data, without addresses. All definitions of the language are about these; each Rust type of the tree has
+-- one view to them.
 use Rattle.std.specs.Prelude.{ℕ, ℤ, List, [], ◌∷◌, map}
 use Rattle.array_tree.specs.declared.tree.Op.{Op}
 use Rattle.array_tree.specs.declared.tree.Expr.{Expr}

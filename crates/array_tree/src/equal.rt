@@ -1,4 +1,4 @@
-//! `==` of trees: equality of the programs that they stand for.
+//! `==` of trees: equality of their models.
 ghost use Rattle.std.specs.Prelude.{◌≡◌, ◌↔◌, IsTrue};
 ghost use Rattle.array_tree.specs.Trees.{expression_of, statement_of, sequence_of, sequences_of, declaration_of, declarations_of, program_of};
 ghost use Rattle.array_tree.specs.Equal.{expression_eq, statement_eq, sequence_eq, sequences_eq, declaration_eq, declarations_eq, program_eq};

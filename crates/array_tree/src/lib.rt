@@ -1,4 +1,5 @@
-//! The tree of the array language: what a program is, apart from how its text is laid out.
+//! The syntax tree of the array language: a program without the layout of its text. `array_lang` parses a text to it,
+//! `array_print` prints it.
 #![tactic(auto)]
 
 mod equal;

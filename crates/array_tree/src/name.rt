@@ -8,8 +8,10 @@ use std::marker::Model;
 
 /// A name of the language: a letter or `_`, then letters, digits and `_`.
 ///
-/// Beside its bytes it keeps a digest of them, so that two different names mostly differ at once, however long
-/// they are and however much of their beginnings is equal.
+/// It has its bytes and their 64-bit FNV-1a digest.
+///
+/// Why: `==` compares digests first, so two different names mostly differ at once, however long their common prefix is.
+/// Contracts see the bytes alone.
 #[derive(Debug, Drop)]
 pub struct Name {
     bytes: Vec<u8>,
@@ -29,6 +31,10 @@ impl Model for Name {
 
 impl Name {
     /// A name of these bytes.
+    ///
+    /// # Errors
+    ///
+    /// `AllocError` if the allocation of the copy fails.
     pub fn new(alloc: Global, bytes: &[u8]) -> Result<Name, AllocError>
         ensures { IfOk result (λ name. name ≡ bytes.now) }
     {
@@ -52,7 +58,11 @@ impl Name {
         self.digest
     }
 
-    /// An equal name.
+    /// Returns an equal name.
+    ///
+    /// # Errors
+    ///
+    /// `AllocError` if the allocation of the copy fails.
     pub fn copy(&self) -> Result<Name, AllocError>
         ensures { IfOk result (λ name. name ≡ self.now) }
     {
@@ -78,8 +88,8 @@ impl PartialEq for Name {
     }
 }
 
-// Whether bytes are the same. It looks at them all, and doesn't end at the first that differ: so a compiler can compare
-// several at once. Names whose digests are equal mostly are.
+// Whether bytes are equal. Why: it compares all bytes, without an early end, so that the compiler vectorises it. Names whose
+// digests are equal are mostly equal.
 fn are_same(a: &[u8], b: &[u8]) -> bool
     ensures { result ≡ pointwise nat_eq a.now b.now }
 {

@@ -38,7 +38,7 @@ pub struct Block {
     pub statements: Vec<Stmt>,
 }
 
-/// Blocks beside one another: the branches of a `par`, or the phases of a `team`.
+/// A list of blocks: the branches of a `par`, or the phases of a `team`.
 #[derive(Debug, Drop)]
 #[cycle(tree)]
 pub struct Blocks {
@@ -71,12 +71,12 @@ pub enum Stmt {
         then_block: Block,
         else_block: Block,
     },
-    /// Branches that may run at the same time.
+    /// Branches that may run in parallel.
     Par {
         line: u32,
         branches: Blocks,
     },
-    /// A loop whose iterations are dealt to members, phase after phase.
+    /// A loop whose iterations its members share, phase after phase.
     Team {
         line: u32,
         var: Name,

@@ -1,4 +1,4 @@
--- What a step does to the rule and to the journal.
+-- What a step does to the invariant and to the journal.
 use Rattle.std.specs.Prelude.{◌≡◌, ℕ, [], ◌∷◌, ◌++◌, slice_set, Ok}
 use Rattle.atomic_table.specs.Table.{State}
 use Rattle.transfer_table.specs.Plan.{Plan}
@@ -19,11 +19,11 @@ after_step s i n id w = record {
   views = slice_set s.views id w;
 }
 
--- the rule holds on, with the same journal and the same state of the table
+-- the invariant holds afterwards, with the same journal and the same state of the table
 abbrev pub Keeps : (lay : Layout) (p : Plan) (s : St) → Stands lay p s → St → Type 0
 Keeps lay p s k s' = (k' : Stands lay p s') × (k'.journal ≡ k.journal) × (k'.table ≡ k.table)
 
--- the rule holds on, the journal has one entry more, and the table admits it
+-- the invariant holds afterwards, the journal has one entry more, and the table admits the entry
 abbrev pub Appends : (lay : Layout) (p : Plan) (s : St) → Stands lay p s → Entry → St → Type 0
 Appends lay p s k e s' = (k' : Stands lay p s') × (k'.journal ≡ k.journal ++ e ∷ [])
     × (admit_of p k.table e ≡ Ok k'.table)

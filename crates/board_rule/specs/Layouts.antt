@@ -1,5 +1,5 @@
--- What the layouts of a board say otherwise: of the first word, of whom a site's word counts, and of what a hart has still to
--- do after an Enter and a Yield.
+-- What differs between the layouts of a board: the first word, the harts that a site's word counts, and the step that is left
+-- after an Enter and a Yield.
 use Rattle.std.specs.Prelude.{◌≡◌, ℕ, ◌+◌, ◌*◌, ◌≤◌}
 use Rattle.transfer_table.specs.Plan.{Plan}
 use Rattle.transfer_table.specs.Table.{TableState}

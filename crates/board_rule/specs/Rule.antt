@@ -1,4 +1,4 @@
--- What the words and the views stand for, between any two steps.
+-- The invariant of the words and the views, between any two steps.
 use Rattle.std.specs.Prelude.{◌≡◌, ◌≢◌, ◌⊎◌, ℕ, ◌+◌, ◌*◌, ◌<◌, ◌≤◌, nat_le, Bool, true, false, List, [], length, slice_index, slice_get, Some, None}
 use Rattle.std.specs.Option.{is_some}
 use mathlib.Core.Option.{some}
@@ -72,7 +72,7 @@ abbrev pub SawChildren : Plan → Marks → ℕ → Type 0
 SawChildren p m x = (c : ℕ) → IsSite p c → parent p c ≡ x → is_in m.gone c ≡ true
 
 module _ (lay : Layout) (p : Plan) (es : List Entry) (t : TableState) (v : View) where
-  -- what it is about
+  -- what it is in the middle of
   abbrev pub DoesRight : Doing → Type 0
   DoesRight Idle = Unit {0}
   DoesRight (Claiming x) =
@@ -86,7 +86,7 @@ module _ (lay : Layout) (p : Plan) (es : List Entry) (t : TableState) (v : View)
       × (is_last v.mine (Unregister v.hart x) ⊎ is_last v.mine (Skip v.hart x))
 
 module _ (p : Plan) (es : List Entry) (t : TableState) (v : View) where
-  -- who it is, and what it made
+  -- its hart, and the entries that the hart made
   pub record KnowsItself (made : ℕ) (ended : List Ended) : Type 0 where
     pub plan : v.plan ≡ p
     pub mine : v.mine ≡ made_by v.hart es
@@ -119,8 +119,8 @@ pub record Knows (lay : Layout) (p : Plan) (es : List Entry) (t : TableState) (v
 
 -- ---- the rule
 
--- The words and the views stand for a journal, a state of the table, how many seats were made, the harts that were joined
--- away, and the closing bit of each site.
+-- The words and the views represent a journal, a state of the table, the number of seats that were made, the harts that were
+-- joined into hart 0's seat, and the closing bit of each site.
 pub record Stands (lay : Layout) (p : Plan) (s : State (Unit {0}) View) : Type 0 where
   pub journal : List Entry
   pub table : TableState
@@ -134,7 +134,7 @@ pub record Stands (lay : Layout) (p : Plan) (s : State (Unit {0}) View) : Type 0
   pub legal : Reaches p journal table
   -- the first word has the journal's length, and the state's owners where the layout has them there
   pub board : slice_index s.words 0 ≡ first_word lay table (length journal)
-  -- each place of the journal is written, or drawn by one view; behind it nothing is
+  -- the word of each journal index is written, or one view has reserved the index; behind the journal all words are 0
   pub places : (i : ℕ) (e : Entry) → slice_get journal i ≡ Some e
       → IsPlace (journal_word p s.words i) (total (draws i) s.views) e
   pub beyond : (i : ℕ) → length journal ≤ i
@@ -155,7 +155,7 @@ pub record Stands (lay : Layout) (p : Plan) (s : State (Unit {0}) View) : Type 0
       → Knows lay p journal table v closing (guests lay p table s.views) made ended
   pub spent : (j : ℕ) (v : View) → get_elem? s.views j ≡ some v → ¬ IsSeat v → v ≡ spent_view
 
--- ---- what the rule says of every seat
+-- ---- what the invariant states of every seat
 
 -- its owner is the base or a site of its plan, its sets have a flag for each site, and the base is no home
 pub record FitsPlan (v : View) : Type 0 where

@@ -1,5 +1,5 @@
--- What each of the eighteen kinds of step does to the rule and to the journal, and that seats are made and joined by it. In
--- each, id is a seat that was not joined away and v its view.
+-- What each of the eighteen kinds of step, and making and joining seats, do to the invariant and to the journal. In each, id
+-- is a seat that was not joined into hart 0's, and v its view.
 use Rattle.std.specs.Prelude.{◌≡◌, ◌≢◌, ℕ, ◌+◌, ◌-◌, ◌*◌, ◌%◌, ◌^◌, ◌<◌, ◌≤◌, ◌==◌, [], ◌∷◌, ◌++◌, slice_index, slice_set, bit_or, Some}
 use mathlib.Core.Option.{some}
 use lib.ListN.{get_elem?}
@@ -173,14 +173,15 @@ SkipAppends lay = (p : Plan) (s : St) (k : Stands lay p s) (id : ℕ) (v : View)
     → Appends lay p s k (Skip v.hart (busy_at v.doing))
     (after_tick lay s amount id (λ place. skip_view place v))
 
--- ---- what follows from the rule
+-- ---- what follows from the invariant
 
 -- what is gone stays gone over an entry, so what a seat saw gone stays so
 abbrev pub GoneStaysGone : Layout → Type 0
 GoneStaysGone lay = (p : Plan) (s s' : St) (k : Stands lay p s) (e : Entry) → (step : Appends lay p s k e s')
     → (x : ℕ) → IsSite p x → (row k.table x).stage ≡ Gone → (row (step.0).table x).stage ≡ Gone
 
--- what a site has asked for is its want, the harts that are reserved to it, those that entered it, and what is not yet added to the want
+-- the harts that a site requested are its want, those reserved to it, those that entered it, and those not yet added to the
+-- want
 abbrev pub WantsBalance : Layout → Type 0
 WantsBalance lay = (p : Plan) (s : St) (k : Stands lay p s) (x : ℕ) → (site : IsSite p x)
     → (k.sites x site).want + (load x s.views).reserves + enters x k.journal

@@ -9,7 +9,7 @@ use Rattle.board_rule.specs.declared.view.Doing.{Doing}
 use Rattle.board_rule.specs.declared.view.Doing.TheVariants.{Idle}
 use Rattle.board_rule.specs.Rule.{SawChildren}
 
--- it is about nothing, and has no entry to write
+-- no call is under way, and it has no entry to write
 abbrev pub IsReady : View → Type 0
 IsReady v = (v.doing ≡ Idle) × (v.drawn ≡ None)
 
@@ -25,7 +25,7 @@ MayClaim p v x = IsReady v × IsSite p x × (v.owner ≡ parent p x)
 abbrev pub MayReserve : Plan → View → ℕ → ℕ → Type 0
 MayReserve p v x word = IsReady v × IsSite p x × (v.owner ≡ parent p x) × (is_wanted word ≡ true)
 
--- the hart is the owner's home, and asks for not too many
+-- the hart is the owner's home, and requests at least one hart and not too many
 abbrev pub MayRequest : Plan → View → ℕ → Type 0
 MayRequest p v k = IsReady v × (is_in v.marks.homes v.owner ≡ true) × (1 ≤ k)
     × (requested v.owner v.mine + k ≤ p.harts - 1)

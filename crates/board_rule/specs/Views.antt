@@ -30,7 +30,7 @@ no_marks p = record {
   gone = no_site p;
 }
 
--- the view of a hart's seat as it is made
+-- the view of a hart's new seat
 abbrev pub fresh_view : Plan → ℕ → View
 fresh_view p h = record {
   plan = p;
@@ -65,7 +65,7 @@ joined_view v w = record v {
   marks = record v.marks { empty = no_site v.plan; gone = union v.marks.gone w.marks.gone };
 }
 
--- what is left of a seat that was joined away
+-- the view of a seat that was joined into hart 0's
 abbrev pub spent_view : View
 spent_view = fresh_view record { harts = 0; parents = [] } 255
 
@@ -162,7 +162,7 @@ close_view v = record v { marks = record v.marks { closed = with_site v.marks.cl
 abbrev pub jot_view : View → View
 jot_view v = record v { drawn = None }
 
--- ---- steps on the first word: each draws the place of its entry
+-- ---- steps on the first word: each reserves the index of its entry
 
 abbrev pub home_marks : ℕ → Marks → Marks
 home_marks x m = record m {
@@ -180,7 +180,7 @@ left_marks x m = record m {
   empty = without m.empty x;
 }
 
--- the seat has made the entry, whose place was drawn, and its owner is o
+-- the seat has made the entry and reserved its index, and its owner is o
 abbrev pub made_entry : Entry → ℕ → ℕ → View → View
 made_entry e o place v = record v {
   owner = o;

@@ -1,6 +1,5 @@
-//! What each kind of step does, each law the contract of a function that does nothing.
-//! `specs/StepLaws.antt` says them. Each step changes the view of its own seat alone; a split also
-//! makes the new seat's, and a join changes two.
+//! What each kind of step does, each law the contract of a function with an empty body. `specs/StepLaws.antt` defines them.
+//! Each step changes the view of its own seat alone; a split also makes the new seat's, and a join changes two.
 ghost use Rattle.board_rule.specs.StepLaws.{ClaimKeeps, JotKeeps, CreditKeeps, GlanceKeeps, SeeGoneKeeps, SeeDrainedKeeps, SeeEmptyKeeps, ReserveKeeps, LandKeeps, LeaveKeeps, CloseKeeps, SealKeeps, SplitKeeps, JoinKeeps, RegisterAppends, RequestAppends, EnterAppends, YieldAppends, UnregisterAppends, SkipAppends, GoneStaysGone, WantsBalance, GuestsAreShown, GuestsAreFew};
 ghost use Rattle.board_rule.specs.declared.layout.Layout.{Layout};
 
@@ -104,23 +103,23 @@ pub fn skip_appends()
     ensures { (lay : Layout) → SkipAppends lay }
 {}
 
-/// What is gone stays gone over every entry.
+/// A gone site stays gone over every entry.
 pub fn gone_stays_gone()
     ensures { (lay : Layout) → GoneStaysGone lay }
 {}
 
-/// What a site has asked for is its want, the harts that are reserved to it or have entered, and what
-/// is not yet added to the want.
+/// The harts that a site requested are its want, the harts that are reserved to it or have entered, and those not yet added to
+/// the want.
 pub fn wants_balance()
     ensures { (lay : Layout) → WantsBalance lay }
 {}
 
-/// A site's word that counts the guests shows them, and a site that isn't live has none.
+/// By guests a site's word has the number of its guests, and a site that isn't live has none.
 pub fn guests_are_shown()
     ensures { GuestsAreShown }
 {}
 
-/// The want and the guests of such a word are each at most all harts but one.
+/// By guests the want and the guests of a site's word are each at most all harts but one.
 pub fn guests_are_few()
     ensures { GuestsAreFew }
 {}

@@ -1,4 +1,4 @@
-//! How the first word and the words of the sites are laid out.
+//! The layouts of the first word and of the words of the sites.
 ghost use Rattle.std.specs.Prelude.{◌≡◌};
 
 /// What the first word of a board shows, and which harts a site's word counts.

@@ -1,12 +1,11 @@
-//! What the words of a board stand for.
+//! The invariant of a board's words, and a law for each kind of step.
 //!
-//! A board has one word for the whole board, a word for each site, and a word for each place of its
-//! journal. `Layout` says what the first word and those of the sites tell: there are two layouts, and
-//! `specs/Layouts.antt` has all in which they differ. Harts change the words by single atomic steps.
-//! `specs/Rule.antt` says what holds between any two steps of any harts: the words, with what each
-//! hart's seat knows, stand for a legal run of the table. `specs/Views.antt` says how each kind of step
-//! changes what its seat knows, and `laws` says that each kind keeps the rule, and which kinds make an
-//! entry of the journal.
+//! A board has one word for the whole board, a word for each site, and a word for each index of its journal. There are two
+//! layouts (`Layout`); `specs/Layouts.antt` defines all in which they differ. Harts change the words by single atomic steps.
+//! `specs/Rule.antt` defines the invariant, which holds between any two steps of any harts: the words, with what each hart's
+//! seat knows, represent a legal run of the table. `specs/Views.antt` defines how each kind of step changes what its seat
+//! knows. `laws` state that each kind keeps the invariant, and which kinds append an entry. `docs/BOARD.md` explains the
+//! protocol.
 #![tactic(auto)]
 
 pub mod laws;

@@ -1,11 +1,11 @@
-//! The rule of the board's words.
+//! The invariant of the board's words.
 use crate::layout::Laid;
 use crate::view::View;
 use atomic_table::TableRule;
 use std::marker::PhantomData;
 use transfer_table::Plan;
 
-/// Between any two steps the words and the views stand for a legal run of the plan's table.
+/// The invariant: between any two steps the words and the views represent a legal run of the plan's table.
 pub struct BoardRule<L: Laid> {
     of: PhantomData<L>,
 }

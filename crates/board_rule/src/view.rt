@@ -1,5 +1,5 @@
-//! What a seat knows. No value of these types is made: they are what contracts say of a seat. A
-//! clause reads an array as a list, of any length.
+//! What a seat knows. These types are ghost: no value of them exists at run time. A clause reads an array as a list, of any
+//! length.
 use board_words::{Drawn, Ended};
 use transfer_table::{Entry, Plan};
 
@@ -23,7 +23,7 @@ pub struct Look {
     pub found: u64,
 }
 
-/// What a seat is about, between the steps of a call.
+/// What a seat is in the middle of, between the steps of a call.
 pub enum Doing {
     /// Nothing: no call is under way.
     Idle,
@@ -56,7 +56,7 @@ pub struct Marks {
     pub gone: [bool; 0],
 }
 
-/// What a seat knows. It has the marks and the kinds of doing of both layouts; only a board by owners has `Doing::Landing`.
+/// What a seat knows. It has the sets and the kinds of `Doing` of both layouts; only a board by owners has `Doing::Landing`.
 pub struct View {
     pub plan: Plan,
     pub hart: u8,
@@ -64,7 +64,7 @@ pub struct View {
     pub owner: u16,
     /// The entries that the hart made, in order.
     pub mine: [Entry; 0],
-    /// The place of the journal that it drew for each of them.
+    /// The journal index that it reserved for each of them.
     pub places: [u64; 0],
     pub drawn: Option<Drawn>,
     pub doing: Doing,

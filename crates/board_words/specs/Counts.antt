@@ -1,4 +1,4 @@
--- Sums over seats, and what is counted of one.
+-- Sums over seats, and the terms of one seat.
 use Rattle.std.specs.Prelude.{ℕ, ◌+◌, ◌==◌, Bool, true, false, List, [], ◌∷◌, Option, Some, None}
 use Rattle.transfer_table.specs.Counts.{one_if}
 use Rattle.board_words.specs.declared.entries.Drawn.{Drawn}

@@ -30,11 +30,11 @@ site_unit = 65536
 abbrev pub width : Plan → ℕ
 width p = 1 + site_count p + room p
 
--- where the word of the journal's place i stands
+-- the position of the word of journal index i
 abbrev pub journal_index : Plan → ℕ → ℕ
 journal_index p i = 1 + site_count p + i
 
--- the word of the journal's place i
+-- the word of journal index i
 abbrev pub journal_word : Plan → List ℕ → ℕ → ℕ
 journal_word p ws i = slice_index ws (journal_index p i)
 

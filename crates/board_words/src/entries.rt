@@ -1,14 +1,14 @@
-//! What a seat has of its entries besides themselves. No value of these types is made: they are what
-//! contracts say of a seat. A clause reads an array as a list, of any length.
+//! What contracts know of a seat's entries. These types are ghost: no value of them exists at run time. A clause reads an array
+//! as a list, of any length.
 use transfer_table::Entry;
 
-/// A place of the journal that was drawn, and the entry that is still to be written there.
+/// A journal index that was reserved, and the entry that is still to be written there.
 pub struct Drawn {
     pub place: u64,
     pub entry: Entry,
 }
 
-/// A hart whose seat was joined away, the entries that it made, and their places.
+/// A hart whose seat was joined into hart 0's, the entries that it made, and their indices.
 pub struct Ended {
     pub hart: u8,
     pub mine: [Entry; 0],

@@ -1,5 +1,5 @@
-//! What the boards share: how a site and an entry are spelled as words, where the words stand, what a
-//! seat has of its entries, and counts over all seats.
+//! What the boards share: the encodings of sites and entries as words, the index of each word, what contracts know of a seat's
+//! entries, and sums over all seats. `docs/BOARD.md` explains the words.
 #![tactic(auto)]
 
 mod entries;

@@ -6,7 +6,7 @@ ghost use Rattle.board_words.specs.Words.{spelled};
 
 use transfer_table::Entry;
 
-/// One hart that a site's word counts: a hart on its way in, or a guest, as the layout has it.
+/// One hart of those that a site's word counts: by owners a hart on its way in, by guests a guest.
 pub const GUEST: u64 = 65536;
 
 // One hart, one of a count, and one site in the word of an entry.
@@ -16,7 +16,7 @@ const COUNT: u64 = 256;
 
 const SITE: u64 = 65536;
 
-/// The word that spells the entry.
+/// The word that encodes the entry; the inverse of `entry_of`.
 pub fn word_of(entry: Entry) -> u64
     ensures { result ≡ spelled entry }
 {
@@ -32,7 +32,7 @@ pub fn word_of(entry: Entry) -> u64
     }
 }
 
-/// The entry that the word spells.
+/// The entry that the word encodes; the inverse of `word_of`.
 pub fn entry_of(word: u64) -> Entry
     requires { (e : Entry) × (hart_of e ≤ 31) × (count_of e ≤ 255) × (site_of e ≤ most_sites)
         × (word ≡ spelled e) }

@@ -1,4 +1,4 @@
--- Which members of each row are claimed, and by whom.
+-- Which members of each claim counter are claimed, and by which seat.
 use Rattle.std.specs.Prelude.{◌≡◌, ℕ, suc, ◌+◌, ◌<◌, ◌≤◌, List, [], ◌∷◌, ◌++◌, length, if◌then◌else◌, ◌==◌, ◌&&◌, nat_lt, slice_index}
 use mathlib.Core.Option.{some}
 use lib.ListN.{get_elem?}
@@ -11,7 +11,7 @@ use Rattle.claim_words.specs.declared.sight.LookKind.TheVariants as kind
 abbrev pub look : ℕ → LookKind → ℕ → Look
 look row k found = record { row = row; kind = k; found = found }
 
--- f of each, added up
+-- the sum of f over a list
 abbrev pub weigh : {X : Type 0} → (X → ℕ) → List X → ℕ
 weigh f [] = 0
 weigh f (x ∷ xs) = f x + weigh f xs
@@ -22,7 +22,7 @@ is_claim r m x = if (x.0 == r) && (x.1 == m) then 1 else 0
 abbrev pub is_row : ℕ → ℕ → ℕ
 is_row r x = if x == r then 1 else 0
 
--- how often a seat claimed this member, and how often it drew a number past the members of a row
+-- how often a seat claimed this member, and how often it drew a number past a counter's members
 abbrev pub claims : ℕ → ℕ → Sight → ℕ
 claims r m v = weigh (is_claim r m) v.claimed
 
@@ -37,8 +37,8 @@ once m word count = if nat_lt m word && nat_lt m count then 1 else 0
 abbrev pub past_word : List ℕ → Look → ℕ
 past_word words x = if nat_lt (slice_index words x.row) x.found then 1 else 0
 
--- what a sight says by itself: a seat draws in a row only after it saw room there, so it draws past the members of a row once
--- at most, and never where it has done so
+-- what a sight states by itself: a seat draws from a counter only after it saw a free member, so it draws past the members at
+-- most once
 pub record Keeps (counts words : List ℕ) (v : Sight) : Type 0 where
   pub spent : v.parts ≡ 0 → (v.claimed ≡ []) × (v.past ≡ []) × (v.trying ≡ 0)
   pub few : (r : ℕ) → pasts r v ≤ v.parts
@@ -50,8 +50,8 @@ pub record Keeps (counts words : List ℕ) (v : Sight) : Type 0 where
 abbrev pub Each : (Sight → Type 0) → List Sight → Type 0
 Each F views = (port : ℕ) (v : Sight) → get_elem? views port ≡ some v → F v
 
--- The rule of the words: each member below a row's word is claimed once, and no other; a word is past its row's members only by
--- numbers that were drawn past them, so that no word wraps.
+-- The invariant of the words: each member below a counter's word is claimed once, and no other; a word is past its members
+-- only by numbers that were drawn past them, so no word wraps.
 pub record ClaimsStand (counts : List ℕ) (s : State ℕ Sight) : Type 0 where
   pub parts : weigh (λ (v : Sight). v.parts) s.views ≡ 256
   pub once_each : (r m : ℕ) → weigh (claims r m) s.views ≡ once m (slice_index s.words r)
@@ -61,7 +61,7 @@ pub record ClaimsStand (counts : List ℕ) (s : State ℕ Sight) : Type 0 where
   pub rows : length s.words ≡ length counts + 1
   pub small : (r : ℕ) → slice_index counts r < 256
 
--- a sight of nothing
+-- the sight of a new seat
 abbrev pub fresh : ℕ → List ℕ → Sight
 fresh parts counts = record {
   parts = parts;

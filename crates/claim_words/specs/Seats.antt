@@ -1,4 +1,4 @@
--- What a claim gives, and all seats of a table.
+-- The result of a claim, and all seats of a table.
 use Rattle.std.specs.Prelude.{◌≡◌, ℕ, ◌+◌, ◌<◌, ◌≤◌, ◌⊎◌, List, [], ◌∷◌, ◌++◌, slice_index}
 use Rattle.atomic_table.specs.Seated.{TableId}
 use Rattle.claim_words.specs.declared.sight.Sight.{Sight}
@@ -13,7 +13,7 @@ use Rattle.claim_words.specs.Claims.{look, weigh, claims, once, past_word}
 abbrev pub sight : ClaimSeat → Sight
 sight s = s.seat.me.0
 
--- what no claim changes: whose seat it is, of rows with how many members, and its parts
+-- what no claim changes: the seat's table, the members of its counters, and its parts
 pub record SeatKin : Type 0 where
   pub table : TableId
   pub counts : List ℕ
@@ -42,8 +42,8 @@ pub record AreAll (t : ClaimTable) (all : List SeatKin) : Type 0 where
 abbrev pub IsNew : ClaimSeat → Type 0
 IsNew s = ((sight s).claimed ≡ []) × ((sight s).looks ≡ [])
 
--- What the seat had, and what it has after a claim in a row. Each word that the call read is noted, as a look or as the addition
--- that drew it; the word that is told is the last of them.
+-- The sight before and after a claim. The call notes each word that it read, as a load or as an addition; the word in the
+-- result is the last of them.
 abbrev pub ClaimGives : List ℕ → ℕ → ClaimSeat → Claimed → ClaimSeat → Type 0
 ClaimGives counts row old (Member m) new =
     (m < slice_index counts row) × ((sight new).claimed ≡ (sight old).claimed ++ (row, m) ∷ [])
@@ -57,18 +57,18 @@ ClaimGives counts row old (NoneLeft shown) new =
     × ((sight new).looks ≡ (sight old).looks ++ look row kind.Look n
     ∷ look row kind.Draw shown ∷ [])))
 
--- how often all these seats claimed this member of this row
+-- how often all these seats claimed this member of this counter
 abbrev pub claims_of : ℕ → ℕ → List ClaimSeat → ℕ
 claims_of r m [] = 0
 claims_of r m (s ∷ seats) = claims r m (sight s) + claims_of r m seats
 
--- how many words all these seats read that are more than the row's word
+-- how many words all these seats read that are above the counter's word
 abbrev pub reads_past : List ℕ → List ClaimSeat → ℕ
 reads_past words [] = 0
 reads_past words (s ∷ seats) = weigh (past_word words) (sight s).looks + reads_past words seats
 
--- The account of all these seats, with the rows' words. A member below the row's word was claimed once by all of them together,
--- and nothing else was. No word that was read is more than the row's: so where a seat found none left, each member was claimed.
+-- The account of all these seats, with the counters' words. All seats together claimed each member below the word once, and
+-- nothing else. No word that was read is above the counter's, so if a seat found none left, each member was claimed.
 pub record AreAccounted (counts : List ℕ) (seats : List ClaimSeat) : Type 0 where
   pub words : List ℕ
   pub each : (r m : ℕ) → claims_of r m seats ≡ once m (slice_index words r) (slice_index counts r)

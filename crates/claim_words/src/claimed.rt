@@ -1,10 +1,10 @@
-//! What a claim gives.
+//! The result of a claim.
 
-/// What a claim gives.
+/// The result of a claim.
 #[derive(Clone, Copy, Debug, PartialEq, Drop)]
 pub enum Claimed {
-    /// This member of the row, which no other seat claims.
+    /// This member, which no other seat claims.
     Member(u8),
-    /// Each member of the row is claimed: the row's word shows as many as it has members, or more.
+    /// Each member of the claim counter is claimed: its word is at least the number of members.
     NoneLeft { shown: u64 },
 }

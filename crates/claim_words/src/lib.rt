@@ -1,4 +1,5 @@
-//! Words by which harts claim the members of rows: each member is claimed by one hart once, with no lock.
+//! Claim counters: atomic words by which harts claim the members of a phase without a lock. Each member is claimed by one hart,
+//! once. A table has a counter for each phase of each team (a "row"). `row_tests` has examples.
 #![tactic(auto)]
 
 mod claimed;

@@ -1,8 +1,8 @@
-//! The rule of the words, and what each kind of step tells.
+//! The invariant of the words, and what each kind of step reports.
 use crate::sight::Sight;
 use atomic_table::{Join, Play, Split, TableRule};
 
-/// The rule of the words, over the members of each row.
+/// The invariant of the words, over the members of each counter.
 pub struct ClaimRule;
 
 impl TableRule<u8, Sight, Vec<u8>> for ClaimRule {
@@ -13,7 +13,7 @@ impl TableRule<u8, Sight, Vec<u8>> for ClaimRule {
     ghost first = { λ k. fresh 256 k.items };
 }
 
-/// A load of a row's word.
+/// A load of a counter's word.
 pub struct LookPlay;
 
 impl Play<u8, Sight> for LookPlay {

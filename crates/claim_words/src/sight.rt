@@ -1,7 +1,7 @@
-//! What a seat knows. No value of these types is made: they are what contracts say of a seat.
+//! What a seat knows. These types are ghost: no value of them exists at run time.
 use std::collections::LinkedList;
 
-/// The kinds of step that read a row's word.
+/// The kinds of step that read a counter's word.
 pub enum LookKind {
     /// A load.
     Look,
@@ -18,16 +18,17 @@ pub struct Look {
 
 /// What a seat knows.
 pub struct Sight {
-    /// Its parts of the right to know the whole; all seats together have 256.
+    /// Its parts of the right to know the whole. All seats together have 256, so 255 seats fit.
     pub parts: u64,
-    /// The members of each row.
+    /// The number of members of each counter.
     pub counts: LinkedList<u8>,
-    /// The members that it claimed, each with its row, in order.
+    /// The members that it claimed, each with its counter, in order.
     pub claimed: LinkedList<(u16, u8)>,
-    /// The rows in which it drew a number past the members.
+    /// The counters of which it drew a number past the members.
     pub past: LinkedList<u16>,
-    /// One more than the row in whose word it last saw room, until it draws; else 0.
+    /// One more than the counter in whose word it last saw a free member, until it draws; else 0.
     pub trying: u32,
-    /// The words that it read, in order.
+    /// The words that it read, in order, each with its counter, and whether by a load or an addition. Why: a counter never falls,
+    /// so a word that was read is at most the counter at the end. So `NoneLeft` means that each member was claimed.
     pub looks: LinkedList<Look>,
 }

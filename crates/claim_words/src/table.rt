@@ -9,11 +9,11 @@ use crate::sight::Sight;
 use atomic_table::Table;
 use std::alloc::{AllocError, Global};
 
-/// The greatest number of rows of a table: a row's number has 16 bits.
+/// The greatest number of counters of a table: a counter's number has 16 bits.
 pub const MOST_ROWS: usize = 65_535;
 
-/// The words by which harts claim the members of rows, a word for each row and a spare one. Harts share it by reference; each
-/// claims with a seat of its own.
+/// Claim counters, a word for each and a spare word, so that a table may have no counter. Harts share it by reference; each
+/// hart claims with a seat of its own.
 #[derive(Drop)]
 pub struct ClaimTable {
     pub(crate) table: Table<u8, Sight, Vec<u8>, ClaimRule, Global>,
@@ -28,7 +28,15 @@ impl ClaimTable {
     ghost use Rattle.claim_words.specs.Claims.{fresh};
     ghost use Rattle.claim_words.specs.Seats.{AreAll, IsOf, IsNew, ClaimGives, kin};
 
-    /// Words for rows with so many members each, none of which is claimed, at most `MOST_ROWS` rows; and so many seats, at least one.
+    /// Counters with so many members each, none of which is claimed, at most `MOST_ROWS` counters; and so many seats, 1 to 255.
+    ///
+    /// # Errors
+    ///
+    /// `AllocError` if an allocation fails.
+    ///
+    /// # Memory
+    ///
+    /// It allocates the words, a copy of `counts` and the list of seats. No other call allocates.
     pub fn new(
         alloc: Global,
         counts: &[u8],
@@ -79,15 +87,18 @@ impl ClaimTable {
         }
     }
 
-    /// How many members each row has.
+    /// The number of members of each counter.
     pub fn counts(&self) -> &[u8]
         ensures { result.now ≡ self.now.counts.items }
     {
         self.counts.as_slice()
     }
 
-    /// Claims the lowest member of a row that isn't claimed, by a look at the row's word and, where that shows one, an
-    /// addition. It takes no lock and no memory. The seat is one of this table.
+    /// Claims the lowest unclaimed member of a counter: it loads the word and adds 1 if a member is free. Does not lock or
+    /// allocate. The seat is one of this table. Returns `NoneLeft` if each member is claimed.
+    ///
+    /// Why: the call adds only if it saw a free member, so a seat draws past a counter's members at most once. A counter stays
+    /// below 512, for 256 members and 256 parts.
     pub fn claim(&self, seat: &mut ClaimSeat, row: u16) -> Claimed
         requires of { IsOf self.now (kin seat.old) }
         requires row { row < length self.now.counts.items }

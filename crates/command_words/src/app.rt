@@ -1,4 +1,4 @@
-//! The commands as clap is told them.
+//! The commands as they are declared to clap.
 ghost use Rattle.std.specs.Prelude.{◌≡◌, IfOk, codes, false};
 ghost use Rattle.clap.specs.Words.{app_of, rule_of, with_rule};
 ghost use Rattle.command_words.specs.App.{lithe_app, needed, program_app, bare_app, make_app};
@@ -7,10 +7,18 @@ ghost use Rattle.clap.specs.declared.builder.command.Command.TheViews.{out-Comma
 use clap::{Arg, ArgAction, Command};
 use std::alloc::{AllocError, Global};
 
-// The commands that have a number of harts alone.
+// The commands with `--harts` as their only option.
 const HARTS_COMMANDS: [&str; 4] = ["run", "tally", "pipe", "audit"];
 
-/// The commands, each with its options. None has help or a version.
+/// The commands, each with its options.
+///
+/// Why: clap has no help, no version and one level of commands, and each option is required with one value. Values stay text,
+/// and `number_in` reads their digits. So the word behind `--name` is its value, whatever it is, and a repeated or unknown
+/// option is no command.
+///
+/// # Errors
+///
+/// `AllocError` if an allocation fails.
 pub fn commands<'a>(alloc: Global) -> Result<Command<'a>, AllocError>
     ensures { IfOk result (λ c. app_of c ≡ lithe_app) }
 {

@@ -1,20 +1,18 @@
-//! What the words ask for.
+//! The commands of the program.
 
-/// What the words of the command line ask for.
+/// A command, as the words of the command line give it.
 #[derive(Clone, Copy, Debug, PartialEq, Eq)]
 pub enum Command {
-    /// To run the program of the input on so many harts, 1 to 16, and to write its arrays and the journal of its transfers.
+    /// Runs the program of the input on so many harts, 1 to 16, and writes its arrays and the journal of its transfers.
     Run(u8),
-    /// To run the program of the input, whose branches and members may add into one cell of an array whose name ends in
-    /// `_sum`, on so many harts, 1 to 16, and to write its arrays and the journal of its transfers.
+    /// As `Run`, for a program whose branches and members may add into one cell of an array whose name ends in `_sum`.
     Tally(u8),
-    /// To run the program of the input, the members of whose `team` constructs overtake, on so many harts, 1 to 16, and to write
-    /// its arrays and the journal of its transfers.
+    /// As `Run`, where the members of `team` constructs may overtake one another.
     Pipe(u8),
-    /// To write the arrays of the program by the one-thread evaluator.
+    /// Writes the arrays of the program by the one-thread evaluator.
     Solo,
-    /// To audit an output of the program's run on so many harts, 1 to 16.
+    /// Audits an output of the program's run on so many harts, 1 to 16.
     Audit(u8),
-    /// To make a program from a seed and a size, 1 to 40, to run it on so many harts, 1 to 16, and to write its summary.
+    /// Generates a program from a seed and a size, 1 to 40, runs it on so many harts, 1 to 16, and writes its summary.
     Make { seed: u64, size: u8, harts: u8 },
 }

@@ -1,4 +1,5 @@
-//! The words of the command line, read by `clap`. `specs/Form.antt` says which lists of words are forms.
+//! The words of the command line, parsed by `clap`. `specs/Form.antt` defines which lists of words are forms of a command.
+//! `words_tests` has examples.
 #![tactic(auto)]
 
 mod app;

@@ -4,7 +4,7 @@ ghost use Rattle.std.specs.Str.{all_ascii_digits};
 ghost use Rattle.std.specs.Str.Parse.{digits_value};
 ghost use Rattle.command_words.specs.Form.{number_in};
 
-/// The number from `least` to `most` that the value is, if it is one to twenty digits.
+/// The number that the value spells, if it has one to twenty decimal digits and is from `least` to `most`; else `None`.
 pub fn number_in(least: u64, most: u64, value: &str) -> Option<u64>
     ensures same { result ≡ number_in least most value.now }
     ensures within { IfSome result (λ number. number ≤ most) }

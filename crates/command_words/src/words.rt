@@ -15,7 +15,11 @@ use clap::error::ErrorKind;
 use clap::{ArgMatches, Error};
 use std::alloc::{AllocError, Global};
 
-/// The command that the words give, if they are a form. The only error is want of memory.
+/// The command that the words give; `None` exactly if they are no form of a command.
+///
+/// # Errors
+///
+/// `AllocError` if an allocation fails.
 pub fn command_of(alloc: Global, words: &[String]) -> Result<Option<Command>, AllocError>
     ensures { IfOk result (λ command. command ≡ form_of (map string_bytes words.now)) }
 {
@@ -45,7 +49,7 @@ fn matches_of<'a>(alloc: Global, words: &'a [String]) -> Result<ArgMatches<'a>, 
     command.try_get_matches_from(words)
 }
 
-// Words that clap refuses are no form, unless memory ran out.
+// Words that clap refuses are no form, unless an allocation failed.
 fn refused(error: Error) -> Result<Option<Command>, AllocError>
     ensures none { IfOk result (λ command. command ≡ None) }
     ensures cause { IfOk result (λ _. kind_of error ≡ OutOfMemory → ⊥) }
@@ -56,7 +60,7 @@ fn refused(error: Error) -> Result<Option<Command>, AllocError>
     Ok(None)
 }
 
-// The command that clap's matches ask for.
+// The command of clap's matches.
 fn asked(matches: &ArgMatches<'_>) -> Option<Command>
     ensures { result ≡ asked_of (subcommand_rows_of matches.now) }
 {

@@ -1,21 +1,21 @@
--- What a machine has still to do, and what one step of it does to that.
+-- The work that a machine has left, and what a step does to it.
 use Rattle.std.specs.Prelude.{◌≡◌, ℕ, ℤ, ◌<◌, List, [], ◌++◌, Bool, false}
 use Rattle.contexts.specs.declared.machine.Step.{Step}
 use Rattle.contexts.specs.declared.machine.Step.TheVariants.{More, Nest, Finished, NoMemory}
 
--- What a machine has still to do.
+-- The work that a machine has left.
 pub record Work : Type 0 where
   -- what is still to be written: pairs of a cell and a value, in order
   pub rest : List (ℕ × ℤ)
   -- whether a nested piece of work still waits for its writes
   pub awaits : Bool
-  -- a number that falls with each step that goes on, and is 0 exactly where a step finds nothing left to do
+  -- a number that falls with each step that leaves work, and is 0 exactly if a step returns Finished, so NoMemory comes only
+  -- before
   pub left : ℕ
 
--- A step that goes on may write the first of what was still to be written, awaits nothing, and what is left falls. A step
--- that hands out a nested piece of work writes nothing, and what is left falls; the machine says whether it waits for the
--- writes. A machine is finished exactly where nothing is left, and stays so. Nothing is said of a machine that found no
--- memory.
+-- More: the step may write the first of what was still to be written, the machine waits for nothing, and `left` falls. Nest:
+-- the step writes nothing, `left` falls, and the machine may wait for the writes. Finished: exactly if `left` is 0, and it
+-- stays so. NoMemory: no statement.
 abbrev pub Steps : {N : Type 0} → Work → Step N → Work → Type 0
 Steps before More after =
     ((written : List (ℕ × ℤ)) × (before.rest ≡ written ++ after.rest)) × (after.awaits ≡ false)

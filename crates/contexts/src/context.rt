@@ -8,7 +8,7 @@ use crate::{Machine, Step};
 use std::alloc::Global;
 use std::marker::Model;
 
-/// A context that hasn't run. It has to be spent: run, or abandoned.
+/// A context that hasn't run. It must be passed to `ctx_run` or `abandon`.
 pub struct Fresh<M> {
     machine: Box<M>,
 }
@@ -21,7 +21,7 @@ impl<M> Model for Fresh<M> {
     ghost view = { λ c. c.machine.value };
 }
 
-/// A context that a hart runs. It has to be spent: paused, blocked, ended or abandoned.
+/// A context that a hart runs. It must be passed to `ctx_pause`, `ctx_block`, `ctx_fini` or `abandon`.
 pub struct Running<M> {
     machine: Box<M>,
 }
@@ -62,7 +62,7 @@ impl<M> Model for Blocked<M> {
     ghost view = { λ c. c.machine.value };
 }
 
-/// A context that is done. It has to be spent by `into_machine`.
+/// A context that is done. It must be passed to `into_machine`.
 pub struct Ended<M> {
     machine: Box<M>,
 }
@@ -75,12 +75,20 @@ impl<M> Model for Ended<M> {
     ghost view = { λ c. c.machine.value };
 }
 
-/// There was no memory for a context. The machine is handed back.
+/// The allocation of a context failed. It has the machine.
 pub struct InitRefused<M> {
     pub machine: M,
 }
 
-/// A fresh context with this machine, which is handed back where there is no memory.
+/// Makes a fresh context with this machine.
+///
+/// # Errors
+///
+/// `InitRefused`, with the machine, if the allocation fails.
+///
+/// # Memory
+///
+/// It allocates one box for the machine. No other call of this crate allocates.
 pub fn ctx_init<M>(alloc: Global, machine: M) -> Result<Fresh<M>, InitRefused<M>>
     ensures { MatchResult result (λ c. c ≡ machine) (λ refused. refused.machine ≡ machine) }
 {
@@ -92,7 +100,7 @@ pub fn ctx_init<M>(alloc: Global, machine: M) -> Result<Fresh<M>, InitRefused<M>
     }
 }
 
-/// A fresh context begins to run. It takes no memory.
+/// Begins to run a fresh context.
 pub fn ctx_run<M>(c: Fresh<M>) -> Running<M>
     ensures { result ≡ c }
 {
@@ -100,7 +108,7 @@ pub fn ctx_run<M>(c: Fresh<M>) -> Running<M>
     Running { machine }
 }
 
-/// A running context is put aside. It takes no memory.
+/// Puts a running context aside.
 pub fn ctx_pause<M>(c: Running<M>) -> Paused<M>
     ensures { result ≡ c }
 {
@@ -108,7 +116,7 @@ pub fn ctx_pause<M>(c: Running<M>) -> Paused<M>
     Paused { machine }
 }
 
-/// A paused context runs again. It takes no memory.
+/// Runs a paused context again.
 pub fn ctx_resume<M>(c: Paused<M>) -> Running<M>
     ensures { result ≡ c }
 {
@@ -116,7 +124,7 @@ pub fn ctx_resume<M>(c: Paused<M>) -> Running<M>
     Running { machine }
 }
 
-/// A running context waits at a mutex. It takes no memory.
+/// Makes a running context wait at a mutex.
 pub fn ctx_block<M>(c: Running<M>) -> Blocked<M>
     ensures { result ≡ c }
 {
@@ -124,7 +132,7 @@ pub fn ctx_block<M>(c: Running<M>) -> Blocked<M>
     Blocked { machine }
 }
 
-/// A blocked context waits no longer, and may be resumed. It takes no memory.
+/// Ends the wait of a blocked context, which may be resumed then.
 pub fn ctx_unblock<M>(c: Blocked<M>) -> Paused<M>
     ensures { result ≡ c }
 {
@@ -132,7 +140,7 @@ pub fn ctx_unblock<M>(c: Blocked<M>) -> Paused<M>
     Paused { machine }
 }
 
-/// A running context is done. It takes no memory.
+/// Ends a running context that is done.
 pub fn ctx_fini<M>(c: Running<M>) -> Ended<M>
     ensures { result ≡ c }
 {
@@ -141,7 +149,7 @@ pub fn ctx_fini<M>(c: Running<M>) -> Ended<M>
 }
 
 impl<M> Fresh<M> {
-    /// Ends the context before it is done, and gives its machine.
+    /// Ends the context before it is done, and returns its machine.
     pub fn abandon(self) -> M
         ensures { result ≡ self }
     {
@@ -159,7 +167,7 @@ impl<M> Running<M> {
         &mut self.machine
     }
 
-    /// Ends the context before it is done, and gives its machine.
+    /// Ends the context before it is done, and returns its machine.
     pub fn abandon(self) -> M
         ensures { result ≡ self }
     {
@@ -169,7 +177,7 @@ impl<M> Running<M> {
 }
 
 impl<M: Machine> Running<M> {
-    /// The machine's own step. Nothing is awaited.
+    /// The machine's own step. The machine waits for no writes.
     pub fn step(&mut self) -> Step<M::Nested>
         requires { (M.work self.old).awaits ≡ false }
         ensures exact { M.steps self.old result self.new }
@@ -180,7 +188,7 @@ impl<M: Machine> Running<M> {
 }
 
 impl<M> Paused<M> {
-    /// Ends the context before it is done, and gives its machine.
+    /// Ends the context before it is done, and returns its machine.
     pub fn abandon(self) -> M
         ensures { result ≡ self }
     {
@@ -190,7 +198,7 @@ impl<M> Paused<M> {
 }
 
 impl<M> Blocked<M> {
-    /// Ends the context before it is done, and gives its machine.
+    /// Ends the context before it is done, and returns its machine.
     pub fn abandon(self) -> M
         ensures { result ≡ self }
     {

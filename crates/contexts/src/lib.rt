@@ -1,9 +1,9 @@
 //! Contexts: stored computations, and the states that they go through.
 //!
-//! A context holds one machine in a box. It is fresh, then it runs; a running one may be paused and
-//! resumed, or blocked, unblocked and resumed; a running one that is done is ended. Each of these
-//! states is a type of its own, and each change keeps the machine. A paused or a blocked context may
-//! be dropped with its machine; one in any other state has to be spent.
+//! A context holds one machine in a box. A fresh context runs; a running context may be paused and resumed, or blocked,
+//! unblocked and resumed; a running context that is done is ended. Each state is a type, and each change keeps the machine. A
+//! paused or blocked context may be dropped with its machine; a context in another state must be passed to the next call.
+//! `src/tests.rt` and `turn_tests/src/alone.rt` have examples.
 #![tactic(auto)]
 
 mod context;

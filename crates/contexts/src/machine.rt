@@ -1,33 +1,36 @@
-//! Machines: computations that go on by steps.
+//! Machines: computations that run step by step.
 ghost use Rattle.std.specs.Prelude.{◌≡◌, false};
 ghost use Rattle.contexts.specs.Machine.{Work, Steps};
 ghost use Rattle.contexts.specs.declared.machine.Step.{Step};
 
-/// What one step of a machine came to. `N` is a piece of work that others do for the machine.
+/// The result of one step of a machine. `N` is a piece of work that others do for the machine.
 #[derive(Clone, Copy, Debug, PartialEq, Eq, Drop)]
 pub enum Step<N> {
-    /// The machine went on.
+    /// The step is done, and there is work left.
     More,
     /// The machine hands out this piece of work, and may wait until its writes are supplied.
     Nest(N),
-    /// Nothing is left to do. Every later step answers this again.
+    /// No work is left. Every later step returns this again.
     Finished,
-    /// No memory was left.
+    /// An allocation failed.
     NoMemory,
 }
 
-/// A computation that goes on by steps.
+/// A computation that runs step by step.
+///
+/// Why: contracts state of every machine that its writes come off what was to be written, that handing out a piece writes
+/// nothing, and that the work left falls. Whether a machine waits for a piece's writes is its own matter.
 pub trait Machine {
     /// A piece of work that the machine hands out.
     type Nested;
 
-    /// What a machine has still to do.
+    /// The work that the machine has left.
     ghost work: { Self → Work };
 
-    /// Of a machine, what a step answers there, and the machine afterwards.
+    /// Relates the machine, the result of a step, and the machine afterwards.
     ghost steps: { Self → Step Self.Nested → Self → Type 0 };
 
-    /// Does one step. Nothing is awaited.
+    /// Does one step. The machine waits for no writes.
     fn step(&mut self) -> Step<Self::Nested>
         requires { (work self.old).awaits ≡ false }
         ensures exact { steps self.old result self.new }

@@ -1,4 +1,4 @@
--- What was pushed to a row is what was taken from it and what it holds.
+-- The indices pushed onto a deque are those popped, those stolen and those that it holds.
 use Rattle.std.specs.Prelude.{◌≡◌, ℕ, ◌+◌, ◌-◌, ◌<◌, ◌≤◌, ◌^◌, ◌⊎◌, Bool, true, false, List, [], ◌∷◌, ◌++◌, length, if◌then◌else◌, ◌==◌}
 use mathlib.Core.Option.{some}
 use lib.ListN.{get_elem?}
@@ -15,12 +15,12 @@ InOrder [] ys = Unit {0}
 InOrder (x ∷ xs) [] = ⊥
 InOrder (x ∷ xs) (y ∷ ys) = ((x ≡ y) × InOrder xs ys) ⊎ InOrder (x ∷ xs) ys
 
--- f of each pass's log, added up
+-- the sum of f over the logs of all passes
 abbrev pub total : (Log → ℕ) → List Log → ℕ
 total f [] = 0
 total f (v ∷ vs) = f v + total f vs
 
--- a log of nothing
+-- an empty log
 abbrev pub blank : ℕ → Bool → Log
 blank parts is_home = record {
   parts = parts;
@@ -34,19 +34,19 @@ blank parts is_home = record {
 abbrev pub idle : Log
 idle = blank 0 false
 
--- a code that the home pushed was popped by it or kept, and what it kept stands in the order of what it pushed
+-- each index that the home pushed was popped by it or kept, and those kept are in the order of the pushes
 pub record IsKept (pushed popped kept : List ℕ) : Type 0 where
   pub counts : (x : ℕ) → times x pushed ≡ times x popped + times x kept
   pub order : InOrder kept pushed
 
--- what one log says of the row. `home` is the number of the home's pass, and `gone` what all steals took, in their order
+-- what one log states of the deque. `home` is the number of the home's pass, `gone` what all steals took, in their order
 pub record Fits (home : ℕ) (gone items : List ℕ) (port : ℕ) (v : Log) : Type 0 where
   pub homes : v.is_home ≡ true
       → (port ≡ home) × (v.kept ≡ gone ++ items) × IsKept v.pushed v.popped v.kept
   pub spent : v.parts ≡ 0 → v.stolen ≡ []
 
--- The rule of a row, over its codes, the oldest first, and the logs of all passes: what the home pushed and didn't pop is
--- what steals took, followed by what the row holds.
+-- The invariant of a deque, over its indices, the oldest first, and the logs of all passes: what the home pushed and didn't
+-- pop is what steals took, followed by what the deque holds. There is a log for each direction: pushed, popped, kept, stolen.
 pub record RowStands (items : List ℕ) (logs : List Log) : Type 0 where
   pub home : ℕ
   pub gone : List ℕ
@@ -68,19 +68,19 @@ Pops v xs w = (v.kept ≡ w.kept ++ xs) × (w ≡ record v { popped = v.popped +
 abbrev pub joined : Log → Log → Log
 joined v w = record v { parts = v.parts + w.parts; stolen = v.stolen ++ w.stolen }
 
--- a moment at which the row held at most so many codes, and this was the log of a pass
+-- a moment at which the deque held at most so many indices, and this was the log of a pass
 abbrev pub HeldAtMost : ℕ → Log → Type 0
 HeldAtMost most v = (items : List ℕ) × (logs : List Log) × (port : ℕ) × (length items ≤ most)
     × RowStands items logs × (get_elem? logs port ≡ some v)
 
--- what a log with all parts says of the row
+-- what a log with all parts states of the deque
 abbrev pub Tells : Log → List ℕ → Type 0
 Tells v items = (gone : List ℕ) × (v.kept ≡ gone ++ items) × IsKept v.pushed v.popped v.kept
     × ((x : ℕ) → times x v.stolen ≡ times x gone)
 
--- The account of a row: `stolen` are the codes that steals gave, `left` those that the row still holds. What was pushed was
--- taken, by a pop or a steal, or is left. What is left stands in the order in which it was pushed. Of what wasn't popped,
--- steals took the first and left the last.
+-- The account of a deque: `stolen` are the stolen indices, `left` those that the deque holds. Each pushed index was popped,
+-- was stolen or is left. Those left are in the order of the pushes. Of those not popped, steals took the first and left the
+-- last.
 pub record IsSettled (v : Log) (stolen : List ℕ) : Type 0 where
   pub left : List ℕ
   pub gone : List ℕ
@@ -89,6 +89,6 @@ pub record IsSettled (v : Log) (stolen : List ℕ) : Type 0 where
   pub kept : v.kept ≡ gone ++ left
   pub steals : (x : ℕ) → times x stolen ≡ times x gone
 
--- a count has risen, or stands at its last value
+-- a counter rose, or is at its last value
 abbrev pub Rose : ℕ → ℕ → Type 0
 Rose before after = (before < after) ⊎ ((before ≡ 2 ^ 64 - 1) × (after ≡ before))

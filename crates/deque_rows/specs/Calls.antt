@@ -1,4 +1,4 @@
--- What the calls of a hart's rows do.
+-- What the calls on a hart's deques do.
 use Rattle.std.specs.Prelude.{◌≡◌, ◌⊎◌, ℕ, ◌-◌, [], ◌∷◌, slice_index_or, slice_set, Option, Some, None}
 use Rattle.deque_rows.specs.declared.account.Log.{Log}
 use Rattle.deque_rows.specs.declared.hart.HartRows.{HartRows}
@@ -7,14 +7,14 @@ use Rattle.deque_rows.specs.declared.stolen.Stolen.TheVariants.{Code, Empty}
 use Rattle.deque_rows.specs.Account.{idle, after_push, after_steal, Pops, HeldAtMost, Rose}
 use Rattle.deque_rows.specs.Rows.{IsLevel, place, home_logs, pass_logs, bares, home_log, pass_log, bare}
 
--- The row at this place, among all rows, was bare at a moment, by what the hart knows of it: it held no code, where it is the
--- hart's own, or at most one.
+-- By what the hart knows, the deque at this index was empty at a moment: it held no index if it is the hart's own, else at
+-- most one.
 abbrev pub WasBare : HartRows → ℕ → Type 0
 WasBare rows row =
     ((level : ℕ) × IsLevel level × (row ≡ place rows.hart level) × HeldAtMost 0 (home_log rows level))
     ⊎ HeldAtMost 1 (slice_index_or (pass_logs rows) row idle)
 
--- a further moment at which this row was found bare, and of no other row
+-- the counter of empty looks at this deque rose, and that of no other deque
 abbrev pub FoundBare : HartRows → ℕ → ℕ → HartRows → Type 0
 FoundBare old hart level new =
     (n : ℕ) × Rose (bare old hart level) n
@@ -26,7 +26,7 @@ Pushes old level code new =
     (after_push (home_log old level) (code ∷ []))) × (pass_logs new ≡ pass_logs old)
     × (bares new ≡ bares old)
 
--- the last code that the home kept; or none, and the row was empty at a moment
+-- the last index that the home kept; or none, and the deque was empty at a moment
 abbrev pub PopGives : HartRows → ℕ → Option ℕ → HartRows → Type 0
 PopGives old level (Some code) new =
     (w : Log) × Pops (home_log old level) (code ∷ []) w
@@ -36,7 +36,7 @@ PopGives old level None new =
     HeldAtMost 0 (home_log old level) × FoundBare old old.hart level new
     × (home_logs new ≡ home_logs old) × (pass_logs new ≡ pass_logs old)
 
--- a code of the row; or none, and the row held at most one code at a moment
+-- an index of the deque; or none, and the deque held at most one index at a moment
 abbrev pub StealGives : HartRows → ℕ → ℕ → Stolen → HartRows → Type 0
 StealGives old hart level (Code code) new =
     (pass_logs new ≡ slice_set (pass_logs old) (place hart level)

@@ -1,4 +1,4 @@
--- What a hart's rows say, as lists: of its own rows by their level, and of all rows by their place.
+-- A hart's access to deques, as lists: of its own deques by level, and of all deques by index.
 use Rattle.std.specs.Prelude.{◌≡◌, ℕ, zero, suc, ◌+◌, ◌-◌, ◌*◌, ◌/◌, ◌%◌, ◌<◌, ◌≤◌, true, false, List, [], ◌++◌, length, map, slice_index_or, slice_index}
 use Rattle.std.specs.declared.alloc.Global.{Global}
 use Rattle.atomic_blocks.specs.Lent.{RowsId}
@@ -16,7 +16,7 @@ IsLevel level = (1 ≤ level) × (level ≤ 3)
 abbrev pub RowName : Type 0
 RowName = RowsId × Global
 
--- the place of a hart's row of a level, among all rows
+-- the index of a hart's deque of a level; all deques are numbered consecutively, three for each hart
 abbrev pub place : ℕ → ℕ → ℕ
 place hart level = 3 * hart + (level - 1)
 
@@ -24,21 +24,22 @@ place hart level = 3 * hart + (level - 1)
 abbrev pub home_logs : HartRows → List Log
 home_logs r = map (λ (h : HomeEnd). worker_view h.worker) r.own.items
 
--- the logs of its stealing ends, and how often it found each row bare, by the row's place
+-- the logs of its stealing ends, and its counters of empty looks, by the deque's index
 abbrev pub pass_logs : HartRows → List Log
 pass_logs r = map (λ (s : StealingEnd). view s.pass) r.ends.items
 
 abbrev pub bares : HartRows → List ℕ
 bares r = r.bare.items
 
--- how many codes each of its own rows takes in all, by level
+-- how many indices each of its own deques takes in all, by level
 abbrev pub rooms : HartRows → List ℕ
 rooms r = map (λ (h : HomeEnd). h.made) r.own.items
 
 abbrev pub row_room : HartRows → ℕ → ℕ
 row_room r level = slice_index (rooms r) (level - 1)
 
--- what this hart pushed to its own row of a level, popped there and kept; what it stole from a row, and how often it found it bare
+-- what this hart pushed onto its own deque of a level, popped there and kept; what it stole from a deque, and its empty looks
+-- there
 abbrev pub home_log : HartRows → ℕ → Log
 home_log r level = slice_index_or (home_logs r) (level - 1) idle
 
@@ -48,7 +49,8 @@ pass_log r hart level = slice_index_or (pass_logs r) (place hart level) idle
 abbrev pub bare : HartRows → ℕ → ℕ → ℕ
 bare r hart level = slice_index (bares r) (place hart level)
 
--- what no call changes: the hart, the harts whose rows it reaches, which rows it has, with its parts in them, and how many codes its own take
+-- what no call changes: the hart, the harts whose deques it reaches, its deques with its parts in them, and how many indices
+-- its own take
 pub record Kin : Type 0 where
   pub hart : ℕ
   pub harts : ℕ
@@ -87,8 +89,8 @@ row_at d homes r = slice_index_or (slice_index_or homes (r / 3) []) (r % 3) d
 abbrev pub owner_log : List HartRows → ℕ → Log
 owner_log rows r = row_at idle (map home_logs rows) r
 
--- These are all values of one call of `rows`, in order: each hart reaches the rows of all, and has one part in each; the home
--- has the rest.
+-- These are all values of one call of `rows`, in order: each hart reaches the deques of all, and has one part in each; the
+-- home has the rest.
 pub record AreAll (all : List Kin) : Type 0 where
   pub few : length all ≤ 16
   pub places : (h : ℕ) (d : Kin) → h < length all → (slice_index_or all h d).hart ≡ h
@@ -112,13 +114,13 @@ abbrev pub AreSettled : List HartRows → Type 0
 AreSettled rows = (r : ℕ) → r < 3 * length rows
     → IsSettled (owner_log rows r) (stolen_by (map pass_logs rows) r (length rows))
 
--- nothing was done with these rows, of so many harts
+-- no call was made on these deques, of so many harts
 pub record AreNew (harts : ℕ) (r : HartRows) : Type 0 where
   pub own : (level : ℕ) → IsLevel level → home_log r level ≡ blank (64 - harts) true
   pub passes : (hart level : ℕ) → hart < harts → IsLevel level
       → pass_log r hart level ≡ blank 1 false
   pub bares : (hart level : ℕ) → hart < harts → IsLevel level → bare r hart level ≡ 0
 
--- each of a hart's own rows takes so many codes in all
+-- each of a hart's own deques takes so many indices in all
 abbrev pub HasRooms : ℕ → HartRows → Type 0
 HasRooms room r = (level : ℕ) → IsLevel level → row_room r level ≡ room

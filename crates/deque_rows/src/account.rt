@@ -1,14 +1,17 @@
-//! The rule of a row, and what its calls tell.
+//! The invariant of a deque, and what its calls report.
 ghost use Rattle.std.specs.Prelude.{◌≡◌, ◌-◌, ◌+◌, [], ◌++◌};
 
 use crossbeam_deque::protocol::{Join, Lesson, Outcome, Protocol, Split};
 use std::collections::LinkedList;
 
-/// What a pass of a row knows. No value of it is made.
+/// What a pass of a deque knows. It is ghost: no value of it exists at run time.
 pub struct Log {
-    /// Its parts of the right to know the whole row; all passes together have 64.
+    /// Its parts of the right to know the whole deque. All passes together have 64.
+    ///
+    /// Why: a deque has one part for each hart as a thief, also for its own hart, and the rest for the home. A log with all parts
+    /// knows the whole deque, so `settle` first returns all stealing ends to the homes.
     pub parts: u64,
-    /// Whether it is the pass of the row's own hart.
+    /// Whether it is the pass of the deque's own hart.
     pub is_home: bool,
     /// What the home pushed, in order.
     pub pushed: LinkedList<u32>,
@@ -20,7 +23,7 @@ pub struct Log {
     pub stolen: LinkedList<u32>,
 }
 
-/// The rule of a row.
+/// The invariant of a deque.
 pub struct Account;
 
 impl Protocol<u32, Log> for Account {
@@ -54,7 +57,7 @@ impl Join<Log> for Share {
     ghost spent = { idle };
 }
 
-/// What a push tells.
+/// What a push reports.
 pub struct Pushed;
 
 impl Outcome<u32, Log> for Pushed {
@@ -64,7 +67,7 @@ impl Outcome<u32, Log> for Pushed {
     ghost then = { λ v xs w. w ≡ after_push v xs };
 }
 
-/// What a pop tells.
+/// What a pop reports.
 pub struct Popped;
 
 impl Outcome<u32, Log> for Popped {
@@ -75,7 +78,7 @@ impl Outcome<u32, Log> for Popped {
     ghost empty = { HeldAtMost 0 };
 }
 
-/// What a steal tells.
+/// What a steal reports.
 pub struct Stole;
 
 impl Outcome<u32, Log> for Stole {
@@ -87,7 +90,7 @@ impl Outcome<u32, Log> for Stole {
     ghost empty = { HeldAtMost 1 };
 }
 
-/// What is known of a row when all passes are back in one.
+/// What is known of a deque when all passes are back in one.
 pub struct Whole;
 
 impl Lesson<u32, Log> for Whole {

@@ -1,4 +1,4 @@
-//! What a hart does with its rows.
+//! What a hart does with its deques.
 ghost use Rattle.std.specs.Prelude.{◌≡◌, ℕ, ◌+◌, ◌-◌, ◌*◌, ◌<◌, ◌≤◌, length, slice_set, slice_index};
 ghost use Rattle.deque_rows.specs.Account.{Rose};
 ghost use Rattle.deque_rows.specs.Rows.{IsLevel, place, row_room, home_log, home_logs, pass_logs, bares, kin};
@@ -8,7 +8,7 @@ use crate::hart::HartRows;
 use crate::stolen::Stolen;
 use std::sync::Wait;
 
-/// The place of a hart's row of a level, among all rows.
+/// The index of a hart's deque of a level among all deques, which are numbered consecutively, three for each hart.
 fn place(hart: u8, level: u8) -> usize
     requires { 1 ≤ level }
     ensures { result ≡ place hart level }
@@ -17,15 +17,15 @@ fn place(hart: u8, level: u8) -> usize
 }
 
 impl HartRows {
-    /// The hart whose rows these are, which is its place in the list that `rows` gave.
+    /// The hart whose deques these are, which is its index in the list that `rows` returned.
     pub fn hart(&self) -> u8
         ensures { result ≡ self.now.hart }
     {
         self.hart
     }
 
-    /// How many further codes this hart's row of this level takes, from 1 to 3: those for which it was made, less the number
-    /// of those that were pushed to it.
+    /// The number of further indices that this hart's deque of this level, 1 to 3, takes: its room when it was made, less the
+    /// number of pushes.
     pub fn room(&self, level: u8) -> u32
         requires { IsLevel level }
         ensures { result + length (home_log self.now level).pushed ≡ row_room self.now level }
@@ -33,7 +33,7 @@ impl HartRows {
         self.own[usize::from(level) - 1].room
     }
 
-    /// Puts a code last in this hart's row of this level, which has room.
+    /// Pushes a job index last onto this hart's deque of this level, which has room. Does not allocate.
     pub fn push(&mut self, level: u8, code: u32)
         requires level { IsLevel level }
         requires room { length (home_log self.old level).pushed < row_room self.old level }
@@ -45,7 +45,8 @@ impl HartRows {
         self.own[usize::from(level) - 1].push(code);
     }
 
-    /// Takes the last code of this hart's row of this level. None comes only where the row was empty at a moment of this call.
+    /// Pops the last job index of this hart's deque of this level. Returns `None` only if the deque was empty at a moment of this
+    /// call.
     pub fn pop(&mut self, level: u8) -> Option<u32>
         requires level { IsLevel level }
         ensures kin { kin self.new ≡ kin self.old }
@@ -58,8 +59,8 @@ impl HartRows {
         popped
     }
 
-    /// Takes the first code of a hart's row of a level, also of one's own row. Empty comes only where the row held at most
-    /// one code at a moment of this call. It tries again where another hart came in between, so it may wait.
+    /// Steals the first job index of a hart's deque of a level, also of the hart's own. Returns `Empty` only if the deque held at
+    /// most one index at a moment of this call. It retries if another hart came in between, so it may block.
     pub fn steal<R: Wait>(&mut self, rt: &R, hart: u8, level: u8) -> Stolen
         requires level { IsLevel level }
         requires hart { hart < self.old.harts }
@@ -76,7 +77,9 @@ impl HartRows {
         }
     }
 
-    // Raises the count of moments at which the row was found bare, as it was.
+    // Raises the counter of empty looks at this deque. Why: an empty pop or steal changes no log of the kit's deque, so each hart
+    // has a counter for each deque. What the deque reports then is about this hart's knowledge, so the prover would accept a body
+    // that always returns Empty and raises the counter. Tests show that indices are found.
     fn note_bare(&mut self, row: usize)
         requires row { row < length self.old.bare.items }
         requires bare { WasBare self.old row }

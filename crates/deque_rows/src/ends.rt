@@ -1,4 +1,4 @@
-//! The ends of one row.
+//! The ends of one deque.
 ghost use Rattle.std.specs.Prelude.{◌≡◌, ◌<◌, ◌≤◌, ◌+◌, ◌-◌, ◌^◌, ◌⊎◌, [], ◌∷◌, ◌++◌, List, ℕ, true, false, length, MatchOption, IfOk, ⊤};
 ghost use Rattle.crossbeam_deque.specs.Handles.{view, IsPassOf, worker_deque, worker_flavor, worker_capacity, worker_index, stealer_deque, stealer_flavor, worker_view};
 ghost use Rattle.deque_rows.specs.Account.{blank, after_push, after_steal, joined, Pops, HeldAtMost, Rose, Tells};
@@ -8,13 +8,13 @@ use crossbeam_deque::{Pass, Steal, Stealer, Worker};
 use std::alloc::{AllocError, Global};
 use std::sync::Wait;
 
-/// The home's end of a row.
+/// The home's end of a deque.
 #[derive(Drop)]
 pub struct HomeEnd {
     pub(crate) worker: Worker<u32, Global, Log, Account>,
-    // How many codes the row takes in all.
+    // How many indices the deque takes in all.
     pub(crate) made: u32,
-    // How many further codes it takes.
+    // How many further indices it takes.
     pub(crate) room: u32,
     pub ghost lifo: { worker_flavor worker ≡ 1 },
     pub ghost home: { (worker_view worker).is_home ≡ true },
@@ -25,7 +25,7 @@ pub struct HomeEnd {
 }
 
 impl HomeEnd {
-    /// The end of a new row, which takes so many codes in all.
+    /// The end of a new deque, which takes so many indices in all.
     pub(crate) fn new(alloc: Global, room: u32) -> Result<HomeEnd, AllocError>
         ensures log { IfOk result (λ h. worker_view h.worker ≡ blank 64 true) }
         ensures made { IfOk result (λ h. h.made ≡ room) }
@@ -37,7 +37,7 @@ impl HomeEnd {
         })
     }
 
-    /// Puts a code last.
+    /// Pushes an index last.
     pub(crate) fn push(&mut self, code: u32)
         requires { length (worker_view self.old.worker).pushed < self.old.made }
         ensures pushed { worker_view self.new.worker
@@ -80,7 +80,7 @@ impl HomeEnd {
         self.worker.absorb::<Share>(pass);
     }
 
-    /// Looks at the row, when all stealing ends are back.
+    /// Looks at the deque, when all stealing ends are back.
     pub(crate) fn look(&mut self)
         requires { (worker_view self.old.worker).parts ≡ 64 }
         ensures tells { (items : List ℕ) × Tells (worker_view self.old.worker) items }
@@ -91,7 +91,7 @@ impl HomeEnd {
         self.worker.len_as::<Whole>();
     }
 
-    /// Takes the last code.
+    /// Pops the last index.
     pub(crate) fn pop(&mut self) -> Option<u32>
         ensures none { MatchOption result
             ((worker_view self.new.worker ≡ worker_view self.old.worker)
@@ -105,7 +105,7 @@ impl HomeEnd {
     }
 }
 
-/// A stealing end of a row, with its pass.
+/// A stealing end of a deque, with its pass.
 #[derive(Drop)]
 pub struct StealingEnd {
     pub(crate) stealer: Stealer<u32, Global, Log, Account>,
@@ -116,7 +116,7 @@ pub struct StealingEnd {
 }
 
 impl StealingEnd {
-    /// Takes the first code.
+    /// Steals the first index.
     pub(crate) fn steal<R: Wait>(&mut self, rt: &R) -> Option<u32>
         ensures none { MatchOption result ((view self.new.pass ≡ view self.old.pass)
             × HeldAtMost 1 (view self.old.pass)) (λ code. ⊤) }

@@ -1,10 +1,10 @@
-//! The rows as one hart has them.
+//! The deques of one hart.
 ghost use Rattle.std.specs.Prelude.{◌≡◌, ◌+◌, ◌*◌, ◌≤◌, vec_len};
 
 use crate::ends::{HomeEnd, StealingEnd};
 
-/// One hart's sight of all rows: its own ends of the three rows at which it is the home, and a stealing end of each row of
-/// each hart.
+/// One hart's access to all deques: the home's ends of its own three deques, one for each nesting level, and a stealing end of
+/// each deque of each hart.
 #[derive(Drop)]
 pub struct HartRows {
     pub(crate) hart: u8,

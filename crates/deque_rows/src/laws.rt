@@ -1,4 +1,4 @@
-//! The account of rows whose harts are back.
+//! The account of deques when all harts are back.
 ghost use Rattle.std.specs.Prelude.{◌≡◌, ℕ, ◌*◌, ◌<◌, ◌≤◌, List, length, map, slice_index_or, vec_len};
 ghost use Rattle.deque_rows.specs.Account.{Tells, joined};
 ghost use Rattle.deque_rows.specs.Rows.{RowName, AreAll, AreSettled, kin, home_logs, home_names, pass_logs, row_at, owner_log, stolen_by};
@@ -9,8 +9,8 @@ use crate::hart::HartRows;
 use crate::lines::{give_back, look};
 use std::mem;
 
-/// Settles the account of all rows, for all values of one call of `rows`, in their order: of each row, what was pushed was
-/// taken once or is left, and what is left stands in the order in which it was pushed. It takes no memory.
+/// Settles the account of all deques, for all values of one call of `rows`, in their order: each pushed index was popped or
+/// stolen once or remains, and those that remain are in the order of the pushes. Does not allocate.
 pub fn settle(mut rows: Vec<HartRows>)
     requires all { AreAll (map kin rows.items) }
     ensures settled { AreSettled rows.items }
@@ -19,7 +19,7 @@ pub fn settle(mut rows: Vec<HartRows>)
 }
 
 impl HartRows {
-    // Its stealing ends. It reaches no row from now on.
+    // Its stealing ends. It reaches no deque from here on.
     fn take_ends(&mut self) -> Vec<StealingEnd>
         ensures ends { result ≡ self.old.ends }
         ensures logs { home_logs self.new ≡ home_logs self.old }
@@ -31,7 +31,7 @@ impl HartRows {
     }
 }
 
-// Gives all stealing ends back, and looks at each row.
+// Returns all stealing ends, and looks at each deque.
 fn settle_all(rows: &mut [HartRows])
     requires { AreAll (map kin rows.old) }
     ensures { AreSettled rows.old }
@@ -40,7 +40,7 @@ fn settle_all(rows: &mut [HartRows])
     look_at_all(rows);
 }
 
-// Gives all stealing ends back to the homes.
+// Returns all stealing ends to the homes.
 fn gather(rows: &mut [HartRows])
     requires { AreAll (map kin rows.old) }
     ensures { (r : ℕ) → r < 3 * length rows.old
@@ -53,7 +53,7 @@ fn gather(rows: &mut [HartRows])
     }
 }
 
-// Gives one hart's stealing ends back to the homes.
+// Returns one hart's stealing ends to the homes.
 fn give_line(rows: &mut [HartRows], mut ends: Vec<StealingEnd>)
     requires count { vec_len ends ≡ 3 * length rows.old }
     requires of { (r : ℕ) (d : StealingEnd) (n : RowName) → r < 3 * length rows.old
@@ -69,7 +69,7 @@ fn give_line(rows: &mut [HartRows], mut ends: Vec<StealingEnd>)
     }
 }
 
-// Looks at each row.
+// Looks at each deque.
 fn look_at_all(rows: &mut [HartRows])
     requires few { length rows.old ≤ 16 }
     requires whole { (r : ℕ) → r < 3 * length rows.old → (owner_log rows.old r).parts ≡ 64 }

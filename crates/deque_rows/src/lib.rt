@@ -1,4 +1,6 @@
-//! Rows of codes: a hart pushes and pops at the one end of its rows, and other harts steal at the other.
+//! Work-stealing deques of job indices. Each hart has three, one for each nesting level. The hart pushes and pops at one end,
+//! and other harts steal at the other. The account (`specs/Account.antt`) states that each pushed index is popped or stolen
+//! once, or remains. `row_tests` has examples.
 #![tactic(auto)]
 
 mod account;

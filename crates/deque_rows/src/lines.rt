@@ -1,4 +1,4 @@
-//! The rows of all harts, one after another.
+//! The deques of all harts, one after another.
 ghost use Rattle.std.specs.Prelude.{◌≡◌, ℕ, ◌-◌, ◌*◌, ◌<◌, false, List, length, map, slice_index_or, slice_set, IfOk};
 ghost use Rattle.deque_rows.specs.Account.{blank, idle, joined, Tells};
 ghost use Rattle.deque_rows.specs.Rows.{RowName, home_logs, home_names, row_at, owner_log};
@@ -9,7 +9,7 @@ use crate::hart::HartRows;
 use std::alloc::AllocError;
 
 impl HartRows {
-    // A further stealing end of this hart's own row at this place.
+    // A further stealing end of this hart's own deque at this index.
     fn lend_own(&mut self, at: usize) -> Result<StealingEnd, AllocError>
         requires at { at < 3 }
         requires parts { 1 < (slice_index_or (home_logs self.old) at idle).parts }
@@ -28,7 +28,7 @@ impl HartRows {
         self.own[at].another()
     }
 
-    // Gives a stealing end back to this hart's own row at this place.
+    // Returns a stealing end to this hart's own deque at this index.
     fn give_own(&mut self, at: usize, end: StealingEnd)
         requires at { at < 3 }
         requires of { (n : RowName) → end_name end ≡ slice_index_or (home_names self.old) at n }
@@ -41,7 +41,7 @@ impl HartRows {
         self.own[at].absorb(end);
     }
 
-    // Looks at this hart's own row at this place, when all its stealing ends are back.
+    // Looks at this hart's own deque at this index, when all its stealing ends are back.
     fn look_own(&mut self, at: usize)
         requires at { at < 3 }
         requires whole { (slice_index_or (home_logs self.old) at idle).parts ≡ 64 }
@@ -53,7 +53,7 @@ impl HartRows {
     }
 }
 
-/// A further stealing end of the row at this place.
+/// A further stealing end of the deque at this index.
 pub(crate) fn lend(rows: &mut [HartRows], row: usize) -> Result<StealingEnd, AllocError>
     requires row { row < 3 * length rows.old }
     requires parts { 1 < (owner_log rows.old row).parts }
@@ -71,7 +71,7 @@ pub(crate) fn lend(rows: &mut [HartRows], row: usize) -> Result<StealingEnd, All
     rows[row / 3].lend_own(row % 3)
 }
 
-/// Gives a stealing end back to the home of the row at this place.
+/// Returns a stealing end to the home of the deque at this index.
 pub(crate) fn give_back(rows: &mut [HartRows], row: usize, end: StealingEnd)
     requires row { row < 3 * length rows.old }
     requires of { (n : RowName) → end_name end ≡ row_at n (map home_names rows.old) row }
@@ -83,7 +83,7 @@ pub(crate) fn give_back(rows: &mut [HartRows], row: usize, end: StealingEnd)
     rows[row / 3].give_own(row % 3, end);
 }
 
-/// Looks at the row at this place, when all its stealing ends are back.
+/// Looks at the deque at this index, when all its stealing ends are back.
 pub(crate) fn look(rows: &mut [HartRows], row: usize)
     requires row { row < 3 * length rows.old }
     requires whole { (owner_log rows.old row).parts ≡ 64 }

@@ -1,4 +1,4 @@
-//! How the rows are made.
+//! Making the deques.
 ghost use Rattle.std.specs.Prelude.{◌≡◌, ℕ, ◌+◌, ◌-◌, ◌*◌, ◌<◌, ◌≤◌, length, map, replicate, slice_index_or, IfOk, vec_len};
 ghost use Rattle.deque_rows.specs.Rows.{RowName, AreAll, AreNew, HasRooms, rooms, kin, home_logs, home_names, owner_log};
 ghost use Rattle.deque_rows.specs.declared.making.TheConstants.{ROOM};
@@ -9,11 +9,14 @@ use crate::hart::HartRows;
 use crate::lines::lend;
 use std::alloc::{AllocError, Global};
 
-/// How many codes a row takes in all, at most.
+/// The greatest number of indices that a deque takes in all.
 pub const ROOM: u32 = 16_384;
 
-/// The rows of so many harts, from 1 to 16: one for each hart and each level from 1 to 3, empty, with room for 16,384 codes.
-/// It gives each hart's sight of all of them, in the order of the harts.
+/// `rows_for` with room for 16,384 indices in each deque.
+///
+/// # Errors
+///
+/// `AllocError` if an allocation fails.
 pub fn rows(alloc: Global, harts: u8) -> Result<Vec<HartRows>, AllocError>
     requires { (1 ≤ harts) × (harts ≤ 16) }
     ensures count { IfOk result (λ rows. vec_len rows ≡ harts) }
@@ -28,8 +31,20 @@ pub fn rows(alloc: Global, harts: u8) -> Result<Vec<HartRows>, AllocError>
     rows_for(alloc, harts, ROOM)
 }
 
-/// What `rows` gives, but with room for so many codes in each row, from 1 to 16,384. A row takes memory for its room at once,
-/// so rows that are as long as a program needs them are made sooner.
+/// The empty deques of so many harts, from 1 to 16: one for each hart and each level from 1 to 3, with room for so many indices
+/// each, from 1 to 16,384. Returns each hart's access to all of them, in the order of the harts.
+///
+/// Why: a deque's whole room is allocated here, so that no push allocates. For 16,384 indices that is 384 KB and costs more
+/// time than all else before a run, so a run states the number of its program's pieces. If a deque has no room, the home keeps
+/// its pool.
+///
+/// # Errors
+///
+/// `AllocError` if an allocation fails.
+///
+/// # Memory
+///
+/// It allocates the deques with their room, and each hart's ends.
 pub fn rows_for(alloc: Global, harts: u8, room: u32) -> Result<Vec<HartRows>, AllocError>
     requires harts { (1 ≤ harts) × (harts ≤ 16) }
     requires room { (1 ≤ room) × (room ≤ ROOM) }
@@ -47,7 +62,7 @@ pub fn rows_for(alloc: Global, harts: u8, room: u32) -> Result<Vec<HartRows>, Al
     Ok(rows)
 }
 
-// Each hart gets a stealing end of each row.
+// Each hart gets a stealing end of each deque.
 fn reach_all(alloc: Global, harts: u8, rows: &mut [HartRows]) -> Result<(), AllocError>
     requires few { harts ≤ 16 }
     requires count { length rows.old ≡ harts }
@@ -66,7 +81,7 @@ fn reach_all(alloc: Global, harts: u8, rows: &mut [HartRows]) -> Result<(), Allo
 }
 
 impl HartRows {
-    // From now on it reaches the rows of so many harts, by these ends.
+    // From here on it reaches the deques of so many harts, by these ends.
     fn reach(&mut self, harts: u8, ends: Vec<StealingEnd>)
         requires { (vec_len ends ≡ 3 * harts) × (3 * harts ≤ vec_len self.old.bare) }
         ensures logs { home_logs self.new ≡ home_logs self.old }
@@ -81,7 +96,7 @@ impl HartRows {
     }
 }
 
-// Each hart's own rows, with no stealing end.
+// Each hart's own deques, with no stealing end.
 fn homes(alloc: Global, harts: u8, room: u32) -> Result<Vec<HartRows>, AllocError>
     requires { harts ≤ 16 }
     ensures count { IfOk result (λ rows. vec_len rows ≡ harts) }
@@ -99,7 +114,7 @@ fn homes(alloc: Global, harts: u8, room: u32) -> Result<Vec<HartRows>, AllocErro
     Ok(rows)
 }
 
-// One hart's own rows, with no stealing end.
+// One hart's own deques, with no stealing end.
 fn home(alloc: Global, hart: u8, harts: u8, room: u32) -> Result<HartRows, AllocError>
     requires { (hart < harts) × (harts ≤ 16) }
     ensures home { IfOk result (IsHome harts hart) }
@@ -118,7 +133,7 @@ fn home(alloc: Global, hart: u8, harts: u8, room: u32) -> Result<HartRows, Alloc
     })
 }
 
-// A further stealing end of each row, in order.
+// A further stealing end of each deque, in order.
 fn line(alloc: Global, rows: &mut [HartRows]) -> Result<Vec<StealingEnd>, AllocError>
     requires few { length rows.old ≤ 16 }
     requires parts { (r : ℕ) → r < 3 * length rows.old → 1 < (owner_log rows.old r).parts }

@@ -1,10 +1,10 @@
-//! What a steal gives.
+//! The result of a steal.
 
-/// What a steal gives.
+/// The result of a steal.
 #[derive(Clone, Copy, Debug, PartialEq, Drop)]
 pub enum Stolen {
-    /// The row's first code.
+    /// The deque's first index.
     Code(u32),
-    /// There was none to take: at a moment of the call the row held at most one code.
+    /// At a moment of the call the deque held at most one index.
     Empty,
 }

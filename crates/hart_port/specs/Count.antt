@@ -7,7 +7,7 @@ use Rattle.hart_port.specs.declared.port.Entered.TheVariants.{Inside, NotWanted,
 abbrev pub Rose : ℕ → ℕ → Type 0
 Rose before after = (before < after) ⊎ ((before ≡ 2 ^ 64 - 1) × (after ≡ before))
 
--- of a call that may be refused: its count of refusals rose where it was, and is as it was where it wasn't
+-- of a call that may be refused: its count of refusals rose if it was refused, and is unchanged otherwise
 abbrev pub RoseIfErr : {A E : Type 0} → Result A E → ℕ → ℕ → Type 0
 RoseIfErr (Ok done) before after = after ≡ before
 RoseIfErr (Err why) before after = Rose before after

@@ -15,7 +15,7 @@ pub record LedgerState : Type 0 where
   -- the sites that were marked as closing, a flag for the base and for each site
   pub closing : List Bool
 
--- what a ledger's type keeps: the state is the replay of the entries, none of which is refused, and each site has its flag
+-- the invariant of a ledger: the state is the replay of the entries, none of which is refused, and each site has its flag
 pub record IsLedger (l : LedgerState) : Type 0 where
   pub plan : IsPlan l.plan
   pub reached : Reaches l.plan l.entries l.state

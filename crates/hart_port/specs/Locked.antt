@@ -42,7 +42,7 @@ pub record IsUnclaimed (mine : List Entry) (s : ℕ) : Type 0 where
   pub registers : registers s mine ≡ 0
   pub requested : requested s mine ≡ 0
 
--- what the port keeps: its view is one, and of a site that isn't claimed the hart made no Register and no Request
+-- the port's invariant: its view fits its plan, and the hart made no Register and no Request of a site that isn't claimed
 pub record IsLocked (v : PortView) (claimed : List Bool) : Type 0 where
   pub view : IsPortView v
   pub size : length claimed ≡ site_count v.plan + 1

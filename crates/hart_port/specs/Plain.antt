@@ -46,7 +46,7 @@ view_of l closed empty gone = record {
   table = [];
 }
 
--- the word that the port shows of a site: it is closing where it was ever closed
+-- the word that the port shows of a site: it is closing if it was ever closed
 abbrev pub shown_word : Plain → ℕ → ℕ
 shown_word p s = site_word (row p.state s) (is_in p.closing s)
 
@@ -54,7 +54,8 @@ shown_word p s = site_word (row p.state s) (is_in p.closing s)
 abbrev pub IsReached : Plain → Type 0
 IsReached p = Reaches p.view.plan p.view.mine p.state
 
--- what the port keeps: its ledger is one and has one hart, each set has its flags, and what was seen gone is gone
+-- the port's invariant: its ledger keeps its own and has one hart, each set has its flags, and a site that was seen gone is
+-- gone
 pub record IsPlain (l : LedgerState) (closed empty gone : List Bool) : Type 0 where
   pub ledger : IsLedger l
   pub one : l.plan.harts ≡ 1

@@ -34,7 +34,7 @@ pub record PortView : Type 0 where
   -- what distinguishes the table from others of its kind; empty where no caller needs it
   pub table : List ℕ
 
--- the site is in the set
+-- the set has the site
 abbrev pub is_in : List Bool → ℕ → Bool
 is_in flags site = slice_index_or flags site false
 
@@ -46,16 +46,16 @@ with_site flags site = slice_set flags site true
 abbrev pub without : List Bool → ℕ → List Bool
 without flags site = slice_set flags site false
 
--- The hart's entries are the whole journal: there is no other hart, and they lead to a state of the table in which the hart
--- is where the port says.
+-- The hart's entries are the whole journal: there is no other hart, and they lead to a state of the table with the hart in the
+-- port's owner.
 pub record IsWhole (v : PortView) : Type 0 where
   pub one : v.plan.harts ≡ 1
   pub state : TableState
   pub reached : Reaches v.plan v.mine state
   pub owner : v.owner ≡ owner state 0
 
--- The hart's plan is one, its owner is the base or a site of the plan, and each set has its flags; the base is no home. Where
--- no other hart shares the table, its entries are the whole journal.
+-- The view's plan is a plan, its owner is the base or a site of the plan, each set has its flags, and the base is no home. If
+-- no other hart shares the table, the hart's entries are the whole journal.
 pub record IsPortView (v : PortView) : Type 0 where
   pub plan : IsPlan v.plan
   pub hart : IsHart v.plan v.hart
@@ -85,7 +85,7 @@ registered v s = record v {
   empty = without v.empty s;
 }
 
--- the hart has made Skip of the site, and is where it was
+-- the hart has made Skip of the site, and has the same owner
 abbrev pub skipped : PortView → ℕ → PortView
 skipped v s = record v { mine = v.mine ++ Skip v.hart s ∷ [] }
 
@@ -167,8 +167,8 @@ Sees v Empty after = after ≡ sees_empty v
 Sees v (Flying shown) after = (after ≡ v) × (1 ≤ flight_of shown)
 Sees v (Held shown) after = (after ≡ v) × IsHeld v shown
 
--- Where a hart may ask for more harts for a site: it is the site's home and in it, hasn't closed it, asks for some, and the
--- sum of what it asked stays below the number of harts.
+-- A hart may request more harts for a site: it is the site's home and in it, hasn't closed it, requests at least one, and the
+-- sum of its requests stays below the number of harts.
 pub record MayRequest (v : PortView) (s k : ℕ) : Type 0 where
   pub inside : v.owner ≡ s
   pub home : is_in v.homes s ≡ true
@@ -180,7 +180,7 @@ pub record MayRequest (v : PortView) (s k : ℕ) : Type 0 where
 abbrev pub ChildrenSeenGone : PortView → Type 0
 ChildrenSeenGone v = (c : ℕ) → IsSite v.plan c → parent v.plan c ≡ v.owner → is_in v.gone c ≡ true
 
--- Where a hart may unregister its owner: it is the home, has closed it and seen it empty since, and each child gone.
+-- A hart may unregister its owner: it is the home, has closed the owner and seen it empty since, and has seen each child gone.
 pub record MayUnregister (v : PortView) : Type 0 where
   pub home : is_in v.homes v.owner ≡ true
   pub closed : is_in v.closed v.owner ≡ true

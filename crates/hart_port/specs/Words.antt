@@ -61,6 +61,6 @@ board_word t size = size * 2 ^ 48 + owner_digits t.owners
 abbrev pub first_four : TableState → TableState
 first_four t = record t { owners = take 4 t.owners }
 
--- another one of so many harts
+-- one of so many harts, other than this one
 abbrev pub IsOther : ℕ → ℕ → ℕ → Type 0
 IsOther harts h g = (g < harts) × (g ≢ h)

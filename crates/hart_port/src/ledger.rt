@@ -39,6 +39,14 @@ impl Model for Ledger {
 
 impl Ledger {
     /// The ledger of the plan before any entry, with room for all entries that the plan allows.
+    ///
+    /// # Errors
+    ///
+    /// `AllocError` if an allocation fails.
+    ///
+    /// # Memory
+    ///
+    /// It allocates a board, a flag for each site and the room for all entries. No other call allocates.
     pub fn new(alloc: Global, plan: &Plan) -> Result<Ledger, AllocError>
         ensures first { IfOk result (λ l. l ≡ first_ledger plan.now) }
         ensures kept { IfOk result IsLedger }
@@ -52,8 +60,11 @@ impl Ledger {
         })
     }
 
-    /// Does what the entry does to the board and appends it, or answers why the board refuses it. A
-    /// refusal changes nothing. It takes no memory.
+    /// Applies the entry to the board and appends it. Does not allocate.
+    ///
+    /// # Errors
+    ///
+    /// The board's refusal. The ledger is then unchanged.
     pub fn admit(&mut self, entry: Entry) -> Result<(), NotAdmitted>
         ensures does { Admits self.old entry result self.new }
         ensures kept { IsLedger self.new }
@@ -90,15 +101,14 @@ impl Ledger {
         }
     }
 
-    /// The word of the board: how many entries there are, and the owner of each hart, of more than four harts those of the
-    /// first four.
+    /// The word of the board: the number of entries, and the owners of the first four harts.
     pub fn board_word(&self) -> u64
         ensures { result ≡ board_word (first_four self.now.state) (length self.now.entries) }
     {
         (self.entries.len() as u64) * (1 << 48) + self.owner_digits()
     }
 
-    /// The entries that were admitted, in order. They are legal. It takes no memory.
+    /// The entries that were admitted, in order. They are legal. Does not allocate.
     pub fn into_entries(self) -> Entries
         ensures entries { result ≡ self.entries }
         ensures kept { IsLedger self }

@@ -15,11 +15,11 @@ use std::sync::{Mutex, Wait};
 use std::thread::Threads;
 use transfer_table::{Entry, Plan};
 
-/// The port of one hart of a ledger that harts share under a lock. Each call may wait for the lock.
+/// The port of one hart of a ledger that harts share under a lock. Each call may block.
 ///
-/// Nothing is known of the ledger behind the lock but its type. So an entry that its board refuses is tried again, under a
-/// lock taken anew each time; and an entry for which the room is used up, or that registers a site a second time, is never
-/// made. Where each hart of the ledger's plan has one port, neither comes.
+/// Contracts know only the type of the lock-protected ledger. So a call tries an entry that the board refuses again, and takes
+/// the lock anew each time. It never makes an entry for which the room is used up, or a second Register of a site. Neither
+/// occurs if each hart of the ledger's plan has one port.
 pub struct LockedPort<'a, R> {
     lock: &'a Mutex<Ledger>,
     plan: &'a Plan,
@@ -73,8 +73,16 @@ impl<'a, R> Drop for LockedPort<'a, R> {
 }
 
 impl<'a, R> LockedPort<'a, R> {
-    /// The port of a hart of the plan that made no transfer yet, with room for all entries that the plan allows. The plan is
-    /// the ledger's, with at most four harts, since the board word shows no more. It doesn't wait.
+    /// The port of a hart of the plan that made no transfer yet, with room for all entries that the plan allows. The plan is the
+    /// ledger's, with at most four harts, since the board word shows no more. Does not block.
+    ///
+    /// # Errors
+    ///
+    /// `AllocError` if an allocation fails.
+    ///
+    /// # Memory
+    ///
+    /// It allocates the hart's entries and five flags for each site. No other call allocates.
     pub fn new(
         alloc: Global,
         lock: &'a Mutex<Ledger>,
@@ -111,7 +119,7 @@ fn has_room(mine: &Vec<Entry>) -> bool
     mine.len() < mine.capacity()
 }
 
-// Puts an entry in under the lock, again and again until the ledger takes it. An entry that may not be made is never in.
+// Tries to append an entry under the lock until the ledger admits it. Does not return if the entry may not be made.
 fn put_in<R: Wait>(hold: &R, lock: &Mutex<Ledger>, entry: Entry, may: bool)
     ensures { IsTrue may }
 {
@@ -147,7 +155,7 @@ fn claim<R: Wait>(
     unreachable!()
 }
 
-// The same for the Enter of a site. Where the site's word wants no hart, it is returned.
+// The same for the Enter of a site. Returns the site's word if the word wants no hart.
 fn go_in<R: Wait>(hold: &R, lock: &Mutex<Ledger>, hart: u8, site: u16, may: bool) -> Result<(), u64>
     ensures ok { OnOk result (IsTrue may) }
     ensures unwanted { IfErr result (λ shown. is_wanted shown ≡ false) }

@@ -47,6 +47,14 @@ impl Model for PlainPort {
 
 impl PlainPort {
     /// The port of the plan's one hart, with room for all entries that the plan allows.
+    ///
+    /// # Errors
+    ///
+    /// `AllocError` if an allocation fails.
+    ///
+    /// # Memory
+    ///
+    /// It allocates a ledger and flags for each site. No other call allocates.
     pub fn new(alloc: Global, plan: &Plan) -> Result<PlainPort, AllocError>
         requires { plan.now.harts ≡ 1 }
         ensures { IfOk result (λ p. p ≡ record {
@@ -66,7 +74,7 @@ impl PlainPort {
         })
     }
 
-    /// The entries that the port made. They are legal. It takes no memory.
+    /// The entries that the port made. They are legal. Does not allocate.
     pub fn finish(self) -> Entries
         ensures entries { result ≡ self.view.mine }
         ensures legal { IsReached self }
@@ -89,7 +97,7 @@ impl PlainPort {
     }
 }
 
-// Puts an entry in that the table allows.
+// Appends an entry that the table allows.
 fn put_in(ledger: &mut Ledger, entry: Entry)
     requires ledger { IsLedger ledger.old }
     requires allowed { IsAllowed ledger.old.plan ledger.old.state entry }
@@ -141,7 +149,7 @@ impl Port for PlainPort {
         self.ledger.owner(0)
     }
 
-    /// Makes Register of the site, exactly where it is new.
+    /// Makes Register of the site, exactly if the site is new.
     fn register(&mut self, _hold: (), site: u16) -> Result<(), Taken>
         requires known { IsSite self.old.view.plan site }
         requires child { self.old.view.owner ≡ parent self.old.view.plan site }
@@ -164,7 +172,7 @@ impl Port for PlainPort {
         Ok(())
     }
 
-    /// Makes Skip of the site, exactly where it is new.
+    /// Makes Skip of the site, exactly if the site is new.
     fn skip(&mut self, _hold: (), site: u16) -> Result<(), Taken>
         requires known { IsSite self.old.view.plan site }
         requires child { self.old.view.owner ≡ parent self.old.view.plan site }
@@ -185,7 +193,7 @@ impl Port for PlainPort {
         Ok(())
     }
 
-    /// No call meets the condition, since a single hart has no other to ask for.
+    /// No call meets the precondition, since a single hart has no other hart to request.
     fn request(&mut self, _hold: (), site: u16, count: u8)
         requires known { IsSite self.old.view.plan site }
         requires may { MayRequest self.old.view site count }
@@ -219,7 +227,7 @@ impl Port for PlainPort {
         Entered::NotWanted { shown }
     }
 
-    /// No call meets the condition, since a single hart is the home of each site that it is in.
+    /// No call meets the precondition, since a single hart is the home of each site that it is in.
     fn yield_hart(&mut self, _hold: ())
         requires inside { 0 < self.old.view.owner }
         requires guest { is_in self.old.view.homes self.old.view.owner ≡ false }
@@ -247,7 +255,7 @@ impl Port for PlainPort {
         self.closed[site as usize] = true;
     }
 
-    /// Whether the site is gone, exactly.
+    /// Returns true exactly if the site is gone.
     fn see_gone(&mut self, _hold: (), site: u16) -> bool
         requires { IsSite self.old.view.plan site }
         ensures gone { result ≡ true → self.new.view ≡ sees_gone self.old.view site }
@@ -270,7 +278,7 @@ impl Port for PlainPort {
         true
     }
 
-    /// A single hart sees its site empty.
+    /// Returns `Empty`: a single hart's site has no other hart.
     fn see_empty(&mut self, _hold: ()) -> Seen
         requires home { is_in self.old.view.homes self.old.view.owner ≡ true }
         requires closed { is_in self.old.view.closed self.old.view.owner ≡ true }

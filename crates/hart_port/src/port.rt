@@ -7,31 +7,31 @@ ghost use Rattle.hart_port.specs.declared.port.Seen.{Seen};
 ghost use Rattle.hart_port.specs.Count.{RoseIfErr, RoseUnlessInside};
 ghost use Rattle.hart_port.specs.PortView.{PortView, IsPortView, is_in, Registers, Skips, HasEnded, MayRequest, requested_by, Enters, yielded, closes, sees_gone, Sees, MayUnregister, unregistered};
 
-/// A site was claimed before. The site word that the call read is shown.
+/// The site was claimed before the call. `shown` is the site word that the call read.
 #[derive(Clone, Copy, Debug, PartialEq, Eq)]
 pub struct Taken {
     pub shown: u64,
 }
 
-/// What came of a try to enter a site.
+/// The result of a try to enter a site.
 #[derive(Clone, Copy, Debug, PartialEq, Eq)]
 pub enum Entered {
     /// The hart is in the site.
     Inside,
-    /// The site word that the call read, which is shown, is unclaimed, closing, closed or wants none.
+    /// The site word that the call read, `shown`, is unclaimed, closing, closed or wants no hart.
     NotWanted { shown: u64 },
-    /// The word that the call read wants a hart, but at the exchange another word was found.
+    /// The word that the call read wants a hart, but the exchange found another word.
     Moved { read: u64, found: u64 },
 }
 
-/// What a hart saw of the site that it wants to leave.
+/// The result of a look at the owner.
 #[derive(Clone, Copy, Debug, PartialEq, Eq)]
 pub enum Seen {
     /// No other hart is in the site or on its way in.
     Empty,
-    /// The site word that the call read, which is shown, has a hart on its way in.
+    /// The site word that the call read, `shown`, has a hart on its way in.
     Flying { shown: u64 },
-    /// The board word that the call read, which is shown, has another hart in the site.
+    /// The board word that the call read, `shown`, has another hart in the site.
     Held { shown: u64 },
 }
 
@@ -40,17 +40,16 @@ pub trait Port {
     /// What a call needs of the runtime.
     type Hold: Copy;
 
-    /// The plan, the hart and its owner, the entries that it made, the sets of sites that it knows
-    /// of, and whether it shares the table with no other hart.
+    /// The plan, the hart and its owner, the entries that it made, its sets of sites, and whether it is alone at the table.
     ghost seen: { Self → PortView };
 
-    /// How often a call was refused, up to the last value of `u64`. Why: it stands beside the view, since a refusal raises the
-    /// count and leaves the view unchanged.
+    /// The number of refused calls, up to the last value of `u64`. Why: it isn't part of the view, since a refusal raises the count
+    /// and leaves the view unchanged.
     ghost refused: { Self → ℕ };
 
-    /// Of a port, the site of a register, the answer, and the port afterwards: what the words behind the port had to do with it. So
-    /// a call over the port notes the words that the port was shown, and no others. This and the next four are exact where one hart
-    /// owns what is behind the port; of lock-protected state they say nothing.
+    /// Relates the port, the site of a register, its result, and the port afterwards by the words that the port read. So a call
+    /// over the port notes the words that the port read, and no others. This member and the next four are exact for a port with one
+    /// owner; for lock-protected state they state nothing.
     ghost register_gives: { Self → ℕ → Result (Unit {0}) Taken → Self → Type 0 };
 
     /// The same of a skip.
@@ -75,7 +74,11 @@ pub trait Port {
         ensures same { result ≡ (seen self.now).owner }
         ensures kept { IsPortView (seen self.now) };
 
-    /// Makes Register of the site, a child of the owner, whose home the hart then is.
+    /// Makes Register of the site, a child of the owner. The hart is then the site's home.
+    ///
+    /// # Errors
+    ///
+    /// `Taken` if the site was claimed before. The view is then unchanged.
     fn register(&mut self, hold: Self::Hold, site: u16) -> Result<(), Taken>
         requires known { IsSite (seen self.old).plan site }
         requires child { (seen self.old).owner ≡ parent (seen self.old).plan site }
@@ -85,6 +88,10 @@ pub trait Port {
         ensures kept { IsPortView (seen self.new) };
 
     /// Makes Skip of the site, a child of the owner. The hart stays in the owner.
+    ///
+    /// # Errors
+    ///
+    /// `Taken` if the site was claimed before. The view is then unchanged.
     fn skip(&mut self, hold: Self::Hold, site: u16) -> Result<(), Taken>
         requires known { IsSite (seen self.old).plan site }
         requires child { (seen self.old).owner ≡ parent (seen self.old).plan site }
@@ -126,8 +133,8 @@ pub trait Port {
         ensures count { refused self.new ≡ refused self.old }
         ensures kept { IsPortView (seen self.new) };
 
-    /// Whether the site is gone: whether the site word that the call read is closed. A hart that shares
-    /// the table with no other one sees each site gone that it unregistered or skipped.
+    /// Returns true exactly if the site word that the call read is closed, so that the site is gone. A hart that is alone at the
+    /// table sees each site gone that it unregistered or skipped.
     fn see_gone(&mut self, hold: Self::Hold, site: u16) -> bool
         requires { IsSite (seen self.old).plan site }
         ensures gone { result ≡ true → seen self.new ≡ sees_gone (seen self.old) site }
@@ -138,7 +145,7 @@ pub trait Port {
         ensures count { refused self.new ≡ refused self.old }
         ensures kept { IsPortView (seen self.new) };
 
-    /// Looks whether another hart is in the owner, which the hart has closed, or on its way in.
+    /// Checks for another hart in the owner, which the hart has closed, or on its way in.
     fn see_empty(&mut self, hold: Self::Hold) -> Seen
         requires home { is_in (seen self.old).homes (seen self.old).owner ≡ true }
         requires closed { is_in (seen self.old).closed (seen self.old).owner ≡ true }

@@ -7,13 +7,13 @@ ghost use Rattle.hart_port.specs.Words.{site_word, stage_bits, closing_bit, is_c
 
 use transfer_table::{Board, Stage};
 
-/// The bit of a site's word that says that the site is claimed.
+/// The claimed bit of a site's word.
 pub const CLAIMED: u64 = 1;
 
-/// The bit that says that no further hart may enter.
+/// The closing bit: no further hart may enter.
 pub const CLOSING: u64 = 2;
 
-/// The bit that says that the site is gone.
+/// The closed bit: the site is gone.
 pub const CLOSED: u64 = 4;
 
 /// One wish, of the 255 for which a site's word has room.
@@ -52,14 +52,14 @@ pub(crate) fn raise(count: &mut u64)
     *count = count.saturating_add(1);
 }
 
-/// Whether a site's word says that the site is claimed.
+/// Whether a site's word has the claimed bit.
 pub fn is_claimed(word: u64) -> bool
     ensures { result ≡ is_claimed word }
 {
     word % 2 == 1
 }
 
-/// Whether a site's word says that the site is gone.
+/// Whether a site's word has the closed bit.
 pub fn is_closed(word: u64) -> bool
     ensures { result ≡ is_closed word }
 {

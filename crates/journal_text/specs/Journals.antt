@@ -6,7 +6,7 @@ use Rattle.transfer_table.specs.declared.entry.Entry.{Entry}
 use Rattle.journal_text.specs.JournalText.{journal_text}
 use Rattle.journal_text.specs.Reading.{most_hart, most_site, most_count}
 
--- the numbers of the entry are those of a hart, a site and a count
+-- the entry's numbers fit the types of a hart, a site and a count; stated since lists in contracts have no bound of their own
 pub record IsEntry (entry : Entry) : Type 0 where
   pub hart : hart_of entry ≤ most_hart
   pub site : site_of entry ≤ most_site

@@ -1,5 +1,5 @@
--- What a journal's text says, or its first fault. A text is cut at its newlines and a line at its spaces, so that words may
--- be empty.
+-- The entries of a journal's text, or its first fault. A text is cut at its newlines and a line at its spaces, so words may be
+-- empty.
 use Rattle.std.specs.Prelude.{ℕ, ◌+◌, ◌==◌, ◌&&◌, Bool, false, if◌then◌else◌, nat_eq, nat_le, List, [], ◌∷◌, length, drop, codes, Option, Some, None, Result, Ok, Err}
 use Rattle.std.specs.Cmp.Lexicographic.{pointwise}
 use Rattle.std.specs.Fmt.{decimal}
@@ -38,7 +38,7 @@ abbrev pub is_lettered : ℕ → List ℕ → Bool
 is_lettered letter [] = false
 is_lettered letter (first ∷ rest) = first == letter
 
--- what a row says that its hart does at its site, with the words that stand for further numbers
+-- what the hart does at the site in a line, with the words of further numbers
 pub data Deed : Type 0 where
   registers : List ℕ → Deed
   requests : List ℕ → Deed
@@ -76,8 +76,8 @@ row_of (place ∷ hart ∷ action ∷ site ∷ more) =
     else None
 row_of words = None
 
--- The greatest numbers that are read as a hart's, a site's and a count: those of one byte, of two, and of one. Whether the plan
--- has such a hart and site is the table's to say.
+-- The greatest numbers of a hart, a site and a count in a text: those of one byte, of two, and of one. The table decides
+-- whether the plan has such a hart and site.
 abbrev pub most_hart : ℕ
 most_hart = 255
 
@@ -136,7 +136,7 @@ entries_of plan place (line ∷ next ∷ more) =
     and_then (λ entry. and_then (λ rest. Ok (entry ∷ rest))
     (entries_of plan (place + 1) (next ∷ more))) (entry_of plan place (words_of line))
 
--- the entries, if there are as many as were said
+-- the entries, if their number is that in the first line
 abbrev pub if_counted : ℕ → List Entry → Result (List Entry) TextFault
 if_counted said list = if length list == said then Ok list else Err (WrongCount said (length list))
 

@@ -1,4 +1,4 @@
--- What contracts see of rows that are borrowed from a text, and of an answer that may be want of memory.
+-- What contracts see of lines that are borrowed from a text, and of a result that may be an allocation failure.
 use Rattle.std.specs.Prelude.{◌≡◌, Result, Ok, Err}
 use Rattle.journal_text.specs.declared.row.Deed.{Deed}
 use Rattle.journal_text.specs.declared.row.Deed.TheVariants as deed
@@ -18,7 +18,7 @@ deed_seen deed.Skips = reading.skips
 abbrev pub row_seen : Row → reading.Row
 row_seen row = reading.row_with row.place.now row.hart.now row.site.now (deed_seen row.deed)
 
--- the answer is what was to be read, unless memory ran out
+-- the result is the expected one, or an allocation failure
 abbrev pub Reads : {A B : Type 0} → (A → B) → Result B TextFault → Result A TextFault → Type 0
 Reads seen wanted (Ok x) = wanted ≡ Ok (seen x)
 Reads seen wanted (Err fault.Memory) = Unit {0}

@@ -1,17 +1,17 @@
 //! Why a text is no journal.
 use std::alloc::{AllocError, AllocFailed};
 
-/// Why a text is the journal of no list. Of several causes that of the earliest line is told. Lines are counted from 1.
+/// Why a text is the journal of no list: the cause in the earliest line. Lines are counted from 1.
 #[derive(Clone, Copy, Debug, PartialEq, Eq)]
 pub enum TextFault {
-    /// The line hasn't the form of a line at its place, or no newline ends it.
+    /// The line doesn't have the form that is due there, or no newline ends it.
     BadLine { line: u32 },
-    /// The line has its form, but a number in it isn't decimal without leading zeros, is too large, isn't the entry's
-    /// place, or isn't the parent that the plan has.
+    /// The line has its form, but a number in it isn't decimal, has leading zeros, is too large, isn't the entry's index, or isn't
+    /// the plan's parent.
     BadNumber { line: u32 },
-    /// Every line is right, but the first one says another number of entries than there are.
+    /// Every line is right, but the number of entries differs from that in the first line.
     WrongCount { said: u32, found: u32 },
-    /// Want of memory.
+    /// An allocation failed.
     Memory,
 }
 

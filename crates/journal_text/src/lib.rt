@@ -1,4 +1,5 @@
-//! The text of a journal: `transfers N`, and a line for each entry.
+//! The text of a journal: `transfers N`, and a line for each entry. `write_entries` writes it, `read_entries` reads it.
+//! `src/tests.rt` and `audit_tests` have examples.
 #![tactic(auto)]
 
 mod fault;

@@ -2,7 +2,7 @@
 ghost use Rattle.std.specs.Prelude.{◌≡◌};
 ghost use Rattle.journal_text.specs.Reading.{number_up_to, spells};
 
-/// The number that the word spells in decimal without leading zeros, if it spells one of at most `most`.
+/// The number that the word spells in decimal without leading zeros, if it is at most `most`; else `None`.
 pub fn number_up_to(word: &[u8], most: u32) -> Option<u32>
     ensures { result ≡ number_up_to most word.now }
 {

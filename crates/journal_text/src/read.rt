@@ -14,9 +14,15 @@ use transfer_table::{Entries, Entry, Plan};
 // The greatest number of entries of a list that is read: that of a legal one.
 const MOST_ENTRIES: u32 = 65_535;
 
-/// The entries of which the text is the journal, at most 65,535.
+/// Reads the entries of a journal's text, at most 65,535. Each list of entries has one text.
 ///
-/// Each such list has one text. Of a text that is the journal of no list the first fault is told.
+/// # Errors
+///
+/// The first fault of a text that is no journal; `TextFault::Memory` if an allocation fails.
+///
+/// # Memory
+///
+/// It allocates the entries, and the words of each line.
 pub fn read_entries(alloc: Global, plan: &Plan, text: &[u8]) -> Result<Entries, TextFault>
     requires { length text.now < 2 ^ 32 }
     ensures found { IfOk result (λ list. IsJournalOf plan.now list text.now) }
@@ -29,7 +35,7 @@ pub fn read_entries(alloc: Global, plan: &Plan, text: &[u8]) -> Result<Entries, 
     read(alloc, plan, text)
 }
 
-// What the text says, or its first fault.
+// The entries of the text, or its first fault.
 fn read(alloc: Global, plan: &Plan, text: &[u8]) -> Result<Entries, TextFault>
     requires { length text.now < 2 ^ 32 }
     ensures { Reads (λ list. list) (journal_of plan.now text.now) result }
@@ -46,7 +52,7 @@ fn read(alloc: Global, plan: &Plan, text: &[u8]) -> Result<Entries, TextFault>
     Ok(Entries::new(list))
 }
 
-/// The text before its first newline and the text behind it, if it has a newline.
+/// The text before its first newline and the text behind it; `None` if it has no newline.
 pub fn cut_line(text: &[u8]) -> Option<(&[u8], &[u8])>
     ensures { MatchOption result (lines_of text.now ≡ text.now ∷ [])
         (λ cut. (lines_of text.now ≡ cut.0.now ∷ lines_of cut.1.now)
@@ -56,14 +62,14 @@ pub fn cut_line(text: &[u8]) -> Option<(&[u8], &[u8])>
     Some((&text[..end], &text[end + 1..]))
 }
 
-// The place of the first newline.
+// The index of the first newline.
 fn newline_in(text: &[u8]) -> Option<usize>
     ensures { result ≡ position (λ byte. byte == 10) text.now }
 {
     text.iter().position(|byte| *byte == b'\n')
 }
 
-// The first words of a line, one more than the longest row has.
+// The first seven words of a line. Why: that is one more than the longest entry has, so they decide what is reported.
 fn words_of<'t>(alloc: Global, line: &'t [u8]) -> Result<Vec<&'t [u8]>, AllocError>
     ensures { IfOk result (λ words. map (λ word. word.now) words.items
         ≡ take 7 (words_of line.now)) }
@@ -71,7 +77,7 @@ fn words_of<'t>(alloc: Global, line: &'t [u8]) -> Result<Vec<&'t [u8]>, AllocErr
     line.split(|byte| *byte == b' ').take(7).collect(alloc)
 }
 
-// The number of transfers that the first line says.
+// The number of transfers in the first line.
 fn count_in(alloc: Global, line: &[u8]) -> Result<u32, TextFault>
     ensures { Reads (λ number. number) (count_in (words_of line.now)) result }
 {
@@ -79,7 +85,7 @@ fn count_in(alloc: Global, line: &[u8]) -> Result<u32, TextFault>
     count_by(&words)
 }
 
-// The number of transfers that the words say.
+// The number of transfers in these words.
 fn count_by(words: &[&[u8]]) -> Result<u32, TextFault>
     ensures { result ≡ count_in (map (λ word. word.now) words.now) }
 {
@@ -95,7 +101,8 @@ fn count_by(words: &[&[u8]]) -> Result<u32, TextFault>
     }
 }
 
-// The entries of the lines of a text, from the second line of the journal on.
+// The entries of the lines of a text, from the second line of the journal on. Text behind the last newline is a line without
+// one, as in `split`.
 fn entries_of(alloc: Global, plan: &Plan, text: &[u8]) -> Result<Vec<Entry>, TextFault>
     requires { length text.now + 1 < 2 ^ 32 }
     ensures first { Reads (λ list. list.items) (entries_of plan.now 0 (lines_of text.now)) result }
@@ -115,7 +122,7 @@ fn entries_of(alloc: Global, plan: &Plan, text: &[u8]) -> Result<Vec<Entry>, Tex
     Ok(list)
 }
 
-// The entry of the line at this place, of which the first is the second line.
+// The entry of the line at this index; index 0 is the second line.
 fn entry_of(alloc: Global, plan: &Plan, place: u32, line: &[u8]) -> Result<Entry, TextFault>
     requires { place + 2 < 2 ^ 32 }
     ensures { Reads (λ entry. entry) (entry_of plan.now place (words_of line.now)) result }
@@ -124,7 +131,7 @@ fn entry_of(alloc: Global, plan: &Plan, place: u32, line: &[u8]) -> Result<Entry
     entry_by(plan, place, &words)
 }
 
-// The entry of the words of a line at this place.
+// The entry of the words of a line at this index.
 fn entry_by(plan: &Plan, place: u32, words: &[&[u8]]) -> Result<Entry, TextFault>
     requires { place + 2 < 2 ^ 32 }
     ensures { result ≡ entry_of plan.now place (map (λ word. word.now) words.now) }

@@ -16,7 +16,7 @@ const MOST_SITE: u32 = 65_535;
 // The greatest number that is read as a count.
 const MOST_COUNT: u32 = 255;
 
-/// What a row says that its hart does at its site, with the words that stand for further numbers.
+/// What the hart does at the site in a line, with the words of further numbers.
 #[derive(Clone, Copy)]
 pub enum Deed<'t> {
     /// It registers the site, under a parent.
@@ -29,7 +29,7 @@ pub enum Deed<'t> {
     Skips,
 }
 
-/// A line that has the form of a row, with the words that stand for its numbers.
+/// A line that has the form of an entry's line, with the words of its numbers.
 #[derive(Clone, Copy)]
 pub struct Row<'t> {
     place: &'t [u8],
@@ -106,7 +106,7 @@ fn bare_deed<'t>(action: &[u8]) -> Option<Deed<'t>>
     }
 }
 
-/// The row that the words have the form of.
+/// The parts of an entry's line; `None` if the words don't have its form.
 pub fn row_of<'t>(words: &[&'t [u8]]) -> Option<Row<'t>>
     ensures { option_map row_seen result ≡ row_of (map (λ word. word.now) words.now) }
 {
@@ -128,7 +128,7 @@ pub fn row_of<'t>(words: &[&'t [u8]]) -> Option<Row<'t>>
     })
 }
 
-/// The entry of a row at this place, if all its numbers are right.
+/// The entry of a line at this index, if all its numbers are right.
 pub fn entry_in(plan: &Plan, place: u32, row: &Row<'_>) -> Option<Entry>
     ensures { result ≡ entry_in plan.now place (row_seen row.now) }
 {

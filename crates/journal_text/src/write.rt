@@ -8,6 +8,14 @@ use std::alloc::{AllocError, Global};
 use transfer_table::{Entry, Plan};
 
 /// The journal of these entries, at most 65,535 (no legal list has more), as text.
+///
+/// # Errors
+///
+/// `AllocError` if an allocation fails.
+///
+/// # Memory
+///
+/// It allocates the text.
 pub fn write_entries(alloc: Global, plan: &Plan, list: &[Entry]) -> Result<Vec<u8>, AllocError>
     requires { length list.now ≤ most_entries }
     ensures { IfOk result (λ text. text.items ≡ journal_text plan.now list.now) }

@@ -5,7 +5,7 @@ use Rattle.lithe_mutex.specs.declared.state.Acquired.TheVariants.{Got, Kept}
 use Rattle.lithe_mutex.specs.declared.state.Released.{Released}
 use Rattle.lithe_mutex.specs.declared.state.Released.TheVariants as released
 
--- The value is in one place: at the free mutex, or with the holder. Nobody waits at a free mutex.
+-- The value is at the free mutex, or with the holder. No context waits at a free mutex.
 pub data Possession (T C : Type 0) : Type 0 where
   Free : (value : T) → Possession T C
   Held : (waiting : List C) → Possession T C
@@ -15,7 +15,7 @@ pub record MutexParts (T C : Type 0) : Type 0 where
   pub possession : Possession T C
   pub room : ℕ
 
--- As it lies in memory: a value, and who waits where there is none.
+-- The fields in memory: a value, and the contexts that wait if there is none.
 abbrev pub possession_of : {T C : Type 0} → Option T → List C → Possession T C
 possession_of (Some value) waiting = Free value
 possession_of None waiting = Held waiting
@@ -25,7 +25,7 @@ abbrev pub CanAcquire : {T C : Type 0} → Possession T C → ℕ → Type 0
 CanAcquire (Free value) room = Unit {0}
 CanAcquire (Held waiting) room = length waiting < room
 
--- One who comes gets the value of a free mutex, which is held then; at a held one it is put last.
+-- A context gets the value of a free mutex, which is held then; a held mutex puts it last.
 abbrev pub Acquires : {T C : Type 0} → Possession T C → C → Acquired T C → Possession T C → Type 0
 Acquires (Free value) c answer after = (answer ≡ Got value c) × (after ≡ Held [])
 Acquires (Held waiting) c answer after = (answer ≡ Kept) × (after ≡ Held (waiting ++ c ∷ []))
@@ -34,7 +34,8 @@ abbrev pub IsHeld : {T C : Type 0} → Possession T C → Type 0
 IsHeld (Free value) = ⊥
 IsHeld (Held waiting) = Unit {0}
 
--- The holder's value goes to the first who waits, who holds the mutex then; where nobody waits, the mutex is free with it.
+-- The holder's value goes to the first waiting context, which holds the mutex then; if none waits, the mutex is free with the
+-- value.
 abbrev pub Releases : {T C : Type 0} → Possession T C → T → Released T C → Possession T C → Type 0
 Releases (Free kept) value answer after = ⊥
 Releases (Held []) value answer after = (answer ≡ released.Free) × (after ≡ Free value)

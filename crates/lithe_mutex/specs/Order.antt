@@ -1,4 +1,4 @@
--- Over any run of calls, who waited leaves in the order of arrival, and nobody is lost or doubled.
+-- Over any run of calls, waiting contexts leave in the order of arrival, and none is lost or doubled.
 use Rattle.std.specs.Prelude.{◌≡◌, List, [], ◌∷◌, ◌++◌}
 use Rattle.lithe_mutex.specs.declared.state.Acquired.{Acquired}
 use Rattle.lithe_mutex.specs.declared.state.Acquired.TheVariants.{Got, Kept}
@@ -6,7 +6,7 @@ use Rattle.lithe_mutex.specs.declared.state.Released.{Released}
 use Rattle.lithe_mutex.specs.declared.state.Released.TheVariants as released
 use Rattle.lithe_mutex.specs.Mutex.{Possession, Free, Held, Acquires, Releases}
 
--- One call, with its answer.
+-- One call, with its result.
 pub data Event (T C : Type 0) : Type 0 where
   Acquire : (c : C) (answer : Acquired T C) → Event T C
   Release : (value : T) (answer : Released T C) → Event T C
@@ -25,13 +25,13 @@ abbrev pub waiting_at : {T C : Type 0} → Possession T C → List C
 waiting_at (Free value) = []
 waiting_at (Held waiting) = waiting
 
--- Who is kept by a call.
+-- The contexts that a call keeps.
 abbrev pub kept_by : {T C : Type 0} → Event T C → List C
 kept_by (Acquire c (Got value back)) = []
 kept_by (Acquire c Kept) = c ∷ []
 kept_by (Release value answer) = []
 
--- Who is handed the value by a call.
+-- The contexts that a call hands the value to.
 abbrev pub handed_by : {T C : Type 0} → Event T C → List C
 handed_by (Acquire c answer) = []
 handed_by (Release value released.Free) = []
@@ -46,8 +46,8 @@ abbrev pub handed_in : {T C : Type 0} → List (Event T C) → List C
 handed_in [] = []
 handed_in (event ∷ events) = handed_by event ++ handed_in events
 
--- Those who waited before and those who were kept, in this order, are those who were handed the value and those who wait
--- afterwards.
+-- The contexts that waited before and those that were kept, in this order, are those that were handed the value and those that
+-- wait afterwards.
 abbrev pub LeaveInOrder : (T C : Type 0) → Type 0
 LeaveInOrder T C = (before after : Possession T C) (events : List (Event T C))
     → Runs T C before events after →

@@ -1,7 +1,7 @@
-//! The law of the mutex: its contract is the law, and its body is empty.
+//! The law of the mutex, the contract of a function with an empty body.
 ghost use Rattle.lithe_mutex.specs.Order.{LeaveInOrder};
 
-/// Over any run of calls, who waited leaves in the order of arrival, and nobody is lost or doubled.
+/// Over any run of calls, waiting contexts leave in the order of arrival, and none is lost or doubled.
 pub fn waiters_leave_in_order<T, C>()
     ensures { LeaveInOrder T C }
 {}

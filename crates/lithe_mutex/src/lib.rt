@@ -1,7 +1,7 @@
 //! A mutex that blocks contexts, not harts.
 //!
-//! Who comes to a held mutex is kept there and waits, while its hart goes on with other work. The
-//! holder's value is handed to the first who waits.
+//! A held mutex keeps a context that acquires it, and the context's hart does other work. On `release` the holder's value goes
+//! to the context that waited longest. `src/tests.rt` has examples.
 #![tactic(auto)]
 
 pub mod laws;

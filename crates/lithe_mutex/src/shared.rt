@@ -6,32 +6,33 @@ use crate::state::{Acquired, MutexState, Released};
 use std::sync::{Mutex, Wait};
 use std::thread::Threads;
 
-/// What came of a call on a shared mutex.
+/// The result of a call on a shared mutex.
 #[derive(Debug, PartialEq, Eq, Drop)]
 pub enum Reply<A, B> {
     /// The call was made.
     Did(A),
-    /// The mutex is held and no more can wait at it. What was passed is given back. Only `acquire` answers so.
+    /// The mutex is held, and its room for waiting contexts is full. It has the argument. Only `acquire` returns it.
     NoRoom(B),
-    /// The mutex is free. What was passed is given back. Only `release` answers so.
+    /// The mutex is free. It has the argument. Only `release` returns it.
     NotHeld(B),
 }
 
-/// A mutex that harts share. The lock is held for the length of a call, and each call may wait for it.
+/// A mutex that harts share. Each call holds an internal lock and may block on it. Contracts know only the type of what the
+/// lock protects.
 #[derive(Drop)]
 pub struct LitheMutex<T, C> {
     lock: Mutex<MutexState<T, C>>,
 }
 
 impl<T: Drop, C> LitheMutex<T, C> {
-    /// The mutex in this state.
+    /// A shared mutex in this state. Does not allocate.
     pub fn new(state: MutexState<T, C>) -> LitheMutex<T, C> {
         LitheMutex {
             lock: Mutex::new(state),
         }
     }
 
-    /// What `acquire` of the state does. NoRoom exactly where it is held and those who wait fill its room.
+    /// Calls `MutexState::acquire` under the lock. Returns `NoRoom` with `c` if the mutex is held and its room is full.
     pub fn acquire<R: Threads + Wait + Sync>(&self, rt: &R, c: C) -> Reply<Acquired<T, C>, C>
         ensures { AnswersTo c result }
     {
@@ -42,7 +43,7 @@ impl<T: Drop, C> LitheMutex<T, C> {
         Reply::Did(state.acquire(c))
     }
 
-    /// What `release` of the state does. NotHeld exactly where it is free.
+    /// Calls `MutexState::release` under the lock. Returns `NotHeld` with `value` if the mutex is free.
     pub fn release<R: Threads + Wait + Sync>(&self, rt: &R, value: T) -> Reply<Released<T, C>, T>
         ensures { ReturnsFrom value result }
     {

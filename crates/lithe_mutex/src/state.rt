@@ -1,4 +1,4 @@
-//! The mutex as one owner has it.
+//! The mutex with one owner.
 ghost use Rattle.std.specs.Prelude.{◌≡◌, ◌↔◌, IsTrue, IfOk, Some, None, option_map};
 ghost use Rattle.lithe_mutex.specs.Mutex.{Free, CanAcquire, IsHeld, Acquires, Releases, value_in};
 
@@ -6,26 +6,27 @@ use std::alloc::{AllocError, Global};
 use std::collections::VecDeque;
 use std::marker::Model;
 
-/// What came of `acquire`.
+/// The result of `acquire`.
 #[derive(Debug, PartialEq, Eq, Drop)]
 pub enum Acquired<T, C> {
-    /// The mutex was free: its value, for the one who came.
+    /// The mutex was free: its value, and the context that holds it now.
     Got(T, C),
-    /// The mutex was held, and keeps the one who came until its turn.
+    /// The mutex was held, and keeps the context until its turn.
     Kept,
 }
 
-/// What came of `release`.
+/// The result of `release`.
 #[derive(Debug, PartialEq, Eq, Drop)]
 pub enum Released<T, C> {
-    /// Nobody waited. The mutex is free.
+    /// No context waited. The mutex is free.
     Free,
-    /// The value, for the one who waited longest and holds the mutex now.
+    /// The value, and the context that waited longest and holds the mutex now.
     Handed(T, C),
 }
 
-/// A mutex over a `T`, at which values of type `C` wait in the order in which they came. At most
-/// `room` wait at a time.
+/// A mutex over a `T`. Contexts of type `C` wait in the order of arrival, at most `room` at a time.
+///
+/// Contracts see a mutex as free with its value, or held with the waiting contexts; no state has both.
 #[derive(Drop)]
 pub struct MutexState<T, C> {
     value: Option<T>,
@@ -47,7 +48,15 @@ impl<T, C> Model for MutexState<T, C> {
 }
 
 impl<T: Drop, C> MutexState<T, C> {
-    /// A free mutex with this value, and with memory for `room` to wait. No other call takes memory.
+    /// A free mutex with this value, and room for `room` waiting contexts.
+    ///
+    /// # Errors
+    ///
+    /// `AllocError` if the allocation fails.
+    ///
+    /// # Memory
+    ///
+    /// It allocates the whole room. No other call allocates.
     pub fn new(alloc: Global, room: usize, value: T) -> Result<MutexState<T, C>, AllocError>
         ensures { IfOk result (λ mutex. mutex ≡ record { possession = Free value; room = room }) }
     {
@@ -58,22 +67,21 @@ impl<T: Drop, C> MutexState<T, C> {
         })
     }
 
-    /// Whether `acquire` may be called: the mutex is free, or fewer wait than its room.
+    /// The precondition of `acquire`: the mutex is free, or fewer contexts wait than it has room for.
     pub fn can_acquire(&self) -> bool
         ensures { IsTrue result ↔ CanAcquire self.now.possession self.now.room }
     {
         self.value.is_some() || self.waiting.len() < self.room
     }
 
-    /// Whether `release` may be called.
+    /// The precondition of `release`: the mutex is held.
     pub fn is_held(&self) -> bool
         ensures { IsTrue result ↔ IsHeld self.now.possession }
     {
         self.value.is_none()
     }
 
-    /// Gives the value of a free mutex to `c`, or keeps `c` behind those who wait. It is free, or has
-    /// room for one more.
+    /// Returns the value of a free mutex with `c`, or keeps `c` behind the contexts that wait. Precondition: `can_acquire`.
     pub fn acquire(&mut self, c: C) -> Acquired<T, C>
         requires { CanAcquire self.old.possession self.old.room }
         ensures does { Acquires self.old.possession c result self.new.possession }
@@ -88,8 +96,7 @@ impl<T: Drop, C> MutexState<T, C> {
         }
     }
 
-    /// Gives the holder's value to the one who waited longest, or frees the mutex where nobody waits.
-    /// It is held.
+    /// Returns the holder's value with the context that waited longest, or frees the mutex if none waits. Precondition: `is_held`.
     pub fn release(&mut self, value: T) -> Released<T, C>
         requires { IsHeld self.old.possession }
         ensures does { Releases self.old.possession value result self.new.possession }
@@ -104,7 +111,7 @@ impl<T: Drop, C> MutexState<T, C> {
         }
     }
 
-    /// The value of a free mutex; None exactly where it is held.
+    /// The value of a free mutex; `None` exactly if it is held.
     pub fn value(&self) -> Option<&T>
         ensures { option_map (λ value. value.now) result ≡ value_in self.now.possession }
     {

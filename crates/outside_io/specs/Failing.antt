@@ -17,13 +17,13 @@ risen count = min (count + 1) (2 ^ 64 - 1)
 abbrev pub is_listed : List ℕ → ℕ → Bool
 is_listed failing call = list_any (λ listed. listed == call) failing
 
--- what a call of the source with a buffer of this size answers: a fault at a listed call; else the end where no byte is
--- left, and otherwise the least of what a call gives at most, the buffer's length and the number of bytes left
+-- the result of a call of the source with a buffer of this size: a failure at a listed call; else the end if no byte is left,
+-- and otherwise the least of what a call gives at most, the buffer's length and the number of bytes left
 abbrev pub feed_fill : Feed → ℕ → Fill
 feed_fill feed size = if is_listed feed.failing (risen feed.calls) then fill.Failed
     else sure_fill feed.left (min feed.most size)
 
--- the source after a call with this answer
+-- the source after a call with this result
 abbrev pub fed : Feed → Fill → Feed
 fed feed (fill.Got count) = record feed { left = drop count feed.left; calls = risen feed.calls }
 fed feed fill.End = record feed { calls = risen feed.calls }
@@ -33,14 +33,14 @@ fed feed fill.Failed = record feed { calls = risen feed.calls; faults = risen fe
 abbrev pub put_within : ℕ → ℕ → Put
 put_within offered room = if room == 0 then put.Failed else put.Took (min offered room)
 
--- what a call of the sink with a piece of this length answers: a fault at a listed call and where no room is left;
--- otherwise it takes the least of what a call takes at most, the piece's length and the room left
+-- the result of a call of the sink with so many bytes: a failure at a listed call and if no room is left; otherwise it takes
+-- the least of what a call takes at most, the number of bytes and the room left
 abbrev pub tray_put : Tray → ℕ → Put
 tray_put tray size =
     if is_listed tray.failing (risen tray.calls) then put.Failed
     else put_within (min tray.most size) (tray.room - length tray.taken)
 
--- the sink after a call with this piece and this answer
+-- the sink after a call with these bytes and this result
 abbrev pub laid_in : Tray → List ℕ → Put → Tray
 laid_in tray piece (put.Took count) = record tray {
   taken = tray.taken ++ take count piece;

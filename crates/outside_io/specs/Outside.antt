@@ -1,12 +1,12 @@
--- What a source gives, what a sink takes, and how a count of faults moves. Bytes are optional: an object tells them
--- or it doesn't. A source that tells goes on telling; a sink may stop.
+-- What a source gives, what a sink takes, and how a count of failures rises. Bytes are optional: contracts see those of an
+-- object or don't. A source whose bytes they see stays so; a sink may stop.
 use Rattle.std.specs.Prelude.{◌≡◌, ◌⊎◌, ℕ, ◌<◌, ◌≤◌, ◌-◌, ◌^◌, List, [], ◌++◌, length, take, Option, Some, None}
 use Rattle.outside_io.specs.declared.source.Fill.{Fill}
 use Rattle.outside_io.specs.declared.source.Fill.TheVariants as fill
 use Rattle.outside_io.specs.declared.sink.Put.{Put}
 use Rattle.outside_io.specs.declared.sink.Put.TheVariants as put
 
--- a count has risen, or stands at its last value
+-- a counter rose, or is at its last value
 abbrev pub Rose : ℕ → ℕ → Type 0
 Rose before after = (before < after) ⊎ ((before ≡ 2 ^ 64 - 1) × (after ≡ before))
 
@@ -22,7 +22,7 @@ Appends before bytes None = Unit {0}
 Appends None bytes (Some after) = ⊥
 Appends (Some before) bytes (Some after) = after ≡ before ++ bytes
 
--- nothing is left, where the source tells
+-- nothing is left, if contracts see the source's bytes
 abbrev pub IsAtEnd : Option (List ℕ) → Type 0
 IsAtEnd None = Unit {0}
 IsAtEnd (Some left) = left ≡ []

@@ -8,8 +8,8 @@ use crate::{Fill, Put, Sink, Source};
 use std::alloc::{AllocError, Global};
 use std::marker::Model;
 
-/// A source of given bytes that fails at listed calls. Contracts see the bytes that are left, what it was made with, and
-/// how often it was called and has failed.
+/// A source of given bytes that fails at listed calls. Contracts see the bytes that are left, the arguments of `new`, and the
+/// counts of calls and failures. No list has the last value of the count of calls.
 #[derive(Drop)]
 pub struct MemSource {
     bytes: Vec<u8>,
@@ -38,8 +38,15 @@ impl Model for MemSource {
 }
 
 impl MemSource {
-    /// A source that gives these bytes, at most `most` of them a call, and fails at the calls with these numbers, counted
-    /// from 1.
+    /// A source of these bytes that gives at most `most` of them a call, and fails at the calls with these numbers, counted from 1.
+    ///
+    /// # Errors
+    ///
+    /// `AllocError` if an allocation fails.
+    ///
+    /// # Memory
+    ///
+    /// It allocates copies of the bytes and of the list. Reads don't allocate.
     pub fn new(
         alloc: Global,
         bytes: &[u8],
@@ -72,7 +79,7 @@ impl Source for MemSource {
 
     ghost faults = { λ source. source.faults };
 
-    // It fails exactly at a listed call, and ends at another call exactly where no byte is left.
+    // It fails exactly at a listed call. At another call it reports the end exactly if no byte is left.
     fn read(&mut self, buf: &mut [u8]) -> Fill
         requires { 0 < length buf.old }
         ensures count { self.old.faults ≤ self.new.faults }
@@ -97,8 +104,8 @@ impl Source for MemSource {
     }
 }
 
-/// A sink with room for so many bytes, that fails at listed calls and where no room is left. Contracts see the bytes that
-/// it has taken, what it was made with, and how often it was called and has failed.
+/// A sink with room for so many bytes that fails at listed calls, and at any call if no room is left. Contracts see the bytes
+/// that it has taken, the arguments of `new`, and the counts of calls and failures.
 #[derive(Drop)]
 pub struct MemSink {
     bytes: Vec<u8>,
@@ -129,8 +136,16 @@ impl Model for MemSink {
 }
 
 impl MemSink {
-    /// A sink with room for so many bytes, which has taken none. It takes at most `most` bytes a call, and fails at the
-    /// calls with these numbers, counted from 1.
+    /// An empty sink with room for so many bytes. It takes at most `most` bytes a call, and fails at the calls with these numbers,
+    /// counted from 1.
+    ///
+    /// # Errors
+    ///
+    /// `AllocError` if an allocation fails.
+    ///
+    /// # Memory
+    ///
+    /// It allocates the whole room and a copy of the list. Writes don't allocate.
     pub fn new(
         alloc: Global,
         room: usize,
@@ -150,7 +165,7 @@ impl MemSink {
         })
     }
 
-    /// The bytes that it has taken.
+    /// The bytes that the sink has taken.
     pub fn bytes(&self) -> &[u8]
         ensures { result.now ≡ self.now.taken }
     {
@@ -163,7 +178,7 @@ impl Sink for MemSink {
 
     ghost faults = { λ sink. sink.faults };
 
-    // It fails exactly at a listed call and where no room is left.
+    // It fails exactly at a listed call and if no room is left.
     fn write(&mut self, piece: &[u8]) -> Put
         requires { 0 < length piece.now }
         ensures count { self.old.faults ≤ self.new.faults }

@@ -1,11 +1,11 @@
-//! Where a hart reports a piece of work.
+//! A hook before each piece of work, for tests.
 use std::sync::Wait;
 use std::thread::Threads;
 
-/// A place that a hart passes when it has taken a piece of work, before the piece's first step.
+/// A hook that a hart calls when it has taken a piece of work, before the piece's first step.
 pub trait Gate: Sync {
-    /// The hart has taken the piece at this place of this phase of the site. It isn't called for the program's
-    /// body, has no answer, and can't change the output. It may wait.
+    /// The hart has taken the piece at this index of this phase of the site. A run doesn't call it for the program's body. It
+    /// returns nothing and can't change the output. It may block.
     fn passed<R: Threads + Wait + Sync>(&self, rt: &R, hart: u8, site: u16, phase: u8, place: u8);
 }
 

@@ -1,4 +1,4 @@
-//! Where bytes come from, where they go, and where a hart reports a piece of work.
+//! Sources and sinks of bytes, over streams and in memory, and the trait `Gate`, a hook before each piece of work.
 #![tactic(auto)]
 
 mod failing;

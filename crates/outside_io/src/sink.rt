@@ -1,25 +1,25 @@
-//! Where bytes go.
+//! Sinks of bytes.
 ghost use Rattle.std.specs.Prelude.{◌≡◌, ◌<◌, ◌≤◌, ℕ, List, length, Option};
 ghost use Rattle.outside_io.specs.Outside.{Writes};
 
-/// What a write did.
+/// The result of a write.
 #[derive(Clone, Copy, Debug, PartialEq, Eq)]
 pub enum Put {
-    /// It took so many bytes from the front of the piece, at least one.
+    /// The sink took so many bytes from the front of the argument, at least one.
     Took(usize),
-    /// It took nothing.
+    /// The write failed. The sink took nothing.
     Failed,
 }
 
-/// Something that takes bytes.
+/// A sink of bytes.
 pub trait Sink {
-    /// The bytes that it has taken, where it tells them.
+    /// The bytes that it has taken, if contracts see them.
     ghost taken: { Self → Option (List ℕ) };
 
-    /// How often it has failed.
+    /// The count of its failures.
     ghost faults: { Self → ℕ };
 
-    /// Takes bytes from the front of the piece. It fails only where the count of faults rose in this call.
+    /// Takes bytes from the front of the argument. It fails only if the count of failures rose in this call.
     fn write(&mut self, piece: &[u8]) -> Put
         requires { 0 < length piece.now }
         ensures count { faults self.old ≤ faults self.new }

@@ -1,4 +1,4 @@
-//! Streams of the standard library, as those of the system.
+//! Sources and sinks over streams of the standard library, such as the system's.
 ghost use Rattle.std.specs.Prelude.{◌≡◌, ◌<◌, ◌≤◌, None, length};
 ghost use Rattle.outside_io.specs.Outside.{Writes, PutInto};
 
@@ -6,8 +6,8 @@ use crate::{Fill, Put, Sink, Source};
 use std::io::{Read, Write};
 use std::marker::Model;
 
-/// A stream to read from. An interrupted read is a fault like any other. Contracts see the stream and the count of
-/// faults; it tells the bytes that are left where the stream does. The system's streams don't.
+/// A source over a stream. An interrupted read is a failure like any other. Contracts see the stream and the count of failures,
+/// and the bytes that are left if they see those of the stream. They don't see those of the system's streams.
 #[derive(Drop)]
 pub struct StdSource<I> {
     input: I,
@@ -48,7 +48,7 @@ impl<I: Read + Drop> Source for StdSource<I> {
     }
 }
 
-/// A stream to write to. A write that takes nothing is a fault. Contracts see the stream and the count of faults.
+/// A sink over a stream. A write that takes nothing is a failure. Contracts see the stream and the count of failures.
 #[derive(Drop)]
 pub struct StdSink<O> {
     output: O,

@@ -26,7 +26,11 @@ impl Model for SureSource {
 }
 
 impl SureSource {
-    /// A source that gives these bytes.
+    /// A source of these bytes.
+    ///
+    /// # Errors
+    ///
+    /// `AllocError` if the allocation of the copy fails.
     pub fn new(alloc: Global, bytes: &[u8]) -> Result<SureSource, AllocError>
         ensures { IfOk result (λ source. source ≡ bytes.now) }
     {
@@ -37,7 +41,7 @@ impl SureSource {
     }
 }
 
-// Copies as much as fits from the front of the one to the front of the other.
+// Copies as much as fits from the front of `rest` to the front of `buf`, and returns how much.
 pub fn fill(buf: &mut [u8], rest: &[u8]) -> usize
     requires room { 0 < length buf.old }
     requires some { 0 < length rest.now }
@@ -55,7 +59,7 @@ impl Source for SureSource {
 
     ghost faults = { λ _. 0 };
 
-    // It gives as many bytes as fit, and the end exactly where none is left.
+    // It gives as many bytes as fit, and reports the end exactly if none is left.
     fn read(&mut self, buf: &mut [u8]) -> Fill
         requires { 0 < length buf.old }
         ensures does { Reads (Some self.old) 0 buf.new result (Some self.new) 0 }
@@ -71,8 +75,7 @@ impl Source for SureSource {
     }
 }
 
-/// A sink with room for so many bytes. Contracts see its room and the bytes that it has taken; once a piece has
-/// passed the room, it tells them no more.
+/// A sink with room for so many bytes. Contracts see its room and the bytes that it has taken, until a write passes the room.
 #[derive(Drop)]
 pub struct SureSink {
     bytes: Vec<u8>,
@@ -93,7 +96,15 @@ impl Model for SureSink {
 }
 
 impl SureSink {
-    /// A sink with room for so many bytes, which has taken none.
+    /// An empty sink with room for so many bytes.
+    ///
+    /// # Errors
+    ///
+    /// `AllocError` if the allocation fails.
+    ///
+    /// # Memory
+    ///
+    /// It allocates the whole room.
     pub fn new(alloc: Global, room: usize) -> Result<SureSink, AllocError>
         ensures { IfOk result (λ sink. sink ≡ empty_shelf room) }
     {
@@ -104,7 +115,7 @@ impl SureSink {
         })
     }
 
-    /// The bytes that it has taken, none where a piece passed its room.
+    /// The bytes that the sink has taken; `None` if a write passed its room.
     pub fn bytes(&self) -> Option<&[u8]>
         ensures { option_map (λ bytes. bytes.now) result ≡ self.now.taken }
     {

@@ -1,6 +1,6 @@
--- The program that is made from a seed and a size: a stencil over a square grid whose edges meet, with pools inside teams
--- inside a pool. Its letters are K, the size; H, half of it, rounded down; L, one less than it; and p, q and r, drawn from
--- the seed. All its lines are 1.
+-- The program of a seed and a size: a stencil over a square grid whose edges meet, with pools inside teams inside a pool. In
+-- the comments K is the size, H half of it, rounded down, L one less than it, and p, q and r are drawn from the seed; in the
+-- tree they are numbers. All lines are 1.
 use Rattle.std.specs.Prelude.{ℕ, ◌+◌, ◌-◌, ◌*◌, ◌/◌, ◌%◌, ◌^◌, pos, List, [], ◌∷◌, codes}
 use Rattle.array_tree.specs.Trees.{ProgramTree, Declaration, Statement, Expression, Number, Var, Read, Binary, Assign, For, Par, Team, sequence, sequences}
 use Rattle.array_tree.specs.declared.tree.Op.TheVariants.{Add, Mul, Rem}
@@ -21,7 +21,7 @@ plus left right = Binary Add left right
 abbrev pub times : Expression → Expression → Expression
 times left right = Binary Mul left right
 
--- i, j, and a coordinate moved on by so many places round an edge of the grid
+-- i, j, and a coordinate plus so many, modulo the grid's size
 abbrev pub row_number : Expression
 row_number = Var (codes "i")
 
@@ -38,7 +38,7 @@ place_at size row column = plus (times row (number size)) column
 abbrev pub cell_at : ℕ → List ℕ → Expression → Expression → Expression
 cell_at size array row column = Read array (place_at size row column)
 
--- a loop over the columns from low to before high, and a team over the rows
+-- a loop over the columns from low to high - 1, and a team over the rows
 abbrev pub columns : ℕ → ℕ → Statement → Statement
 columns low high body = For 1 (codes "j") (pos low) (pos high) (sequence (body ∷ []))
 

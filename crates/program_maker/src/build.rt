@@ -84,7 +84,7 @@ pub fn beside(alloc: Global, first: Stmt, second: Stmt) -> Result<Stmt, AllocErr
     })
 }
 
-/// A loop from 0 to before 4 over `t`.
+/// A loop over `t` from 0 to 3.
 pub fn four_times(alloc: Global, body: Block) -> Result<Stmt, AllocError>
     ensures { IfOk result (λ s. statement_of s
         ≡ For 1 (codes "t") (pos 0) (pos 4) (sequence_of body)) }
@@ -98,7 +98,7 @@ pub fn four_times(alloc: Global, body: Block) -> Result<Stmt, AllocError>
     })
 }
 
-/// A loop over the columns from `low` to before `high`.
+/// A loop over the columns from `low` to `high - 1`.
 pub fn columns(alloc: Global, low: u8, high: u8, body: Stmt) -> Result<Stmt, AllocError>
     ensures { IfOk result (λ s. statement_of s ≡ columns low high (statement_of body)) }
 {
@@ -111,7 +111,7 @@ pub fn columns(alloc: Global, low: u8, high: u8, body: Stmt) -> Result<Stmt, All
     })
 }
 
-/// A team over the rows from `low` to before `high`.
+/// A team over the rows from `low` to `high - 1`.
 pub fn rows(alloc: Global, low: u8, high: u8, members: u8, body: Stmt) -> Result<Stmt, AllocError>
     ensures { IfOk result (λ s. statement_of s ≡ rows low high members (statement_of body)) }
 {

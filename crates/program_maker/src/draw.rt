@@ -1,13 +1,13 @@
-//! Numbers that are drawn from a seed.
+//! Pseudorandom numbers from a seed.
 ghost use Rattle.std.specs.Prelude.{◌≡◌};
 ghost use Rattle.program_maker.specs.Made.{state_after, drawn};
 
-// A draw multiplies the state by the first, adds the second, and keeps 64 bits.
+// A linear congruential generator modulo 2^64: a draw multiplies the state by the first constant and adds the second.
 const FACTOR: u64 = 6364136223846793005;
 
 const STEP: u64 = 1442695040888963407;
 
-/// Numbers from 0 to 15, drawn one after another.
+/// A generator of numbers from 0 to 15.
 #[derive(Debug, Drop)]
 pub struct Draws {
     pub state: u64,

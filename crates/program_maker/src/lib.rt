@@ -1,5 +1,5 @@
-//! A large valid program from a number: a stencil over a square grid whose edges meet, with pools inside teams inside a
-//! pool. `specs/Made.antt` is the program.
+//! Generates a large program from a seed: a stencil over a square grid whose edges meet, with pools inside teams inside a pool.
+//! `specs/Made.antt` defines the program. `maker_tests` has examples.
 #![tactic(auto)]
 
 mod build;

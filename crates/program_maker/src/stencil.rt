@@ -11,6 +11,14 @@ use array_tree::{Arrays, Block, Expr, Op, Program, Stmt};
 use std::alloc::{AllocError, Global};
 
 /// The program of a seed and a size, from 1 to 40.
+///
+/// # Errors
+///
+/// `AllocError` if an allocation fails.
+///
+/// # Memory
+///
+/// It allocates the tree.
 pub fn generate(alloc: Global, seed: u64, size: u8) -> Result<Program, AllocError>
     requires some { 1 ≤ size }
     requires few { size ≤ 40 }
@@ -189,7 +197,7 @@ fn gathered_grid(alloc: Global, size: u8) -> Result<Stmt, AllocError>
     beside(alloc, first, second)
 }
 
-// The next grid becomes the grid.
+// Copies the next grid to the grid.
 fn taken_over(alloc: Global, size: u8) -> Result<Stmt, AllocError>
     ensures { IfOk result (λ s. statement_of s ≡ taken_over size) }
 {

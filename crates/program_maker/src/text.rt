@@ -8,8 +8,14 @@ use crate::stencil::generate;
 use array_print::print;
 use std::alloc::{AllocError, Global};
 
-/// The text of the program of a seed and a size, from 1 to 40, as it is printed. It spells the program up to its line
-/// numbers, and isn't longer than a program may be.
+/// The printed text of the program of a seed and a size, from 1 to 40. It spells the program up to its line numbers, and has at
+/// most 65,536 bytes.
+///
+/// Why: the text fits the limit by a proof with twenty digits a number, without a test at run time.
+///
+/// # Errors
+///
+/// `AllocError` if an allocation fails.
 pub fn made_text(alloc: Global, seed: u64, size: u8) -> Result<Vec<u8>, AllocError>
     requires some { 1 ≤ size }
     requires few { size ≤ 40 }

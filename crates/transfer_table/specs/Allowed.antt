@@ -1,4 +1,4 @@
--- The table once more, in the words of its conditions.
+-- When the table admits an entry, as a list of conditions.
 use Rattle.std.specs.Prelude.{◌≡◌, ◌≢◌, ℕ, ◌+◌, ◌-◌, ◌≤◌, Some}
 use Rattle.transfer_table.specs.Plan.{Plan, IsHart, IsSite, parent}
 use Rattle.transfer_table.specs.Table.{TableState, owner, row}
@@ -14,7 +14,7 @@ IsAlone p t h s = (g : ℕ) → IsHart p g → g ≢ h → owner t g ≢ s
 abbrev pub ChildrenGone : Plan → TableState → ℕ → Type 0
 ChildrenGone p t s = (c : ℕ) → IsSite p c → parent p c ≡ s → (row t c).stage ≡ Gone
 
--- where an entry is allowed
+-- the entry is allowed in the state
 abbrev pub IsAllowed : Plan → TableState → Entry → Type 0
 IsAllowed p t (Register h s) =
     IsHart p h × IsSite p s × (owner t h ≡ parent p s) × ((row t s).stage ≡ New)

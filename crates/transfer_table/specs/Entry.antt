@@ -23,7 +23,7 @@ site_of (Yield h s) = s
 site_of (Unregister h s) = s
 site_of (Skip h s) = s
 
--- how many harts the entry asks for
+-- how many harts the entry requests
 abbrev pub count_of : Entry → ℕ
 count_of (Register h s) = 0
 count_of (Request h s k) = k
@@ -80,7 +80,7 @@ enters s es = count_by (λ e. if site_of e == s then is_enter e else false) es
 abbrev pub unregisters : ℕ → List Entry → ℕ
 unregisters s es = count_by (λ e. if site_of e == s then is_unregister e else false) es
 
--- how many harts the entries ask for, for the site
+-- how many harts the entries request for the site
 abbrev pub requested : ℕ → List Entry → ℕ
 requested s es = sum_by (λ e. if site_of e == s then count_of e else 0) es
 
@@ -92,6 +92,6 @@ skips s es = count_by (λ e. if site_of e == s then is_skip e else false) es
 abbrev pub covers : Plan → Entry → ℕ → Bool
 covers p e s = is_skip e && is_within p (site_of e) s
 
--- how many entries do
+-- how many of the entries skip the site, by themselves or with a site around it
 abbrev pub skips_over : Plan → ℕ → List Entry → ℕ
 skips_over p s es = count_by (λ e. covers p e s) es

@@ -13,7 +13,7 @@ use Rattle.transfer_table.specs.declared.fault.Fault.{Fault}
 use Rattle.transfer_table.specs.declared.fault.Why.{Why}
 use Rattle.transfer_table.specs.declared.fault.Why.TheVariants.{Refused, Unfinished, Unmeant}
 
--- goes on where there is a state, and keeps a refusal
+-- one more step from a state; a refusal stays
 abbrev pub and_then : {A B E : Type 0} → (A → Result B E) → Result A E → Result B E
 and_then f (Ok x) = f x
 and_then f (Err e) = Err e
@@ -39,7 +39,7 @@ IsLegal p es = (t : TableState) × Reaches p es t
 abbrev pub AllGone : Plan → TableState → Type 0
 AllGone p t = (s : ℕ) → IsSite p s → (row t s).stage ≡ Gone
 
--- Which sites are meant to be entered: a truth value for each site, that of site s at place s - 1.
+-- Which sites are meant to be entered: a flag for each site, that of site s at index s - 1.
 abbrev pub is_meant : List Bool → ℕ → Bool
 is_meant meant s = slice_index_or meant (s - 1) false
 
@@ -64,34 +64,33 @@ abbrev pub unfinished : List Row → ℕ → Option ℕ
 unfinished [] k = None
 unfinished (r ∷ rs) k = if is_gone r.stage then unfinished rs (k + 1) else Some k
 
--- the least site, from k on, of which is told that it is registered and which isn't meant, or the other way round; the list has
--- the sites from k on
+-- the least site, from k on, that is registered and not meant, or meant and not registered; the lists have the sites from k on
 abbrev pub unmeant : (ℕ → Bool) → List Bool → ℕ → Option Why
 unmeant registered [] k = None
 unmeant registered (m ∷ ms) k =
     if (if registered k then m else not m) then unmeant registered ms (k + 1)
     else Some (Unmeant k (registered k))
 
--- What a list lacks that leads to this state, of whose sites is told which are registered: the least site that isn't gone, and
--- where all are gone, the least that is registered and not meant, or meant and not registered.
+-- Why a list that leads to this state, with these registered sites, isn't complete: the least site that isn't gone; if all are
+-- gone, the least that is registered and not meant, or meant and not registered.
 abbrev pub lacks : List Bool → (ℕ → Bool) → TableState → Option Why
 lacks meant registered t = first_cause
     (option_map Unfinished (unfinished t.rows 1)
     ∷ unmeant registered meant 1
     ∷ [])
 
--- goes on where the entry at place k is admitted, and tells its refusal
+-- one more step, if the table admits the entry at index k; else its refusal
 abbrev pub or_refused : ℕ → (TableState → Option Fault) → Result TableState NotAdmitted
     → Option Fault
 or_refused k f (Ok u) = f u
 or_refused k f (Err why) = Some record { place = k; why = Refused why }
 
--- the first refused entry from a state on, where the next entry stands at place k
+-- the first refused entry from a state on; the next entry has index k
 abbrev pub refused_from : Plan → TableState → List Entry → ℕ → Option Fault
 refused_from p t [] k = None
 refused_from p t (e ∷ es) k = or_refused k (λ u. refused_from p u es (k + 1)) (admit_of p t e)
 
--- what a list lacks no entry of which is refused; its place is the list's length
+-- why a list without a refused entry isn't complete; its index is the list's length
 abbrev pub lacking : List Bool → List Entry → Result TableState NotAdmitted → Option Fault
 lacking meant es (Ok t) = option_map (λ why. record { place = length es; why = why })
     (lacks meant (has_register es) t)

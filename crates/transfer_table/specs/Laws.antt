@@ -1,5 +1,5 @@
--- The laws of the table, for every plan and every list of entries. What is said of the last state of
--- a legal list holds after each of its entries, since each list that it begins with is legal too.
+-- The laws of the table, for every plan and every list of entries. A law on the last state of a legal list holds after each of
+-- its entries, since each prefix of a legal list is legal.
 use Rattle.std.specs.Prelude.{◌≡◌, ◌≢◌, ◌↔◌, ℕ, zero, suc, ◌+◌, ◌-◌, ◌≤◌, ◌==◌, ◌⊎◌, Bool, true, false, not, ◌&&◌, if◌then◌else◌, List, [], ◌++◌, length, Some, Ok}
 use Rattle.std.specs.List.{All, count_by}
 use Rattle.std.specs.Option.{is_some}
@@ -64,8 +64,7 @@ IsByHome t (Yield h s) = Unit {0}
 IsByHome t (Unregister h s) = Unit {0}
 IsByHome t (Skip h s) = Unit {0}
 
--- every request is by the site's home; the harts that entered a site, and its wishes, are what it asked, which is at
--- most all harts but one
+-- only the site's home requests; a site's enters and wishes add up to the harts that it requested, at most all but one
 abbrev pub WishesBalance : Type 0
 WishesBalance = (p : Plan) (es : List Entry) (t : TableState) → IsPlan p → Reaches p es t
     → All (IsByHome t) es
@@ -77,8 +76,8 @@ abbrev pub LegalListsAreShort : Type 0
 LegalListsAreShort = (p : Plan) (es : List Entry) → IsPlan p → IsLegal p es
     → length es ≤ room p
 
--- What the row of a site tells of the entries: it was registered at most once, and then it has a home; it was unregistered once
--- where it is gone and has one; and where it is gone and has none, one entry skipped it, by itself or with a site around it.
+-- What the row of a site shows of the entries: it was registered at most once, and then it has a home; if it is gone and has a
+-- home, it was unregistered once; if it is gone and has none, one entry skipped it, by itself or with a site around it.
 pub record IsCounted (p : Plan) (es : List Entry) (t : TableState) (s : ℕ) : Type 0 where
   pub came : registers s es ≡ (if is_some (row t s).home then 1 else 0)
   pub went : unregisters s es
@@ -128,11 +127,11 @@ SitesComeAndGoOnce = (p : Plan) (meant : List Bool) (es : List Entry) (t : Table
     × ((s : ℕ) → IsSite p s → is_meant meant s ≡ true → CameAndWent p es s)
     × ((s : ℕ) → IsSite p s → is_meant meant s ≡ false → WasSkipped p es s)
 
--- what a legal list begins with is legal
+-- each prefix of a legal list is legal
 abbrev pub PrefixesAreLegal : Type 0
 PrefixesAreLegal = (p : Plan) (xs ys : List Entry) → IsLegal p (xs ++ ys) → IsLegal p xs
 
--- an entry is admitted exactly where it is allowed, and then it has its effect
+-- the table admits an entry exactly if the entry is allowed, and then the entry has its effect
 abbrev pub AllowedIsAdmitted : Type 0
 AllowedIsAdmitted = (p : Plan) (t : TableState) (e : Entry) → IsPosition record {
   plan = p;
@@ -141,7 +140,7 @@ AllowedIsAdmitted = (p : Plan) (t : TableState) (e : Entry) → IsPosition recor
     → (IsAllowed p t e → admit_of p t e ≡ Ok (effect_of p t e))
     × ((u : TableState) → admit_of p t e ≡ Ok u → IsAllowed p t e × (u ≡ effect_of p t e))
 
--- its hart and its site are the plan's, and it asks for fewer harts than there are
+-- its hart and its site are the plan's, and it requests fewer harts than there are
 abbrev pub IsEntryOf : Plan → Entry → Type 0
 IsEntryOf p e = IsHart p (hart_of e) × IsSite p (site_of e) × (count_of e ≤ p.harts - 1)
 

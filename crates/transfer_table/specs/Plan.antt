@@ -49,7 +49,7 @@ most_sites = 4095
 abbrev pub most_entries : ℕ
 most_entries = 65535
 
--- for how many entries a plan has room: so many may stand in a legal list
+-- the room of a plan: the greatest number of entries of a legal list
 abbrev pub room : Plan → ℕ
 room p = site_count p * (3 * p.harts - 1)
 
@@ -67,11 +67,11 @@ abbrev pub bad_parent : List ℕ → ℕ → Option ℕ
 bad_parent [] k = None
 bad_parent (q ∷ qs) k = if nat_le k q then Some k else bad_parent qs (k + 1)
 
--- whether the sites are too many, in themselves or for so many harts
+-- whether there are too many sites, by their number or by the room for entries on so many harts
 abbrev pub has_too_many_sites : Plan → Bool
 has_too_many_sites p = nat_lt most_sites (site_count p) || nat_lt most_entries (room p)
 
--- why there is no plan with these harts and parents, where there is none; of several causes the first
+-- why there is no plan with these harts and parents: the first cause, or nothing
 abbrev pub plan_fault_of : ℕ → List ℕ → Option PlanFault
 plan_fault_of n qs = first_cause
     (cause_if ((n == 0) || nat_lt most_harts n) (fault.BadHarts n)

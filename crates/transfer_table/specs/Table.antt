@@ -1,4 +1,4 @@
--- The table of transfers: what an entry needs, what it does, and what it is refused for.
+-- The table of transfers: what an entry needs, what it does, and why the table refuses it.
 use Rattle.std.specs.Prelude.{◌≡◌, ℕ, ◌+◌, ◌-◌, ◌==◌, nat_le, nat_lt, Bool, true, false, not, ◌||◌, ◌&&◌, if◌then◌else◌, List, [], ◌∷◌, ◌++◌, length, replicate, slice_index, slice_index_or, slice_set, Option, Some, None, Result, Ok, Err, IfOk, IfErr, OnErr}
 use Rattle.std.specs.Option.{option_map}
 use Rattle.transfer_table.specs.Causes.{cause_if, first_cause}
@@ -16,7 +16,7 @@ pub record TableState : Type 0 where
   pub owners : List ℕ
   pub rows : List Row
 
--- the row of a site that nothing has happened to
+-- the row of a new site
 abbrev pub blank : Row
 blank = record { stage = New; home = None; wishes = 0; asked = 0 }
 
@@ -28,7 +28,7 @@ first_state p = record { owners = replicate p.harts 0; rows = replicate (site_co
 abbrev pub owner : TableState → ℕ → ℕ
 owner t h = slice_index t.owners h
 
--- what the state keeps of a site
+-- the row of a site
 abbrev pub row : TableState → ℕ → Row
 row t s = slice_index_or t.rows (s - 1) blank
 
@@ -84,7 +84,7 @@ child_left p t s = least_left p.parents t.rows s 1
 abbrev pub no_such_site : Plan → ℕ → Bool
 no_such_site p s = (s == 0) || nat_lt (site_count p) s
 
--- what every entry may be refused for: its hart, its site, and an owner that isn't the wanted one
+-- the refusals of every entry: of its hart, of its site, and of an owner that isn't the wanted one
 abbrev pub common_refusals : Plan → TableState → ℕ → ℕ → ℕ → List (Option NotAdmitted)
 common_refusals p t h s wanted =
     cause_if (nat_le p.harts h) refusal.NoSuchHart
@@ -92,7 +92,7 @@ common_refusals p t h s wanted =
     ∷ cause_if (not (owner t h == wanted)) (refusal.NotOwner (owner t h))
     ∷ []
 
--- what each kind of entry may be refused for, in the order in which it is tried
+-- the refusals of each kind of entry, in the order in which the table tests them
 abbrev pub refusals_of : Plan → TableState → Entry → List (Option NotAdmitted)
 refusals_of p t (Register h s) =
     common_refusals p t h s (parent p s)
@@ -124,7 +124,7 @@ refusals_of p t (Skip h s) =
     ++ cause_if (not (is_new (row t s).stage)) refusal.NotNew
     ∷ []
 
--- the owners when the hart has gone to the site
+-- the owners after the hart moved to the site
 abbrev pub moved : TableState → ℕ → ℕ → List ℕ
 moved t h s = slice_set t.owners h s
 
@@ -142,7 +142,7 @@ abbrev pub swept : Plan → ℕ → List Row → ℕ → List Row
 swept p s [] k = []
 swept p s (r ∷ rs) k = (if is_within p s k then swept_row r else r) ∷ swept p s rs (k + 1)
 
--- what an entry that isn't refused does; all that a case doesn't name stays
+-- the effect of an admitted entry; all that a case doesn't name stays
 abbrev pub effect_of : Plan → TableState → Entry → TableState
 effect_of p t (Register h s) =
     record {
@@ -187,7 +187,7 @@ pub record IsPosition (b : Position) : Type 0 where
   pub owners : length b.state.owners ≡ b.plan.harts
   pub rows : length b.state.rows ≡ site_count b.plan
 
--- the answer to an entry: its effect, or its refusal, which changes nothing; the plan stays
+-- the result of an entry: its effect, or its refusal, which changes nothing; the plan stays
 pub record IsAnswer (old new : Position) (e : Entry)
     (answer : Result (Unit {0}) NotAdmitted) : Type 0 where
   pub plan : new.plan ≡ old.plan

@@ -38,6 +38,14 @@ impl Model for Board {
 
 impl Board {
     /// The first state of the plan's table: every hart is in the base, and every site is new.
+    ///
+    /// # Errors
+    ///
+    /// `AllocError` if an allocation fails.
+    ///
+    /// # Memory
+    ///
+    /// It allocates a copy of the plan, the owners, the rows and the counts of children.
     pub fn new(alloc: Global, plan: &Plan) -> Result<Board, AllocError>
         ensures first { IfOk result
             (λ b. b ≡ record { plan = plan.now; state = first_state plan.now }) }
@@ -92,7 +100,7 @@ impl Board {
         self.rows[site as usize - 1].stage
     }
 
-    /// How many harts the site has asked for that haven't entered. The site is one of the plan's.
+    /// The number of requested harts that haven't entered the site. The site is one of the plan's.
     pub fn wishes(&self, site: u16) -> u8
         requires { IsSite self.now.plan site }
         ensures same { result ≡ (row self.now.state site).wishes }
@@ -101,7 +109,7 @@ impl Board {
         self.rows[site as usize - 1].wishes
     }
 
-    /// How many harts the site has asked for in all. The site is one of the plan's.
+    /// The number of harts requested for the site in all. The site is one of the plan's.
     pub fn asked(&self, site: u16) -> u8
         requires { IsSite self.now.plan site }
         ensures same { result ≡ (row self.now.state site).asked }
@@ -110,8 +118,11 @@ impl Board {
         self.rows[site as usize - 1].asked
     }
 
-    /// Does what the entry does to the state, or answers why it is refused. A refusal changes
-    /// nothing. It takes no memory.
+    /// Applies the entry to the state. Does not allocate.
+    ///
+    /// # Errors
+    ///
+    /// The first refusal of the entry, in the order of `NotAdmitted`. The state is then unchanged.
     pub fn admit(&mut self, entry: Entry) -> Result<(), NotAdmitted>
         ensures plan { self.new.plan ≡ self.old.plan }
         ensures ok { IfOk result
@@ -207,7 +218,7 @@ impl Board {
         }
         let parent = self.plan.parent(site);
         let row = &mut self.rows[site as usize - 1];
-        // Until now its parent's count has counted it.
+        // The parent's count still counts the site.
         let counted = u16::from(!row.stage.is_gone());
         row.stage = Stage::Gone;
         self.children_left[parent as usize] -= counted;
@@ -259,15 +270,14 @@ impl Board {
     {
         let parent = self.plan.parent(site);
         let row = &mut self.rows[site as usize - 1];
-        // Until now its parent's count has counted it.
+        // The parent's count still counts the site.
         let counted = u16::from(!row.stage.is_gone());
         row.stage = Stage::Gone;
         row.home = None;
         self.children_left[parent as usize] -= counted;
     }
 
-    // What every entry may be refused for: its hart, its site, and an owner that isn't the wanted
-    // one.
+    // Checks what every entry needs: the hart and the site are the plan's, and the hart's owner is `wanted`.
     fn check_owner(&self, hart: u8, site: u16, wanted: u16) -> Result<(), NotAdmitted>
         ensures ok { IfOk result
             (λ _. first_cause (common_refusals self.now.plan self.now.state hart site wanted)
@@ -304,7 +314,7 @@ impl Board {
         None
     }
 
-    // What an entry that only the site's home may make is refused for.
+    // Checks that the hart is the site's home.
     fn check_home(&self, hart: u8, site: u16) -> Result<(), NotAdmitted>
         requires { IsSite self.now.plan site }
         ensures ok { IfOk result (λ _. is_home (row self.now.state site).home hart ≡ true) }
@@ -338,8 +348,7 @@ impl Board {
         i != hart as usize && self.owners[i] == site
     }
 
-    // The least child of the site that isn't gone. It looks through the plan only where there is
-    // one.
+    // The least child of the site that isn't gone. It scans the plan only if there is one.
     fn child_left(&self, site: u16) -> Option<u16>
         requires { IsSite self.now.plan site }
         ensures { result ≡ child_left self.now.plan self.now.state site }

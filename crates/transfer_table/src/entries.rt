@@ -20,14 +20,14 @@ impl Model for Entries {
 }
 
 impl Entries {
-    /// The entries of the vector, in its order. It takes no memory.
+    /// The entries of the vector, in its order. Does not allocate.
     pub fn new(list: Vec<Entry>) -> Entries
         ensures { result ≡ list.items }
     {
         Entries { list }
     }
 
-    /// The vector of the entries. It takes no memory.
+    /// The vector of the entries. Does not allocate.
     pub fn into_vec(self) -> Vec<Entry>
         ensures { result.items ≡ self }
     {

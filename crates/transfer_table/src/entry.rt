@@ -1,4 +1,4 @@
-//! The entries of a journal, what a site's row keeps, and what an entry is refused for.
+//! The entries of a journal, the row that the state has for a site, and the refusals of an entry.
 ghost use Rattle.std.specs.Prelude.{◌≡◌};
 
 /// One event of the table: what a hart does at a site.
@@ -6,7 +6,7 @@ ghost use Rattle.std.specs.Prelude.{◌≡◌};
 pub enum Entry {
     /// The hart, whose owner is the site's parent, makes the site live and is its home.
     Register { hart: u8, site: u16 },
-    /// The site's home asks for `count` more harts.
+    /// The site's home requests `count` more harts.
     Request { hart: u8, site: u16, count: u8 },
     /// The hart comes from the parent into the live site and meets one of its wishes.
     Enter { hart: u8, site: u16 },
@@ -14,12 +14,12 @@ pub enum Entry {
     Yield { hart: u8, site: u16 },
     /// The home, alone in the site, goes back to the parent, and the site is gone.
     Unregister { hart: u8, site: u16 },
-    /// The hart, whose owner is the site's parent, leaves the new site out: it and all its descendants
-    /// are gone, and no hart moves.
+    /// The hart, whose owner is the site's parent, skips the new site: the site and all its descendants are gone, and no hart
+    /// moves.
     Skip { hart: u8, site: u16 },
 }
 
-/// How far a site has come.
+/// The stage of a site.
 #[derive(Clone, Copy, Debug, PartialEq, Eq)]
 pub enum Stage {
     /// It hasn't been registered.
@@ -40,19 +40,19 @@ impl Stage {
     }
 }
 
-/// What the state of the table keeps of one site.
+/// The table's state of one site.
 #[derive(Clone, Copy, Debug, PartialEq, Eq)]
 pub struct Row {
     pub stage: Stage,
     /// The hart that registered the site.
     pub home: Option<u8>,
-    /// How many of the harts that were asked for haven't entered.
+    /// The number of requested harts that haven't entered.
     pub wishes: u8,
-    /// How many harts were asked for in all.
+    /// The number of harts requested in all.
     pub asked: u8,
 }
 
-/// Why an entry is refused. Of several causes it is the first in this order.
+/// Why the table refuses an entry: the first cause in this order.
 #[derive(Clone, Copy, Debug, PartialEq, Eq)]
 pub enum NotAdmitted {
     /// The plan has no such hart.
@@ -69,8 +69,7 @@ pub enum NotAdmitted {
     NotHome { home: u8 },
     /// The site has no unmet wish.
     NoWish,
-    /// With this count the site would have asked for more than all harts but its home. The sum
-    /// that it has asked for so far is given.
+    /// With this count the site would have requested more harts than all but its home. `asked` is the sum of its requests so far.
     TooManyWished { asked: u8 },
     /// The hart is the site's home, which doesn't yield.
     IsHome,

@@ -13,26 +13,34 @@ use std::alloc::{AllocError, Global};
 /// Why a list of entries isn't complete.
 #[derive(Clone, Copy, Debug, PartialEq, Eq)]
 pub enum Why {
-    /// The entry at the place is refused.
+    /// The table refuses the entry at the index.
     Refused(NotAdmitted),
-    /// No entry is refused, and the site, the least such, isn't gone at the end.
+    /// The table refuses no entry, and the site, the least such, isn't gone at the end.
     Unfinished { site: u16 },
-    /// No entry is refused, and every site is gone at the end. The site is the least that was
-    /// registered and isn't meant, or is meant and wasn't registered; the value says which.
+    /// The table refuses no entry, and every site is gone at the end. The site is the least that was registered and isn't meant, or
+    /// is meant and wasn't registered; the flag is true if it is meant.
     Unmeant { site: u16, registered: bool },
 }
 
 /// Where a list of entries isn't complete, and why.
 #[derive(Clone, Copy, Debug, PartialEq, Eq)]
 pub struct Fault {
-    /// The place of the refused entry, counted from 0, or the list's length.
+    /// The index of the refused entry, counted from 0, or the list's length.
     pub place: u32,
     pub why: Why,
 }
 
-/// Where the list isn't complete for the plan and the sites that are meant to be entered, and why;
-/// `None` exactly where it is complete. There is a truth value for each site, that of site `s` at
-/// place `s - 1`. The list has fewer than 2^32 entries.
+/// The first fault of the list for the plan and the meant sites; `None` exactly if the list is complete.
+///
+/// `meant` has a flag for each site, that of site `s` at index `s - 1`. The list has fewer than 2^32 entries.
+///
+/// # Errors
+///
+/// `AllocError` if an allocation fails.
+///
+/// # Memory
+///
+/// It allocates one `Board`.
 pub fn first_fault(
     alloc: Global,
     plan: &Plan,

@@ -1,5 +1,5 @@
-//! The laws of the table, each the contract of a function that does nothing. They hold for every
-//! plan and every list of entries; `specs/Laws.antt` says them.
+//! The laws of the table, each the contract of a function with an empty body. They hold for every plan and every list of
+//! entries; `specs/Laws.antt` defines them.
 ghost use Rattle.transfer_table.specs.Laws.{AllowedIsAdmitted, EntriesAreInThePlan, HartsAreConserved, HomesStayInside, IdleHartsStay, LegalListsAreShort, NewRowsAreBlank, ParentsOutliveChildren, PrefixesAreLegal, RowsTellEntries, SitesBeginOnce, SitesComeAndGoOnce, WishesBalance, ChildrenOfNewAreNew, WithinIsTested};
 
 /// Every owner is the base or a live site, and the harts that the base and the sites hold are all
@@ -18,8 +18,7 @@ pub fn homes_stay_inside()
     ensures { HomesStayInside }
 {}
 
-/// Every request is by the site's home. The harts that entered a site, and its wishes, are what it
-/// asked, which is at most all harts but one.
+/// Only the site's home requests. A site's enters and wishes add up to the harts that it requested, at most all but one.
 pub fn wishes_balance()
     ensures { WishesBalance }
 {}
@@ -36,12 +35,12 @@ pub fn sites_come_and_go_once()
     ensures { SitesComeAndGoOnce }
 {}
 
-/// What a legal list begins with is legal.
+/// Each prefix of a legal list is legal.
 pub fn prefixes_are_legal()
     ensures { PrefixesAreLegal }
 {}
 
-/// An entry is admitted exactly where it is allowed, and then it has its effect.
+/// The table admits an entry exactly if the entry is allowed, and then the entry has its effect.
 pub fn allowed_is_admitted()
     ensures { AllowedIsAdmitted }
 {}
@@ -61,7 +60,7 @@ pub fn idle_harts_stay()
     ensures { IdleHartsStay }
 {}
 
-/// The test holds exactly of what is within a site.
+/// `is_within` is true exactly of a site and its descendants.
 pub fn within_is_tested()
     ensures { WithinIsTested }
 {}
@@ -76,8 +75,8 @@ pub fn rows_tell_entries()
     ensures { RowsTellEntries }
 {}
 
-/// A site is registered or skipped at most once. What was unregistered, or skipped itself, is gone; and
-/// a gone site that was neither registered nor skipped itself has a parent that is gone.
+/// A site is registered or skipped at most once. A site that was unregistered, or skipped itself, is gone. A gone site that was
+/// neither registered nor skipped itself has a gone parent.
 pub fn sites_begin_once()
     ensures { SitesBeginOnce }
 {}

@@ -1,8 +1,8 @@
 //! The table of transfers: which hart is in which site of a plan, and the entries that move it.
 //!
-//! A plan is a number of harts and a tree of sites. An entry registers a site, asks harts for it,
-//! lets a hart enter or leave it, unregisters it, or skips it with all sites inside it. `Board` holds the state that the entries
-//! admitted so far have led to; `specs/Table.antt` says what each entry needs and does.
+//! A plan is a number of harts and a tree of sites. An entry registers a site, requests harts for it, lets a hart enter or
+//! leave it, unregisters it, or skips it with all sites inside it. `Board` holds the state after the entries admitted so far.
+//! `specs/Table.antt` defines what each entry needs and does. `layer_tests` has examples.
 #![tactic(auto)]
 
 mod board;

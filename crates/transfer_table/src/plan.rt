@@ -33,7 +33,7 @@ impl Model for Plan {
     ghost invariant = { λ p. IsPlan record { harts = p.harts; parents = p.parents.items } };
 }
 
-/// Why there is no such plan. Of several causes it is the first in this order.
+/// Why `Plan::new` refuses: the first cause in this order.
 #[derive(Clone, Copy, Debug, PartialEq, Eq)]
 pub enum PlanFault {
     /// The number of harts isn't from 1 to 16.
@@ -42,7 +42,7 @@ pub enum PlanFault {
     TooManySites { found: u64 },
     /// The least site whose parent isn't smaller than it.
     BadParent { site: u16 },
-    /// No memory was left.
+    /// An allocation failed.
     Memory,
 }
 
@@ -57,7 +57,15 @@ impl From<AllocError> for PlanFault {
 }
 
 impl Plan {
-    /// The plan with these harts and parents; the parent of site `s` stands at place `s - 1`.
+    /// The plan with so many harts, from 1 to 16, and these parents; the parent of site `s` is at index `s - 1`.
+    ///
+    /// # Errors
+    ///
+    /// The first fault in the order of `PlanFault`; `PlanFault::Memory` if the allocation fails.
+    ///
+    /// # Memory
+    ///
+    /// It allocates one list of parents.
     pub fn new(alloc: Global, harts: u8, parents: &[u16]) -> Result<Plan, PlanFault>
         ensures plan { IfOk result (λ p. p ≡ record { harts = harts; parents = parents.now }) }
         ensures kept { IfOk result IsPlan }
@@ -153,7 +161,7 @@ fn fault_of(harts: u8, parents: &[u16]) -> Option<PlanFault>
     bad_parent(parents).map(|site| PlanFault::BadParent { site })
 }
 
-// Whether so many sites are too many, in themselves or for the harts.
+// Whether there are too many sites, by their number or by the room for entries on so many harts.
 fn has_too_many_sites(harts: u8, sites: usize) -> bool
     requires { (1 ≤ harts) × (harts ≤ 16) }
     ensures { result ≡ (nat_lt 4095 sites || nat_lt 65535 (sites * (3 * harts - 1))) }
