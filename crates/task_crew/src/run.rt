@@ -1,11 +1,9 @@
 //! The harts of a run.
 ghost use Rattle.std.specs.Prelude.{◌≡◌, ◌<◌, ◌≤◌, ◌⊎◌, IfOk, IfErr, vec_len, alloc_error, Err, []};
 ghost use Rattle.std.specs.List.{All};
-ghost use Rattle.open_table.specs.declared.table.Size.{Size};
 ghost use Rattle.open_board.specs.Of.{IsOf};
-ghost use Rattle.open_board.specs.Ending.{CantEnd};
 ghost use Rattle.task_table.specs.Slots.{Ends};
-ghost use Rattle.task_crew.specs.Runs.{RunFails, IsSeatOf, AllAreHome};
+ghost use Rattle.task_crew.specs.Runs.{RunFails, IsReason, IsSeatOf, AllAreHome};
 
 use crate::error::RunError;
 use open_board::{EndRefused, NotEnded, OpenBoard, OpenSeat};
@@ -53,8 +51,6 @@ where
     ensures output { IfOk result (λ output. T.gives task output) }
     ensures error { IfErr result
         (RunFails harts levels (T.fails task) (T.Error.from_gives alloc_error)) }
-    ensures home { (2 ≤ harts) → IfOk result
-        (λ _. (size : Size) × (size.harts ≡ harts) × AllAreHome size) }
     ensures harts { (harts ≡ 0) ⊎ (64 < harts) → result ≡ Err (RunError.HartCount harts) }
     ensures levels { (1 ≤ harts) → (harts ≤ 64) → (16 < levels) → result
         ≡ Err (RunError.LevelCount levels) }
@@ -96,8 +92,8 @@ where
     requires depth { T.depth task ≤ levels }
     requires levels { levels ≤ 16 }
     ensures output { IfOk result (λ output. T.gives task output) }
-    ensures error { IfErr result (RunFails 1 0 (T.fails task) (T.Error.from_gives alloc_error)) }
-    ensures home { IfOk result (λ _. AllAreHome board.size) }
+    ensures error { IfErr result
+        (RunFails board.size.harts levels (T.fails task) (T.Error.from_gives alloc_error)) }
 {
     let crew = match Crew::<T, B>::new(alloc, board) {
         Ok(crew) => crew,
@@ -119,8 +115,8 @@ where
 // Ends a board: all harts are at the base again.
 fn go_home(board: OpenBoard, seats: Vec<OpenSeat>) -> Result<(), NotEnded>
     requires { All (IsOf board) seats.items }
-    ensures ended { IfOk result (λ _. AllAreHome board.size) }
-    ensures refused { IfErr result (CantEnd board.size seats.items) }
+    ensures ended { IfOk result (λ _. AllAreHome board.size seats.items) }
+    ensures refused { IfErr result (IsReason board.size.harts) }
 {
     match board.checked_end(seats) {
         Ok(()) => Ok(()),

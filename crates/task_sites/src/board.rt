@@ -1,6 +1,6 @@
 //! The board of a crew, and the seats at it.
 //!
-//! Why the board has a name in its type: a seat goes through tasks of any kind, whose contracts say nothing of it. By the name each
+//! Why the board has a name in its type: a seat goes through tasks of any kind, whose contracts state nothing about it. By the name each
 //! seat is known to be one of the crew's board when the run ends.
 ghost use Rattle.std.specs.Prelude.{◌≡◌, ◌<◌, ◌≤◌};
 ghost use Rattle.open_board.specs.Calls.{Registers};
@@ -104,8 +104,8 @@ impl<B: Naming> CrewSeat<B> {
     }
 }
 
-/// Each call is the board's own, which tests its precondition and refuses what the table of lent harts does not admit. None
-/// allocates.
+/// Each call is the board's own, which checks its precondition and refuses an entry that the table of lent harts does not admit. No
+/// call allocates.
 impl<B: Naming> CrewBoard<B> {
     /// Names a board.
     pub fn new(board: OpenBoard) -> CrewBoard<B>

@@ -98,7 +98,7 @@ impl<'c, T: TaskKind, R, B: Naming> Hart<'c, T, R, B> {
 }
 
 impl<'c, T: TaskKind, R: Wait, B: Naming> Hart<'c, T, R, B> {
-    /// Registers a site for the tasks below the hart's owner and asks for so many harts. Returns the site's number, or `None` if the
+    /// Registers a site for the tasks below the hart's owner and requests so many harts. Returns the site's number, or `None` if the
     /// hart is the home of as many sites as the board has levels: nothing is changed then.
     pub(crate) fn open(&self, tasks: &Arc<Site<T>, Global>, wish: u8) -> Option<u16> {
         let parent = self.owner();

@@ -254,7 +254,7 @@ fn share_of(share: u8, count: usize) -> u8 {
     ((share as usize) / count.max(1)).max(1) as u8
 }
 
-// How many harts a site of so many tasks asks for. Without a level inside the tasks, more harts than tasks would find nothing to do.
+// How many harts a site of so many tasks requests. Without a level inside the tasks, more harts than tasks would find nothing to do.
 fn wish_of(harts: u8, share: u8, count: usize, levels: u8) -> u8 {
     let others = harts.saturating_sub(1);
     let tasks = count.saturating_sub(1).min(others as usize) as u8;
