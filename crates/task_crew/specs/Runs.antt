@@ -3,14 +3,14 @@ use Rattle.std.specs.Prelude.{◌≡◌, ◌≢◌, ◌<◌, ◌⊎◌, ℕ, Lis
 use Rattle.atomic_table.specs.Seated.{TableId}
 use Rattle.open_table.specs.declared.table.Size.{Size}
 use Rattle.open_board.specs.declared.seat.OpenSeat.{OpenSeat}
-use Rattle.open_board.specs.declared.ending.NotEnded.{NotEnded}
+use Rattle.open_board.specs.declared.ending.NotEnded.{NotEnded as Cause}
 use Rattle.open_board.specs.declared.ending.NotEnded.TheVariants.{WrongCount, OutOfOrder, InSite}
 use Rattle.open_board.specs.Ending.{HasFinished, IsHomeAgain}
 use Rattle.task_crew.specs.declared.error.RunError.{RunError}
 use Rattle.task_crew.specs.declared.error.RunError.TheVariants.{HartCount, LevelCount, Task, NotEnded}
 
 -- A reason why a board of so many harts does not end, as far as the caller of a run sees it.
-abbrev pub IsReason : ℕ → NotEnded → Type 0
+abbrev pub IsReason : ℕ → Cause → Type 0
 IsReason harts WrongCount = Unit {0}
 IsReason harts (OutOfOrder position hart) = (position < harts) × (hart ≢ position)
 IsReason harts (InSite hart site) = (hart < harts) × (site ≢ 0)
