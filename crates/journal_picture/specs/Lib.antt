@@ -1,5 +1,6 @@
 pub mod Stays
 pub mod Drawn
+pub mod Faults
 pub mod Strip
 pub mod TextPicture
 pub mod Scale

@@ -4,10 +4,12 @@ use Rattle.std.specs.List.{concat, flat_map}
 use Rattle.std.specs.Fmt.{decimal}
 use Rattle.transfer_table.specs.Plan.{Plan, site_count}
 use Rattle.transfer_table.specs.Table.{TableState, first_state}
+use Rattle.transfer_table.specs.Journal.{first_fault_of}
 use Rattle.transfer_table.specs.declared.entry.Entry.{Entry}
 use Rattle.journal_picture.specs.declared.shape.Kind.TheVariants.{Pool, Team}
 use Rattle.journal_picture.specs.declared.shape.Shape.{Shape}
 use Rattle.journal_picture.specs.Drawn.{drawn, has_fault, state_after}
+use Rattle.journal_picture.specs.Faults.{words_of}
 use Rattle.journal_picture.specs.Scale.{rows_of, rows_bottom, step_of, width_of}
 use Rattle.journal_picture.specs.SvgBars.{base_fill, kind_fill, lanes_svg, rect_text}
 use Rattle.journal_picture.specs.SvgMarks.{fault_svg, mark_svg, marks_text, red, rows_svg, strip_svg, ticks_text}
@@ -109,24 +111,25 @@ abbrev pub under_svg : Plan → List Entry → List ℕ
 under_svg p es =
     rows_svg p (length es) 0 (rows_of (length es)) ++ ticks_text p (length es) 0 es
 
--- What lies over the bars.
-abbrev pub over_svg : Plan → TableState → List Entry → Bool → List ℕ
-over_svg p t es faulty =
+-- What lies over the bars, and the fault with its words.
+abbrev pub over_svg : Plan → TableState → List Entry → Bool → List ℕ → List ℕ
+over_svg p t es faulty words =
     marks_text p t (length es) 0 es ++ strip_svg p (length es) (first_state p) 0 es
-    ++ fault_svg p (length es) faulty
+    ++ fault_svg p (length es) faulty words
 
-abbrev pub picture_svg : Plan → TableState → List Shape → List Entry → Bool → List ℕ
-picture_svg p t shapes es faulty =
-    under_svg p es ++ lanes_svg p shapes es 0 p.harts ++ over_svg p t es faulty
+abbrev pub picture_svg : Plan → TableState → List Shape → List Entry → Bool → List ℕ → List ℕ
+picture_svg p t shapes es faulty words =
+    under_svg p es ++ lanes_svg p shapes es 0 p.harts ++ over_svg p t es faulty words
 
-unfoldable pub shown_svg : Plan → TableState → List Shape → List Entry → Bool → List ℕ
-shown_svg p t shapes es faulty =
-    frame_svg p (length es) ++ picture_svg p t shapes es faulty ++ verdict_start
+unfoldable pub shown_svg : Plan → TableState → List Shape → List Entry → Bool → List ℕ → List ℕ
+shown_svg p t shapes es faulty words =
+    frame_svg p (length es) ++ picture_svg p t shapes es faulty words ++ verdict_start
 
-abbrev pub svg_of : Plan → List Shape → List Entry → Bool → List ℕ → List ℕ
-svg_of p shapes es faulty verdict =
-    shown_svg p (state_after p es) shapes es faulty ++ end_svg verdict
+abbrev pub svg_of : Plan → List Shape → List Entry → Bool → List ℕ → List ℕ → List ℕ
+svg_of p shapes es faulty words verdict =
+    shown_svg p (state_after p es) shapes es faulty words ++ end_svg verdict
 
 abbrev pub svg_picture : Plan → List Bool → List Shape → List Entry → List ℕ → List ℕ
 svg_picture p meant shapes es verdict =
-    svg_of p shapes (drawn p meant es) (has_fault p meant es) verdict
+    svg_of p shapes (drawn p meant es) (has_fault p meant es)
+    (words_of p es (first_fault_of p meant es)) verdict

@@ -6,6 +6,7 @@ use Rattle.std.specs.Fmt.{decimal}
 use Rattle.transfer_table.specs.Plan.{Plan, parent}
 use Rattle.transfer_table.specs.Table.{TableState, row}
 use Rattle.transfer_table.specs.Entry.{site_of}
+use Rattle.transfer_table.specs.Journal.{first_fault_of}
 use Rattle.transfer_table.specs.declared.entry.Row.{Row}
 use Rattle.transfer_table.specs.declared.entry.Stage.{Stage}
 use Rattle.transfer_table.specs.declared.entry.Stage.TheVariants.{New, Live, Gone}
@@ -19,6 +20,7 @@ use Rattle.journal_picture.specs.declared.strip.Figures.{Figures}
 use Rattle.journal_picture.specs.Stays.{stays_of}
 use Rattle.journal_picture.specs.Strip.{strip_of}
 use Rattle.journal_picture.specs.Drawn.{drawn, has_fault, state_after}
+use Rattle.journal_picture.specs.Faults.{fault_line_of}
 
 -- ---- where a hart is at each place
 
@@ -236,12 +238,17 @@ shown_text p t shapes es lanes strip faulty =
     bands_text faulty es lanes strip 0 (band_count (length es)) ++ tree_text p t shapes
     ++ legend_text
 
--- The picture of these entries ends with the verdict's text.
+-- The picture of these entries ends with these lines.
 abbrev pub text_of : Plan → List Shape → List Entry → Bool → List ℕ → List ℕ
-text_of p shapes es faulty verdict =
-    shown_text p (state_after p es) shapes es (lanes_of p es 0 p.harts) (strip_of p es) faulty ++ verdict
+text_of p shapes es faulty ending =
+    shown_text p (state_after p es) shapes es (lanes_of p es 0 p.harts) (strip_of p es) faulty
+    ++ ending
+
+-- The lines at the end are that of the fault, if there is one, and the verdict.
+abbrev pub ending_of : Plan → List Bool → List Entry → List ℕ → List ℕ
+ending_of p meant es verdict = fault_line_of p es (first_fault_of p meant es) ++ verdict
 
 -- The picture of a list is that of its entries before the first fault.
 abbrev pub text_picture : Plan → List Bool → List Shape → List Entry → List ℕ → List ℕ
 text_picture p meant shapes es verdict =
-    text_of p shapes (drawn p meant es) (has_fault p meant es) verdict
+    text_of p shapes (drawn p meant es) (has_fault p meant es) (ending_of p meant es verdict)

@@ -1,6 +1,8 @@
-//! The laws of stays, of the strip and of escaped texts, each the contract of a function that does nothing. They hold for every plan
-//! and every list of entries. They are stated in `specs/Laws.antt` and `specs/Strip.antt`.
+//! The laws of stays, of the strip, of faults and of escaped texts, each the contract of a function that does nothing. They hold for every plan
+//! and every list of entries. They are stated in `specs/Laws.antt`, `specs/Strip.antt`
+//! and `specs/Faults.antt`.
 ghost use Rattle.journal_picture.specs.Laws.{EscapedHasNoMarkup, OneStayAtEachPlace, StaysFollowOneAnother, GuestsAreWithTheHome};
+ghost use Rattle.journal_picture.specs.Faults.{FaultHasItsReason, FaultIsIncomplete};
 ghost use Rattle.journal_picture.specs.Strip.{RedIsMissed, StripHasFigures};
 
 /// At each place up to which a list is legal each hart is in exactly one of its stays, and that is at the site that holds it.
@@ -31,4 +33,15 @@ pub fn red_is_missed()
 /// Whatever the verdict's line is, its escaped form has no `<`.
 pub fn escaped_has_no_markup()
     ensures { EscapedHasNoMarkup }
+{}
+
+/// A picture has a fault exactly if the list isn't complete for the sites that are meant to be entered.
+pub fn fault_is_incomplete()
+    ensures { FaultIsIncomplete }
+{}
+
+/// The fault's words name a condition that fails: of the refused entry in the state after the entries before it, or at the end of the
+/// list.
+pub fn fault_has_its_reason()
+    ensures { FaultHasItsReason }
 {}

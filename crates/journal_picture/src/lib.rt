@@ -10,6 +10,7 @@
 mod axis;
 mod bars;
 mod drawn;
+mod faults;
 mod lanes;
 pub mod laws;
 mod marks;

@@ -6,6 +6,7 @@ ghost use Rattle.journal_picture.specs.SvgPicture.{base_swatches, end_svg, escap
 use crate::axis::{write_at, write_rows, write_ticks};
 use crate::bars::{base_fill, kind_fill, write_lanes, write_rect};
 use crate::drawn::{before, board_after};
+use crate::faults::words_of;
 use crate::marks::{write_fault, write_marks, write_strip};
 use crate::scale::{rows_bottom, rows_of, step_of, width_of};
 use crate::shape::{Kind, Shape};
@@ -36,26 +37,36 @@ pub fn svg_picture(
         (λ text. text.items ≡ svg_picture plan.now meant.now shapes.now list.now verdict.now) }
 {
     let fault = first_fault(alloc, plan, meant, list)?;
+    let words = words_of(alloc, plan, list, fault)?;
     let drawn = before(fault, list);
-    svg_of(alloc, plan, shapes, drawn, fault.is_some(), verdict)
+    svg_of(
+        alloc,
+        plan,
+        shapes,
+        drawn,
+        fault.is_some(),
+        words.as_str(),
+        verdict,
+    )
 }
 
-// The picture of these entries, at whose end there is a fault or none.
+// The picture of these entries, at whose end there is a fault with these words, or none.
 fn svg_of(
     alloc: Global,
     plan: &Plan,
     shapes: &[Shape],
     list: &[Entry],
     faulty: bool,
+    words: &str,
     verdict: &[u8],
 ) -> Result<Vec<u8>, AllocError>
     requires { length list.now ≤ most_entries }
     ensures { IfOk result
-        (λ text. text.items ≡ svg_of plan.now shapes.now list.now faulty verdict.now) }
+        (λ text. text.items ≡ svg_of plan.now shapes.now list.now faulty words.now verdict.now) }
 {
     let board = board_after(alloc, plan, list)?;
     let mut text = String::new(alloc);
-    write_shown(alloc, &mut text, &board, shapes, list, faulty)?;
+    write_shown(alloc, &mut text, &board, shapes, list, faulty, words)?;
     ended(text.into_bytes(), verdict)
 }
 
@@ -99,13 +110,14 @@ fn write_shown(
     shapes: &[Shape],
     list: &[Entry],
     faulty: bool,
+    words: &str,
 ) -> Result<(), AllocError>
     requires { length list.now ≤ most_entries }
     ensures { OnOk result (string_bytes text.new ≡ string_bytes text.old
-        ++ shown_svg board.now.plan board.now.state shapes.now list.now faulty) }
+        ++ shown_svg board.now.plan board.now.state shapes.now list.now faulty words.now) }
 {
     write_frame(text, board.plan(), list.len())?;
-    write_picture(alloc, text, board, shapes, list, faulty)?;
+    write_picture(alloc, text, board, shapes, list, faulty, words)?;
     text.push_str("<text x='16' y='52' font-size='14' text-anchor='start'>")
 }
 
@@ -128,14 +140,15 @@ fn write_picture(
     shapes: &[Shape],
     list: &[Entry],
     faulty: bool,
+    words: &str,
 ) -> Result<(), AllocError>
     requires { length list.now ≤ most_entries }
     ensures { OnOk result (string_bytes text.new ≡ string_bytes text.old
-        ++ picture_svg board.now.plan board.now.state shapes.now list.now faulty) }
+        ++ picture_svg board.now.plan board.now.state shapes.now list.now faulty words.now) }
 {
     write_under(alloc, text, board.plan(), list)?;
     write_lanes(alloc, text, board.plan(), shapes, list)?;
-    write_over(alloc, text, board, list, faulty)
+    write_over(alloc, text, board, list, faulty, words)
 }
 
 // Adds what lies under the bars.
@@ -153,21 +166,22 @@ fn write_under(
     write_ticks(alloc, text, plan, list.len(), list)
 }
 
-// Adds what lies over the bars.
+// Adds what lies over the bars, and the fault with its words.
 fn write_over(
     alloc: Global,
     text: &mut String,
     board: &Board,
     list: &[Entry],
     faulty: bool,
+    words: &str,
 ) -> Result<(), AllocError>
     requires { length list.now ≤ most_entries }
     ensures { OnOk result (string_bytes text.new ≡ string_bytes text.old
-        ++ over_svg board.now.plan board.now.state list.now faulty) }
+        ++ over_svg board.now.plan board.now.state list.now faulty words.now) }
 {
     write_marks(alloc, text, board, list.len(), list)?;
     write_strip(alloc, text, board.plan(), list.len(), list)?;
-    write_fault(text, board.plan(), list.len(), faulty)
+    write_fault(text, board.plan(), list.len(), faulty, words)
 }
 
 // Adds that rows are left out, if some are.

@@ -4,18 +4,20 @@ ghost use Rattle.transfer_table.specs.Entry.{hart_of, site_of};
 ghost use Rattle.transfer_table.specs.Plan.{site_count, most_entries};
 ghost use Rattle.journal_picture.specs.TextPicture.{requesting, at_sites_line, at_sites_text, band_count, band_text, bands_text, deed, deed_lines, deeds_line, deeds_text, doer, doers_line, doers_text, hart_name, idle_line, idle_words, idles_text, lanes_text, mark_text, numbers_line, numbers_text, shown_text, sites_text, strip_lines, text_of, text_picture, unmet_line, unmets_text};
 ghost use Rattle.journal_picture.specs.Drawn.{state_after};
+ghost use Rattle.journal_picture.specs.Faults.{fault_line_of};
 
 use crate::drawn::{before, board_after};
+use crate::faults::fault_line_of;
 use crate::lanes::{Lane, lanes_of};
 use crate::shape::Shape;
 use crate::strip::{Figures, strip_of};
 use crate::tree::write_tree;
 use crate::words::{site_name, write_cell, write_name};
 use std::alloc::{AllocError, Global};
-use transfer_table::{Board, Entry, Plan, first_fault};
+use transfer_table::{Board, Entry, Fault, Plan, first_fault};
 
-/// The picture of the list in text, up to its first fault, with the tree of the sites and the verdict at its end. The sites have these
-/// shapes. The list has at most 65,535 entries. Which sites are meant to be entered is a truth value for each, that of site `s` at
+/// The picture of the list in text, up to its first fault, with the tree of the sites. At its end stand the words of the fault, if
+/// there is one, and the verdict. The sites have these shapes. The list has at most 65,535 entries. Which sites are meant to be entered is a truth value for each, that of site `s` at
 /// index `s - 1`.
 ///
 /// # Errors
@@ -36,8 +38,25 @@ pub fn text_picture(
         (λ text. text.items ≡ text_picture plan.now meant.now shapes.now list.now verdict.now) }
 {
     let fault = first_fault(alloc, plan, meant, list)?;
+    let ending = ending_of(alloc, plan, list, fault, verdict)?;
     let drawn = before(fault, list);
-    text_of(alloc, plan, shapes, drawn, fault.is_some(), verdict)
+    text_of(alloc, plan, shapes, drawn, fault.is_some(), &ending)
+}
+
+// The lines of the fault and of the verdict.
+fn ending_of(
+    alloc: Global,
+    plan: &Plan,
+    list: &[Entry],
+    fault: Option<Fault>,
+    verdict: &[u8],
+) -> Result<Vec<u8>, AllocError>
+    ensures { IfOk result (λ ending. ending.items
+        ≡ fault_line_of plan.now list.now fault ++ verdict.now) }
+{
+    let mut ending = fault_line_of(alloc, plan, list, fault)?.into_bytes();
+    ending.extend_from_slice(verdict)?;
+    Ok(ending)
 }
 
 // The picture of these entries, at whose end there is a fault or none.
@@ -47,12 +66,12 @@ fn text_of(
     shapes: &[Shape],
     list: &[Entry],
     faulty: bool,
-    verdict: &[u8],
+    ending: &[u8],
 ) -> Result<Vec<u8>, AllocError>
     requires few { length list.now ≤ most_entries }
     requires shapes { length shapes.now ≡ site_count plan.now }
     ensures { IfOk result
-        (λ text. text.items ≡ text_of plan.now shapes.now list.now faulty verdict.now) }
+        (λ text. text.items ≡ text_of plan.now shapes.now list.now faulty ending.now) }
 {
     let lanes = lanes_of(alloc, plan, list)?;
     let strip = strip_of(alloc, plan, list)?;
@@ -62,7 +81,7 @@ fn text_of(
         alloc, &mut text, &board, shapes, list, &lanes, &strip, faulty,
     )?;
     let mut bytes = text.into_bytes();
-    bytes.extend_from_slice(verdict)?;
+    bytes.extend_from_slice(ending)?;
     Ok(bytes)
 }
 

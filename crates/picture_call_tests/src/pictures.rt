@@ -360,6 +360,7 @@ base
 
 reg registers a site, req requests harts, unreg unregisters the site
 unm unmet wishes, idl idle harts, ! a child of the base has an unmet wish while a hart is idle
+at the end: s2 was skipped, but the program enters it
 illegal: entry 5, s2 is skipped
 ";
 
@@ -395,6 +396,7 @@ base
 
 reg registers a site, req requests harts, unreg unregisters the site
 unm unmet wishes, idl idle harts, ! a child of the base has an unmet wish while a hart is idle
+entry 3: h1 register s4: the hart is in s0, not in s1
 illegal: entry 3, owner is s0
 ";
 
@@ -453,7 +455,8 @@ const ILLEGAL_SVG: &[u8] =
 <text x='284' y='219'>1</text>
 <text x='284' y='233'>1</text>
 <path d='M344 116v88' stroke='#b00020' stroke-width='3' stroke-dasharray='6 3'/>
-<text x='344' y='100' fill='#b00020' font-weight='bold'>fault</text>
+<text x='344' y='100' fill='#b00020' font-weight='bold'>fault<title>entry 3: h1 register s4: the hart is in s0, not in s1</title></text>
+<text x='260' y='72' fill='#b00020' font-weight='bold' text-anchor='start'>entry 3: h1 register s4: the hart is in s0, not in s1</text>
 <text x='16' y='52' font-size='14' text-anchor='start'>illegal: entry 3, owner is s0
 </text>
 </svg>
@@ -491,6 +494,38 @@ illegal: line 1 differs
 #[test]
 fn arrays_that_differ_are_reported_below_the_journal(rt: HostRuntime) -> Result<(), Fail> {
     serve(&rt, TEXT, DIFFERING, Status::Illegal, DIFFERING_TEXT, b"")
+}
+
+// The array line is wrong, and hart 1 enters without a wish.
+const BOTH: &[u8] = b"array a[1]; par { { a[0] = 1; } }
+%%
+a = 2
+transfers 2
+0 h0 register s1 under s0
+1 h1 enter s1
+";
+
+const BOTH_TEXT: &[u8] = b"    entry     0 fault
+            reg
+             h0
+             s1
+h0   base    s1
+h1   base  base
+unm     0     0
+idl     1     1
+
+base
+  s1 pool, line 1, home h0, not ended
+
+reg registers a site, req requests harts, unreg unregisters the site
+unm unmet wishes, idl idle harts, ! a child of the base has an unmet wish while a hart is idle
+entry 1: h1 enter s1: no wish
+illegal: line 1 differs
+";
+
+#[test]
+fn arrays_that_differ_and_a_fault_are_both_reported(rt: HostRuntime) -> Result<(), Fail> {
+    serve(&rt, TEXT, BOTH, Status::Illegal, BOTH_TEXT, b"")
 }
 
 // A program without sites, whose journal has no entries.

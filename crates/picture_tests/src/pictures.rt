@@ -56,6 +56,7 @@ base
 
 reg registers a site, req requests harts, unreg unregisters the site
 unm unmet wishes, idl idle harts, ! a child of the base has an unmet wish while a hart is idle
+at the end: s2 was skipped, but the program enters it
 illegal: entry 4, s2 is skipped
 ";
 
@@ -94,6 +95,7 @@ base
 
 reg registers a site, req requests harts, unreg unregisters the site
 unm unmet wishes, idl idle harts, ! a child of the base has an unmet wish while a hart is idle
+entry 3: h1 register s3: the hart is in s0, not in s1
 illegal: entry 3, owner is s0
 ";
 
@@ -350,7 +352,8 @@ const FAULTY_SVG: &[u8] =
 <text x='284' y='219'>1</text>
 <text x='284' y='233'>1</text>
 <path d='M344 116v88' stroke='#b00020' stroke-width='3' stroke-dasharray='6 3'/>
-<text x='344' y='100' fill='#b00020' font-weight='bold'>fault</text>
+<text x='344' y='100' fill='#b00020' font-weight='bold'>fault<title>entry 3: h1 register s3: the hart is in s0, not in s1</title></text>
+<text x='260' y='72' fill='#b00020' font-weight='bold' text-anchor='start'>entry 3: h1 register s3: the hart is in s0, not in s1</text>
 <text x='16' y='52' font-size='14' text-anchor='start'>illegal: entry 3, owner is s0
 </text>
 </svg>

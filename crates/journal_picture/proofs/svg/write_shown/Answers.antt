@@ -14,5 +14,5 @@ returns c =
     let third = string_bytes c.push_str.new.self in
     let frame : first ≡ old ++ frame_svg b.plan (length es) = search rules in
     on_three c.push_str.result old first second third (frame_svg b.plan (length es))
-    (picture_svg b.plan b.state c.args.shapes.now es c.args.faulty) verdict_start frame c.in_ok-write_picture.ensures
+    (picture_svg b.plan b.state c.args.shapes.now es c.args.faulty c.args.words.now) verdict_start frame c.in_ok-write_picture.ensures
     (on_pushed c.push_str.result third second verdict_start c.push_str.ensures.bytes)
