@@ -4,5 +4,6 @@ pub mod Turns
 pub mod Written
 pub mod StripHolds
 pub mod FaultsHold
+pub mod Visited
 pub mod EscapedHolds
 pub mod Wishes

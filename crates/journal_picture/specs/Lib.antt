@@ -2,6 +2,7 @@ pub mod Stays
 pub mod Drawn
 pub mod Faults
 pub mod Strip
+pub mod Visits
 pub mod TextPicture
 pub mod Scale
 pub mod SvgBars

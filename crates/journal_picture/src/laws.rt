@@ -3,6 +3,7 @@
 //! and `specs/Faults.antt`.
 ghost use Rattle.journal_picture.specs.Laws.{EscapedHasNoMarkup, OneStayAtEachPlace, StaysFollowOneAnother, GuestsAreWithTheHome};
 ghost use Rattle.journal_picture.specs.Faults.{FaultHasItsReason, FaultIsIncomplete};
+ghost use Rattle.journal_picture.specs.Visits.{GuestsAreAtMost, GuestsAreReached, MetWishesEntered};
 ghost use Rattle.journal_picture.specs.Strip.{RedIsMissed, StripHasFigures};
 
 /// At each place up to which a list is legal each hart is in exactly one of its stays, and that is at the site that holds it.
@@ -44,4 +45,19 @@ pub fn fault_is_incomplete()
 /// list.
 pub fn fault_has_its_reason()
     ensures { FaultHasItsReason }
+{}
+
+/// As far as a list is legal, a site has in each state at most the guests of the table of sites.
+pub fn guests_are_at_most()
+    ensures { GuestsAreAtMost }
+{}
+
+/// A legal list has a place at which a site has the guests of the table of sites.
+pub fn guests_are_reached()
+    ensures { GuestsAreReached }
+{}
+
+/// Of a legal list, the requested and the met wishes of a site are as many as its entries say.
+pub fn met_wishes_entered()
+    ensures { MetWishesEntered }
 {}

@@ -21,6 +21,7 @@ mod strip;
 mod svg;
 mod text;
 mod tree;
+mod visits;
 mod words;
 
 pub use shape::{Kind, Shape};
@@ -28,3 +29,4 @@ pub use stay::{Stay, stays_of};
 pub use strip::{Figures, strip_of};
 pub use svg::svg_picture;
 pub use text::text_picture;
+pub use visits::{Visits, visits_of};

@@ -12,6 +12,7 @@ use crate::lanes::{Lane, lanes_of};
 use crate::shape::Shape;
 use crate::strip::{Figures, strip_of};
 use crate::tree::write_tree;
+use crate::visits::{Visits, visits_of};
 use crate::words::{site_name, write_cell, write_name};
 use std::alloc::{AllocError, Global};
 use transfer_table::{Board, Entry, Fault, Plan, first_fault};
@@ -75,10 +76,11 @@ fn text_of(
 {
     let lanes = lanes_of(alloc, plan, list)?;
     let strip = strip_of(alloc, plan, list)?;
+    let visits = visits_of(alloc, plan, list)?;
     let board = board_after(alloc, plan, list)?;
     let mut text = String::new(alloc);
     write_shown(
-        alloc, &mut text, &board, shapes, list, &lanes, &strip, faulty,
+        alloc, &mut text, &board, shapes, list, &lanes, &strip, &visits, faulty,
     )?;
     let mut bytes = text.into_bytes();
     bytes.extend_from_slice(ending)?;
@@ -94,17 +96,20 @@ fn write_shown(
     list: &[Entry],
     lanes: &[Lane],
     strip: &[Figures],
+    visits: &[Visits],
     faulty: bool,
 ) -> Result<(), AllocError>
     requires few { length list.now ≤ most_entries }
     requires shapes { length shapes.now ≡ site_count board.now.plan }
+    requires visits { length visits.now ≡ site_count board.now.plan }
     ensures { OnOk result (string_bytes text.new ≡ string_bytes text.old
-        ++ shown_text board.now.plan board.now.state shapes.now list.now lanes.now strip.now faulty) }
+        ++ shown_text board.now.plan board.now.state shapes.now list.now lanes.now strip.now
+        visits.now faulty) }
 {
     write_bands(alloc, text, list, lanes, strip, faulty)?;
-    write_tree(text, board, shapes)?;
+    write_tree(alloc, text, board, visits, shapes)?;
     text.push_str(
-        "\nreg registers a site, req requests harts, unreg unregisters the site\nunm unmet wishes, idl idle harts, ! a child of the base has an unmet wish while a hart is idle\n",
+        "\nreg registers a site, req requests harts, unreg unregisters the site\nunm unmet wishes, idl idle harts, ! a child of the base has an unmet wish while a hart is idle\nof sites: req requested harts, met and unmet wishes, guest most guests at once, made entries inside\n",
     )
 }
 

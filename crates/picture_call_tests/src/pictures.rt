@@ -142,14 +142,15 @@ h1     s1  base  base
 unm     0     0     0
 idl     0     1     1
 
-base
-  s1 pool, line 2, home h0
-    s2 team, line 5, home h0, unmet wishes 1
-    s3 team, line 5, home h0
-    s4 pool, line 9, home h1, unmet wishes 1
+   req   met unmet guest  made  base
+     1     1     0     1     7    s1 pool, line 2, home h0
+     1     0     1     0     2      s2 team, line 5, home h0
+     1     1     0     1     3      s3 team, line 5, home h0
+     1     0     1     0     2      s4 pool, line 9, home h1
 
 reg registers a site, req requests harts, unreg unregisters the site
 unm unmet wishes, idl idle harts, ! a child of the base has an unmet wish while a hart is idle
+of sites: req requested harts, met and unmet wishes, guest most guests at once, made entries inside
 legal 16
 ";
 
@@ -352,14 +353,15 @@ h1   base  base  base  base  base  base
 unm     0     0     0     0     0     0
 idl     1     1     1     1     1     1
 
-base
-  s1 pool, line 2, home h0
-    s2 team, line 5, skipped
-    s3 team, line 5, skipped
-    s4 pool, line 9, skipped
+   req   met unmet guest  made  base
+     0     0     0     0     4    s1 pool, line 2, home h0
+     0     0     0     0     0      s2 team, line 5, skipped
+     0     0     0     0     0      s3 team, line 5, skipped
+     0     0     0     0     0      s4 pool, line 9, skipped
 
 reg registers a site, req requests harts, unreg unregisters the site
 unm unmet wishes, idl idle harts, ! a child of the base has an unmet wish while a hart is idle
+of sites: req requested harts, met and unmet wishes, guest most guests at once, made entries inside
 at the end: s2 was skipped, but the program enters it
 illegal: entry 5, s2 is skipped
 ";
@@ -388,14 +390,15 @@ h1   base  base  base  base
 unm     0     0     1     1
 idl     1     1    !1    !1
 
-base
-  s1 pool, line 2, home h0, not ended, unmet wishes 1
-    s2 team, line 5, home h0, not ended
-    s3 team, line 5, not entered
-    s4 pool, line 9, not entered
+   req   met unmet guest  made  base
+     1     0     1     0     2    s1 pool, line 2, home h0, not ended
+     0     0     0     0     0      s2 team, line 5, home h0, not ended
+     0     0     0     0     0      s3 team, line 5, not entered
+     0     0     0     0     0      s4 pool, line 9, not entered
 
 reg registers a site, req requests harts, unreg unregisters the site
 unm unmet wishes, idl idle harts, ! a child of the base has an unmet wish while a hart is idle
+of sites: req requested harts, met and unmet wishes, guest most guests at once, made entries inside
 entry 3: h1 register s4: the hart is in s0, not in s1
 illegal: entry 3, owner is s0
 ";
@@ -484,10 +487,11 @@ h1   base
 unm     0
 idl     1
 
-base
+   req   met unmet guest  made  base
 
 reg registers a site, req requests harts, unreg unregisters the site
 unm unmet wishes, idl idle harts, ! a child of the base has an unmet wish while a hart is idle
+of sites: req requested harts, met and unmet wishes, guest most guests at once, made entries inside
 illegal: line 1 differs
 ";
 
@@ -514,11 +518,12 @@ h1   base  base
 unm     0     0
 idl     1     1
 
-base
-  s1 pool, line 1, home h0, not ended
+   req   met unmet guest  made  base
+     0     0     0     0     0    s1 pool, line 1, home h0, not ended
 
 reg registers a site, req requests harts, unreg unregisters the site
 unm unmet wishes, idl idle harts, ! a child of the base has an unmet wish while a hart is idle
+of sites: req requested harts, met and unmet wishes, guest most guests at once, made entries inside
 entry 1: h1 enter s1: no wish
 illegal: line 1 differs
 ";
@@ -539,10 +544,11 @@ h0   base
 unm     0
 idl     0
 
-base
+   req   met unmet guest  made  base
 
 reg registers a site, req requests harts, unreg unregisters the site
 unm unmet wishes, idl idle harts, ! a child of the base has an unmet wish while a hart is idle
+of sites: req requested harts, met and unmet wishes, guest most guests at once, made entries inside
 legal 0
 ";
 

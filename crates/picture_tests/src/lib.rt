@@ -11,3 +11,5 @@ mod many;
 mod pictures;
 #[cfg(test)]
 mod stays;
+#[cfg(test)]
+mod visits;

@@ -110,6 +110,6 @@ fn the_longest_journal_as_text(rt: HostRuntime) -> Result<(), Fail> {
     let all = all(alloc, 4095)?;
     assert_eq!(rt; all.len(), plan.sites() as usize);
     let text = text_picture(alloc, &plan, &all, &shapes, &list, b"legal 45045\n")?;
-    assert_eq!(rt; text.len(), 3_149_643);
+    assert_eq!(rt; text.len(), 3_280_815);
     Ok(())
 }

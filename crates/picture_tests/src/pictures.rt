@@ -12,11 +12,12 @@ h1   base  base  base    s1  base  base
 unm     0     0     1     0     0     0
 idl     1     1    !1     0     1     1
 
-base
-  s1 pool, line 3, home h0
+   req   met unmet guest  made  base
+     1     1     0     1     3    s1 pool, line 3, home h0
 
 reg registers a site, req requests harts, unreg unregisters the site
 unm unmet wishes, idl idle harts, ! a child of the base has an unmet wish while a hart is idle
+of sites: req requested harts, met and unmet wishes, guest most guests at once, made entries inside
 legal 5
 ";
 
@@ -30,13 +31,14 @@ h1   base  base  base  base  base    s1    s3    s3    s1    s1  base  base
 unm     0     0     1     1     2     1     1     2     1     0     0     0
 idl     1     1    !1    !1    !1     0     0     0     0     0     1     1
 
-base
-  s1 pool, line 4, home h0
-    s2 team, line 6, home h0, unmet wishes 1
-    s3 pool, line 10, home h1, unmet wishes 1
+   req   met unmet guest  made  base
+     1     1     0     1     5    s1 pool, line 4, home h0
+     1     0     1     0     2      s2 team, line 6, home h0
+     1     0     1     0     2      s3 pool, line 10, home h1
 
 reg registers a site, req requests harts, unreg unregisters the site
 unm unmet wishes, idl idle harts, ! a child of the base has an unmet wish while a hart is idle
+of sites: req requested harts, met and unmet wishes, guest most guests at once, made entries inside
 legal 11
 ";
 
@@ -49,13 +51,14 @@ h1   base  base  base  base  base
 unm     0     0     0     0     0
 idl     1     1     1     1     1
 
-base
-  s1 pool, line 4, home h0
-    s2 team, line 6, skipped
-    s3 pool, line 10, skipped
+   req   met unmet guest  made  base
+     0     0     0     0     3    s1 pool, line 4, home h0
+     0     0     0     0     0      s2 team, line 6, skipped
+     0     0     0     0     0      s3 pool, line 10, skipped
 
 reg registers a site, req requests harts, unreg unregisters the site
 unm unmet wishes, idl idle harts, ! a child of the base has an unmet wish while a hart is idle
+of sites: req requested harts, met and unmet wishes, guest most guests at once, made entries inside
 at the end: s2 was skipped, but the program enters it
 illegal: entry 4, s2 is skipped
 ";
@@ -69,13 +72,14 @@ h1   base  base  base  base  base
 unm     0     0     0     0     0
 idl     1     1     1     1     1
 
-base
-  s1 pool, line 4, home h0
-    s2 team, line 6, skipped
-    s3 pool, line 10, skipped
+   req   met unmet guest  made  base
+     0     0     0     0     3    s1 pool, line 4, home h0
+     0     0     0     0     0      s2 team, line 6, skipped
+     0     0     0     0     0      s3 pool, line 10, skipped
 
 reg registers a site, req requests harts, unreg unregisters the site
 unm unmet wishes, idl idle harts, ! a child of the base has an unmet wish while a hart is idle
+of sites: req requested harts, met and unmet wishes, guest most guests at once, made entries inside
 legal 4
 ";
 
@@ -88,13 +92,14 @@ h1   base  base  base  base
 unm     0     0     1     1
 idl     1     1    !1    !1
 
-base
-  s1 pool, line 4, home h0, not ended, unmet wishes 1
-    s2 team, line 6, home h0, not ended
-    s3 pool, line 10, not entered
+   req   met unmet guest  made  base
+     1     0     1     0     2    s1 pool, line 4, home h0, not ended
+     0     0     0     0     0      s2 team, line 6, home h0, not ended
+     0     0     0     0     0      s3 pool, line 10, not entered
 
 reg registers a site, req requests harts, unreg unregisters the site
 unm unmet wishes, idl idle harts, ! a child of the base has an unmet wish while a hart is idle
+of sites: req requested harts, met and unmet wishes, guest most guests at once, made entries inside
 entry 3: h1 register s3: the hart is in s0, not in s1
 illegal: entry 3, owner is s0
 ";
