@@ -7,5 +7,6 @@ pub mod TextPicture
 pub mod Scale
 pub mod SvgBars
 pub mod SvgMarks
+pub mod SvgTable
 pub mod SvgPicture
 pub mod Laws

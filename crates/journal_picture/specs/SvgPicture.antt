@@ -12,6 +12,9 @@ use Rattle.journal_picture.specs.Drawn.{drawn, has_fault, state_after}
 use Rattle.journal_picture.specs.Faults.{words_of}
 use Rattle.journal_picture.specs.Scale.{rows_of, rows_bottom, step_of, width_of}
 use Rattle.journal_picture.specs.SvgBars.{base_fill, kind_fill, lanes_svg, rect_text}
+use Rattle.journal_picture.specs.declared.visits.Visits.{Visits}
+use Rattle.journal_picture.specs.SvgTable.{table_height, table_svg}
+use Rattle.journal_picture.specs.Visits.{visits_of}
 use Rattle.journal_picture.specs.SvgMarks.{fault_svg, mark_svg, marks_text, red, rows_svg, strip_svg, ticks_text}
 
 -- ---- the frame
@@ -24,7 +27,7 @@ head_of width height =
     codes "' font-family='Helvetica, Arial, sans-serif' font-size='11' text-anchor='middle'>\n<rect width='100%' height='100%' fill='#ffffff'/>\n" ∷ [])
 
 abbrev pub head_svg : Plan → ℕ → List ℕ
-head_svg p end = head_of (width_of end) (rows_bottom p end + 76)
+head_svg p end = head_of (width_of end) (rows_bottom p end + 76 + table_height (site_count p))
 
 unfoldable pub title_of : ℕ → ℕ → ℕ → List ℕ
 title_of harts sites entries =
@@ -121,13 +124,14 @@ abbrev pub picture_svg : Plan → TableState → List Shape → List Entry → B
 picture_svg p t shapes es faulty words =
     under_svg p es ++ lanes_svg p shapes es 0 p.harts ++ over_svg p t es faulty words
 
-unfoldable pub shown_svg : Plan → TableState → List Shape → List Entry → Bool → List ℕ → List ℕ
-shown_svg p t shapes es faulty words =
-    frame_svg p (length es) ++ picture_svg p t shapes es faulty words ++ verdict_start
+unfoldable pub shown_svg : Plan → TableState → List Visits → List Shape → List Entry → Bool → List ℕ → List ℕ
+shown_svg p t vs shapes es faulty words =
+    frame_svg p (length es) ++ picture_svg p t shapes es faulty words
+    ++ table_svg p t vs shapes (rows_bottom p (length es) + 90) ++ verdict_start
 
 abbrev pub svg_of : Plan → List Shape → List Entry → Bool → List ℕ → List ℕ → List ℕ
 svg_of p shapes es faulty words verdict =
-    shown_svg p (state_after p es) shapes es faulty words ++ end_svg verdict
+    shown_svg p (state_after p es) (visits_of p es) shapes es faulty words ++ end_svg verdict
 
 abbrev pub svg_picture : Plan → List Bool → List Shape → List Entry → List ℕ → List ℕ
 svg_picture p meant shapes es verdict =

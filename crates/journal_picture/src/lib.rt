@@ -19,6 +19,7 @@ mod shape;
 mod stay;
 mod strip;
 mod svg;
+mod table;
 mod text;
 mod tree;
 mod visits;

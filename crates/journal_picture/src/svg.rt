@@ -10,6 +10,8 @@ use crate::faults::words_of;
 use crate::marks::{write_fault, write_marks, write_strip};
 use crate::scale::{rows_bottom, rows_of, step_of, width_of};
 use crate::shape::{Kind, Shape};
+use crate::table::{table_height, write_table};
+use crate::visits::{Visits, visits_of};
 use std::alloc::{AllocError, Global};
 use transfer_table::{Board, Entry, Plan, first_fault};
 
@@ -18,7 +20,7 @@ use transfer_table::{Board, Entry, Plan, first_fault};
 /// most 65,535 entries. Which sites are meant to be entered is a truth value for each, that of site `s` at index `s - 1`.
 ///
 /// The places stand in rows of at most 1,500 units. A picture has at most 32 rows: if there are more, the first 16 and the last 16
-/// are shown, and the picture says so.
+/// are shown, and the picture says so. The table of sites below lists at most 40: if there are more, the first 20 and the last 20.
 ///
 /// # Errors
 ///
@@ -65,8 +67,11 @@ fn svg_of(
         (λ text. text.items ≡ svg_of plan.now shapes.now list.now faulty words.now verdict.now) }
 {
     let board = board_after(alloc, plan, list)?;
+    let visits = visits_of(alloc, plan, list)?;
     let mut text = String::new(alloc);
-    write_shown(alloc, &mut text, &board, shapes, list, faulty, words)?;
+    write_shown(
+        alloc, &mut text, &board, &visits, shapes, list, faulty, words,
+    )?;
     ended(text.into_bytes(), verdict)
 }
 
@@ -107,17 +112,22 @@ fn write_shown(
     alloc: Global,
     text: &mut String,
     board: &Board,
+    visits: &[Visits],
     shapes: &[Shape],
     list: &[Entry],
     faulty: bool,
     words: &str,
 ) -> Result<(), AllocError>
-    requires { length list.now ≤ most_entries }
+    requires few { length list.now ≤ most_entries }
+    requires visits { length visits.now ≡ site_count board.now.plan }
     ensures { OnOk result (string_bytes text.new ≡ string_bytes text.old
-        ++ shown_svg board.now.plan board.now.state shapes.now list.now faulty words.now) }
+        ++ shown_svg board.now.plan board.now.state visits.now shapes.now list.now faulty
+        words.now) }
 {
     write_frame(text, board.plan(), list.len())?;
     write_picture(alloc, text, board, shapes, list, faulty, words)?;
+    let top = rows_bottom(board.plan(), list.len()) + 90;
+    write_table(alloc, text, board, visits, shapes, top)?;
     text.push_str("<text x='16' y='52' font-size='14' text-anchor='start'>")
 }
 
@@ -211,7 +221,8 @@ fn write_head(text: &mut String, plan: &Plan, end: usize) -> Result<(), AllocErr
     requires { end ≤ most_entries }
     ensures { OnOk result (string_bytes text.new ≡ string_bytes text.old ++ head_svg plan.now end) }
 {
-    write_head_of(text, width_of(end), rows_bottom(plan, end) + 76)
+    let height = rows_bottom(plan, end) + 76 + table_height(plan.sites());
+    write_head_of(text, width_of(end), height)
 }
 
 // Adds the head of a picture of this size.

@@ -125,8 +125,12 @@ pub(crate) fn depth_of(plan: &Plan, site: u16) -> u16
     depth
 }
 
-// Adds what became of a site.
-fn write_fate(text: &mut String, stage: Stage, home: Option<u8>) -> Result<(), AllocError>
+/// Adds what became of a site.
+pub(crate) fn write_fate(
+    text: &mut String,
+    stage: Stage,
+    home: Option<u8>,
+) -> Result<(), AllocError>
     ensures { OnOk result (string_bytes text.new ≡ string_bytes text.old ++ fate_text stage home) }
 {
     match stage {

@@ -5,7 +5,7 @@ use std::alloc::{AllocError, Global};
 use std::test::Fail;
 
 const FIRST_SVG: &[u8] =
-    b"<svg xmlns='http://www.w3.org/2000/svg' version='1.1' width='700' height='336' viewBox='0 0 700 336' font-family='Helvetica, Arial, sans-serif' font-size='11' text-anchor='middle'>
+    b"<svg xmlns='http://www.w3.org/2000/svg' version='1.1' width='700' height='390' viewBox='0 0 700 390' font-family='Helvetica, Arial, sans-serif' font-size='11' text-anchor='middle'>
 <rect width='100%' height='100%' fill='#ffffff'/>
 <text x='16' y='30' font-size='19' font-weight='bold' text-anchor='start'>Lithe, harts 2, sites 1, entries 5</text>
 <text x='56' y='72' text-anchor='start'>entries in order, not time</text>
@@ -73,6 +73,8 @@ const FIRST_SVG: &[u8] =
 <text x='356' y='233'>1</text>
 <text x='428' y='219'>0</text>
 <text x='428' y='233'>1</text>
+<text y='350' font-weight='bold'><tspan x='86'>requested</tspan><tspan x='146'>met</tspan><tspan x='196'>unmet</tspan><tspan x='266'>most guests</tspan><tspan x='366'>entries inside</tspan><tspan x='426' text-anchor='start'>site</tspan></text>
+<text y='368'><tspan x='86'>1</tspan><tspan x='146'>1</tspan><tspan x='196'>0</tspan><tspan x='266'>1</tspan><tspan x='366'>3</tspan><tspan x='426' text-anchor='start'>s1, pool, line 3, home h0</tspan></text>
 <text x='16' y='52' font-size='14' text-anchor='start'>legal 5
 </text>
 </svg>
@@ -155,7 +157,7 @@ legal 16
 ";
 
 const NESTED_SVG: &[u8] =
-    b"<svg xmlns='http://www.w3.org/2000/svg' version='1.1' width='1336' height='336' viewBox='0 0 1336 336' font-family='Helvetica, Arial, sans-serif' font-size='11' text-anchor='middle'>
+    b"<svg xmlns='http://www.w3.org/2000/svg' version='1.1' width='1336' height='444' viewBox='0 0 1336 444' font-family='Helvetica, Arial, sans-serif' font-size='11' text-anchor='middle'>
 <rect width='100%' height='100%' fill='#ffffff'/>
 <text x='16' y='30' font-size='19' font-weight='bold' text-anchor='start'>Lithe, harts 2, sites 4, entries 16</text>
 <text x='56' y='72' text-anchor='start'>entries in order, not time</text>
@@ -311,6 +313,11 @@ const NESTED_SVG: &[u8] =
 <text x='1148' y='233'>1</text>
 <text x='1220' y='219'>0</text>
 <text x='1220' y='233'>1</text>
+<text y='350' font-weight='bold'><tspan x='86'>requested</tspan><tspan x='146'>met</tspan><tspan x='196'>unmet</tspan><tspan x='266'>most guests</tspan><tspan x='366'>entries inside</tspan><tspan x='426' text-anchor='start'>site</tspan></text>
+<text y='368'><tspan x='86'>1</tspan><tspan x='146'>1</tspan><tspan x='196'>0</tspan><tspan x='266'>1</tspan><tspan x='366'>7</tspan><tspan x='426' text-anchor='start'>s1, pool, line 2, home h0</tspan></text>
+<text y='386'><tspan x='86'>1</tspan><tspan x='146'>0</tspan><tspan x='196'>1</tspan><tspan x='266'>0</tspan><tspan x='366'>2</tspan><tspan x='426' text-anchor='start'>s2, team, line 5, in s1, home h0</tspan></text>
+<text y='404'><tspan x='86'>1</tspan><tspan x='146'>1</tspan><tspan x='196'>0</tspan><tspan x='266'>1</tspan><tspan x='366'>3</tspan><tspan x='426' text-anchor='start'>s3, team, line 5, in s1, home h0</tspan></text>
+<text y='422'><tspan x='86'>1</tspan><tspan x='146'>0</tspan><tspan x='196'>1</tspan><tspan x='266'>0</tspan><tspan x='366'>2</tspan><tspan x='426' text-anchor='start'>s4, pool, line 9, in s1, home h1</tspan></text>
 <text x='16' y='52' font-size='14' text-anchor='start'>legal 16
 </text>
 </svg>
@@ -404,7 +411,7 @@ illegal: entry 3, owner is s0
 ";
 
 const ILLEGAL_SVG: &[u8] =
-    b"<svg xmlns='http://www.w3.org/2000/svg' version='1.1' width='700' height='336' viewBox='0 0 700 336' font-family='Helvetica, Arial, sans-serif' font-size='11' text-anchor='middle'>
+    b"<svg xmlns='http://www.w3.org/2000/svg' version='1.1' width='700' height='444' viewBox='0 0 700 444' font-family='Helvetica, Arial, sans-serif' font-size='11' text-anchor='middle'>
 <rect width='100%' height='100%' fill='#ffffff'/>
 <text x='16' y='30' font-size='19' font-weight='bold' text-anchor='start'>Lithe, harts 2, sites 4, entries 3</text>
 <text x='56' y='72' text-anchor='start'>entries in order, not time</text>
@@ -460,6 +467,11 @@ const ILLEGAL_SVG: &[u8] =
 <path d='M344 116v88' stroke='#b00020' stroke-width='3' stroke-dasharray='6 3'/>
 <text x='344' y='100' fill='#b00020' font-weight='bold'>fault<title>entry 3: h1 register s4: the hart is in s0, not in s1</title></text>
 <text x='260' y='72' fill='#b00020' font-weight='bold' text-anchor='start'>entry 3: h1 register s4: the hart is in s0, not in s1</text>
+<text y='350' font-weight='bold'><tspan x='86'>requested</tspan><tspan x='146'>met</tspan><tspan x='196'>unmet</tspan><tspan x='266'>most guests</tspan><tspan x='366'>entries inside</tspan><tspan x='426' text-anchor='start'>site</tspan></text>
+<text y='368'><tspan x='86'>1</tspan><tspan x='146'>0</tspan><tspan x='196'>1</tspan><tspan x='266'>0</tspan><tspan x='366'>2</tspan><tspan x='426' text-anchor='start'>s1, pool, line 2, home h0, not ended</tspan></text>
+<text y='386'><tspan x='86'>0</tspan><tspan x='146'>0</tspan><tspan x='196'>0</tspan><tspan x='266'>0</tspan><tspan x='366'>0</tspan><tspan x='426' text-anchor='start'>s2, team, line 5, in s1, home h0, not ended</tspan></text>
+<text y='404'><tspan x='86'>0</tspan><tspan x='146'>0</tspan><tspan x='196'>0</tspan><tspan x='266'>0</tspan><tspan x='366'>0</tspan><tspan x='426' text-anchor='start'>s3, team, line 5, in s1, not entered</tspan></text>
+<text y='422'><tspan x='86'>0</tspan><tspan x='146'>0</tspan><tspan x='196'>0</tspan><tspan x='266'>0</tspan><tspan x='366'>0</tspan><tspan x='426' text-anchor='start'>s4, pool, line 9, in s1, not entered</tspan></text>
 <text x='16' y='52' font-size='14' text-anchor='start'>illegal: entry 3, owner is s0
 </text>
 </svg>
