@@ -3,5 +3,7 @@ pub mod LawsHold
 pub mod Turns
 pub mod Written
 pub mod StripHolds
+pub mod FaultsHold
+pub mod Visited
 pub mod EscapedHolds
 pub mod Wishes

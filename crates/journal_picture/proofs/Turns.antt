@@ -14,6 +14,8 @@ use Rattle.journal_picture.specs.declared.strip.Figures.{Figures}
 use Rattle.journal_picture.specs.Scale.{lane_y}
 use Rattle.journal_picture.specs.SvgBars.{bars_text, lanes_svg, part_text, parts_text}
 use Rattle.journal_picture.specs.SvgMarks.{figures_svg, hart_at, harts_svg, row_names, rows_svg, strip_svg}
+use Rattle.journal_picture.specs.declared.visits.Visits.{Visits}
+use Rattle.journal_picture.specs.SvgTable.{listed_row, rows_from}
 use Rattle.journal_picture.specs.TextPicture.{band_text, bands_text, cell, lanes_of, numbers_text, sites_of, steps_up}
 
 -- what a function of what is left gives, where one more is left
@@ -72,3 +74,7 @@ parts_more p shapes end stay row n i lt =
 pub strip_more : (p : Plan) (end : ℕ) (t : TableState) (i : ℕ) (es : List Entry) (other : Entry) → i < length es
     → strip_svg p end t i (drop i es) ≡ figures_svg p end t i ++ strip_svg p end (or_same t (admit_of p t (get_or es i other))) (i + 1) (drop (i + 1) es)
 strip_more p end t i es other lt = ap (strip_svg p end t i) (drop_more es i other lt)
+
+pub rows_from_more : (p : Plan) (t : TableState) (vs : List Visits) (shapes : List Shape) (top s n i : ℕ) → i < n
+    → rows_from p t vs shapes top s (n - i) ≡ listed_row p t vs shapes top s ++ rows_from p t vs shapes top (s + 1) (n - (i + 1))
+rows_from_more p t vs shapes top s n i lt = one_more (λ k. rows_from p t vs shapes top s k) n i lt

@@ -1,9 +1,12 @@
 pub mod Stays
 pub mod Drawn
+pub mod Faults
 pub mod Strip
+pub mod Visits
 pub mod TextPicture
 pub mod Scale
 pub mod SvgBars
 pub mod SvgMarks
+pub mod SvgTable
 pub mod SvgPicture
 pub mod Laws

@@ -1,6 +1,6 @@
 -- What stands around the bars: the names of the lanes, the axis, the marks of requests, unmet wishes and skips, the strip, and the
 -- fault.
-use Rattle.std.specs.Prelude.{ℕ, zero, suc, ◌+◌, ◌*◌, ◌%◌, ◌==◌, nat_lt, Bool, true, false, if◌then◌else◌, List, [], ◌∷◌, ◌++◌, codes}
+use Rattle.std.specs.Prelude.{ℕ, zero, suc, ◌+◌, ◌*◌, ◌%◌, ◌==◌, nat_le, nat_lt, Bool, true, false, if◌then◌else◌, List, [], ◌∷◌, ◌++◌, codes}
 use Rattle.std.specs.List.{concat}
 use Rattle.std.specs.Fmt.{decimal}
 use Rattle.transfer_table.specs.Plan.{Plan}
@@ -10,8 +10,9 @@ use Rattle.transfer_table.specs.declared.entry.Entry.{Entry}
 use Rattle.transfer_table.specs.declared.entry.Entry.TheVariants.{Register, Request, Enter, Yield, Unregister, Skip}
 use Rattle.journal_picture.specs.declared.strip.Figures.{Figures}
 use Rattle.journal_picture.specs.Drawn.{or_same}
+use Rattle.journal_picture.specs.Faults.{entry_words}
 use Rattle.journal_picture.specs.Strip.{figures_of}
-use Rattle.journal_picture.specs.Scale.{step_of, row_of, is_shown, entry_x, place_x, row_y, lane_y, every}
+use Rattle.journal_picture.specs.Scale.{step_of, row_of, rows_of, is_shown, entry_x, place_x, row_y, lane_y, every}
 use Rattle.journal_picture.specs.SvgBars.{rect_text}
 use Rattle.journal_picture.specs.TextPicture.{deed}
 
@@ -95,23 +96,6 @@ ticks_text p end k (e ∷ es) = tick_text p end k e ++ ticks_text p end (k + 1) 
 
 -- ---- marks on the lanes, each with the entry as its title: words where there is room, else a line
 
-abbrev pub verb : Entry → List ℕ
-verb (Register h s) = codes "register"
-verb (Request h s k) = codes "request"
-verb (Enter h s) = codes "enter"
-verb (Yield h s) = codes "yield"
-verb (Unregister h s) = codes "unregister"
-verb (Skip h s) = codes "skip"
-
--- An entry in words.
-abbrev pub entry_by : ℕ → ℕ → List ℕ → ℕ → List ℕ
-entry_by k h does s =
-    concat (codes "entry " ∷ decimal k ∷ codes ": h" ∷ decimal h ∷ codes " " ∷ does ∷ codes " s" ∷
-    decimal s ∷ [])
-
-abbrev pub entry_words : ℕ → Entry → List ℕ
-entry_words k e = entry_by k (hart_of e) (verb e) (site_of e)
-
 unfoldable pub titled_svg : ℕ → ℕ → List ℕ → List ℕ → List ℕ
 titled_svg x y words title =
     concat (codes "<text x='" ∷ decimal x ∷ codes "' y='" ∷ decimal y ∷ codes "'>" ∷ words ∷
@@ -148,7 +132,7 @@ abbrev pub mark_text : Plan → ℕ → ℕ → Entry → List ℕ → List ℕ
 mark_text p end k e words =
     if is_shown end (row_of end k) then shown_mark p end k e words else []
 
--- The wishes of a site that nobody met; 0 for what is no site.
+-- The unmet wishes of a site; 0 if the plan has no such site.
 abbrev pub unmet_at : Plan → TableState → ℕ → ℕ
 unmet_at p t s = if no_such_site p s then 0 else (row t s).wishes
 
@@ -156,7 +140,7 @@ abbrev pub unmet_mark : Plan → ℕ → ℕ → Entry → ℕ → List ℕ
 unmet_mark p end k e wishes =
     if wishes == 0 then [] else mark_text p end k e (decimal wishes ++ codes " unmet")
 
--- The marks of an entry: how many harts it requests, how many wishes of its site nobody met, or which site it skips.
+-- The mark of an entry: how many harts it requests, how many wishes of its site are unmet, or which site it skips.
 abbrev pub entry_mark : Plan → TableState → ℕ → ℕ → Entry → List ℕ
 entry_mark p t end k (Request h s count) =
     mark_text p end k (Request h s count) (codes "+" ++ decimal count)
@@ -212,13 +196,24 @@ fault_line x upper height =
     concat (codes "<path d='M" ∷ decimal x ∷ codes " " ∷ decimal upper ∷ codes "v" ∷ decimal height ∷
     codes "' stroke='#b00020' stroke-width='3' stroke-dasharray='6 3'/>\n" ∷ [])
 
-unfoldable pub fault_word : ℕ → ℕ → List ℕ
-fault_word x y =
+unfoldable pub fault_word : ℕ → ℕ → List ℕ → List ℕ
+fault_word x y words =
     concat (codes "<text x='" ∷ decimal x ∷ codes "' y='" ∷ decimal y ∷
-    codes "' fill='#b00020' font-weight='bold'>fault</text>\n" ∷ [])
+    codes "' fill='#b00020' font-weight='bold'>fault<title>" ∷ words ∷ codes "</title></text>\n" ∷ [])
 
-abbrev pub fault_svg : Plan → ℕ → Bool → List ℕ
-fault_svg p end false = []
-fault_svg p end true =
+-- The fault's words below the verdict. They stand behind the axis's note, and behind that of the rows if there is one.
+unfoldable pub fault_note : ℕ → List ℕ → List ℕ
+fault_note x words =
+    concat (codes "<text x='" ∷ decimal x ∷
+    codes "' y='72' fill='#b00020' font-weight='bold' text-anchor='start'>" ∷ words ∷
+    codes "</text>\n" ∷ [])
+
+abbrev pub fault_x : ℕ → ℕ
+fault_x rows = if nat_le rows 32 then 260 else 560
+
+abbrev pub fault_svg : Plan → ℕ → Bool → List ℕ → List ℕ
+fault_svg p end false words = []
+fault_svg p end true words =
     fault_line (entry_x end end) (row_y p end (row_of end end) + 40) (44 * p.harts)
-    ++ fault_word (entry_x end end) (row_y p end (row_of end end) + 24)
+    ++ fault_word (entry_x end end) (row_y p end (row_of end end) + 24) words
+    ++ fault_note (fault_x (rows_of end)) words

@@ -4,12 +4,17 @@ use Rattle.std.specs.List.{concat, flat_map}
 use Rattle.std.specs.Fmt.{decimal}
 use Rattle.transfer_table.specs.Plan.{Plan, site_count}
 use Rattle.transfer_table.specs.Table.{TableState, first_state}
+use Rattle.transfer_table.specs.Journal.{first_fault_of}
 use Rattle.transfer_table.specs.declared.entry.Entry.{Entry}
 use Rattle.journal_picture.specs.declared.shape.Kind.TheVariants.{Pool, Team}
 use Rattle.journal_picture.specs.declared.shape.Shape.{Shape}
 use Rattle.journal_picture.specs.Drawn.{drawn, has_fault, state_after}
+use Rattle.journal_picture.specs.Faults.{words_of}
 use Rattle.journal_picture.specs.Scale.{rows_of, rows_bottom, step_of, width_of}
 use Rattle.journal_picture.specs.SvgBars.{base_fill, kind_fill, lanes_svg, rect_text}
+use Rattle.journal_picture.specs.declared.visits.Visits.{Visits}
+use Rattle.journal_picture.specs.SvgTable.{table_height, table_svg}
+use Rattle.journal_picture.specs.Visits.{visits_of}
 use Rattle.journal_picture.specs.SvgMarks.{fault_svg, mark_svg, marks_text, red, rows_svg, strip_svg, ticks_text}
 
 -- ---- the frame
@@ -22,7 +27,7 @@ head_of width height =
     codes "' font-family='Helvetica, Arial, sans-serif' font-size='11' text-anchor='middle'>\n<rect width='100%' height='100%' fill='#ffffff'/>\n" ∷ [])
 
 abbrev pub head_svg : Plan → ℕ → List ℕ
-head_svg p end = head_of (width_of end) (rows_bottom p end + 76)
+head_svg p end = head_of (width_of end) (rows_bottom p end + 76 + table_height (site_count p))
 
 unfoldable pub title_of : ℕ → ℕ → ℕ → List ℕ
 title_of harts sites entries =
@@ -62,8 +67,8 @@ site_swatches y =
 abbrev pub marks_note : ℕ → List ℕ
 marks_note step =
     if nat_lt step 40
-    then codes "a line: the home requests harts. a dot: wishes that nobody met. red and slanted: a skip."
-    else codes "+1: the home requests a hart. 1 unmet: a wish that nobody met. skip: a site that isn't entered."
+    then codes "a line: the home requests harts. a dot: wishes that no hart met. red and slanted: a skip."
+    else codes "+1: the home requests a hart. 1 unmet: a wish that no hart met. skip: a site that isn't entered."
 
 unfoldable pub words_svg : ℕ → ℕ → List ℕ → List ℕ
 words_svg first second note =
@@ -79,10 +84,10 @@ legend_svg step y =
     codes "<g text-anchor='start'>\n" ++ swatches_svg y
     ++ words_svg (y + 32) (y + 50) (marks_note step)
 
-abbrev pub told_start : List ℕ
-told_start = codes "<text x='16' y='52' font-size='14' text-anchor='start'>"
+abbrev pub verdict_start : List ℕ
+verdict_start = codes "<text x='16' y='52' font-size='14' text-anchor='start'>"
 
--- A byte of what is told, as XML has it. In place of what is no printable letter of ASCII and no line's end stands '?'.
+-- A byte of the verdict, as XML has it. In place of what is no printable letter of ASCII and no line's end stands '?'.
 abbrev pub escaped_byte : ℕ → List ℕ
 escaped_byte byte =
     if byte == 60 then codes "&lt;" else
@@ -91,10 +96,10 @@ escaped_byte byte =
     if nat_le 32 byte then (if nat_le byte 126 then byte ∷ [] else codes "?") else codes "?"
 
 abbrev pub escaped : List ℕ → List ℕ
-escaped told = flat_map escaped_byte told
+escaped verdict = flat_map escaped_byte verdict
 
 unfoldable pub end_svg : List ℕ → List ℕ
-end_svg told = escaped told ++ codes "</text>\n</svg>\n"
+end_svg verdict = escaped verdict ++ codes "</text>\n</svg>\n"
 
 -- Head, title and note, and the legend.
 abbrev pub frame_svg : Plan → ℕ → List ℕ
@@ -102,31 +107,33 @@ frame_svg p end =
     head_svg p end ++ title_svg p end ++ note_svg (rows_of end)
     ++ legend_svg (step_of end) (rows_bottom p end + 8)
 
--- ---- the whole, with a line that tells whether the list is legal
+-- ---- the whole, with the verdict's line
 
 -- What lies under the bars.
 abbrev pub under_svg : Plan → List Entry → List ℕ
 under_svg p es =
     rows_svg p (length es) 0 (rows_of (length es)) ++ ticks_text p (length es) 0 es
 
--- What lies over the bars.
-abbrev pub over_svg : Plan → TableState → List Entry → Bool → List ℕ
-over_svg p t es faulty =
+-- What lies over the bars, and the fault with its words.
+abbrev pub over_svg : Plan → TableState → List Entry → Bool → List ℕ → List ℕ
+over_svg p t es faulty words =
     marks_text p t (length es) 0 es ++ strip_svg p (length es) (first_state p) 0 es
-    ++ fault_svg p (length es) faulty
+    ++ fault_svg p (length es) faulty words
 
-abbrev pub picture_svg : Plan → TableState → List Shape → List Entry → Bool → List ℕ
-picture_svg p t shapes es faulty =
-    under_svg p es ++ lanes_svg p shapes es 0 p.harts ++ over_svg p t es faulty
+abbrev pub picture_svg : Plan → TableState → List Shape → List Entry → Bool → List ℕ → List ℕ
+picture_svg p t shapes es faulty words =
+    under_svg p es ++ lanes_svg p shapes es 0 p.harts ++ over_svg p t es faulty words
 
-unfoldable pub shown_svg : Plan → TableState → List Shape → List Entry → Bool → List ℕ
-shown_svg p t shapes es faulty =
-    frame_svg p (length es) ++ picture_svg p t shapes es faulty ++ told_start
+unfoldable pub shown_svg : Plan → TableState → List Visits → List Shape → List Entry → Bool → List ℕ → List ℕ
+shown_svg p t vs shapes es faulty words =
+    frame_svg p (length es) ++ picture_svg p t shapes es faulty words
+    ++ table_svg p t vs shapes (rows_bottom p (length es) + 90) ++ verdict_start
 
-abbrev pub svg_of : Plan → List Shape → List Entry → Bool → List ℕ → List ℕ
-svg_of p shapes es faulty told =
-    shown_svg p (state_after p es) shapes es faulty ++ end_svg told
+abbrev pub svg_of : Plan → List Shape → List Entry → Bool → List ℕ → List ℕ → List ℕ
+svg_of p shapes es faulty words verdict =
+    shown_svg p (state_after p es) (visits_of p es) shapes es faulty words ++ end_svg verdict
 
 abbrev pub svg_picture : Plan → List Bool → List Shape → List Entry → List ℕ → List ℕ
-svg_picture p meant shapes es told =
-    svg_of p shapes (drawn p meant es) (has_fault p meant es) told
+svg_picture p meant shapes es verdict =
+    svg_of p shapes (drawn p meant es) (has_fault p meant es)
+    (words_of p es (first_fault_of p meant es)) verdict

@@ -6,6 +6,7 @@ use Rattle.std.specs.Fmt.{decimal}
 use Rattle.transfer_table.specs.Plan.{Plan, parent}
 use Rattle.transfer_table.specs.Table.{TableState, row}
 use Rattle.transfer_table.specs.Entry.{site_of}
+use Rattle.transfer_table.specs.Journal.{first_fault_of}
 use Rattle.transfer_table.specs.declared.entry.Row.{Row}
 use Rattle.transfer_table.specs.declared.entry.Stage.{Stage}
 use Rattle.transfer_table.specs.declared.entry.Stage.TheVariants.{New, Live, Gone}
@@ -17,8 +18,11 @@ use Rattle.journal_picture.specs.declared.shape.Kind.TheVariants.{Pool, Team}
 use Rattle.journal_picture.specs.declared.shape.Shape.{Shape}
 use Rattle.journal_picture.specs.declared.strip.Figures.{Figures}
 use Rattle.journal_picture.specs.Stays.{stays_of}
+use Rattle.journal_picture.specs.declared.visits.Visits.{Visits}
 use Rattle.journal_picture.specs.Strip.{strip_of}
+use Rattle.journal_picture.specs.Visits.{visits_at, visits_of}
 use Rattle.journal_picture.specs.Drawn.{drawn, has_fault, state_after}
+use Rattle.journal_picture.specs.Faults.{fault_line_of}
 
 -- ---- where a hart is at each place
 
@@ -72,14 +76,14 @@ numbers_text k (e ∷ es) = cell (decimal k) ++ numbers_text (k + 1) es
 abbrev pub deeds_text : List Entry → List ℕ
 deeds_text es = flat_map (λ e. cell (deed e)) es
 
--- A hart and how many harts it asks for.
-abbrev pub asking : ℕ → ℕ → List ℕ
-asking h k = concat (codes "h" ∷ decimal h ∷ codes "+" ∷ decimal k ∷ [])
+-- A hart and how many harts it requests.
+abbrev pub requesting : ℕ → ℕ → List ℕ
+requesting h k = concat (codes "h" ∷ decimal h ∷ codes "+" ∷ decimal k ∷ [])
 
--- Whose entry it is, and how many harts it asks for.
+-- The hart of an entry, and how many harts the entry requests.
 abbrev pub doer : Entry → List ℕ
 doer (Register h s) = codes "h" ++ decimal h
-doer (Request h s k) = asking h k
+doer (Request h s k) = requesting h k
 doer (Enter h s) = codes "h" ++ decimal h
 doer (Yield h s) = codes "h" ++ decimal h
 doer (Unregister h s) = codes "h" ++ decimal h
@@ -191,10 +195,6 @@ abbrev pub home_text : Option ℕ → List ℕ
 home_text None = codes ", skipped"
 home_text (Some h) = codes ", home h" ++ decimal h
 
--- Wishes that no hart met are named, if there are any.
-abbrev pub unmet_text : ℕ → List ℕ
-unmet_text wishes = if wishes == 0 then [] else codes ", unmet wishes " ++ decimal wishes
-
 -- What became of a site.
 abbrev pub fate_text : Stage → Option ℕ → List ℕ
 fate_text New home = codes ", not entered"
@@ -207,41 +207,60 @@ site_start depth s shape =
     blanks (2 * depth) ++ (codes "s" ++ decimal s ++ codes " " ++ kind_text shape.kind
     ++ codes ", line " ++ decimal shape.line)
 
--- A line of the tree has the site with what became of it.
-abbrev pub site_line : ℕ → ℕ → Shape → Row → List ℕ
-site_line depth s shape found =
-    site_start depth s shape ++ fate_text found.stage found.home ++ unmet_text found.wishes
-    ++ codes "\n"
+-- The numbers at the left of a line of the tree: the harts that the site requested, the wishes that a hart met and those that none met.
+abbrev pub wish_cells : ℕ → ℕ → List ℕ
+wish_cells asked wishes =
+    cell (decimal asked) ++ cell (decimal (asked - wishes)) ++ cell (decimal wishes)
+
+-- The most guests at once, and the entries that harts made inside.
+abbrev pub visit_cells : Visits → List ℕ
+visit_cells v = cell (decimal v.guests) ++ cell (decimal v.entries) ++ codes "  "
+
+abbrev pub line_start : ℕ → ℕ → Shape → Row → Visits → List ℕ
+line_start depth s shape found v =
+    wish_cells found.asked found.wishes ++ visit_cells v ++ site_start depth s shape
+
+-- A line of the tree has the site's numbers, and the site with what became of it.
+abbrev pub site_line : ℕ → ℕ → Shape → Row → Visits → List ℕ
+site_line depth s shape found v =
+    line_start depth s shape found v ++ fate_text found.stage found.home ++ codes "\n"
 
 -- The lines of sites with these shapes, from a site on.
-abbrev pub site_lines : Plan → TableState → ℕ → List Shape → List ℕ
-site_lines p t s [] = []
-site_lines p t s (shape ∷ more) =
-    site_line (depth_of p s) s shape (row t s) ++ site_lines p t (s + 1) more
+abbrev pub site_lines : Plan → TableState → List Visits → ℕ → List Shape → List ℕ
+site_lines p t vs s [] = []
+site_lines p t vs s (shape ∷ more) =
+    site_line (depth_of p s) s shape (row t s) (visits_at vs s) ++ site_lines p t vs (s + 1) more
 
--- The tree begins with the base, and has a line for each site.
-abbrev pub tree_text : Plan → TableState → List Shape → List ℕ
-tree_text p t shapes = codes "base\n" ++ site_lines p t 1 shapes
+-- The tree begins with the base, behind the names of the numbers, and has a line for each site.
+abbrev pub tree_text : Plan → TableState → List Visits → List Shape → List ℕ
+tree_text p t vs shapes =
+    codes "   req   met unmet guest  made  base\n" ++ site_lines p t vs 1 shapes
 
--- The legend explains the words of entries.
+-- The legend explains the words of entries, of the strip and of the sites' numbers.
 abbrev pub legend_text : List ℕ
 legend_text =
-    codes "\nreg registers a site, req requests harts, unreg unregisters the site\nunm unmet wishes, idl idle harts, ! a child of the base has an unmet wish while a hart is idle\n"
+    codes "\nreg registers a site, req requests harts, unreg unregisters the site\nunm unmet wishes, idl idle harts, ! a child of the base has an unmet wish while a hart is idle\nof sites: req requested harts, met and unmet wishes, guest most guests at once, made entries inside\n"
 
--- ---- the whole, with a line that tells whether the list is legal
+-- ---- the whole, with the verdict's line
 
 abbrev pub shown_text : Plan → TableState → List Shape → List Entry → List (List ℕ) → List Figures
-    → Bool → List ℕ
-shown_text p t shapes es lanes strip faulty =
-    bands_text faulty es lanes strip 0 (band_count (length es)) ++ tree_text p t shapes
+    → List Visits → Bool → List ℕ
+shown_text p t shapes es lanes strip vs faulty =
+    bands_text faulty es lanes strip 0 (band_count (length es)) ++ tree_text p t vs shapes
     ++ legend_text
 
--- The picture of these entries ends with the verdict's text.
+-- The picture of these entries ends with these lines.
 abbrev pub text_of : Plan → List Shape → List Entry → Bool → List ℕ → List ℕ
-text_of p shapes es faulty told =
-    shown_text p (state_after p es) shapes es (lanes_of p es 0 p.harts) (strip_of p es) faulty ++ told
+text_of p shapes es faulty ending =
+    shown_text p (state_after p es) shapes es (lanes_of p es 0 p.harts) (strip_of p es)
+    (visits_of p es) faulty
+    ++ ending
+
+-- The lines at the end are that of the fault, if there is one, and the verdict.
+abbrev pub ending_of : Plan → List Bool → List Entry → List ℕ → List ℕ
+ending_of p meant es verdict = fault_line_of p es (first_fault_of p meant es) ++ verdict
 
 -- The picture of a list is that of its entries before the first fault.
 abbrev pub text_picture : Plan → List Bool → List Shape → List Entry → List ℕ → List ℕ
-text_picture p meant shapes es told =
-    text_of p shapes (drawn p meant es) (has_fault p meant es) told
+text_picture p meant shapes es verdict =
+    text_of p shapes (drawn p meant es) (has_fault p meant es) (ending_of p meant es verdict)

@@ -232,8 +232,12 @@ fn title_by(
     format!(in alloc; "h{hart} in {name}{about}{since}{until}")
 }
 
-// What the site is; the base is where the body runs, or where a hart is idle.
-fn about_text(alloc: Global, shape: Option<Shape>, hart: u8) -> Result<String, AllocError>
+/// What the site is; the base is where the body runs, or where a hart is idle.
+pub(crate) fn about_text(
+    alloc: Global,
+    shape: Option<Shape>,
+    hart: u8,
+) -> Result<String, AllocError>
     ensures { IfOk result (λ about. string_bytes about ≡ about_text shape hart) }
 {
     match shape {
@@ -414,8 +418,8 @@ fn kind_word(kind: Kind) -> &'static str
     }
 }
 
-// What the program says of the site; the base has no shape.
-fn shape_of(shapes: &[Shape], site: u16) -> Option<Shape>
+/// The shape of a site; the base has none.
+pub(crate) fn shape_of(shapes: &[Shape], site: u16) -> Option<Shape>
     ensures { result ≡ shape_of shapes.now site }
 {
     if site == 0 {

@@ -1,7 +1,10 @@
-//! The laws of stays, of the strip and of escaped texts, each the contract of a function that does nothing. They hold for every plan
-//! and every list of entries; `specs/Laws.antt` and `specs/Strip.antt` say them.
+//! The laws of stays, of the strip, of faults and of escaped texts, each the contract of a function that does nothing. They hold for every plan
+//! and every list of entries. They are stated in `specs/Laws.antt`, `specs/Strip.antt`
+//! and `specs/Faults.antt`.
 ghost use Rattle.journal_picture.specs.Laws.{EscapedHasNoMarkup, OneStayAtEachPlace, StaysFollowOneAnother, GuestsAreWithTheHome};
-ghost use Rattle.journal_picture.specs.Strip.{RedIsMissed, StripTellsStates};
+ghost use Rattle.journal_picture.specs.Faults.{FaultHasItsReason, FaultIsIncomplete};
+ghost use Rattle.journal_picture.specs.Visits.{GuestsAreAtMost, GuestsAreReached, MetWishesEntered};
+ghost use Rattle.journal_picture.specs.Strip.{RedIsMissed, StripHasFigures};
 
 /// At each place up to which a list is legal each hart is in exactly one of its stays, and that is at the site that holds it.
 pub fn one_stay_at_each_place()
@@ -19,8 +22,8 @@ pub fn guests_are_with_the_home()
 {}
 
 /// As far as a list is legal, the strip has at each place the figures of the table's state there.
-pub fn strip_tells_states()
-    ensures { StripTellsStates }
+pub fn strip_has_figures()
+    ensures { StripHasFigures }
 {}
 
 /// The strip is red exactly where some live child of the base has an unmet wish while a hart other than hart 0 is in the base.
@@ -28,7 +31,33 @@ pub fn red_is_missed()
     ensures { RedIsMissed }
 {}
 
-/// Whatever is told, its escaped form has no `<`.
+/// Whatever the verdict's line is, its escaped form has no `<`.
 pub fn escaped_has_no_markup()
     ensures { EscapedHasNoMarkup }
+{}
+
+/// A picture has a fault exactly if the list isn't complete for the sites that are meant to be entered.
+pub fn fault_is_incomplete()
+    ensures { FaultIsIncomplete }
+{}
+
+/// The fault's words name a condition that fails: of the refused entry in the state after the entries before it, or at the end of the
+/// list.
+pub fn fault_has_its_reason()
+    ensures { FaultHasItsReason }
+{}
+
+/// As far as a list is legal, a site has in each state at most the guests of the table of sites.
+pub fn guests_are_at_most()
+    ensures { GuestsAreAtMost }
+{}
+
+/// A legal list has a place at which a site has the guests of the table of sites.
+pub fn guests_are_reached()
+    ensures { GuestsAreReached }
+{}
+
+/// Of a legal list, the requested and the met wishes of a site are as many as its entries say.
+pub fn met_wishes_entered()
+    ensures { MetWishesEntered }
 {}

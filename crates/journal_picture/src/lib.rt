@@ -10,6 +10,7 @@
 mod axis;
 mod bars;
 mod drawn;
+mod faults;
 mod lanes;
 pub mod laws;
 mod marks;
@@ -18,8 +19,10 @@ mod shape;
 mod stay;
 mod strip;
 mod svg;
+mod table;
 mod text;
 mod tree;
+mod visits;
 mod words;
 
 pub use shape::{Kind, Shape};
@@ -27,3 +30,4 @@ pub use stay::{Stay, stays_of};
 pub use strip::{Figures, strip_of};
 pub use svg::svg_picture;
 pub use text::text_picture;
+pub use visits::{Visits, visits_of};

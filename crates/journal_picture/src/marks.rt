@@ -4,17 +4,18 @@ ghost use Rattle.std.specs.Fmt.{decimal};
 ghost use Rattle.transfer_table.specs.Plan.{most_entries};
 ghost use Rattle.transfer_table.specs.Table.{first_state};
 ghost use Rattle.journal_picture.specs.Strip.{HasWishesWithin};
-ghost use Rattle.journal_picture.specs.SvgMarks.{entry_by, entry_mark, entry_words, fault_line, fault_svg, fault_word, figures_svg, figures_words, line_svg, look_of, mark_svg, mark_text, mark_y, marks_text, numbers_svg, placed_mark, red_svg, shown_figures, shown_mark, strip_svg, titled_svg, unmet_at, unmet_mark, verb};
+ghost use Rattle.journal_picture.specs.SvgMarks.{entry_mark, fault_line, fault_note, fault_svg, fault_word, fault_x, figures_svg, figures_words, line_svg, look_of, mark_svg, mark_text, mark_y, marks_text, numbers_svg, placed_mark, red_svg, shown_figures, shown_mark, strip_svg, titled_svg, unmet_at, unmet_mark};
 
 use crate::axis::{strip_y, write_at};
 use crate::bars::write_rect;
-use crate::scale::{entry_x, is_shown, lane_y, place_x, row_of, row_y, step_of};
+use crate::faults::entry_words;
+use crate::scale::{entry_x, is_shown, lane_y, place_x, row_of, row_y, rows_of, step_of};
 use crate::strip::{Figures, Wishing, admit_and_follow, figures_of};
-use crate::text::{hart_of, site_of};
+use crate::text::hart_of;
 use std::alloc::{AllocError, Global};
 use transfer_table::{Board, Entry, Plan};
 
-/// Adds the marks of requests, of wishes that nobody met, and of skips.
+/// Adds the marks of requests, of unmet wishes, and of skips.
 pub(crate) fn write_marks(
     alloc: Global,
     text: &mut String,
@@ -71,7 +72,7 @@ fn write_entry_mark(
     }
 }
 
-// Adds the mark of wishes that nobody met, if there are any.
+// Adds the mark of unmet wishes, if there are any.
 fn write_unmet(
     alloc: Global,
     text: &mut String,
@@ -93,7 +94,7 @@ fn write_unmet(
     write_mark(alloc, text, plan, end, k, entry, words.as_str())
 }
 
-// How many wishes of the site nobody met; 0 for what is no site.
+// The unmet wishes of a site; 0 if the plan has no such site.
 fn unmet_at(board: &Board, site: u16) -> u8
     ensures { result ≡ unmet_at board.now.plan board.now.state site }
 {
@@ -227,34 +228,6 @@ fn look_of(entry: Entry) -> &'static str
         Entry::Unregister { .. } => "v-4' stroke='#000000' stroke-width='4",
         Entry::Skip { .. } => "l-5 -8' stroke='#b00020",
         Entry::Register { .. } | Entry::Enter { .. } | Entry::Yield { .. } => "",
-    }
-}
-
-/// An entry in words.
-pub(crate) fn entry_words(alloc: Global, k: usize, entry: Entry) -> Result<String, AllocError>
-    ensures { IfOk result (λ words. string_bytes words ≡ entry_words k entry) }
-{
-    entry_by(alloc, k, hart_of(entry), verb(entry), site_of(entry))
-}
-
-// What a hart does at a site, in words.
-fn entry_by(alloc: Global, k: usize, hart: u8, does: &str, site: u16) -> Result<String, AllocError>
-    ensures { IfOk result (λ words. string_bytes words ≡ entry_by k hart does.now site) }
-{
-    format!(in alloc; "entry {k}: h{hart} {does} s{site}")
-}
-
-// What an entry does.
-fn verb(entry: Entry) -> &'static str
-    ensures { result.now ≡ verb entry }
-{
-    match entry {
-        Entry::Register { .. } => "register",
-        Entry::Request { .. } => "request",
-        Entry::Enter { .. } => "enter",
-        Entry::Yield { .. } => "yield",
-        Entry::Unregister { .. } => "unregister",
-        Entry::Skip { .. } => "skip",
     }
 }
 
@@ -399,16 +372,17 @@ fn write_number(
     write_at(text, x, y, words.as_str())
 }
 
-/// Adds the mark of the fault, if there is one.
+/// Adds the mark of the fault with its words, if there is one.
 pub(crate) fn write_fault(
     text: &mut String,
     plan: &Plan,
     end: usize,
     faulty: bool,
+    words: &str,
 ) -> Result<(), AllocError>
     requires { end ≤ most_entries }
     ensures { OnOk result (string_bytes text.new ≡ string_bytes text.old
-        ++ fault_svg plan.now end faulty) }
+        ++ fault_svg plan.now end faulty words.now) }
 {
     if !faulty {
         return Ok(());
@@ -416,7 +390,8 @@ pub(crate) fn write_fault(
     let top = row_y(plan, end, row_of(end, end));
     let x = entry_x(end, end);
     write_fault_line(text, x, top + 40, 44 * plan.harts() as usize)?;
-    write_fault_word(text, x, top + 24)
+    write_fault_word(text, x, top + 24, words)?;
+    write_fault_note(text, fault_x(rows_of(end)), words)
 }
 
 // Adds the line of a fault.
@@ -436,13 +411,33 @@ fn write_fault_line(
     )
 }
 
-// Adds the word of a fault.
+// Adds the word of a fault, with the words of the fault as its title.
 #[tactic(auto, unfolding(crate::specs::SvgMarks::fault_word))]
-fn write_fault_word(text: &mut String, x: usize, y: usize) -> Result<(), AllocError>
-    ensures { OnOk result (string_bytes text.new ≡ string_bytes text.old ++ fault_word x y) }
+fn write_fault_word(text: &mut String, x: usize, y: usize, words: &str) -> Result<(), AllocError>
+    ensures { OnOk result (string_bytes text.new ≡ string_bytes text.old
+        ++ fault_word x y words.now) }
 {
     write!(
         text,
-        "<text x='{x}' y='{y}' fill='#b00020' font-weight='bold'>fault</text>\n"
+        "<text x='{x}' y='{y}' fill='#b00020' font-weight='bold'>fault<title>{words}</title></text>\n"
+    )
+}
+
+// The left end of the fault's words.
+fn fault_x(rows: usize) -> usize
+    ensures { result ≡ fault_x rows }
+{
+    if rows <= 32 { 260 } else { 560 }
+}
+
+// Adds the words of a fault below the verdict.
+#[tactic(auto, unfolding(crate::specs::SvgMarks::fault_note))]
+fn write_fault_note(text: &mut String, x: usize, words: &str) -> Result<(), AllocError>
+    ensures { OnOk result (string_bytes text.new ≡ string_bytes text.old
+        ++ fault_note x words.now) }
+{
+    write!(
+        text,
+        "<text x='{x}' y='72' fill='#b00020' font-weight='bold' text-anchor='start'>{words}</text>\n"
     )
 }

@@ -6,81 +6,96 @@ ghost use Rattle.journal_picture.specs.SvgPicture.{base_swatches, end_svg, escap
 use crate::axis::{write_at, write_rows, write_ticks};
 use crate::bars::{base_fill, kind_fill, write_lanes, write_rect};
 use crate::drawn::{before, board_after};
+use crate::faults::words_of;
 use crate::marks::{write_fault, write_marks, write_strip};
 use crate::scale::{rows_bottom, rows_of, step_of, width_of};
 use crate::shape::{Kind, Shape};
+use crate::table::{table_height, write_table};
+use crate::visits::{Visits, visits_of};
 use std::alloc::{AllocError, Global};
 use transfer_table::{Board, Entry, Plan, first_fault};
 
-/// The picture of the list as SVG 1.1, up to its first fault; the plan's sites have these shapes. What is told of the list stands
-/// below the title, with `<` and `&` escaped; in place of a byte that is no printable letter of ASCII and no line's end stands `?`.
-/// The list has at most 65,535 entries. Which sites are meant to be entered is a truth value for each, that of site `s` at place
-/// `s - 1`.
+/// The picture of the list as SVG 1.1, up to its first fault; the plan's sites have these shapes. The verdict stands below the title,
+/// with `<` and `&` escaped; in place of a byte that is no printable letter of ASCII and no line's end stands `?`. The list has at
+/// most 65,535 entries. Which sites are meant to be entered is a truth value for each, that of site `s` at index `s - 1`.
 ///
 /// The places stand in rows of at most 1,500 units. A picture has at most 32 rows: if there are more, the first 16 and the last 16
-/// are shown, and the picture says so.
+/// are shown, and the picture says so. The table of sites below lists at most 40: if there are more, the first 20 and the last 20.
 ///
 /// # Errors
 ///
-/// An allocation failed.
+/// `AllocError` if an allocation fails.
 pub fn svg_picture(
     alloc: Global,
     plan: &Plan,
     meant: &[bool],
     shapes: &[Shape],
     list: &[Entry],
-    told: &[u8],
+    verdict: &[u8],
 ) -> Result<Vec<u8>, AllocError>
     requires few { length list.now ≤ most_entries }
     requires meant { length meant.now ≡ site_count plan.now }
     ensures { IfOk result
-        (λ text. text.items ≡ svg_picture plan.now meant.now shapes.now list.now told.now) }
+        (λ text. text.items ≡ svg_picture plan.now meant.now shapes.now list.now verdict.now) }
 {
     let fault = first_fault(alloc, plan, meant, list)?;
+    let words = words_of(alloc, plan, list, fault)?;
     let drawn = before(fault, list);
-    svg_of(alloc, plan, shapes, drawn, fault.is_some(), told)
+    svg_of(
+        alloc,
+        plan,
+        shapes,
+        drawn,
+        fault.is_some(),
+        words.as_str(),
+        verdict,
+    )
 }
 
-// The picture of these entries, at whose end there is a fault or none.
+// The picture of these entries, at whose end there is a fault with these words, or none.
 fn svg_of(
     alloc: Global,
     plan: &Plan,
     shapes: &[Shape],
     list: &[Entry],
     faulty: bool,
-    told: &[u8],
+    words: &str,
+    verdict: &[u8],
 ) -> Result<Vec<u8>, AllocError>
     requires { length list.now ≤ most_entries }
     ensures { IfOk result
-        (λ text. text.items ≡ svg_of plan.now shapes.now list.now faulty told.now) }
+        (λ text. text.items ≡ svg_of plan.now shapes.now list.now faulty words.now verdict.now) }
 {
     let board = board_after(alloc, plan, list)?;
+    let visits = visits_of(alloc, plan, list)?;
     let mut text = String::new(alloc);
-    write_shown(alloc, &mut text, &board, shapes, list, faulty)?;
-    ended(text.into_bytes(), told)
+    write_shown(
+        alloc, &mut text, &board, &visits, shapes, list, faulty, words,
+    )?;
+    ended(text.into_bytes(), verdict)
 }
 
-// The text with what is told, and the end.
-fn ended(text: Vec<u8>, told: &[u8]) -> Result<Vec<u8>, AllocError>
-    ensures { IfOk result (λ whole. whole.items ≡ text.items ++ end_svg told.now) }
+// The text with the verdict, and the end.
+fn ended(text: Vec<u8>, verdict: &[u8]) -> Result<Vec<u8>, AllocError>
+    ensures { IfOk result (λ whole. whole.items ≡ text.items ++ end_svg verdict.now) }
 {
     let mut whole = text;
-    add_escaped(&mut whole, told)?;
+    add_escaped(&mut whole, verdict)?;
     whole.extend_from_slice(b"</text>\n</svg>\n")?;
     Ok(whole)
 }
 
-// Adds what is told, as XML has it.
-fn add_escaped(whole: &mut Vec<u8>, told: &[u8]) -> Result<(), AllocError>
-    ensures { OnOk result (whole.new.items ≡ whole.old.items ++ escaped told.now) }
+// Adds the verdict, as XML has it.
+fn add_escaped(whole: &mut Vec<u8>, verdict: &[u8]) -> Result<(), AllocError>
+    ensures { OnOk result (whole.new.items ≡ whole.old.items ++ escaped verdict.now) }
 {
-    for byte in told {
+    for byte in verdict {
         add_byte(whole, *byte)?;
     }
     Ok(())
 }
 
-// Adds a byte of what is told.
+// Adds a byte of the verdict, as XML has it.
 fn add_byte(whole: &mut Vec<u8>, byte: u8) -> Result<(), AllocError>
     ensures { OnOk result (whole.new.items ≡ whole.old.items ++ escaped_byte byte) }
 {
@@ -92,21 +107,27 @@ fn add_byte(whole: &mut Vec<u8>, byte: u8) -> Result<(), AllocError>
     }
 }
 
-// Adds all up to what is told.
+// Adds all that stands before the verdict.
 fn write_shown(
     alloc: Global,
     text: &mut String,
     board: &Board,
+    visits: &[Visits],
     shapes: &[Shape],
     list: &[Entry],
     faulty: bool,
+    words: &str,
 ) -> Result<(), AllocError>
-    requires { length list.now ≤ most_entries }
+    requires few { length list.now ≤ most_entries }
+    requires visits { length visits.now ≡ site_count board.now.plan }
     ensures { OnOk result (string_bytes text.new ≡ string_bytes text.old
-        ++ shown_svg board.now.plan board.now.state shapes.now list.now faulty) }
+        ++ shown_svg board.now.plan board.now.state visits.now shapes.now list.now faulty
+        words.now) }
 {
     write_frame(text, board.plan(), list.len())?;
-    write_picture(alloc, text, board, shapes, list, faulty)?;
+    write_picture(alloc, text, board, shapes, list, faulty, words)?;
+    let top = rows_bottom(board.plan(), list.len()) + 90;
+    write_table(alloc, text, board, visits, shapes, top)?;
     text.push_str("<text x='16' y='52' font-size='14' text-anchor='start'>")
 }
 
@@ -129,14 +150,15 @@ fn write_picture(
     shapes: &[Shape],
     list: &[Entry],
     faulty: bool,
+    words: &str,
 ) -> Result<(), AllocError>
     requires { length list.now ≤ most_entries }
     ensures { OnOk result (string_bytes text.new ≡ string_bytes text.old
-        ++ picture_svg board.now.plan board.now.state shapes.now list.now faulty) }
+        ++ picture_svg board.now.plan board.now.state shapes.now list.now faulty words.now) }
 {
     write_under(alloc, text, board.plan(), list)?;
     write_lanes(alloc, text, board.plan(), shapes, list)?;
-    write_over(alloc, text, board, list, faulty)
+    write_over(alloc, text, board, list, faulty, words)
 }
 
 // Adds what lies under the bars.
@@ -154,21 +176,22 @@ fn write_under(
     write_ticks(alloc, text, plan, list.len(), list)
 }
 
-// Adds what lies over the bars.
+// Adds what lies over the bars, and the fault with its words.
 fn write_over(
     alloc: Global,
     text: &mut String,
     board: &Board,
     list: &[Entry],
     faulty: bool,
+    words: &str,
 ) -> Result<(), AllocError>
     requires { length list.now ≤ most_entries }
     ensures { OnOk result (string_bytes text.new ≡ string_bytes text.old
-        ++ over_svg board.now.plan board.now.state list.now faulty) }
+        ++ over_svg board.now.plan board.now.state list.now faulty words.now) }
 {
     write_marks(alloc, text, board, list.len(), list)?;
     write_strip(alloc, text, board.plan(), list.len(), list)?;
-    write_fault(text, board.plan(), list.len(), faulty)
+    write_fault(text, board.plan(), list.len(), faulty, words)
 }
 
 // Adds that rows are left out, if some are.
@@ -198,7 +221,8 @@ fn write_head(text: &mut String, plan: &Plan, end: usize) -> Result<(), AllocErr
     requires { end ≤ most_entries }
     ensures { OnOk result (string_bytes text.new ≡ string_bytes text.old ++ head_svg plan.now end) }
 {
-    write_head_of(text, width_of(end), rows_bottom(plan, end) + 76)
+    let height = rows_bottom(plan, end) + 76 + table_height(plan.sites());
+    write_head_of(text, width_of(end), height)
 }
 
 // Adds the head of a picture of this size.
@@ -291,7 +315,7 @@ fn write_swatch(
     write_at(text, x + 32, y + 11, words)
 }
 
-// Adds what the legend says of heights and marks.
+// Adds the legend's lines about heights and marks.
 #[tactic(auto, unfolding(crate::specs::SvgPicture::words_svg))]
 fn write_words(text: &mut String, first: usize, second: usize, note: &str) -> Result<(), AllocError>
     ensures { OnOk result (string_bytes text.new ≡ string_bytes text.old
@@ -303,13 +327,13 @@ fn write_words(text: &mut String, first: usize, second: usize, note: &str) -> Re
     )
 }
 
-// What the marks mean: they have words where a place is wide enough.
+// What the marks mean. A mark has words if a place is wide enough.
 fn marks_note(step: usize) -> &'static str
     ensures { result.now ≡ marks_note step }
 {
     if step < 40 {
-        "a line: the home requests harts. a dot: wishes that nobody met. red and slanted: a skip."
+        "a line: the home requests harts. a dot: wishes that no hart met. red and slanted: a skip."
     } else {
-        "+1: the home requests a hart. 1 unmet: a wish that nobody met. skip: a site that isn't entered."
+        "+1: the home requests a hart. 1 unmet: a wish that no hart met. skip: a site that isn't entered."
     }
 }

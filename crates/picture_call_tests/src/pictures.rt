@@ -5,7 +5,7 @@ use std::alloc::{AllocError, Global};
 use std::test::Fail;
 
 const FIRST_SVG: &[u8] =
-    b"<svg xmlns='http://www.w3.org/2000/svg' version='1.1' width='700' height='336' viewBox='0 0 700 336' font-family='Helvetica, Arial, sans-serif' font-size='11' text-anchor='middle'>
+    b"<svg xmlns='http://www.w3.org/2000/svg' version='1.1' width='700' height='390' viewBox='0 0 700 390' font-family='Helvetica, Arial, sans-serif' font-size='11' text-anchor='middle'>
 <rect width='100%' height='100%' fill='#ffffff'/>
 <text x='16' y='30' font-size='19' font-weight='bold' text-anchor='start'>Lithe, harts 2, sites 1, entries 5</text>
 <text x='56' y='72' text-anchor='start'>entries in order, not time</text>
@@ -21,7 +21,7 @@ const FIRST_SVG: &[u8] =
 <rect x='556' y='268' width='24' height='14' fill='#f6b3b9' stroke='#b00020'><title>a missed wish</title></rect>
 <text x='588' y='279'>a missed wish</text>
 <text x='56' y='300'>higher: deeper in the tree. a missed wish: a child of the base has an unmet wish while a hart is idle.</text>
-<text x='56' y='318'>+1: the home requests a hart. 1 unmet: a wish that nobody met. skip: a site that isn't entered.</text>
+<text x='56' y='318'>+1: the home requests a hart. 1 unmet: a wish that no hart met. skip: a site that isn't entered.</text>
 </g>
 <text x='28' y='150' font-size='13' font-weight='bold'>h0</text>
 <text x='28' y='194' font-size='13' font-weight='bold'>h1</text>
@@ -73,6 +73,8 @@ const FIRST_SVG: &[u8] =
 <text x='356' y='233'>1</text>
 <text x='428' y='219'>0</text>
 <text x='428' y='233'>1</text>
+<text y='350' font-weight='bold'><tspan x='86'>requested</tspan><tspan x='146'>met</tspan><tspan x='196'>unmet</tspan><tspan x='266'>most guests</tspan><tspan x='366'>entries inside</tspan><tspan x='426' text-anchor='start'>site</tspan></text>
+<text y='368'><tspan x='86'>1</tspan><tspan x='146'>1</tspan><tspan x='196'>0</tspan><tspan x='266'>1</tspan><tspan x='366'>3</tspan><tspan x='426' text-anchor='start'>s1, pool, line 3, home h0</tspan></text>
 <text x='16' y='52' font-size='14' text-anchor='start'>legal 5
 </text>
 </svg>
@@ -142,19 +144,20 @@ h1     s1  base  base
 unm     0     0     0
 idl     0     1     1
 
-base
-  s1 pool, line 2, home h0
-    s2 team, line 5, home h0, unmet wishes 1
-    s3 team, line 5, home h0
-    s4 pool, line 9, home h1, unmet wishes 1
+   req   met unmet guest  made  base
+     1     1     0     1     7    s1 pool, line 2, home h0
+     1     0     1     0     2      s2 team, line 5, home h0
+     1     1     0     1     3      s3 team, line 5, home h0
+     1     0     1     0     2      s4 pool, line 9, home h1
 
 reg registers a site, req requests harts, unreg unregisters the site
 unm unmet wishes, idl idle harts, ! a child of the base has an unmet wish while a hart is idle
+of sites: req requested harts, met and unmet wishes, guest most guests at once, made entries inside
 legal 16
 ";
 
 const NESTED_SVG: &[u8] =
-    b"<svg xmlns='http://www.w3.org/2000/svg' version='1.1' width='1336' height='336' viewBox='0 0 1336 336' font-family='Helvetica, Arial, sans-serif' font-size='11' text-anchor='middle'>
+    b"<svg xmlns='http://www.w3.org/2000/svg' version='1.1' width='1336' height='444' viewBox='0 0 1336 444' font-family='Helvetica, Arial, sans-serif' font-size='11' text-anchor='middle'>
 <rect width='100%' height='100%' fill='#ffffff'/>
 <text x='16' y='30' font-size='19' font-weight='bold' text-anchor='start'>Lithe, harts 2, sites 4, entries 16</text>
 <text x='56' y='72' text-anchor='start'>entries in order, not time</text>
@@ -170,7 +173,7 @@ const NESTED_SVG: &[u8] =
 <rect x='556' y='268' width='24' height='14' fill='#f6b3b9' stroke='#b00020'><title>a missed wish</title></rect>
 <text x='588' y='279'>a missed wish</text>
 <text x='56' y='300'>higher: deeper in the tree. a missed wish: a child of the base has an unmet wish while a hart is idle.</text>
-<text x='56' y='318'>+1: the home requests a hart. 1 unmet: a wish that nobody met. skip: a site that isn't entered.</text>
+<text x='56' y='318'>+1: the home requests a hart. 1 unmet: a wish that no hart met. skip: a site that isn't entered.</text>
 </g>
 <text x='28' y='150' font-size='13' font-weight='bold'>h0</text>
 <text x='28' y='194' font-size='13' font-weight='bold'>h1</text>
@@ -310,6 +313,11 @@ const NESTED_SVG: &[u8] =
 <text x='1148' y='233'>1</text>
 <text x='1220' y='219'>0</text>
 <text x='1220' y='233'>1</text>
+<text y='350' font-weight='bold'><tspan x='86'>requested</tspan><tspan x='146'>met</tspan><tspan x='196'>unmet</tspan><tspan x='266'>most guests</tspan><tspan x='366'>entries inside</tspan><tspan x='426' text-anchor='start'>site</tspan></text>
+<text y='368'><tspan x='86'>1</tspan><tspan x='146'>1</tspan><tspan x='196'>0</tspan><tspan x='266'>1</tspan><tspan x='366'>7</tspan><tspan x='426' text-anchor='start'>s1, pool, line 2, home h0</tspan></text>
+<text y='386'><tspan x='86'>1</tspan><tspan x='146'>0</tspan><tspan x='196'>1</tspan><tspan x='266'>0</tspan><tspan x='366'>2</tspan><tspan x='426' text-anchor='start'>s2, team, line 5, in s1, home h0</tspan></text>
+<text y='404'><tspan x='86'>1</tspan><tspan x='146'>1</tspan><tspan x='196'>0</tspan><tspan x='266'>1</tspan><tspan x='366'>3</tspan><tspan x='426' text-anchor='start'>s3, team, line 5, in s1, home h0</tspan></text>
+<text y='422'><tspan x='86'>1</tspan><tspan x='146'>0</tspan><tspan x='196'>1</tspan><tspan x='266'>0</tspan><tspan x='366'>2</tspan><tspan x='426' text-anchor='start'>s4, pool, line 9, in s1, home h1</tspan></text>
 <text x='16' y='52' font-size='14' text-anchor='start'>legal 16
 </text>
 </svg>
@@ -352,14 +360,16 @@ h1   base  base  base  base  base  base
 unm     0     0     0     0     0     0
 idl     1     1     1     1     1     1
 
-base
-  s1 pool, line 2, home h0
-    s2 team, line 5, skipped
-    s3 team, line 5, skipped
-    s4 pool, line 9, skipped
+   req   met unmet guest  made  base
+     0     0     0     0     4    s1 pool, line 2, home h0
+     0     0     0     0     0      s2 team, line 5, skipped
+     0     0     0     0     0      s3 team, line 5, skipped
+     0     0     0     0     0      s4 pool, line 9, skipped
 
 reg registers a site, req requests harts, unreg unregisters the site
 unm unmet wishes, idl idle harts, ! a child of the base has an unmet wish while a hart is idle
+of sites: req requested harts, met and unmet wishes, guest most guests at once, made entries inside
+at the end: s2 was skipped, but the program enters it
 illegal: entry 5, s2 is skipped
 ";
 
@@ -387,19 +397,21 @@ h1   base  base  base  base
 unm     0     0     1     1
 idl     1     1    !1    !1
 
-base
-  s1 pool, line 2, home h0, not ended, unmet wishes 1
-    s2 team, line 5, home h0, not ended
-    s3 team, line 5, not entered
-    s4 pool, line 9, not entered
+   req   met unmet guest  made  base
+     1     0     1     0     2    s1 pool, line 2, home h0, not ended
+     0     0     0     0     0      s2 team, line 5, home h0, not ended
+     0     0     0     0     0      s3 team, line 5, not entered
+     0     0     0     0     0      s4 pool, line 9, not entered
 
 reg registers a site, req requests harts, unreg unregisters the site
 unm unmet wishes, idl idle harts, ! a child of the base has an unmet wish while a hart is idle
+of sites: req requested harts, met and unmet wishes, guest most guests at once, made entries inside
+entry 3: h1 register s4: the hart is in s0, not in s1
 illegal: entry 3, owner is s0
 ";
 
 const ILLEGAL_SVG: &[u8] =
-    b"<svg xmlns='http://www.w3.org/2000/svg' version='1.1' width='700' height='336' viewBox='0 0 700 336' font-family='Helvetica, Arial, sans-serif' font-size='11' text-anchor='middle'>
+    b"<svg xmlns='http://www.w3.org/2000/svg' version='1.1' width='700' height='444' viewBox='0 0 700 444' font-family='Helvetica, Arial, sans-serif' font-size='11' text-anchor='middle'>
 <rect width='100%' height='100%' fill='#ffffff'/>
 <text x='16' y='30' font-size='19' font-weight='bold' text-anchor='start'>Lithe, harts 2, sites 4, entries 3</text>
 <text x='56' y='72' text-anchor='start'>entries in order, not time</text>
@@ -415,7 +427,7 @@ const ILLEGAL_SVG: &[u8] =
 <rect x='556' y='268' width='24' height='14' fill='#f6b3b9' stroke='#b00020'><title>a missed wish</title></rect>
 <text x='588' y='279'>a missed wish</text>
 <text x='56' y='300'>higher: deeper in the tree. a missed wish: a child of the base has an unmet wish while a hart is idle.</text>
-<text x='56' y='318'>+1: the home requests a hart. 1 unmet: a wish that nobody met. skip: a site that isn't entered.</text>
+<text x='56' y='318'>+1: the home requests a hart. 1 unmet: a wish that no hart met. skip: a site that isn't entered.</text>
 </g>
 <text x='28' y='150' font-size='13' font-weight='bold'>h0</text>
 <text x='28' y='194' font-size='13' font-weight='bold'>h1</text>
@@ -453,7 +465,13 @@ const ILLEGAL_SVG: &[u8] =
 <text x='284' y='219'>1</text>
 <text x='284' y='233'>1</text>
 <path d='M344 116v88' stroke='#b00020' stroke-width='3' stroke-dasharray='6 3'/>
-<text x='344' y='100' fill='#b00020' font-weight='bold'>fault</text>
+<text x='344' y='100' fill='#b00020' font-weight='bold'>fault<title>entry 3: h1 register s4: the hart is in s0, not in s1</title></text>
+<text x='260' y='72' fill='#b00020' font-weight='bold' text-anchor='start'>entry 3: h1 register s4: the hart is in s0, not in s1</text>
+<text y='350' font-weight='bold'><tspan x='86'>requested</tspan><tspan x='146'>met</tspan><tspan x='196'>unmet</tspan><tspan x='266'>most guests</tspan><tspan x='366'>entries inside</tspan><tspan x='426' text-anchor='start'>site</tspan></text>
+<text y='368'><tspan x='86'>1</tspan><tspan x='146'>0</tspan><tspan x='196'>1</tspan><tspan x='266'>0</tspan><tspan x='366'>2</tspan><tspan x='426' text-anchor='start'>s1, pool, line 2, home h0, not ended</tspan></text>
+<text y='386'><tspan x='86'>0</tspan><tspan x='146'>0</tspan><tspan x='196'>0</tspan><tspan x='266'>0</tspan><tspan x='366'>0</tspan><tspan x='426' text-anchor='start'>s2, team, line 5, in s1, home h0, not ended</tspan></text>
+<text y='404'><tspan x='86'>0</tspan><tspan x='146'>0</tspan><tspan x='196'>0</tspan><tspan x='266'>0</tspan><tspan x='366'>0</tspan><tspan x='426' text-anchor='start'>s3, team, line 5, in s1, not entered</tspan></text>
+<text y='422'><tspan x='86'>0</tspan><tspan x='146'>0</tspan><tspan x='196'>0</tspan><tspan x='266'>0</tspan><tspan x='366'>0</tspan><tspan x='426' text-anchor='start'>s4, pool, line 9, in s1, not entered</tspan></text>
 <text x='16' y='52' font-size='14' text-anchor='start'>illegal: entry 3, owner is s0
 </text>
 </svg>
@@ -481,16 +499,50 @@ h1   base
 unm     0
 idl     1
 
-base
+   req   met unmet guest  made  base
 
 reg registers a site, req requests harts, unreg unregisters the site
 unm unmet wishes, idl idle harts, ! a child of the base has an unmet wish while a hart is idle
+of sites: req requested harts, met and unmet wishes, guest most guests at once, made entries inside
 illegal: line 1 differs
 ";
 
 #[test]
-fn arrays_that_differ_are_told_below_the_journal(rt: HostRuntime) -> Result<(), Fail> {
+fn arrays_that_differ_are_reported_below_the_journal(rt: HostRuntime) -> Result<(), Fail> {
     serve(&rt, TEXT, DIFFERING, Status::Illegal, DIFFERING_TEXT, b"")
+}
+
+// The array line is wrong, and hart 1 enters without a wish.
+const BOTH: &[u8] = b"array a[1]; par { { a[0] = 1; } }
+%%
+a = 2
+transfers 2
+0 h0 register s1 under s0
+1 h1 enter s1
+";
+
+const BOTH_TEXT: &[u8] = b"    entry     0 fault
+            reg
+             h0
+             s1
+h0   base    s1
+h1   base  base
+unm     0     0
+idl     1     1
+
+   req   met unmet guest  made  base
+     0     0     0     0     0    s1 pool, line 1, home h0, not ended
+
+reg registers a site, req requests harts, unreg unregisters the site
+unm unmet wishes, idl idle harts, ! a child of the base has an unmet wish while a hart is idle
+of sites: req requested harts, met and unmet wishes, guest most guests at once, made entries inside
+entry 1: h1 enter s1: no wish
+illegal: line 1 differs
+";
+
+#[test]
+fn arrays_that_differ_and_a_fault_are_both_reported(rt: HostRuntime) -> Result<(), Fail> {
+    serve(&rt, TEXT, BOTH, Status::Illegal, BOTH_TEXT, b"")
 }
 
 // A program without sites, whose journal has no entries.
@@ -504,10 +556,11 @@ h0   base
 unm     0
 idl     0
 
-base
+   req   met unmet guest  made  base
 
 reg registers a site, req requests harts, unreg unregisters the site
 unm unmet wishes, idl idle harts, ! a child of the base has an unmet wish while a hart is idle
+of sites: req requested harts, met and unmet wishes, guest most guests at once, made entries inside
 legal 0
 ";
 

@@ -39,15 +39,16 @@ h1   base  base  base    s1  base  base
 unm     0     0     1     0     0     0
 idl     1     1    !1     0     1     1
 
-base
-  s1 pool, line 3, home h0
+   req   met unmet guest  made  base
+     1     1     0     1     3    s1 pool, line 3, home h0
 
 reg registers a site, req requests harts, unreg unregisters the site
 unm unmet wishes, idl idle harts, ! a child of the base has an unmet wish while a hart is idle
+of sites: req requested harts, met and unmet wishes, guest most guests at once, made entries inside
 legal 5
 ";
 
-// Serves the words, and answers the status.
+// Serves the words, and returns the status.
 fn status_of(
     alloc: Global,
     words: &[&str],
@@ -76,7 +77,7 @@ impl Served {
         self.status == status && self.out.bytes() == out && self.err.bytes() == err
     }
 
-    /// Whether it is a write fault, which is told, and so many bytes of this were written.
+    /// Whether the status and the message are those of a write fault, and `count` bytes of this were written.
     pub fn is_cut_off(&self, whole: &[u8], count: usize) -> bool {
         let out = self.out.bytes();
         let cut = out.len() == count && whole.starts_with(out);

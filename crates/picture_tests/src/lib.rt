@@ -2,6 +2,8 @@
 #![tactic(auto)]
 
 #[cfg(test)]
+mod faults;
+#[cfg(test)]
 mod longest;
 #[cfg(test)]
 mod many;
@@ -9,3 +11,5 @@ mod many;
 mod pictures;
 #[cfg(test)]
 mod stays;
+#[cfg(test)]
+mod visits;

@@ -1,4 +1,4 @@
-//! Pictures of runs of many harts, and of what is told in other bytes than a verdict's.
+//! Pictures of runs of many harts, and of a verdict with bytes that XML doesn't have.
 use journal_picture::{Kind, Shape, svg_picture, text_picture};
 use std::test::Fail;
 use transfer_table::{Entry, Plan};
@@ -44,11 +44,12 @@ h15  base  base  base  base  base  base
 unm     0     0     1     0     0     0
 idl    15    15   !15    14    15    15
 
-base
-  s1 pool, line 3, home h0
+   req   met unmet guest  made  base
+     1     1     0     1     3    s1 pool, line 3, home h0
 
 reg registers a site, req requests harts, unreg unregisters the site
 unm unmet wishes, idl idle harts, ! a child of the base has an unmet wish while a hart is idle
+of sites: req requested harts, met and unmet wishes, guest most guests at once, made entries inside
 legal 5
 ";
 
@@ -63,11 +64,11 @@ fn names_of_harts_are_equally_wide(rt: HostRuntime) -> Result<(), Fail> {
 }
 
 #[test]
-fn what_is_told_is_escaped_in_svg(rt: HostRuntime) -> Result<(), Fail> {
+fn the_verdict_is_escaped_in_svg(rt: HostRuntime) -> Result<(), Fail> {
     let alloc = rt.alloc();
     let plan = Plan::new(alloc, 2, &[0])?;
-    let told = b"a < b & c > d\t\xff\n";
-    let text = svg_picture(alloc, &plan, &[true], &POOL, &[], told)?;
+    let verdict = b"a < b & c > d\t\xff\n";
+    let text = svg_picture(alloc, &plan, &[true], &POOL, &[], verdict)?;
     let same = text
         .as_slice()
         .ends_with(b"'start'>a &lt; b &amp; c > d??\n</text>\n</svg>\n");

@@ -12,11 +12,12 @@ h1   base  base  base    s1  base  base
 unm     0     0     1     0     0     0
 idl     1     1    !1     0     1     1
 
-base
-  s1 pool, line 3, home h0
+   req   met unmet guest  made  base
+     1     1     0     1     3    s1 pool, line 3, home h0
 
 reg registers a site, req requests harts, unreg unregisters the site
 unm unmet wishes, idl idle harts, ! a child of the base has an unmet wish while a hart is idle
+of sites: req requested harts, met and unmet wishes, guest most guests at once, made entries inside
 legal 5
 ";
 
@@ -30,13 +31,14 @@ h1   base  base  base  base  base    s1    s3    s3    s1    s1  base  base
 unm     0     0     1     1     2     1     1     2     1     0     0     0
 idl     1     1    !1    !1    !1     0     0     0     0     0     1     1
 
-base
-  s1 pool, line 4, home h0
-    s2 team, line 6, home h0, unmet wishes 1
-    s3 pool, line 10, home h1, unmet wishes 1
+   req   met unmet guest  made  base
+     1     1     0     1     5    s1 pool, line 4, home h0
+     1     0     1     0     2      s2 team, line 6, home h0
+     1     0     1     0     2      s3 pool, line 10, home h1
 
 reg registers a site, req requests harts, unreg unregisters the site
 unm unmet wishes, idl idle harts, ! a child of the base has an unmet wish while a hart is idle
+of sites: req requested harts, met and unmet wishes, guest most guests at once, made entries inside
 legal 11
 ";
 
@@ -49,13 +51,15 @@ h1   base  base  base  base  base
 unm     0     0     0     0     0
 idl     1     1     1     1     1
 
-base
-  s1 pool, line 4, home h0
-    s2 team, line 6, skipped
-    s3 pool, line 10, skipped
+   req   met unmet guest  made  base
+     0     0     0     0     3    s1 pool, line 4, home h0
+     0     0     0     0     0      s2 team, line 6, skipped
+     0     0     0     0     0      s3 pool, line 10, skipped
 
 reg registers a site, req requests harts, unreg unregisters the site
 unm unmet wishes, idl idle harts, ! a child of the base has an unmet wish while a hart is idle
+of sites: req requested harts, met and unmet wishes, guest most guests at once, made entries inside
+at the end: s2 was skipped, but the program enters it
 illegal: entry 4, s2 is skipped
 ";
 
@@ -68,13 +72,14 @@ h1   base  base  base  base  base
 unm     0     0     0     0     0
 idl     1     1     1     1     1
 
-base
-  s1 pool, line 4, home h0
-    s2 team, line 6, skipped
-    s3 pool, line 10, skipped
+   req   met unmet guest  made  base
+     0     0     0     0     3    s1 pool, line 4, home h0
+     0     0     0     0     0      s2 team, line 6, skipped
+     0     0     0     0     0      s3 pool, line 10, skipped
 
 reg registers a site, req requests harts, unreg unregisters the site
 unm unmet wishes, idl idle harts, ! a child of the base has an unmet wish while a hart is idle
+of sites: req requested harts, met and unmet wishes, guest most guests at once, made entries inside
 legal 4
 ";
 
@@ -87,18 +92,20 @@ h1   base  base  base  base
 unm     0     0     1     1
 idl     1     1    !1    !1
 
-base
-  s1 pool, line 4, home h0, not ended, unmet wishes 1
-    s2 team, line 6, home h0, not ended
-    s3 pool, line 10, not entered
+   req   met unmet guest  made  base
+     1     0     1     0     2    s1 pool, line 4, home h0, not ended
+     0     0     0     0     0      s2 team, line 6, home h0, not ended
+     0     0     0     0     0      s3 pool, line 10, not entered
 
 reg registers a site, req requests harts, unreg unregisters the site
 unm unmet wishes, idl idle harts, ! a child of the base has an unmet wish while a hart is idle
+of sites: req requested harts, met and unmet wishes, guest most guests at once, made entries inside
+entry 3: h1 register s3: the hart is in s0, not in s1
 illegal: entry 3, owner is s0
 ";
 
 const FIRST_SVG: &[u8] =
-    b"<svg xmlns='http://www.w3.org/2000/svg' version='1.1' width='700' height='336' viewBox='0 0 700 336' font-family='Helvetica, Arial, sans-serif' font-size='11' text-anchor='middle'>
+    b"<svg xmlns='http://www.w3.org/2000/svg' version='1.1' width='700' height='390' viewBox='0 0 700 390' font-family='Helvetica, Arial, sans-serif' font-size='11' text-anchor='middle'>
 <rect width='100%' height='100%' fill='#ffffff'/>
 <text x='16' y='30' font-size='19' font-weight='bold' text-anchor='start'>Lithe, harts 2, sites 1, entries 5</text>
 <text x='56' y='72' text-anchor='start'>entries in order, not time</text>
@@ -114,7 +121,7 @@ const FIRST_SVG: &[u8] =
 <rect x='556' y='268' width='24' height='14' fill='#f6b3b9' stroke='#b00020'><title>a missed wish</title></rect>
 <text x='588' y='279'>a missed wish</text>
 <text x='56' y='300'>higher: deeper in the tree. a missed wish: a child of the base has an unmet wish while a hart is idle.</text>
-<text x='56' y='318'>+1: the home requests a hart. 1 unmet: a wish that nobody met. skip: a site that isn't entered.</text>
+<text x='56' y='318'>+1: the home requests a hart. 1 unmet: a wish that no hart met. skip: a site that isn't entered.</text>
 </g>
 <text x='28' y='150' font-size='13' font-weight='bold'>h0</text>
 <text x='28' y='194' font-size='13' font-weight='bold'>h1</text>
@@ -166,13 +173,15 @@ const FIRST_SVG: &[u8] =
 <text x='356' y='233'>1</text>
 <text x='428' y='219'>0</text>
 <text x='428' y='233'>1</text>
+<text y='350' font-weight='bold'><tspan x='86'>requested</tspan><tspan x='146'>met</tspan><tspan x='196'>unmet</tspan><tspan x='266'>most guests</tspan><tspan x='366'>entries inside</tspan><tspan x='426' text-anchor='start'>site</tspan></text>
+<text y='368'><tspan x='86'>1</tspan><tspan x='146'>1</tspan><tspan x='196'>0</tspan><tspan x='266'>1</tspan><tspan x='366'>3</tspan><tspan x='426' text-anchor='start'>s1, pool, line 3, home h0</tspan></text>
 <text x='16' y='52' font-size='14' text-anchor='start'>legal 5
 </text>
 </svg>
 ";
 
 const NESTED_SVG: &[u8] =
-    b"<svg xmlns='http://www.w3.org/2000/svg' version='1.1' width='976' height='336' viewBox='0 0 976 336' font-family='Helvetica, Arial, sans-serif' font-size='11' text-anchor='middle'>
+    b"<svg xmlns='http://www.w3.org/2000/svg' version='1.1' width='976' height='426' viewBox='0 0 976 426' font-family='Helvetica, Arial, sans-serif' font-size='11' text-anchor='middle'>
 <rect width='100%' height='100%' fill='#ffffff'/>
 <text x='16' y='30' font-size='19' font-weight='bold' text-anchor='start'>Lithe, harts 2, sites 3, entries 11</text>
 <text x='56' y='72' text-anchor='start'>entries in order, not time</text>
@@ -188,7 +197,7 @@ const NESTED_SVG: &[u8] =
 <rect x='556' y='268' width='24' height='14' fill='#f6b3b9' stroke='#b00020'><title>a missed wish</title></rect>
 <text x='588' y='279'>a missed wish</text>
 <text x='56' y='300'>higher: deeper in the tree. a missed wish: a child of the base has an unmet wish while a hart is idle.</text>
-<text x='56' y='318'>+1: the home requests a hart. 1 unmet: a wish that nobody met. skip: a site that isn't entered.</text>
+<text x='56' y='318'>+1: the home requests a hart. 1 unmet: a wish that no hart met. skip: a site that isn't entered.</text>
 </g>
 <text x='28' y='150' font-size='13' font-weight='bold'>h0</text>
 <text x='28' y='194' font-size='13' font-weight='bold'>h1</text>
@@ -290,13 +299,17 @@ const NESTED_SVG: &[u8] =
 <text x='788' y='233'>1</text>
 <text x='860' y='219'>0</text>
 <text x='860' y='233'>1</text>
+<text y='350' font-weight='bold'><tspan x='86'>requested</tspan><tspan x='146'>met</tspan><tspan x='196'>unmet</tspan><tspan x='266'>most guests</tspan><tspan x='366'>entries inside</tspan><tspan x='426' text-anchor='start'>site</tspan></text>
+<text y='368'><tspan x='86'>1</tspan><tspan x='146'>1</tspan><tspan x='196'>0</tspan><tspan x='266'>1</tspan><tspan x='366'>5</tspan><tspan x='426' text-anchor='start'>s1, pool, line 4, home h0</tspan></text>
+<text y='386'><tspan x='86'>1</tspan><tspan x='146'>0</tspan><tspan x='196'>1</tspan><tspan x='266'>0</tspan><tspan x='366'>2</tspan><tspan x='426' text-anchor='start'>s2, team, line 6, in s1, home h0</tspan></text>
+<text y='404'><tspan x='86'>1</tspan><tspan x='146'>0</tspan><tspan x='196'>1</tspan><tspan x='266'>0</tspan><tspan x='366'>2</tspan><tspan x='426' text-anchor='start'>s3, pool, line 10, in s1, home h1</tspan></text>
 <text x='16' y='52' font-size='14' text-anchor='start'>legal 11
 </text>
 </svg>
 ";
 
 const FAULTY_SVG: &[u8] =
-    b"<svg xmlns='http://www.w3.org/2000/svg' version='1.1' width='700' height='336' viewBox='0 0 700 336' font-family='Helvetica, Arial, sans-serif' font-size='11' text-anchor='middle'>
+    b"<svg xmlns='http://www.w3.org/2000/svg' version='1.1' width='700' height='426' viewBox='0 0 700 426' font-family='Helvetica, Arial, sans-serif' font-size='11' text-anchor='middle'>
 <rect width='100%' height='100%' fill='#ffffff'/>
 <text x='16' y='30' font-size='19' font-weight='bold' text-anchor='start'>Lithe, harts 2, sites 3, entries 3</text>
 <text x='56' y='72' text-anchor='start'>entries in order, not time</text>
@@ -312,7 +325,7 @@ const FAULTY_SVG: &[u8] =
 <rect x='556' y='268' width='24' height='14' fill='#f6b3b9' stroke='#b00020'><title>a missed wish</title></rect>
 <text x='588' y='279'>a missed wish</text>
 <text x='56' y='300'>higher: deeper in the tree. a missed wish: a child of the base has an unmet wish while a hart is idle.</text>
-<text x='56' y='318'>+1: the home requests a hart. 1 unmet: a wish that nobody met. skip: a site that isn't entered.</text>
+<text x='56' y='318'>+1: the home requests a hart. 1 unmet: a wish that no hart met. skip: a site that isn't entered.</text>
 </g>
 <text x='28' y='150' font-size='13' font-weight='bold'>h0</text>
 <text x='28' y='194' font-size='13' font-weight='bold'>h1</text>
@@ -350,14 +363,19 @@ const FAULTY_SVG: &[u8] =
 <text x='284' y='219'>1</text>
 <text x='284' y='233'>1</text>
 <path d='M344 116v88' stroke='#b00020' stroke-width='3' stroke-dasharray='6 3'/>
-<text x='344' y='100' fill='#b00020' font-weight='bold'>fault</text>
+<text x='344' y='100' fill='#b00020' font-weight='bold'>fault<title>entry 3: h1 register s3: the hart is in s0, not in s1</title></text>
+<text x='260' y='72' fill='#b00020' font-weight='bold' text-anchor='start'>entry 3: h1 register s3: the hart is in s0, not in s1</text>
+<text y='350' font-weight='bold'><tspan x='86'>requested</tspan><tspan x='146'>met</tspan><tspan x='196'>unmet</tspan><tspan x='266'>most guests</tspan><tspan x='366'>entries inside</tspan><tspan x='426' text-anchor='start'>site</tspan></text>
+<text y='368'><tspan x='86'>1</tspan><tspan x='146'>0</tspan><tspan x='196'>1</tspan><tspan x='266'>0</tspan><tspan x='366'>2</tspan><tspan x='426' text-anchor='start'>s1, pool, line 4, home h0, not ended</tspan></text>
+<text y='386'><tspan x='86'>0</tspan><tspan x='146'>0</tspan><tspan x='196'>0</tspan><tspan x='266'>0</tspan><tspan x='366'>0</tspan><tspan x='426' text-anchor='start'>s2, team, line 6, in s1, home h0, not ended</tspan></text>
+<text y='404'><tspan x='86'>0</tspan><tspan x='146'>0</tspan><tspan x='196'>0</tspan><tspan x='266'>0</tspan><tspan x='366'>0</tspan><tspan x='426' text-anchor='start'>s3, pool, line 10, in s1, not entered</tspan></text>
 <text x='16' y='52' font-size='14' text-anchor='start'>illegal: entry 3, owner is s0
 </text>
 </svg>
 ";
 
 const SKIPPED_SVG: &[u8] =
-    b"<svg xmlns='http://www.w3.org/2000/svg' version='1.1' width='700' height='336' viewBox='0 0 700 336' font-family='Helvetica, Arial, sans-serif' font-size='11' text-anchor='middle'>
+    b"<svg xmlns='http://www.w3.org/2000/svg' version='1.1' width='700' height='426' viewBox='0 0 700 426' font-family='Helvetica, Arial, sans-serif' font-size='11' text-anchor='middle'>
 <rect width='100%' height='100%' fill='#ffffff'/>
 <text x='16' y='30' font-size='19' font-weight='bold' text-anchor='start'>Lithe, harts 2, sites 3, entries 4</text>
 <text x='56' y='72' text-anchor='start'>entries in order, not time</text>
@@ -373,7 +391,7 @@ const SKIPPED_SVG: &[u8] =
 <rect x='556' y='268' width='24' height='14' fill='#f6b3b9' stroke='#b00020'><title>a missed wish</title></rect>
 <text x='588' y='279'>a missed wish</text>
 <text x='56' y='300'>higher: deeper in the tree. a missed wish: a child of the base has an unmet wish while a hart is idle.</text>
-<text x='56' y='318'>+1: the home requests a hart. 1 unmet: a wish that nobody met. skip: a site that isn't entered.</text>
+<text x='56' y='318'>+1: the home requests a hart. 1 unmet: a wish that no hart met. skip: a site that isn't entered.</text>
 </g>
 <text x='28' y='150' font-size='13' font-weight='bold'>h0</text>
 <text x='28' y='194' font-size='13' font-weight='bold'>h1</text>
@@ -415,6 +433,10 @@ const SKIPPED_SVG: &[u8] =
 <text x='284' y='233'>1</text>
 <text x='356' y='219'>0</text>
 <text x='356' y='233'>1</text>
+<text y='350' font-weight='bold'><tspan x='86'>requested</tspan><tspan x='146'>met</tspan><tspan x='196'>unmet</tspan><tspan x='266'>most guests</tspan><tspan x='366'>entries inside</tspan><tspan x='426' text-anchor='start'>site</tspan></text>
+<text y='368'><tspan x='86'>0</tspan><tspan x='146'>0</tspan><tspan x='196'>0</tspan><tspan x='266'>0</tspan><tspan x='366'>3</tspan><tspan x='426' text-anchor='start'>s1, pool, line 4, home h0</tspan></text>
+<text y='386'><tspan x='86'>0</tspan><tspan x='146'>0</tspan><tspan x='196'>0</tspan><tspan x='266'>0</tspan><tspan x='366'>0</tspan><tspan x='426' text-anchor='start'>s2, team, line 6, in s1, skipped</tspan></text>
+<text y='404'><tspan x='86'>0</tspan><tspan x='146'>0</tspan><tspan x='196'>0</tspan><tspan x='266'>0</tspan><tspan x='366'>0</tspan><tspan x='426' text-anchor='start'>s3, pool, line 10, in s1, skipped</tspan></text>
 <text x='16' y='52' font-size='14' text-anchor='start'>legal 4
 </text>
 </svg>

@@ -13,4 +13,4 @@ returns c =
     let third = string_bytes c.push_str.new.self in
     let line : OnOk c.push_str.result (third ≡ second ++ legend_text) = on_pushed c.push_str.result third second legend_text c.push_str.ensures.bytes in
     on_three c.push_str.result old first second third (bands_text c.args.faulty es c.args.lanes.now c.args.strip.now 0 (band_count (length es)))
-    (tree_text b.plan b.state c.args.shapes.now) legend_text c.in_ok-write_bands.ensures c.in_ok-write_tree.ensures line
+    (tree_text b.plan b.state c.args.visits.now c.args.shapes.now) legend_text c.in_ok-write_bands.ensures c.in_ok-write_tree.ensures line

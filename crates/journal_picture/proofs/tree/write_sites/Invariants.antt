@@ -5,5 +5,5 @@ use Rattle.journal_picture.proofs.tree.write_sites.Given as goal
 -- the text so far, and the lines of the other sites
 abbrev pub invariant-loop-i : goal.invariant-loop-i
 invariant-loop-i l =
-    string_bytes l.text ++ site_lines l.board.plan l.board.state (l.i + 1) (drop l.i l.shapes)
-    ≡ string_bytes l.fn.text ++ site_lines l.board.plan l.board.state 1 l.shapes
+    string_bytes l.text ++ site_lines l.board.plan l.board.state l.visits (l.i + 1) (drop l.i l.shapes)
+    ≡ string_bytes l.fn.text ++ site_lines l.board.plan l.board.state l.visits 1 l.shapes
