@@ -1,4 +1,4 @@
--- What is told has no markup when it is escaped.
+-- The escaped form of a verdict has no markup.
 use Rattle.std.proofs.Common.{◌≡◌, ◌∙◌, ℕ, ◌==◌, cond, Bool, true, false, List, [], ◌∷◌, refl, sym, subst}
 use Rattle.std.specs.Prelude.{codes, nat_le, ◌&&◌}
 use Rattle.std.specs.List.{list_all}
@@ -31,6 +31,6 @@ join a b first second = subst (λ (x : Bool). (x && b) ≡ true) (sym first) sec
 
 pub no_markup : EscapedHasNoMarkup
 no_markup [] = refl
-no_markup (b ∷ told) =
-    list_all-append is_plain (escaped_byte b) (escaped told)
-    ∙ join (list_all is_plain (escaped_byte b)) (list_all is_plain (escaped told)) (byte_plain b) (no_markup told)
+no_markup (b ∷ verdict) =
+    list_all-append is_plain (escaped_byte b) (escaped verdict)
+    ∙ join (list_all is_plain (escaped_byte b)) (list_all is_plain (escaped verdict)) (byte_plain b) (no_markup verdict)

@@ -12,7 +12,7 @@ use Rattle.transfer_table.specs.declared.entry.Stage.TheVariants.{New, Live, Gon
 use Rattle.transfer_table.specs.declared.entry.Entry.{Entry}
 use Rattle.transfer_table.specs.declared.entry.NotAdmitted.{NotAdmitted}
 use Rattle.journal_picture.specs.Drawn.{or_same}
-use Rattle.journal_picture.specs.Strip.{unmet_of, idle_up_to, is_wishing, wishing_up_to, idle_in, figures_of, strip_from, StripTellsStates, RedIsMissed, SomeIdle, SomeWish}
+use Rattle.journal_picture.specs.Strip.{unmet_of, idle_up_to, is_wishing, wishing_up_to, idle_in, figures_of, strip_from, StripHasFigures, RedIsMissed, SomeIdle, SomeWish}
 
 -- ---- the strip has the figures of each state
 strip_at : (p : Plan) (es : List Entry) (k : ℕ) (t u : TableState) → k ≤ length es → replay_from p t (take k es) ≡ Ok u
@@ -28,8 +28,8 @@ strip_at p (e ∷ es) (suc k) t u short is = go (admit_of p t e) refl is (λ v m
     go (Ok v) same more next = subst (λ (r : Result TableState NotAdmitted). slice_get (strip_from p (or_same t r) es) k ≡ Some (figures_of p u)) (sym same) (next v more)
     go (Err f) same more next = absurd (cc)
 
-pub strip_tells : StripTellsStates
-strip_tells p es k t short leads = strip_at p es k (first_state p) t short leads
+pub strip_has : StripHasFigures
+strip_has p es k t short leads = strip_at p es k (first_state p) t short leads
 
 -- ---- idle harts
 idle_some : (t : TableState) (n : ℕ) → 1 ≤ idle_up_to t n → (h : ℕ) × (1 ≤ h) × (h ≤ n) × (owner t h ≡ 0)

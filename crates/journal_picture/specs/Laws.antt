@@ -1,4 +1,4 @@
--- The laws of stays and of what is told, for every plan and every list of entries.
+-- The laws of stays and of the escaped verdict, for every plan and every list of entries.
 use Rattle.std.specs.Prelude.{◌≡◌, ℕ, ◌+◌, ◌≤◌, ◌==◌, Bool, true, not, List, [], ◌∷◌, length, take, Some, None}
 use Rattle.std.specs.List.{filter, list_all}
 use Rattle.transfer_table.specs.Plan.{Plan, IsPlan, IsHart, IsSite, IsWithin}
@@ -14,7 +14,7 @@ abbrev pub IsOnlyAt : Plan → List Entry → ℕ → ℕ → Stay → Type 0
 IsOnlyAt p es h k stay = filter (has_place k) (stays_of p h es) ≡ stay ∷ []
 
 -- Where the first k entries lead to a state, each hart is in exactly one of its stays at place k, and that is at the site that
--- holds the hart in this state. What is said of all k is said of each place of a legal list.
+-- holds the hart in this state. Each place of a legal list is such a k.
 abbrev pub OneStayAtEachPlace : Type 0
 OneStayAtEachPlace = (p : Plan) (es : List Entry) (k : ℕ) (t : TableState) → IsPlan p
     → k ≤ length es → Reaches p (take k es) t → (h : ℕ) → IsHart p h
@@ -45,6 +45,6 @@ GuestsAreWithTheHome = (p : Plan) (es : List Entry) (k : ℕ) (t : TableState) �
 abbrev pub is_plain : ℕ → Bool
 is_plain byte = not (byte == 60)
 
--- Whatever is told, its escaped form has no `<`.
+-- Whatever the verdict's line is, its escaped form has no `<`.
 abbrev pub EscapedHasNoMarkup : Type 0
-EscapedHasNoMarkup = (told : List ℕ) → list_all is_plain (escaped told) ≡ true
+EscapedHasNoMarkup = (verdict : List ℕ) → list_all is_plain (escaped verdict) ≡ true

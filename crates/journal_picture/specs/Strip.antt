@@ -70,8 +70,8 @@ strip_of p es = strip_from p (first_state p) es
 -- ---- laws
 
 -- Where the first k entries lead to a state, the strip has at place k the figures of this state.
-abbrev pub StripTellsStates : Type 0
-StripTellsStates = (p : Plan) (es : List Entry) (k : ℕ) (t : TableState)
+abbrev pub StripHasFigures : Type 0
+StripHasFigures = (p : Plan) (es : List Entry) (k : ℕ) (t : TableState)
     → k ≤ length es → Reaches p (take k es) t
     → slice_get (strip_of p es) k ≡ Some (figures_of p t)
 

@@ -148,7 +148,7 @@ abbrev pub mark_text : Plan → ℕ → ℕ → Entry → List ℕ → List ℕ
 mark_text p end k e words =
     if is_shown end (row_of end k) then shown_mark p end k e words else []
 
--- The wishes of a site that nobody met; 0 for what is no site.
+-- The unmet wishes of a site; 0 if the plan has no such site.
 abbrev pub unmet_at : Plan → TableState → ℕ → ℕ
 unmet_at p t s = if no_such_site p s then 0 else (row t s).wishes
 
@@ -156,7 +156,7 @@ abbrev pub unmet_mark : Plan → ℕ → ℕ → Entry → ℕ → List ℕ
 unmet_mark p end k e wishes =
     if wishes == 0 then [] else mark_text p end k e (decimal wishes ++ codes " unmet")
 
--- The marks of an entry: how many harts it requests, how many wishes of its site nobody met, or which site it skips.
+-- The mark of an entry: how many harts it requests, how many wishes of its site are unmet, or which site it skips.
 abbrev pub entry_mark : Plan → TableState → ℕ → ℕ → Entry → List ℕ
 entry_mark p t end k (Request h s count) =
     mark_text p end k (Request h s count) (codes "+" ++ decimal count)

@@ -62,8 +62,8 @@ site_swatches y =
 abbrev pub marks_note : ℕ → List ℕ
 marks_note step =
     if nat_lt step 40
-    then codes "a line: the home requests harts. a dot: wishes that nobody met. red and slanted: a skip."
-    else codes "+1: the home requests a hart. 1 unmet: a wish that nobody met. skip: a site that isn't entered."
+    then codes "a line: the home requests harts. a dot: wishes that no hart met. red and slanted: a skip."
+    else codes "+1: the home requests a hart. 1 unmet: a wish that no hart met. skip: a site that isn't entered."
 
 unfoldable pub words_svg : ℕ → ℕ → List ℕ → List ℕ
 words_svg first second note =
@@ -79,10 +79,10 @@ legend_svg step y =
     codes "<g text-anchor='start'>\n" ++ swatches_svg y
     ++ words_svg (y + 32) (y + 50) (marks_note step)
 
-abbrev pub told_start : List ℕ
-told_start = codes "<text x='16' y='52' font-size='14' text-anchor='start'>"
+abbrev pub verdict_start : List ℕ
+verdict_start = codes "<text x='16' y='52' font-size='14' text-anchor='start'>"
 
--- A byte of what is told, as XML has it. In place of what is no printable letter of ASCII and no line's end stands '?'.
+-- A byte of the verdict, as XML has it. In place of what is no printable letter of ASCII and no line's end stands '?'.
 abbrev pub escaped_byte : ℕ → List ℕ
 escaped_byte byte =
     if byte == 60 then codes "&lt;" else
@@ -91,10 +91,10 @@ escaped_byte byte =
     if nat_le 32 byte then (if nat_le byte 126 then byte ∷ [] else codes "?") else codes "?"
 
 abbrev pub escaped : List ℕ → List ℕ
-escaped told = flat_map escaped_byte told
+escaped verdict = flat_map escaped_byte verdict
 
 unfoldable pub end_svg : List ℕ → List ℕ
-end_svg told = escaped told ++ codes "</text>\n</svg>\n"
+end_svg verdict = escaped verdict ++ codes "</text>\n</svg>\n"
 
 -- Head, title and note, and the legend.
 abbrev pub frame_svg : Plan → ℕ → List ℕ
@@ -102,7 +102,7 @@ frame_svg p end =
     head_svg p end ++ title_svg p end ++ note_svg (rows_of end)
     ++ legend_svg (step_of end) (rows_bottom p end + 8)
 
--- ---- the whole, with a line that tells whether the list is legal
+-- ---- the whole, with the verdict's line
 
 -- What lies under the bars.
 abbrev pub under_svg : Plan → List Entry → List ℕ
@@ -121,12 +121,12 @@ picture_svg p t shapes es faulty =
 
 unfoldable pub shown_svg : Plan → TableState → List Shape → List Entry → Bool → List ℕ
 shown_svg p t shapes es faulty =
-    frame_svg p (length es) ++ picture_svg p t shapes es faulty ++ told_start
+    frame_svg p (length es) ++ picture_svg p t shapes es faulty ++ verdict_start
 
 abbrev pub svg_of : Plan → List Shape → List Entry → Bool → List ℕ → List ℕ
-svg_of p shapes es faulty told =
-    shown_svg p (state_after p es) shapes es faulty ++ end_svg told
+svg_of p shapes es faulty verdict =
+    shown_svg p (state_after p es) shapes es faulty ++ end_svg verdict
 
 abbrev pub svg_picture : Plan → List Bool → List Shape → List Entry → List ℕ → List ℕ
-svg_picture p meant shapes es told =
-    svg_of p shapes (drawn p meant es) (has_fault p meant es) told
+svg_picture p meant shapes es verdict =
+    svg_of p shapes (drawn p meant es) (has_fault p meant es) verdict

@@ -72,14 +72,14 @@ numbers_text k (e ∷ es) = cell (decimal k) ++ numbers_text (k + 1) es
 abbrev pub deeds_text : List Entry → List ℕ
 deeds_text es = flat_map (λ e. cell (deed e)) es
 
--- A hart and how many harts it asks for.
-abbrev pub asking : ℕ → ℕ → List ℕ
-asking h k = concat (codes "h" ∷ decimal h ∷ codes "+" ∷ decimal k ∷ [])
+-- A hart and how many harts it requests.
+abbrev pub requesting : ℕ → ℕ → List ℕ
+requesting h k = concat (codes "h" ∷ decimal h ∷ codes "+" ∷ decimal k ∷ [])
 
--- Whose entry it is, and how many harts it asks for.
+-- The hart of an entry, and how many harts the entry requests.
 abbrev pub doer : Entry → List ℕ
 doer (Register h s) = codes "h" ++ decimal h
-doer (Request h s k) = asking h k
+doer (Request h s k) = requesting h k
 doer (Enter h s) = codes "h" ++ decimal h
 doer (Yield h s) = codes "h" ++ decimal h
 doer (Unregister h s) = codes "h" ++ decimal h
@@ -228,7 +228,7 @@ abbrev pub legend_text : List ℕ
 legend_text =
     codes "\nreg registers a site, req requests harts, unreg unregisters the site\nunm unmet wishes, idl idle harts, ! a child of the base has an unmet wish while a hart is idle\n"
 
--- ---- the whole, with a line that tells whether the list is legal
+-- ---- the whole, with the verdict's line
 
 abbrev pub shown_text : Plan → TableState → List Shape → List Entry → List (List ℕ) → List Figures
     → Bool → List ℕ
@@ -238,10 +238,10 @@ shown_text p t shapes es lanes strip faulty =
 
 -- The picture of these entries ends with the verdict's text.
 abbrev pub text_of : Plan → List Shape → List Entry → Bool → List ℕ → List ℕ
-text_of p shapes es faulty told =
-    shown_text p (state_after p es) shapes es (lanes_of p es 0 p.harts) (strip_of p es) faulty ++ told
+text_of p shapes es faulty verdict =
+    shown_text p (state_after p es) shapes es (lanes_of p es 0 p.harts) (strip_of p es) faulty ++ verdict
 
 -- The picture of a list is that of its entries before the first fault.
 abbrev pub text_picture : Plan → List Bool → List Shape → List Entry → List ℕ → List ℕ
-text_picture p meant shapes es told =
-    text_of p shapes (drawn p meant es) (has_fault p meant es) told
+text_picture p meant shapes es verdict =
+    text_of p shapes (drawn p meant es) (has_fault p meant es) verdict

@@ -14,7 +14,7 @@ use crate::text::{hart_of, site_of};
 use std::alloc::{AllocError, Global};
 use transfer_table::{Board, Entry, Plan};
 
-/// Adds the marks of requests, of wishes that nobody met, and of skips.
+/// Adds the marks of requests, of unmet wishes, and of skips.
 pub(crate) fn write_marks(
     alloc: Global,
     text: &mut String,
@@ -71,7 +71,7 @@ fn write_entry_mark(
     }
 }
 
-// Adds the mark of wishes that nobody met, if there are any.
+// Adds the mark of unmet wishes, if there are any.
 fn write_unmet(
     alloc: Global,
     text: &mut String,
@@ -93,7 +93,7 @@ fn write_unmet(
     write_mark(alloc, text, plan, end, k, entry, words.as_str())
 }
 
-// How many wishes of the site nobody met; 0 for what is no site.
+// The unmet wishes of a site; 0 if the plan has no such site.
 fn unmet_at(board: &Board, site: u16) -> u8
     ensures { result ≡ unmet_at board.now.plan board.now.state site }
 {

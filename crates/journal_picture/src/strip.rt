@@ -44,7 +44,7 @@ impl Wishing {
 ///
 /// # Errors
 ///
-/// An allocation failed.
+/// `AllocError` if an allocation fails.
 pub fn strip_of(alloc: Global, plan: &Plan, list: &[Entry]) -> Result<Vec<Figures>, AllocError>
     ensures { IfOk result (λ strip. strip.items ≡ strip_of plan.now list.now) }
 {

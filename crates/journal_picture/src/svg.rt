@@ -12,33 +12,32 @@ use crate::shape::{Kind, Shape};
 use std::alloc::{AllocError, Global};
 use transfer_table::{Board, Entry, Plan, first_fault};
 
-/// The picture of the list as SVG 1.1, up to its first fault; the plan's sites have these shapes. What is told of the list stands
-/// below the title, with `<` and `&` escaped; in place of a byte that is no printable letter of ASCII and no line's end stands `?`.
-/// The list has at most 65,535 entries. Which sites are meant to be entered is a truth value for each, that of site `s` at place
-/// `s - 1`.
+/// The picture of the list as SVG 1.1, up to its first fault; the plan's sites have these shapes. The verdict stands below the title,
+/// with `<` and `&` escaped; in place of a byte that is no printable letter of ASCII and no line's end stands `?`. The list has at
+/// most 65,535 entries. Which sites are meant to be entered is a truth value for each, that of site `s` at index `s - 1`.
 ///
 /// The places stand in rows of at most 1,500 units. A picture has at most 32 rows: if there are more, the first 16 and the last 16
 /// are shown, and the picture says so.
 ///
 /// # Errors
 ///
-/// An allocation failed.
+/// `AllocError` if an allocation fails.
 pub fn svg_picture(
     alloc: Global,
     plan: &Plan,
     meant: &[bool],
     shapes: &[Shape],
     list: &[Entry],
-    told: &[u8],
+    verdict: &[u8],
 ) -> Result<Vec<u8>, AllocError>
     requires few { length list.now ≤ most_entries }
     requires meant { length meant.now ≡ site_count plan.now }
     ensures { IfOk result
-        (λ text. text.items ≡ svg_picture plan.now meant.now shapes.now list.now told.now) }
+        (λ text. text.items ≡ svg_picture plan.now meant.now shapes.now list.now verdict.now) }
 {
     let fault = first_fault(alloc, plan, meant, list)?;
     let drawn = before(fault, list);
-    svg_of(alloc, plan, shapes, drawn, fault.is_some(), told)
+    svg_of(alloc, plan, shapes, drawn, fault.is_some(), verdict)
 }
 
 // The picture of these entries, at whose end there is a fault or none.
@@ -48,39 +47,39 @@ fn svg_of(
     shapes: &[Shape],
     list: &[Entry],
     faulty: bool,
-    told: &[u8],
+    verdict: &[u8],
 ) -> Result<Vec<u8>, AllocError>
     requires { length list.now ≤ most_entries }
     ensures { IfOk result
-        (λ text. text.items ≡ svg_of plan.now shapes.now list.now faulty told.now) }
+        (λ text. text.items ≡ svg_of plan.now shapes.now list.now faulty verdict.now) }
 {
     let board = board_after(alloc, plan, list)?;
     let mut text = String::new(alloc);
     write_shown(alloc, &mut text, &board, shapes, list, faulty)?;
-    ended(text.into_bytes(), told)
+    ended(text.into_bytes(), verdict)
 }
 
-// The text with what is told, and the end.
-fn ended(text: Vec<u8>, told: &[u8]) -> Result<Vec<u8>, AllocError>
-    ensures { IfOk result (λ whole. whole.items ≡ text.items ++ end_svg told.now) }
+// The text with the verdict, and the end.
+fn ended(text: Vec<u8>, verdict: &[u8]) -> Result<Vec<u8>, AllocError>
+    ensures { IfOk result (λ whole. whole.items ≡ text.items ++ end_svg verdict.now) }
 {
     let mut whole = text;
-    add_escaped(&mut whole, told)?;
+    add_escaped(&mut whole, verdict)?;
     whole.extend_from_slice(b"</text>\n</svg>\n")?;
     Ok(whole)
 }
 
-// Adds what is told, as XML has it.
-fn add_escaped(whole: &mut Vec<u8>, told: &[u8]) -> Result<(), AllocError>
-    ensures { OnOk result (whole.new.items ≡ whole.old.items ++ escaped told.now) }
+// Adds the verdict, as XML has it.
+fn add_escaped(whole: &mut Vec<u8>, verdict: &[u8]) -> Result<(), AllocError>
+    ensures { OnOk result (whole.new.items ≡ whole.old.items ++ escaped verdict.now) }
 {
-    for byte in told {
+    for byte in verdict {
         add_byte(whole, *byte)?;
     }
     Ok(())
 }
 
-// Adds a byte of what is told.
+// Adds a byte of the verdict, as XML has it.
 fn add_byte(whole: &mut Vec<u8>, byte: u8) -> Result<(), AllocError>
     ensures { OnOk result (whole.new.items ≡ whole.old.items ++ escaped_byte byte) }
 {
@@ -92,7 +91,7 @@ fn add_byte(whole: &mut Vec<u8>, byte: u8) -> Result<(), AllocError>
     }
 }
 
-// Adds all up to what is told.
+// Adds all that stands before the verdict.
 fn write_shown(
     alloc: Global,
     text: &mut String,
@@ -291,7 +290,7 @@ fn write_swatch(
     write_at(text, x + 32, y + 11, words)
 }
 
-// Adds what the legend says of heights and marks.
+// Adds the legend's lines about heights and marks.
 #[tactic(auto, unfolding(crate::specs::SvgPicture::words_svg))]
 fn write_words(text: &mut String, first: usize, second: usize, note: &str) -> Result<(), AllocError>
     ensures { OnOk result (string_bytes text.new ≡ string_bytes text.old
@@ -303,13 +302,13 @@ fn write_words(text: &mut String, first: usize, second: usize, note: &str) -> Re
     )
 }
 
-// What the marks mean: they have words where a place is wide enough.
+// What the marks mean. A mark has words if a place is wide enough.
 fn marks_note(step: usize) -> &'static str
     ensures { result.now ≡ marks_note step }
 {
     if step < 40 {
-        "a line: the home requests harts. a dot: wishes that nobody met. red and slanted: a skip."
+        "a line: the home requests harts. a dot: wishes that no hart met. red and slanted: a skip."
     } else {
-        "+1: the home requests a hart. 1 unmet: a wish that nobody met. skip: a site that isn't entered."
+        "+1: the home requests a hart. 1 unmet: a wish that no hart met. skip: a site that isn't entered."
     }
 }

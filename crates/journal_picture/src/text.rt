@@ -2,7 +2,7 @@
 ghost use Rattle.std.specs.Prelude.{◌≡◌, ◌≤◌, ◌++◌, ◌*◌, ◌+◌, IfOk, OnOk, length, take, drop, string_bytes, true};
 ghost use Rattle.transfer_table.specs.Entry.{hart_of, site_of};
 ghost use Rattle.transfer_table.specs.Plan.{site_count, most_entries};
-ghost use Rattle.journal_picture.specs.TextPicture.{asking, at_sites_line, at_sites_text, band_count, band_text, bands_text, deed, deed_lines, deeds_line, deeds_text, doer, doers_line, doers_text, hart_name, idle_line, idle_words, idles_text, lanes_text, mark_text, numbers_line, numbers_text, shown_text, sites_text, strip_lines, text_of, text_picture, unmet_line, unmets_text};
+ghost use Rattle.journal_picture.specs.TextPicture.{requesting, at_sites_line, at_sites_text, band_count, band_text, bands_text, deed, deed_lines, deeds_line, deeds_text, doer, doers_line, doers_text, hart_name, idle_line, idle_words, idles_text, lanes_text, mark_text, numbers_line, numbers_text, shown_text, sites_text, strip_lines, text_of, text_picture, unmet_line, unmets_text};
 ghost use Rattle.journal_picture.specs.Drawn.{state_after};
 
 use crate::drawn::{before, board_after};
@@ -14,26 +14,30 @@ use crate::words::{site_name, write_cell, write_name};
 use std::alloc::{AllocError, Global};
 use transfer_table::{Board, Entry, Plan, first_fault};
 
-/// The picture of the list in text, up to its first fault, with the tree of the sites, which have these shapes, and what is told
-/// of the list at its end. The list has at most 65,535 entries. Which sites are meant to be entered is a truth value for each,
-/// that of site `s` at place `s - 1`.
+/// The picture of the list in text, up to its first fault, with the tree of the sites and the verdict at its end. The sites have these
+/// shapes. The list has at most 65,535 entries. Which sites are meant to be entered is a truth value for each, that of site `s` at
+/// index `s - 1`.
+///
+/// # Errors
+///
+/// `AllocError` if an allocation fails.
 pub fn text_picture(
     alloc: Global,
     plan: &Plan,
     meant: &[bool],
     shapes: &[Shape],
     list: &[Entry],
-    told: &[u8],
+    verdict: &[u8],
 ) -> Result<Vec<u8>, AllocError>
     requires few { length list.now ≤ most_entries }
     requires meant { length meant.now ≡ site_count plan.now }
     requires shapes { length shapes.now ≡ site_count plan.now }
     ensures { IfOk result
-        (λ text. text.items ≡ text_picture plan.now meant.now shapes.now list.now told.now) }
+        (λ text. text.items ≡ text_picture plan.now meant.now shapes.now list.now verdict.now) }
 {
     let fault = first_fault(alloc, plan, meant, list)?;
     let drawn = before(fault, list);
-    text_of(alloc, plan, shapes, drawn, fault.is_some(), told)
+    text_of(alloc, plan, shapes, drawn, fault.is_some(), verdict)
 }
 
 // The picture of these entries, at whose end there is a fault or none.
@@ -43,12 +47,12 @@ fn text_of(
     shapes: &[Shape],
     list: &[Entry],
     faulty: bool,
-    told: &[u8],
+    verdict: &[u8],
 ) -> Result<Vec<u8>, AllocError>
     requires few { length list.now ≤ most_entries }
     requires shapes { length shapes.now ≡ site_count plan.now }
     ensures { IfOk result
-        (λ text. text.items ≡ text_of plan.now shapes.now list.now faulty told.now) }
+        (λ text. text.items ≡ text_of plan.now shapes.now list.now faulty verdict.now) }
 {
     let lanes = lanes_of(alloc, plan, list)?;
     let strip = strip_of(alloc, plan, list)?;
@@ -58,7 +62,7 @@ fn text_of(
         alloc, &mut text, &board, shapes, list, &lanes, &strip, faulty,
     )?;
     let mut bytes = text.into_bytes();
-    bytes.extend_from_slice(told)?;
+    bytes.extend_from_slice(verdict)?;
     Ok(bytes)
 }
 
@@ -320,7 +324,7 @@ fn write_deeds(text: &mut String, shown: &[Entry]) -> Result<(), AllocError>
     Ok(())
 }
 
-// Adds whose entries they are, and how many harts they ask for.
+// Adds the hart of each entry, and how many harts the entry requests.
 fn write_doers(alloc: Global, text: &mut String, shown: &[Entry]) -> Result<(), AllocError>
     ensures { OnOk result (string_bytes text.new ≡ string_bytes text.old ++ doers_text shown.now) }
 {
@@ -331,12 +335,12 @@ fn write_doers(alloc: Global, text: &mut String, shown: &[Entry]) -> Result<(), 
     Ok(())
 }
 
-// Whose entry it is, and how many harts it asks for.
+// The hart of an entry, and how many harts the entry requests.
 fn doer(alloc: Global, entry: Entry) -> Result<String, AllocError>
     ensures { IfOk result (λ name. string_bytes name ≡ doer entry) }
 {
     match entry {
-        Entry::Request { hart, count, .. } => asking(alloc, hart, count),
+        Entry::Request { hart, count, .. } => requesting(alloc, hart, count),
         Entry::Register { hart, .. }
         | Entry::Enter { hart, .. }
         | Entry::Yield { hart, .. }
@@ -345,9 +349,9 @@ fn doer(alloc: Global, entry: Entry) -> Result<String, AllocError>
     }
 }
 
-// A hart and how many harts it asks for.
-fn asking(alloc: Global, hart: u8, count: u8) -> Result<String, AllocError>
-    ensures { IfOk result (λ name. string_bytes name ≡ asking hart count) }
+// A hart and how many harts it requests.
+fn requesting(alloc: Global, hart: u8, count: u8) -> Result<String, AllocError>
+    ensures { IfOk result (λ name. string_bytes name ≡ requesting hart count) }
 {
     format!(in alloc; "h{hart}+{count}")
 }

@@ -21,7 +21,7 @@ const FIRST_SVG: &[u8] =
 <rect x='556' y='268' width='24' height='14' fill='#f6b3b9' stroke='#b00020'><title>a missed wish</title></rect>
 <text x='588' y='279'>a missed wish</text>
 <text x='56' y='300'>higher: deeper in the tree. a missed wish: a child of the base has an unmet wish while a hart is idle.</text>
-<text x='56' y='318'>+1: the home requests a hart. 1 unmet: a wish that nobody met. skip: a site that isn't entered.</text>
+<text x='56' y='318'>+1: the home requests a hart. 1 unmet: a wish that no hart met. skip: a site that isn't entered.</text>
 </g>
 <text x='28' y='150' font-size='13' font-weight='bold'>h0</text>
 <text x='28' y='194' font-size='13' font-weight='bold'>h1</text>
@@ -170,7 +170,7 @@ const NESTED_SVG: &[u8] =
 <rect x='556' y='268' width='24' height='14' fill='#f6b3b9' stroke='#b00020'><title>a missed wish</title></rect>
 <text x='588' y='279'>a missed wish</text>
 <text x='56' y='300'>higher: deeper in the tree. a missed wish: a child of the base has an unmet wish while a hart is idle.</text>
-<text x='56' y='318'>+1: the home requests a hart. 1 unmet: a wish that nobody met. skip: a site that isn't entered.</text>
+<text x='56' y='318'>+1: the home requests a hart. 1 unmet: a wish that no hart met. skip: a site that isn't entered.</text>
 </g>
 <text x='28' y='150' font-size='13' font-weight='bold'>h0</text>
 <text x='28' y='194' font-size='13' font-weight='bold'>h1</text>
@@ -415,7 +415,7 @@ const ILLEGAL_SVG: &[u8] =
 <rect x='556' y='268' width='24' height='14' fill='#f6b3b9' stroke='#b00020'><title>a missed wish</title></rect>
 <text x='588' y='279'>a missed wish</text>
 <text x='56' y='300'>higher: deeper in the tree. a missed wish: a child of the base has an unmet wish while a hart is idle.</text>
-<text x='56' y='318'>+1: the home requests a hart. 1 unmet: a wish that nobody met. skip: a site that isn't entered.</text>
+<text x='56' y='318'>+1: the home requests a hart. 1 unmet: a wish that no hart met. skip: a site that isn't entered.</text>
 </g>
 <text x='28' y='150' font-size='13' font-weight='bold'>h0</text>
 <text x='28' y='194' font-size='13' font-weight='bold'>h1</text>
@@ -489,7 +489,7 @@ illegal: line 1 differs
 ";
 
 #[test]
-fn arrays_that_differ_are_told_below_the_journal(rt: HostRuntime) -> Result<(), Fail> {
+fn arrays_that_differ_are_reported_below_the_journal(rt: HostRuntime) -> Result<(), Fail> {
     serve(&rt, TEXT, DIFFERING, Status::Illegal, DIFFERING_TEXT, b"")
 }
 

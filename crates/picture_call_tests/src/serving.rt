@@ -47,7 +47,7 @@ unm unmet wishes, idl idle harts, ! a child of the base has an unmet wish while 
 legal 5
 ";
 
-// Serves the words, and answers the status.
+// Serves the words, and returns the status.
 fn status_of(
     alloc: Global,
     words: &[&str],
@@ -76,7 +76,7 @@ impl Served {
         self.status == status && self.out.bytes() == out && self.err.bytes() == err
     }
 
-    /// Whether it is a write fault, which is told, and so many bytes of this were written.
+    /// Whether the status and the message are those of a write fault, and `count` bytes of this were written.
     pub fn is_cut_off(&self, whole: &[u8], count: usize) -> bool {
         let out = self.out.bytes();
         let cut = out.len() == count && whole.starts_with(out);

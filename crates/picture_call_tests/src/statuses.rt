@@ -1,4 +1,4 @@
-//! Each status, with its number and what is told.
+//! Each status, with its number and the message on standard error.
 use crate::serving::{FIRST, SVG, TEXT, open, serve, serve_by};
 use lithe_call::Status;
 use outside_io::MemSink;
@@ -21,7 +21,7 @@ const NO_FORMS: [&[&str]; 9] = [
 ];
 
 #[test]
-fn words_that_are_no_form_are_told(rt: HostRuntime) -> Result<(), Fail> {
+fn words_that_are_no_form_are_reported(rt: HostRuntime) -> Result<(), Fail> {
     for words in &NO_FORMS {
         serve(&rt, words, FIRST, Status::Usage, b"", USAGE)?;
     }
@@ -45,50 +45,50 @@ fn forms_are_served(rt: HostRuntime) -> Result<(), Fail> {
     Ok(())
 }
 
-// An input, the status of its picture, and what is told.
-struct Told {
+// An input without a picture, the status, and the message.
+struct Refusal {
     input: &'static [u8],
     status: Status,
     line: &'static [u8],
 }
 
-const TOLD: [Told; 8] = [
-    Told {
+const REFUSALS: [Refusal; 8] = [
+    Refusal {
         input: b"array a[4\n%%\n",
         status: Status::Syntax,
         line: b"syntax: unexpected at byte 10\n",
     },
-    Told {
+    Refusal {
         input: b"array a[4];\n",
         status: Status::Syntax,
         line: b"syntax: no line %%\n",
     },
-    Told {
+    Refusal {
         input: b"array a[4];\n%%\n",
         status: Status::Syntax,
         line: b"syntax: bad line 1 after %%\n",
     },
-    Told {
+    Refusal {
         input: b"array a[4];\n%%\na = 0 0 0 0\n",
         status: Status::Syntax,
         line: b"syntax: bad line 2 after %%\n",
     },
-    Told {
+    Refusal {
         input: b"array a[1]; par { { a[0] = 1; } }\n%%\na = 1\ntransfers 1\n00 h0 register s1 under s0\n",
         status: Status::Syntax,
         line: b"syntax: bad number in line 3 after %%\n",
     },
-    Told {
+    Refusal {
         input: b"array a[1]; par { { a[0] = 1; } }\n%%\na = 1\ntransfers 2\n0 h0 register s1 under s0\n",
         status: Status::Syntax,
         line: b"syntax: 2 transfers said, 1 found\n",
     },
-    Told {
+    Refusal {
         input: b"a[0] = 1;\n%%\n",
         status: Status::Refused,
         line: b"refused: unknown name at line 1\n",
     },
-    Told {
+    Refusal {
         input: b"array a[2];\npar {\n  { a[1] = 1; }\n  { a[0] = 2; a[1] = 3; }\n}\n%%\na = 2 3\ntransfers 0\n",
         status: Status::Refused,
         line: b"refused: overlap on a[1] at line 2\n",
@@ -96,8 +96,8 @@ const TOLD: [Told; 8] = [
 ];
 
 #[test]
-fn inputs_without_a_picture_are_told(rt: HostRuntime) -> Result<(), Fail> {
-    for row in &TOLD {
+fn inputs_without_a_picture_are_reported(rt: HostRuntime) -> Result<(), Fail> {
+    for row in &REFUSALS {
         serve(&rt, TEXT, row.input, row.status, b"", row.line)?;
         serve(&rt, SVG, row.input, row.status, b"", row.line)?;
     }
@@ -106,7 +106,7 @@ fn inputs_without_a_picture_are_told(rt: HostRuntime) -> Result<(), Fail> {
 }
 
 #[test]
-fn a_long_input_is_told(rt: HostRuntime) -> Result<(), Fail> {
+fn a_long_input_is_reported(rt: HostRuntime) -> Result<(), Fail> {
     let past = vec![in rt.alloc(); b' '; 4194305]?;
     serve(&rt, SVG, &past, Status::TooLong, b"", b"too long\n")?;
     let mut program = vec![in rt.alloc(); b' '; 65536]?;
@@ -116,28 +116,28 @@ fn a_long_input_is_told(rt: HostRuntime) -> Result<(), Fail> {
     Ok(())
 }
 
-// Whether want of memory for the words is told.
-fn tells_no_memory(err: &mut MemSink) -> bool {
+// Whether an allocation failure for the words is reported.
+fn reports_no_memory(err: &mut MemSink) -> bool {
     let status = no_memory_for_picture(err);
     status.number() == 8 && err.bytes() == b"no memory\n".as_slice()
 }
 
 #[test]
-fn words_without_memory_are_told(rt: HostRuntime) -> Result<(), Fail> {
+fn words_without_memory_are_reported(rt: HostRuntime) -> Result<(), Fail> {
     let mut err = open(rt.alloc(), 8)?;
-    assert!(rt; tells_no_memory(&mut err));
+    assert!(rt; reports_no_memory(&mut err));
     Ok(())
 }
 
-// Whether the forms are told of words that are no text.
-fn tells_no_form(err: &mut MemSink) -> bool {
+// Whether the usage is reported for words that are no text.
+fn reports_usage(err: &mut MemSink) -> bool {
     let status = no_picture_for_words(err);
     status == Status::Usage && err.bytes() == USAGE
 }
 
 #[test]
-fn words_that_are_no_text_are_told(rt: HostRuntime) -> Result<(), Fail> {
+fn words_that_are_no_text_are_reported(rt: HostRuntime) -> Result<(), Fail> {
     let mut err = open(rt.alloc(), 8)?;
-    assert!(rt; tells_no_form(&mut err));
+    assert!(rt; reports_usage(&mut err));
     Ok(())
 }

@@ -73,7 +73,7 @@ fn the_longest_journal_of_four_harts_is_drawn_in_32_rows(rt: HostRuntime) -> Res
         &list,
         b"legal 45045\n",
     )?;
-    let fits = text.len() == 1_262_361 && rectangles(&text) == 6_522;
+    let fits = text.len() == 1_262_362 && rectangles(&text) == 6_522;
     assert!(rt; fits);
     Ok(())
 }
@@ -94,7 +94,7 @@ fn the_longest_journal_of_sixteen_harts_is_drawn_in_32_rows(rt: HostRuntime) -> 
         &list,
         b"legal 65518\n",
     )?;
-    let fits = text.len() == 1_551_395 && rectangles(&text) == 7_616;
+    let fits = text.len() == 1_551_396 && rectangles(&text) == 7_616;
     assert!(rt; fits);
     Ok(())
 }

@@ -1,4 +1,4 @@
-//! Pictures of runs of many harts, and of what is told in other bytes than a verdict's.
+//! Pictures of runs of many harts, and of a verdict with bytes that XML doesn't have.
 use journal_picture::{Kind, Shape, svg_picture, text_picture};
 use std::test::Fail;
 use transfer_table::{Entry, Plan};
@@ -63,11 +63,11 @@ fn names_of_harts_are_equally_wide(rt: HostRuntime) -> Result<(), Fail> {
 }
 
 #[test]
-fn what_is_told_is_escaped_in_svg(rt: HostRuntime) -> Result<(), Fail> {
+fn the_verdict_is_escaped_in_svg(rt: HostRuntime) -> Result<(), Fail> {
     let alloc = rt.alloc();
     let plan = Plan::new(alloc, 2, &[0])?;
-    let told = b"a < b & c > d\t\xff\n";
-    let text = svg_picture(alloc, &plan, &[true], &POOL, &[], told)?;
+    let verdict = b"a < b & c > d\t\xff\n";
+    let text = svg_picture(alloc, &plan, &[true], &POOL, &[], verdict)?;
     let same = text
         .as_slice()
         .ends_with(b"'start'>a &lt; b &amp; c > d??\n</text>\n</svg>\n");

@@ -114,7 +114,7 @@ const FIRST_SVG: &[u8] =
 <rect x='556' y='268' width='24' height='14' fill='#f6b3b9' stroke='#b00020'><title>a missed wish</title></rect>
 <text x='588' y='279'>a missed wish</text>
 <text x='56' y='300'>higher: deeper in the tree. a missed wish: a child of the base has an unmet wish while a hart is idle.</text>
-<text x='56' y='318'>+1: the home requests a hart. 1 unmet: a wish that nobody met. skip: a site that isn't entered.</text>
+<text x='56' y='318'>+1: the home requests a hart. 1 unmet: a wish that no hart met. skip: a site that isn't entered.</text>
 </g>
 <text x='28' y='150' font-size='13' font-weight='bold'>h0</text>
 <text x='28' y='194' font-size='13' font-weight='bold'>h1</text>
@@ -188,7 +188,7 @@ const NESTED_SVG: &[u8] =
 <rect x='556' y='268' width='24' height='14' fill='#f6b3b9' stroke='#b00020'><title>a missed wish</title></rect>
 <text x='588' y='279'>a missed wish</text>
 <text x='56' y='300'>higher: deeper in the tree. a missed wish: a child of the base has an unmet wish while a hart is idle.</text>
-<text x='56' y='318'>+1: the home requests a hart. 1 unmet: a wish that nobody met. skip: a site that isn't entered.</text>
+<text x='56' y='318'>+1: the home requests a hart. 1 unmet: a wish that no hart met. skip: a site that isn't entered.</text>
 </g>
 <text x='28' y='150' font-size='13' font-weight='bold'>h0</text>
 <text x='28' y='194' font-size='13' font-weight='bold'>h1</text>
@@ -312,7 +312,7 @@ const FAULTY_SVG: &[u8] =
 <rect x='556' y='268' width='24' height='14' fill='#f6b3b9' stroke='#b00020'><title>a missed wish</title></rect>
 <text x='588' y='279'>a missed wish</text>
 <text x='56' y='300'>higher: deeper in the tree. a missed wish: a child of the base has an unmet wish while a hart is idle.</text>
-<text x='56' y='318'>+1: the home requests a hart. 1 unmet: a wish that nobody met. skip: a site that isn't entered.</text>
+<text x='56' y='318'>+1: the home requests a hart. 1 unmet: a wish that no hart met. skip: a site that isn't entered.</text>
 </g>
 <text x='28' y='150' font-size='13' font-weight='bold'>h0</text>
 <text x='28' y='194' font-size='13' font-weight='bold'>h1</text>
@@ -373,7 +373,7 @@ const SKIPPED_SVG: &[u8] =
 <rect x='556' y='268' width='24' height='14' fill='#f6b3b9' stroke='#b00020'><title>a missed wish</title></rect>
 <text x='588' y='279'>a missed wish</text>
 <text x='56' y='300'>higher: deeper in the tree. a missed wish: a child of the base has an unmet wish while a hart is idle.</text>
-<text x='56' y='318'>+1: the home requests a hart. 1 unmet: a wish that nobody met. skip: a site that isn't entered.</text>
+<text x='56' y='318'>+1: the home requests a hart. 1 unmet: a wish that no hart met. skip: a site that isn't entered.</text>
 </g>
 <text x='28' y='150' font-size='13' font-weight='bold'>h0</text>
 <text x='28' y='194' font-size='13' font-weight='bold'>h1</text>

@@ -10,6 +10,6 @@ returns c =
     let old = c.args.text.items in
     let first = c.add_escaped.new.whole.items in
     let second = c.extend_from_slice.new.self.items in
-    let told : first ≡ old ++ escaped c.args.told.now = c.in_ok-add_escaped.ensures in
+    let verdict : first ≡ old ++ escaped c.args.verdict.now = c.in_ok-add_escaped.ensures in
     let end : second ≡ first ++ codes "</text>\n</svg>\n" = c.in_ok-extend_from_slice.ensures.items in
-    more old first second (escaped c.args.told.now) (codes "</text>\n</svg>\n") told end
+    more old first second (escaped c.args.verdict.now) (codes "</text>\n</svg>\n") verdict end

@@ -1,5 +1,5 @@
 use Rattle.std.proofs.Common.{◌≡◌, ◌++◌, length, string_bytes, rules}
-use Rattle.journal_picture.specs.SvgPicture.{frame_svg, picture_svg, shown_svg, told_start}
+use Rattle.journal_picture.specs.SvgPicture.{frame_svg, picture_svg, shown_svg, verdict_start}
 use Rattle.journal_picture.proofs.Written.{on_three, on_pushed}
 use Rattle.journal_picture.proofs.svg.write_shown.Goals as goal
 
@@ -14,5 +14,5 @@ returns c =
     let third = string_bytes c.push_str.new.self in
     let frame : first ≡ old ++ frame_svg b.plan (length es) = search rules in
     on_three c.push_str.result old first second third (frame_svg b.plan (length es))
-    (picture_svg b.plan b.state c.args.shapes.now es c.args.faulty) told_start frame c.in_ok-write_picture.ensures
-    (on_pushed c.push_str.result third second told_start c.push_str.ensures.bytes)
+    (picture_svg b.plan b.state c.args.shapes.now es c.args.faulty) verdict_start frame c.in_ok-write_picture.ensures
+    (on_pushed c.push_str.result third second verdict_start c.push_str.ensures.bytes)
