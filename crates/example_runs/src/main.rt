@@ -1,6 +1,6 @@
 //! Runs each example that its words name on one hart, and compares what it writes and tells with what stands beside it. Of a word
-//! `NAME.tally` it tallies `NAME`, and of `NAME.svg` it draws the output of `NAME` on two harts that stands there, and compares the
-//! picture.
+//! `NAME.tally` it tallies `NAME`, of `NAME.pipe` it pipes `NAME`, and of a word with `.svg` behind it, it draws the output on two
+//! harts that stands there, and compares the picture.
 #![tactic(auto)]
 
 use lithe_call::lithe;
@@ -16,10 +16,12 @@ use std::{env, fs, io};
 const ROOM: usize = 65_536;
 
 // The words of a command.
-fn words(alloc: Global, command: &str, harts: &str) -> Result<Vec<String>, AllocError> {
+fn words(alloc: Global, command: &str, options: &[&str]) -> Result<Vec<String>, AllocError> {
     let mut words = Vec::new(alloc);
     words.push(String::from_str(alloc, command)?)?;
-    words.push(String::from_str(alloc, harts)?)?;
+    for option in options {
+        words.push(String::from_str(alloc, option)?)?;
+    }
     Ok(words)
 }
 
@@ -30,7 +32,7 @@ fn run_text<R: Threads + Wait + Sync>(
     command: &str,
     text: &[u8],
 ) -> Result<(Vec<u8>, u8), AllocError> {
-    let words = words(alloc, command, "--harts=1")?;
+    let words = words(alloc, command, &["--harts=1"])?;
     let mut source = MemSource::new(alloc, text, ROOM, &[])?;
     let mut out = MemSink::new(alloc, ROOM, ROOM, &[])?;
     let mut err = MemSink::new(alloc, ROOM, ROOM, &[])?;
@@ -48,9 +50,9 @@ fn run_text<R: Threads + Wait + Sync>(
     Ok((all, status.number()))
 }
 
-// The picture of what stands behind the program, with what is told behind it, and its status.
-fn draw_text(alloc: Global, text: &[u8]) -> Result<(Vec<u8>, u8), AllocError> {
-    let words = words(alloc, "svg", "--harts=2")?;
+// The picture of the command's output that stands behind the program, with what is told behind it, and its status.
+fn draw_text(alloc: Global, command: &str, text: &[u8]) -> Result<(Vec<u8>, u8), AllocError> {
+    let words = words(alloc, "svg", &["--harts=2", "--of", command])?;
     let mut source = MemSource::new(alloc, text, ROOM, &[])?;
     let mut out = MemSink::new(alloc, ROOM, ROOM, &[])?;
     let mut err = MemSink::new(alloc, ROOM, ROOM, &[])?;
@@ -73,15 +75,27 @@ fn is_expected<R: AllocGlobal + Files + Threads + Wait + Sync>(
     Ok((written == expected, status))
 }
 
-// Whether the picture of the example's output on two harts is as expected, and its status.
-fn is_drawn<R: AllocGlobal + Files>(rt: &R, name: &str) -> io::Result<(bool, u8)> {
+// The command of a word, and the example's name.
+fn command_of(word: &str) -> (&'static str, &str) {
+    if let Some(name) = word.strip_suffix(".tally") {
+        return ("tally", name);
+    }
+    match word.strip_suffix(".pipe") {
+        Some(name) => ("pipe", name),
+        None => ("run", word),
+    }
+}
+
+// Whether the picture of the output on two harts is as expected, and its status.
+fn is_drawn<R: AllocGlobal + Files>(rt: &R, word: &str) -> io::Result<(bool, u8)> {
     let alloc = rt.alloc();
+    let (command, name) = command_of(word);
     let mut text = fs::read(rt, format!(in alloc; "{name}.lithe")?)?;
-    let output = fs::read(rt, format!(in alloc; "{name}.two_harts")?)?;
-    let expected = fs::read(rt, format!(in alloc; "{name}.svg")?)?;
+    let output = fs::read(rt, format!(in alloc; "{word}.two_harts")?)?;
+    let expected = fs::read(rt, format!(in alloc; "{word}.svg")?)?;
     text.extend_from_slice(b"%%\n")?;
     text.extend_from_slice(&output)?;
-    let (drawn, status) = draw_text(alloc, &text)?;
+    let (drawn, status) = draw_text(alloc, command, &text)?;
     Ok((drawn == expected, status))
 }
 
@@ -90,13 +104,11 @@ fn compare<R: AllocGlobal + Files + Threads + Wait + Sync>(
     rt: &R,
     word: &str,
 ) -> io::Result<(bool, u8)> {
-    if let Some(name) = word.strip_suffix(".svg") {
-        return is_drawn(rt, name);
+    if let Some(drawn) = word.strip_suffix(".svg") {
+        return is_drawn(rt, drawn);
     }
-    match word.strip_suffix(".tally") {
-        Some(name) => is_expected(rt, "tally", name),
-        None => is_expected(rt, "run", word),
-    }
+    let (command, name) = command_of(word);
+    is_expected(rt, command, name)
 }
 
 fn main(rt: HostRuntime) -> io::Result<()> {

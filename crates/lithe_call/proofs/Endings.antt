@@ -53,7 +53,7 @@ pub second_short : (bytes first second : List ℕ) → parts_of bytes ≡ Some (
 second_short bytes first second e = subst (λ (t : List ℕ). length second ≤ length t) (join_with_byte-slice_split 10 bytes) (part_short (lines_of bytes) first second e)
 
 -- ---- parts, programs and verdicts are one
-same_parts : (bytes first second f s : List ℕ) → parts_of bytes ≡ Some (first, second) → parts_of bytes ≡ Some (f, s) → (first ≡ f) × (second ≡ s)
+pub same_parts : (bytes first second f s : List ℕ) → parts_of bytes ≡ Some (first, second) → parts_of bytes ≡ Some (f, s) → (first ≡ f) × (second ≡ s)
 same_parts bytes first second f s one other =
     let same = same_Some (first, second) (f, s) (sym one ∙ other) in (ap (λ (p : List ℕ × List ℕ). p.0) same, ap (λ (p : List ℕ × List ℕ). p.1) same)
 
@@ -69,7 +69,7 @@ untallied_tallied harts bytes line program fails is = fails.refused (subst (IsTa
 unpiped_piped : (harts : ℕ) (bytes line : List ℕ) (program : ProgramTree) → SpellUnpiped harts bytes line → SpellPiped harts bytes program → ⊥
 unpiped_piped harts bytes line program fails is = fails.refused (subst (IsPiped harts) (one_text bytes program fails.program is.spelled fails.spelled) is.piped)
 
-parts_meet : (P Q : List ℕ → List ℕ → Type 0) (bytes : List ℕ) → ((first second : List ℕ) → P first second → Q first second → ⊥) → HasParts P bytes → HasParts Q bytes → ⊥
+pub parts_meet : (P Q : List ℕ → List ℕ → Type 0) (bytes : List ℕ) → ((first second : List ℕ) → P first second → Q first second → ⊥) → HasParts P bytes → HasParts Q bytes → ⊥
 parts_meet P Q bytes never p q =
     let same = same_parts bytes p.first p.second q.first q.second p.parts q.parts in
     never q.first q.second (subst (λ (s : List ℕ). P q.first s) same.1 (subst (λ (f : List ℕ). P f p.second) same.0 p.are)) q.are

@@ -51,8 +51,8 @@ pub fn piped<R: Threads + Wait + Sync, G: Gate>(
     }
 }
 
-// The fault of a program two pieces of which cross.
-fn crossing_fault(alloc: Global, program: &Program, fault: PipeFault) -> Fault
+/// The fault of a program two pieces of which cross.
+pub fn crossing_fault(alloc: Global, program: &Program, fault: PipeFault) -> Fault
     ensures { TellsCrossing (program_of program.now) fault result }
 {
     if fault == PipeFault::Memory {

@@ -54,8 +54,8 @@ pub fn tallied<R: Threads + Wait + Sync, G: Gate>(
     }
 }
 
-// The program in which each branch or member adds into a row of its own.
-fn with_rows(alloc: Global, harts: u8, program: &Program) -> Result<Program, Fault>
+/// The program in which each branch or member adds into a row of its own, or why `tally` takes no such program.
+pub fn with_rows(alloc: Global, harts: u8, program: &Program) -> Result<Program, Fault>
     requires some_hart { 1 ≤ harts }
     requires few_harts { harts ≤ 16 }
     ensures spread { IfOk result (λ t. program_of t ≡ spread_of (program_of program.now)) }

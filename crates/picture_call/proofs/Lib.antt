@@ -1,3 +1,6 @@
-pub mod Words
+pub mod Cutting
+pub mod Asked
 pub mod Found
+pub mod Refusing
 pub mod Showing
+pub mod LawsHold

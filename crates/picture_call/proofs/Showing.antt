@@ -1,40 +1,74 @@
--- The three ways in which a call ends: with a fault of the audit, with a picture that the sink took in part, and with one that it
--- took whole.
-use Rattle.std.proofs.Common.{◌≡◌, ◌≢◌, ◌∙◌, ℕ, List, Option, Some, None, sym, subst, refl, inl, inr}
+-- The three ways in which a call ends: with a fault, with a picture that the sink took in part, and with one that it took whole.
+use Rattle.std.proofs.Common.{◌≡◌, ◌≢◌, ◌∙◌, ◌⊎◌, ℕ, List, length, Option, Some, None, Result, Ok, Err, IfOk, IfErr, sym, ap, subst, refl, inl, inr, arith}
+use Rattle.std.proofs.lemmas.Option.{same_Some}
 use Rattle.outside_io.specs.Outside.{Rose, Appends}
-use Rattle.command_words.specs.Form.{form_of}
-use Rattle.command_words.specs.declared.command.Command.TheVariants.{Audit, Make}
-use Rattle.run_audit.specs.AuditText.{verdict_text}
+use Rattle.run_audit.specs.Parts.{most_audited}
 use Rattle.run_audit.specs.declared.verdict.Verdict.{Verdict}
+use Rattle.run_picture.specs.declared.picture.Form.{Form}
+use Rattle.run_picture.specs.Picture.{Pictured}
 use Rattle.lithe_call.specs.Auditing.{status_by}
 use Rattle.lithe_call.specs.FaultOf.{status_of}
-use Rattle.lithe_call.specs.Faults.{IsFault}
-use Rattle.lithe_call.specs.Served.{Outside, AreServed}
-use Rattle.lithe_call.specs.Telling.{AppendsPrefix, Tells}
+use Rattle.lithe_call.specs.Served.{Outside}
+use Rattle.lithe_call.specs.Telling.{AppendsPrefix, GivesWithin, Tells}
 use Rattle.lithe_call.specs.declared.fault.Fault.{Fault}
 use Rattle.lithe_call.specs.declared.fault.Fault.TheVariants as fault
 use Rattle.lithe_call.specs.declared.status.Status.{Status}
 use Rattle.lithe_call.specs.declared.status.Status.TheVariants as status
-use Rattle.lithe_call.proofs.Endings.{one_ending}
-use Rattle.lithe_call.proofs.Serving.{fault_served}
-use Rattle.picture_call.specs.Pictures.{IsPictureFor}
+use Rattle.lithe_call.proofs.Causes.{given_bytes, more_of_left}
+use Rattle.picture_call.specs.declared.runner.Runner.{Runner}
+use Rattle.picture_call.specs.Causes.{GivesLong, HasNoPicture, HasNoText, HasRefused, IsFault, IsLong}
+use Rattle.picture_call.specs.Pictures.{EndsAs, HasPicture, IsJudged, IsPictureFor}
 use Rattle.picture_call.specs.Shown.{AreShown, TellsWhy, WritesPicture}
 use Rattle.picture_call.specs.Texts.{fault_text, own_text}
-use Rattle.picture_call.specs.Words.{audit_words}
-use Rattle.picture_call.proofs.Found.{audited_too, written}
-use Rattle.picture_call.proofs.Words.{audit_only}
+use Rattle.picture_call.specs.Words.{form_asked, run_asked}
+use Rattle.picture_call.proofs.Found.{drawn_judged, long_judged, no_text_judged, one_verdict, refused_judged, written}
 
--- what a fault's text tells is the status's text
+-- ---- why there is no picture, of what was read
+pub fault_of_bytes : (words : List (List ℕ)) (runner : Runner) (harts : ℕ) (why : Fault) (bytes : List ℕ) (left left' : Option (List ℕ)) (faults faults' : ℕ)
+    → run_asked words ≡ Some (runner, harts) → GivesWithin most_audited left bytes left' → HasNoPicture runner harts bytes why → IsFault words why left left' faults faults'
+fault_of_bytes words runner harts fault.Usage bytes left left' faults faults' asked given h = absurd h
+fault_of_bytes words runner harts fault.TooLong bytes left left' faults faults' asked given h =
+    record { runner = runner; harts = harts; asked = asked; longer = inr (bytes, given, h) }
+fault_of_bytes words runner harts fault.ReadFault bytes left left' faults faults' asked given h = absurd h
+fault_of_bytes words runner harts (fault.Syntax line) bytes left left' faults faults' asked given h =
+    record { runner = runner; harts = harts; asked = asked; bytes = bytes; given = given; is = h }
+fault_of_bytes words runner harts (fault.Refused line) bytes left left' faults faults' asked given h =
+    record { runner = runner; harts = harts; asked = asked; bytes = bytes; given = given; is = h }
+fault_of_bytes words runner harts fault.Memory bytes left left' faults faults' asked given h = tt
+
+pub no_picture_is_fault : {X : Type 0} (words : List (List ℕ)) (runner : Runner) (harts : ℕ) (result : Result X Fault) (bytes : List ℕ) (left left' : Option (List ℕ)) (faults faults' : ℕ)
+    → run_asked words ≡ Some (runner, harts) → GivesWithin most_audited left bytes left' → IfErr result (HasNoPicture runner harts bytes)
+    → IfErr result (λ why. IsFault words why left left' faults faults')
+no_picture_is_fault words runner harts (Ok x) bytes left left' faults faults' asked given h = tt
+no_picture_is_fault words runner harts (Err why) bytes left left' faults faults' asked given h = fault_of_bytes words runner harts why bytes left left' faults faults' asked given h
+
+pub picture_of_given : {X : Type 0} (seen : X → Pictured) (words : List (List ℕ)) (form : Form) (runner : Runner) (harts : ℕ) (result : Result X Fault) (bytes : List ℕ) (left left' : Option (List ℕ))
+    → form_asked words ≡ Some form → run_asked words ≡ Some (runner, harts) → GivesWithin most_audited left bytes left' → IfOk result (λ x. HasPicture form runner harts bytes (seen x))
+    → IfOk result (λ x. IsPictureFor words left left' (status_by (seen x).verdict) (seen x).text)
+picture_of_given seen words form runner harts (Ok x) bytes left left' named asked given has = record {
+  form = form;
+  named = named;
+  runner = runner;
+  harts = harts;
+  asked = asked;
+  bytes = bytes;
+  given = given;
+  picture = seen x;
+  has = has;
+  same = refl;
+  told = refl;
+}
+picture_of_given seen words form runner harts (Err why) bytes left left' named asked given has = tt
+
+-- ---- what a fault's text says is the status's text
 why_told : (words : List (List ℕ)) (why : Fault) (left left' taken : Option (List ℕ)) (faults faults' told : ℕ) (taken' : Option (List ℕ)) (told' : ℕ)
-    → IsFault (audit_words words) why left left' faults faults' → Tells taken told (fault_text why) taken' told'
+    → IsFault words why left left' faults faults' → Tells taken told (fault_text why) taken' told'
     → TellsWhy words (status_of why) left left' taken told taken' told'
 why_told words fault.Usage left left' taken faults faults' told taken' told' is tells = record { text = fault_text fault.Usage; right = refl; tells = tells }
 why_told words fault.TooLong left left' taken faults faults' told taken' told' is tells = record { text = fault_text fault.TooLong; right = refl; tells = tells }
 why_told words fault.ReadFault left left' taken faults faults' told taken' told' is tells = record { text = fault_text fault.ReadFault; right = refl; tells = tells }
-why_told words (fault.Syntax line) left left' taken faults faults' told taken' told' is tells =
-    record { text = line.items; right = record { command = is.0; form = is.1; bytes = is.2.0; given = is.2.1; is = is.2.2 }; tells = tells }
-why_told words (fault.Refused line) left left' taken faults faults' told taken' told' is tells =
-    record { text = line.items; right = record { command = is.0; form = is.1; bytes = is.2.0; given = is.2.1; is = is.2.2 }; tells = tells }
+why_told words (fault.Syntax line) left left' taken faults faults' told taken' told' is tells = record { text = line.items; right = is; tells = tells }
+why_told words (fault.Refused line) left left' taken faults faults' told taken' told' is tells = record { text = line.items; right = is; tells = tells }
 why_told words fault.Memory left left' taken faults faults' told taken' told' is tells = record { text = fault_text fault.Memory; right = refl; tells = tells }
 
 -- with a fault nothing was written
@@ -46,36 +80,105 @@ unwritten (fault.Syntax line) = (λ e. cc e, λ e. cc e, λ e. cc e)
 unwritten (fault.Refused line) = (λ e. cc e, λ e. cc e, λ e. cc e)
 unwritten fault.Memory = (λ e. cc e, λ e. cc e, λ e. cc e)
 
--- words that are no form have no picture
-formless : {X : Type 0} (words : List (List ℕ)) (harts : ℕ) → form_of (audit_words words) ≡ Some (Audit harts) → form_of (audit_words words) ≡ None → X
-formless words harts is none = let bad : Some (Audit harts) ≡ None = sym is ∙ none in cc bad
+-- words that are no form ask for nothing
+formless : {X : Type 0} (words : List (List ℕ)) (run : Runner × ℕ) → run_asked words ≡ Some run → run_asked words ≡ None → X
+formless words run is none = let bad : Some run ≡ None = sym is ∙ none in cc bad
+
+-- ---- the fault of each status
+usage_told : (words : List (List ℕ)) (why : Fault) (left left' : Option (List ℕ)) (faults faults' : ℕ)
+    → IsFault words why left left' faults faults' → status_of why ≡ status.Usage → run_asked words ≡ None
+usage_told words fault.Usage left left' faults faults' h e = h
+usage_told words fault.TooLong left left' faults faults' h e = cc e
+usage_told words fault.ReadFault left left' faults faults' h e = cc e
+usage_told words (fault.Syntax line) left left' faults faults' h e = cc e
+usage_told words (fault.Refused line) left left' faults faults' h e = cc e
+usage_told words fault.Memory left left' faults faults' h e = cc e
+
+no_form_told : (words : List (List ℕ)) (why : Fault) (left left' : Option (List ℕ)) (faults faults' : ℕ)
+    → IsFault words why left left' faults faults' → run_asked words ≡ None → (status_of why ≡ status.Usage) ⊎ (status_of why ≡ status.NoMemory)
+no_form_told words fault.Usage left left' faults faults' h none = inl refl
+no_form_told words fault.TooLong left left' faults faults' h none = formless words (h.runner, h.harts) h.asked none
+no_form_told words fault.ReadFault left left' faults faults' h none = formless words (h.runner, h.harts) h.asked none
+no_form_told words (fault.Syntax line) left left' faults faults' h none = formless words (h.runner, h.harts) h.asked none
+no_form_told words (fault.Refused line) left left' faults faults' h none = formless words (h.runner, h.harts) h.asked none
+no_form_told words fault.Memory left left' faults faults' h none = inr refl
+
+too_long_told : (words : List (List ℕ)) (why : Fault) (left left' : Option (List ℕ)) (faults faults' : ℕ)
+    → IsFault words why left left' faults faults' → status_of why ≡ status.TooLong → GivesLong words left left'
+too_long_told words fault.Usage left left' faults faults' h e = cc e
+too_long_told words fault.TooLong left left' faults faults' h e = h
+too_long_told words fault.ReadFault left left' faults faults' h e = cc e
+too_long_told words (fault.Syntax line) left left' faults faults' h e = cc e
+too_long_told words (fault.Refused line) left left' faults faults' h e = cc e
+too_long_told words fault.Memory left left' faults faults' h e = cc e
+
+read_fault_told : (words : List (List ℕ)) (why : Fault) (left left' : Option (List ℕ)) (faults faults' : ℕ)
+    → IsFault words why left left' faults faults' → status_of why ≡ status.ReadFault → Rose faults faults'
+read_fault_told words fault.Usage left left' faults faults' h e = cc e
+read_fault_told words fault.TooLong left left' faults faults' h e = cc e
+read_fault_told words fault.ReadFault left left' faults faults' h e = h.rose
+read_fault_told words (fault.Syntax line) left left' faults faults' h e = cc e
+read_fault_told words (fault.Refused line) left left' faults faults' h e = cc e
+read_fault_told words fault.Memory left left' faults faults' h e = cc e
+
+-- ---- an input with a verdict has no other fault than an allocation failure, while the source doesn't fail
+module _ (words : List (List ℕ)) (runner : Runner) (harts : ℕ) (asked : run_asked words ≡ Some (runner, harts))
+    (bytes : List ℕ) (left left' : Option (List ℕ)) (input : left ≡ Some bytes) (ended : Status) (ends : EndsAs runner harts bytes ended) where
+  -- what the words ask for, and what was read, are the same
+  same_run : (other : Runner) (count : ℕ) → run_asked words ≡ Some (other, count) → (other ≡ runner) × (count ≡ harts)
+  same_run other count is =
+      let same : (other, count) ≡ (runner, harts) = same_Some (other, count) (runner, harts) (sym is ∙ asked) in
+      (ap (λ (r : Runner × ℕ). r.0) same, ap (λ (r : Runner × ℕ). r.1) same)
+
+  same_input : (IsSo : Runner → ℕ → List ℕ → Type 0) (other : Runner) (count : ℕ) (read : List ℕ) → run_asked words ≡ Some (other, count) → GivesWithin most_audited left read left'
+      → IsSo other count read → IsSo runner harts bytes
+  same_input IsSo other count read is given so =
+      let run = same_run other count is in
+      subst (λ (b : List ℕ). IsSo runner harts b) (sym (given_bytes bytes read left left' input given.given))
+      (subst (λ (n : ℕ). IsSo runner n read) run.1 (subst (λ (r : Runner). IsSo r count read) run.0 so))
+
+  only_memory : (why : Fault) (faults faults' : ℕ) → IsFault words why left left' faults faults' → (Rose faults faults' → ⊥)
+      → (status_of why ≡ ended) ⊎ (status_of why ≡ status.NoMemory)
+  only_memory fault.Usage faults faults' h calm = formless words (runner, harts) asked h
+  only_memory fault.TooLong faults faults' h calm = elim h.longer [
+    | inl more ↦ absurd (omega (arith, more_of_left left left' 4194304 more bytes input, ends.0))
+    | inr part ↦ absurd (long_judged runner harts bytes ends.1.0 (subst IsLong (sym (given_bytes bytes part.0 left left' input part.1.given)) part.2) ends.1.1)
+  ]
+  only_memory fault.ReadFault faults faults' h calm = absurd (calm h.rose)
+  only_memory (fault.Syntax line) faults faults' h calm =
+      absurd (no_text_judged runner harts bytes line.items ends.1.0 (same_input (λ r n b. HasNoText r n b line.items) h.runner h.harts h.bytes h.asked h.given h.is) ends.1.1)
+  only_memory (fault.Refused line) faults faults' h calm =
+      absurd (refused_judged runner harts bytes line.items ends.1.0 (same_input (λ r n b. HasRefused r n b line.items) h.runner h.harts h.bytes h.asked h.given h.is) ends.1.1)
+  only_memory fault.Memory faults faults' h calm = inr refl
+
+  -- and a picture of it has its verdict's status
+  drawn_ends : (s : Status) (text : List ℕ) → IsPictureFor words left left' s text → s ≡ ended
+  drawn_ends s text picture =
+      let read = drawn_judged picture.form picture.runner picture.harts picture.bytes picture.picture picture.has in
+      let own = same_input (λ r n b. IsJudged r n b picture.picture.verdict) picture.runner picture.harts picture.bytes picture.asked picture.given read in
+      picture.same ∙ ap status_by (one_verdict runner harts bytes picture.picture.verdict ends.1.0 own ends.1.1) ∙ sym ends.1.2
 
 module _ {A B E : Type 0} (see : Outside A B E) (words : List (List ℕ)) (source source' : A)
-    (stays : form_of (audit_words words) ≡ None → source' ≡ source) where
-  -- the same outside, of which nothing is known that is told
-  abbrev silent : Outside A B E
-  silent = record see { told = λ err. None }
-
-  never_made : (seed size harts : ℕ) → form_of (audit_words words) ≡ Some (Make seed size harts) → source' ≡ source
-  never_made seed size harts e = let bad = audit_only words (Make seed size harts) e in cc bad
-
+    (stays : run_asked words ≡ None → source' ≡ source) where
   pub fault_shown : (why : Fault) (out : B) (err err' : E)
-      → IsFault (audit_words words) why (see.left source) (see.left source') (see.read_faults source) (see.read_faults source')
+      → IsFault words why (see.left source) (see.left source') (see.read_faults source) (see.read_faults source')
       → Tells (see.told err) (see.tell_faults err) (fault_text why) (see.told err') (see.tell_faults err')
       → AreShown see words (status_of why) source source' out out err err'
   fault_shown why out err err' is tells =
-      let audit : AreServed silent (audit_words words) (status_of why) source source' out out err err' =
-      fault_served silent (audit_words words) source source' why out err err' is (stays, never_made) (inl tt) in
+      let left = see.left source in
+      let left' = see.left source' in
+      let faults = see.read_faults source in
+      let faults' = see.read_faults source' in
       record {
         done = λ e. absurd ((unwritten why).0 e);
         illegal = λ e. absurd ((unwritten why).1 e);
-        complete = λ harts form bytes input ended ends calm quiet. audit.complete (Audit harts) form bytes input ended ends calm quiet;
-        usage = audit.usage;
-        no_form = audit.no_form;
-        too_long = audit.too_long;
-        read_fault = audit.read_fault;
-        write_fault = audit.write_fault;
-        lines = λ not_done not_illegal. why_told words why (see.left source) (see.left source') (see.told err) (see.read_faults source) (see.read_faults source') (see.tell_faults err) (see.told err') (see.tell_faults err') is tells;
+        complete = λ runner harts asked bytes input ended ends calm quiet. only_memory words runner harts asked bytes left left' input ended ends why faults faults' is calm;
+        usage = usage_told words why left left' faults faults' is;
+        no_form = no_form_told words why left left' faults faults' is;
+        too_long = too_long_told words why left left' faults faults' is;
+        read_fault = read_fault_told words why left left' faults faults' is;
+        write_fault = λ e. absurd ((unwritten why).2 e);
+        lines = λ not_done not_illegal. why_told words why left left' (see.told err) faults faults' (see.tell_faults err) (see.told err') (see.tell_faults err') is tells;
         prefix = λ e. absurd ((unwritten why).2 e);
         source_stays = stays;
         out_stays = λ not_done not_illegal not_write. refl;
@@ -90,9 +193,9 @@ module _ {A B E : Type 0} (see : Outside A B E) (words : List (List ℕ)) (sourc
     part_shown rose taken tells = record {
       done = λ e. cc e;
       illegal = λ e. cc e;
-      complete = λ harts form bytes input ended ends calm quiet. absurd (quiet rose);
+      complete = λ runner harts asked bytes input ended ends calm quiet. absurd (quiet rose);
       usage = λ e. cc e;
-      no_form = λ none. formless words picture.harts picture.asked none;
+      no_form = λ none. formless words (picture.runner, picture.harts) picture.asked none;
       too_long = λ e. cc e;
       read_fault = λ e. cc e;
       write_fault = λ e. rose;
@@ -112,11 +215,10 @@ module _ {A B E : Type 0} (see : Outside A B E) (words : List (List ℕ)) (sourc
         record {
           done = took status.Done;
           illegal = took status.Illegal;
-          complete = λ harts form bytes input wanted ends calm quiet.
-              inl (one_ending (audit_words words) (see.left source) (see.left source') (status_by found) (verdict_text picture.picture.verdict)
-              (audited_too words (see.left source) (see.left source') (status_by found) text picture) (Audit harts) form bytes input wanted ends);
+          complete = λ runner harts asked bytes input ended ends calm quiet.
+              inl (drawn_ends words runner harts asked bytes (see.left source) (see.left source') input ended ends (status_by found) text picture);
           usage = λ e. elim (written found status.Usage e) [ inl is ↦ cc is | inr is ↦ cc is ];
-          no_form = λ none. formless words picture.harts picture.asked none;
+          no_form = λ none. formless words (picture.runner, picture.harts) picture.asked none;
           too_long = λ e. elim (written found status.TooLong e) [ inl is ↦ cc is | inr is ↦ cc is ];
           read_fault = λ e. elim (written found status.ReadFault e) [ inl is ↦ cc is | inr is ↦ cc is ];
           write_fault = λ e. elim (written found status.WriteFault e) [ inl is ↦ cc is | inr is ↦ cc is ];

@@ -1,4 +1,7 @@
 pub mod Words
-pub mod Texts
+pub mod Options
 pub mod Pictures
+pub mod Causes
+pub mod Texts
 pub mod Shown
+pub mod Laws

@@ -10,8 +10,8 @@ use Rattle.lithe_call.specs.Status.{line, constant_text}
 -- The text of the status Usage lists the forms of the words.
 abbrev pub usage_text : List ℕ
 usage_text =
-    line (codes "usage: lithe_picture text --harts N")
-    ++ line (codes "       lithe_picture svg --harts N")
+    line (codes "usage: lithe_picture text --harts N [--of run|tally|pipe]")
+    ++ line (codes "       lithe_picture svg --harts N [--of run|tally|pipe]")
 
 -- A status has this text, if it is always the same.
 abbrev pub own_text : Status → List ℕ

@@ -1,8 +1,12 @@
--- The words of a picture, by those of an audit.
-use Rattle.std.specs.Prelude.{ℕ, if◌then◌else◌, List, [], ◌∷◌, codes, Option, Some, None}
+-- The words of a picture: its form, and then `--harts N` and maybe `--of C`, in any order.
+use Rattle.std.specs.Prelude.{ℕ, ◌||◌, Bool, if◌then◌else◌, List, [], ◌∷◌, codes, Option, Some, None}
+use Rattle.std.specs.Option.{option_map, option_and_then}
 use Rattle.std.specs.Str.{bytes_eq}
+use Rattle.command_words.specs.Form.{Given, options_of, are_these, value_of, harts_alone, harts_given}
 use Rattle.run_picture.specs.declared.picture.Form.{Form}
 use Rattle.run_picture.specs.declared.picture.Form.TheVariants.{Text, Svg}
+use Rattle.picture_call.specs.declared.runner.Runner.{Runner}
+use Rattle.picture_call.specs.declared.runner.Runner.TheVariants.{Run, Tally, Pipe}
 
 -- A word names this form.
 abbrev pub form_named : List ℕ → Option Form
@@ -15,13 +19,33 @@ abbrev pub form_asked : List (List ℕ) → Option Form
 form_asked [] = None
 form_asked (word ∷ options) = form_named word
 
--- The words of an audit with these options; there are none if the first word names no form.
-abbrev pub with_options : Option Form → List (List ℕ) → List (List ℕ)
-with_options None options = []
-with_options (Some form) options = codes "audit" ∷ options
+-- The command that `--of` names; without `--of` it is `run`.
+abbrev pub runner_named : Option (List ℕ) → Option Runner
+runner_named None = Some Run
+runner_named (Some name) =
+    if bytes_eq name (codes "run") then Some Run else
+    if bytes_eq name (codes "tally") then Some Tally else
+    if bytes_eq name (codes "pipe") then Some Pipe else None
 
--- The audit of what a picture's words want to see: `audit` in place of the form, with the same options. Words that name no
--- form are those of no audit.
-abbrev pub audit_words : List (List ℕ) → List (List ℕ)
-audit_words [] = []
-audit_words (word ∷ options) = with_options (form_named word) options
+-- The options are `--harts`, or `--harts` and `--of`, each once.
+abbrev pub has_picture_options : List Given → Bool
+has_picture_options options =
+    are_these harts_alone options || are_these (codes "of" ∷ harts_alone) options
+
+-- The command whose output is drawn, and its number of harts.
+abbrev pub run_given : List Given → Option (Runner × ℕ)
+run_given options =
+    if has_picture_options options then option_and_then
+    (λ runner. option_map (λ harts. (runner, harts)) (harts_given options))
+    (runner_named (value_of (codes "of") options))
+    else None
+
+-- The same of the words behind a word that names a form, or doesn't.
+abbrev pub run_behind : Option Form → List (List ℕ) → Option (Runner × ℕ)
+run_behind None words = None
+run_behind (Some form) words = option_and_then run_given (options_of words)
+
+-- The command whose output the words ask to see, and its number of harts.
+abbrev pub run_asked : List (List ℕ) → Option (Runner × ℕ)
+run_asked [] = None
+run_asked (word ∷ options) = run_behind (form_named word) options

@@ -1,33 +1,35 @@
 //! What the words ask for.
-ghost use Rattle.std.specs.Prelude.{◌≡◌, ◌≤◌, ◌∷◌, Some, IfOk, IfErr, map, string_bytes, codes};
-ghost use Rattle.command_words.specs.declared.command.Command.TheVariants.{Audit};
-ghost use Rattle.command_words.specs.Form.{form_of};
-ghost use Rattle.lithe_call.specs.Faults.{IsNoCommand};
-ghost use Rattle.picture_call.specs.Words.{audit_words, form_asked, form_named};
+ghost use Rattle.std.specs.Prelude.{◌≡◌, ◌≤◌, ◌∷◌, [], Some, IfOk, IfErr, map, option_map, string_bytes, codes};
+ghost use Rattle.picture_call.specs.Causes.{IsUnasked};
+ghost use Rattle.picture_call.specs.Words.{form_asked, form_named, run_asked, runner_named};
 
-use command_words::Command;
+use crate::options::values;
+use crate::runner::Runner;
 use lithe_call::{Fault, asked_command, harts};
 use run_picture::Form;
 use std::alloc::{AllocError, Global};
 
-/// What the words ask for: a picture of this form, of a run on so many harts, 1 to 16.
+/// What the words ask for: a picture of this form, of an output of this command on so many harts, 1 to 16.
 #[derive(Clone, Copy, Debug, PartialEq, Eq)]
 pub struct Wanted {
     pub form: Form,
+    pub runner: Runner,
     pub harts: u8,
 }
 
-/// What the words ask for, if they are a form. Else they are none, or memory ran out while they were read.
+/// What the words ask for: the first word names the form of the picture, and the options are behind it.
 ///
-/// The first word names the form of the picture, and those behind it are as those behind `audit`.
+/// # Errors
+///
+/// `Fault::Usage` if the words ask for no picture, and `Fault::Memory` if an allocation fails.
 pub fn asked(alloc: Global, words: &[String]) -> Result<Wanted, Fault>
     ensures named { IfOk result
         (λ asked. form_asked (map string_bytes words.now) ≡ Some asked.form) }
-    ensures form { IfOk result
-        (λ asked. form_of (audit_words (map string_bytes words.now)) ≡ Some (Audit asked.harts)) }
+    ensures asked { IfOk result
+        (λ asked. run_asked (map string_bytes words.now) ≡ Some (asked.runner, asked.harts)) }
     ensures some_hart { IfOk result (λ asked. 1 ≤ asked.harts) }
     ensures few_harts { IfOk result (λ asked. asked.harts ≤ 16) }
-    ensures none { IfErr result (IsNoCommand (audit_words (map string_bytes words.now))) }
+    ensures none { IfErr result (IsUnasked (map string_bytes words.now)) }
 {
     let Some((first, options)) = words.split_first() else {
         return Err(Fault::Usage);
@@ -35,10 +37,20 @@ pub fn asked(alloc: Global, words: &[String]) -> Result<Wanted, Fault>
     let Some(form) = form_named(first) else {
         return Err(Fault::Usage);
     };
-    let audit = audit_with(alloc, options)?;
-    let command = asked_command(alloc, &audit)?;
+    let Some((value, of)) = values(options) else {
+        return Err(Fault::Usage);
+    };
+    let Some(runner) = runner_named(of) else {
+        return Err(Fault::Usage);
+    };
+    let run = run_with(alloc, value)?;
+    let command = match asked_command(alloc, &run) {
+        Ok(command) => command,
+        Err(fault) => return Err(fault),
+    };
     Ok(Wanted {
         form,
+        runner,
         harts: harts(command),
     })
 }
@@ -56,15 +68,33 @@ fn form_named(word: &str) -> Option<Form>
     None
 }
 
-// The words of an audit with these options. Why: options then have one reader, that of an audit.
-fn audit_with(alloc: Global, options: &[String]) -> Result<Vec<String>, AllocError>
-    ensures { IfOk result
-        (λ words. map string_bytes words.items ≡ codes "audit" ∷ map string_bytes options.now) }
+// The command that the value of `--of` names, and `run` without a value.
+fn runner_named(of: Option<&str>) -> Option<Runner>
+    ensures { result ≡ runner_named (option_map (λ name. name.now) of.entry) }
+{
+    let Some(name) = of else {
+        return Some(Runner::Run);
+    };
+    if name == "run" {
+        return Some(Runner::Run);
+    }
+    if name == "tally" {
+        return Some(Runner::Tally);
+    }
+    if name == "pipe" {
+        return Some(Runner::Pipe);
+    }
+    None
+}
+
+// The words of `run` with this number of harts. Why: numbers of harts then have one reader, that of `lithe`.
+fn run_with(alloc: Global, harts: &str) -> Result<Vec<String>, AllocError>
+    ensures { IfOk result (λ words. map string_bytes words.items
+        ≡ codes "run" ∷ codes "--harts" ∷ harts.now ∷ []) }
 {
     let mut words = Vec::new(alloc);
-    words.push(String::from_str(alloc, "audit")?)?;
-    for option in options {
-        words.push(option.clone()?)?;
-    }
+    words.push(String::from_str(alloc, "run")?)?;
+    words.push(String::from_str(alloc, "--harts")?)?;
+    words.push(String::from_str(alloc, harts)?)?;
     Ok(words)
 }

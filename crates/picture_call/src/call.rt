@@ -1,15 +1,14 @@
 //! The call for pictures: from the words and the input to the picture and the status.
 ghost use Rattle.std.specs.Prelude.{◌≡◌, ◌≤◌, map, string_bytes, None, IfOk, IfErr};
-ghost use Rattle.command_words.specs.Form.{form_of};
 ghost use Rattle.lithe_call.specs.declared.status.Status.{Status};
 ghost use Rattle.lithe_call.specs.Auditing.{status_by};
 ghost use Rattle.lithe_call.specs.FaultOf.{status_of};
-ghost use Rattle.lithe_call.specs.Faults.{IsFault};
 ghost use Rattle.lithe_call.specs.Telling.{Tells};
+ghost use Rattle.picture_call.specs.Causes.{IsFault};
 ghost use Rattle.picture_call.specs.Pictures.{IsPictureFor};
 ghost use Rattle.picture_call.specs.Shown.{AreShown};
 ghost use Rattle.picture_call.specs.Texts.{fault_text, own_text};
-ghost use Rattle.picture_call.specs.Words.{audit_words};
+ghost use Rattle.picture_call.specs.Words.{run_asked};
 
 use crate::asking::asked;
 use crate::drawing::drawn;
@@ -23,10 +22,11 @@ use std::alloc::Global;
 /// Serves the words: reads a program, a line `%%` and an output of its run, and writes a picture of the output's journal, or
 /// writes to `err` why not.
 ///
-/// `text --harts N` and `svg --harts N`, N from 1 to 16, write it as text and as SVG. The input, the statuses and their texts
-/// are those of `lithe` for `audit --harts N`, but for the lines that list the forms of the words. Where the output isn't
-/// the program's, the status is Illegal; the picture then shows the journal up to its first fault, and names the fault.
-/// The whole picture is built before its first byte is written.
+/// `text --harts N` and `svg --harts N`, N from 1 to 16, write it as text and as SVG, of an output of `run`; with `--of tally` or
+/// `--of pipe` of an output of that command, which then checks the program. The input, the statuses and their texts are those of
+/// `lithe` for `audit --harts N`, except that a program is refused as that command refuses it, and that the status Usage lists
+/// the forms of these words. If the output isn't one of the command for the program, the status is Illegal; the picture then shows
+/// the journal up to its first fault, and names the fault. The whole picture is built before its first byte is written.
 pub fn serve_picture<A: Source, B: Sink, E: Sink>(
     alloc: Global,
     words: &[String],
@@ -109,10 +109,9 @@ fn tell<E: Sink>(err: &mut E, status: Status) -> Status
 fn picture_for<A: Source>(alloc: Global, words: &[String], source: &mut A) -> Result<Picture, Fault>
     ensures picture { IfOk result (λ picture. IsPictureFor (map string_bytes words.now)
         (A.left source.old) (A.left source.new) (status_by picture.verdict) picture.text.items) }
-    ensures fault { IfErr result (λ fault. IsFault (audit_words (map string_bytes words.now)) fault
+    ensures fault { IfErr result (λ fault. IsFault (map string_bytes words.now) fault
         (A.left source.old) (A.left source.new) (A.faults source.old) (A.faults source.new)) }
-    ensures stays { form_of (audit_words (map string_bytes words.now)) ≡ None
-        → source.new ≡ source.old }
+    ensures stays { run_asked (map string_bytes words.now) ≡ None → source.new ≡ source.old }
 {
     let wanted = asked(alloc, words)?;
     let bytes = read_all(alloc, source, MOST_AUDITED)?;

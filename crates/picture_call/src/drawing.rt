@@ -1,28 +1,36 @@
 //! From bytes to the picture of the output that stands behind their program.
-ghost use Rattle.std.specs.Prelude.{◌≡◌, ◌≤◌, length, IfOk, IfErr};
+ghost use Rattle.std.specs.Prelude.{◌≡◌, ◌≤◌, length, IfOk, IfErr, OnOk, Ok};
 ghost use Rattle.array_meaning.specs.Bounds.{most_bytes};
-ghost use Rattle.command_words.specs.declared.command.Command.TheVariants.{Audit};
+ghost use Rattle.array_meaning.specs.Plans.{plan_of};
+ghost use Rattle.array_meaning.specs.Stores.{AreSized, arrays_of};
+ghost use Rattle.array_tree.specs.Trees.{declarations_of, program_of};
 ghost use Rattle.run_audit.specs.Parts.{most_audited};
+ghost use Rattle.run_picture.specs.Picture.{picture_of};
 ghost use Rattle.run_picture.specs.Seen.{picture_seen};
-ghost use Rattle.lithe_call.specs.Faults.{IsNoOutput, HaveNoVerdict};
-ghost use Rattle.picture_call.specs.Pictures.{AreDrawn, HasPicture};
+ghost use Rattle.lithe_call.specs.Programs.{table_plan};
+ghost use Rattle.picture_call.specs.Causes.{HasNoPicture, HaveNoPicture, TellsNoOutput, TellsNoPicture};
+ghost use Rattle.picture_call.specs.Pictures.{AreDrawn, HasPicture, IsRunBy};
 
 use crate::asking::Wanted;
+use crate::runner::Runner;
 use array_lang::parse;
+use array_tree::Program;
 use disjoint_check::check;
-use lithe_call::{Fault, MOST_BYTES, refusal, syntax_fault, text_fault};
+use lithe_call::{Fault, MOST_BYTES, crossing_fault, refusal, syntax_fault, text_fault, with_rows};
+use pipe_walk::pipe_check;
 use run_audit::parts_of;
-use run_picture::{Picture, picture_of};
+use run_picture::{Form, Picture, picture_of};
 use std::alloc::Global;
+use transfer_table::Plan;
 
 /// The picture of the output that stands behind a program, or why there is none.
 pub fn drawn(alloc: Global, wanted: Wanted, bytes: &[u8]) -> Result<Picture, Fault>
     requires short { length bytes.now ≤ most_audited }
     requires some_hart { 1 ≤ wanted.harts }
     requires few_harts { wanted.harts ≤ 16 }
-    ensures picture { IfOk result
-        (λ picture. HasPicture wanted.form wanted.harts bytes.now (picture_seen picture)) }
-    ensures fault { IfErr result (IsNoOutput (Audit wanted.harts) bytes.now) }
+    ensures picture { IfOk result (λ picture.
+        HasPicture wanted.form wanted.runner wanted.harts bytes.now (picture_seen picture)) }
+    ensures fault { IfErr result (HasNoPicture wanted.runner wanted.harts bytes.now) }
 {
     let Some((first, second)) = parts_of(bytes) else {
         return Err(Fault::Syntax(b"syntax: no line %%\n".to_vec(alloc)?));
@@ -39,19 +47,133 @@ fn picture(alloc: Global, wanted: Wanted, first: &[u8], second: &[u8]) -> Result
     requires short_output { length second.now ≤ most_audited }
     requires some_hart { 1 ≤ wanted.harts }
     requires few_harts { wanted.harts ≤ 16 }
-    ensures drawn { IfOk result (λ picture.
-        AreDrawn wanted.form wanted.harts (picture_seen picture) first.now second.now) }
-    ensures fault { IfErr result (HaveNoVerdict wanted.harts first.now second.now) }
+    ensures drawn { IfOk result (λ picture. AreDrawn wanted.form wanted.runner wanted.harts
+        (picture_seen picture) first.now second.now) }
+    ensures fault { IfErr result (HaveNoPicture wanted.runner wanted.harts first.now second.now) }
 {
     let program = match parse(alloc, first) {
         Ok(program) => program,
         Err(fault) => return Err(syntax_fault(alloc, fault)),
     };
-    let accepted = match check(alloc, &program, wanted.harts) {
+    picture_by(alloc, wanted, &program, second)
+}
+
+// The picture of an output of the program, by the rules of the command.
+fn picture_by(
+    alloc: Global,
+    wanted: Wanted,
+    program: &Program,
+    output: &[u8],
+) -> Result<Picture, Fault>
+    requires short { length output.now ≤ most_audited }
+    requires some_hart { 1 ≤ wanted.harts }
+    requires few_harts { wanted.harts ≤ 16 }
+    ensures runs { OnOk result (IsRunBy wanted.runner wanted.harts (program_of program.now)) }
+    ensures drawn { IfOk result (λ picture. picture_of wanted.form (program_of program.now)
+        (table_plan (program_of program.now) wanted.harts) output.now ≡ Ok (picture_seen picture)) }
+    ensures fault { IfErr result
+        (TellsNoPicture wanted.runner wanted.harts (program_of program.now) output.now) }
+{
+    match wanted.runner {
+        Runner::Run => of_run(alloc, wanted.form, wanted.harts, program, output),
+        Runner::Tally => of_tally(alloc, wanted.form, wanted.harts, program, output),
+        Runner::Pipe => of_pipe(alloc, wanted.form, wanted.harts, program, output),
+    }
+}
+
+// The picture of an output of `run`.
+fn of_run(
+    alloc: Global,
+    form: Form,
+    harts: u8,
+    program: &Program,
+    output: &[u8],
+) -> Result<Picture, Fault>
+    requires short { length output.now ≤ most_audited }
+    requires some_hart { 1 ≤ harts }
+    requires few_harts { harts ≤ 16 }
+    ensures runs { OnOk result (IsRunBy Runner.Run harts (program_of program.now)) }
+    ensures drawn { IfOk result (λ picture. picture_of form (program_of program.now)
+        (table_plan (program_of program.now) harts) output.now ≡ Ok (picture_seen picture)) }
+    ensures fault { IfErr result
+        (TellsNoPicture Runner.Run harts (program_of program.now) output.now) }
+{
+    let accepted = match check(alloc, program, harts) {
         Ok(accepted) => accepted,
-        Err(fault) => return Err(refusal(alloc, &program, fault)),
+        Err(fault) => return Err(refusal(alloc, program, fault)),
     };
-    match picture_of(alloc, &accepted, wanted.form, second) {
+    by_plan(alloc, form, program, accepted.plan(), output)
+}
+
+// The picture of an output of `tally`: the program with rows has the plan of the given one.
+#[tactic(auto, using(crate::proofs::Refusing::tally_no_picture))]
+fn of_tally(
+    alloc: Global,
+    form: Form,
+    harts: u8,
+    program: &Program,
+    output: &[u8],
+) -> Result<Picture, Fault>
+    requires short { length output.now ≤ most_audited }
+    requires some_hart { 1 ≤ harts }
+    requires few_harts { harts ≤ 16 }
+    ensures runs { OnOk result (IsRunBy Runner.Tally harts (program_of program.now)) }
+    ensures drawn { IfOk result (λ picture. picture_of form (program_of program.now)
+        (table_plan (program_of program.now) harts) output.now ≡ Ok (picture_seen picture)) }
+    ensures fault { IfErr result
+        (TellsNoPicture Runner.Tally harts (program_of program.now) output.now) }
+{
+    let rows = with_rows(alloc, harts, program)?;
+    let accepted = match check(alloc, &rows, harts) {
+        Ok(accepted) => accepted,
+        Err(fault) => return Err(refusal(alloc, &rows, fault)),
+    };
+    by_plan(alloc, form, program, accepted.plan(), output)
+}
+
+// The picture of an output of `pipe`.
+fn of_pipe(
+    alloc: Global,
+    form: Form,
+    harts: u8,
+    program: &Program,
+    output: &[u8],
+) -> Result<Picture, Fault>
+    requires short { length output.now ≤ most_audited }
+    requires some_hart { 1 ≤ harts }
+    requires few_harts { harts ≤ 16 }
+    ensures runs { OnOk result (IsRunBy Runner.Pipe harts (program_of program.now)) }
+    ensures drawn { IfOk result (λ picture. picture_of form (program_of program.now)
+        (table_plan (program_of program.now) harts) output.now ≡ Ok (picture_seen picture)) }
+    ensures fault { IfErr result
+        (TellsNoPicture Runner.Pipe harts (program_of program.now) output.now) }
+{
+    let accepted = match check(alloc, program, harts) {
+        Ok(accepted) => accepted,
+        Err(fault) => return Err(refusal(alloc, program, fault)),
+    };
+    if let Err(fault) = pipe_check(alloc, &accepted) {
+        return Err(crossing_fault(alloc, program, fault));
+    }
+    by_plan(alloc, form, program, accepted.plan(), output)
+}
+
+// The picture by the program's plan.
+fn by_plan(
+    alloc: Global,
+    form: Form,
+    program: &Program,
+    plan: &Plan,
+    output: &[u8],
+) -> Result<Picture, Fault>
+    requires short { length output.now ≤ most_audited }
+    requires sized { AreSized (arrays_of (declarations_of program.now.arrays)) }
+    requires parents { plan.now.parents ≡ plan_of (program_of program.now) }
+    ensures drawn { IfOk result (λ picture. picture_of form (program_of program.now) plan.now
+        output.now ≡ Ok (picture_seen picture)) }
+    ensures fault { IfErr result (TellsNoOutput plan.now (program_of program.now) output.now) }
+{
+    match picture_of(alloc, form, program, plan, output) {
         Ok(picture) => Ok(picture),
         Err(fault) => Err(text_fault(alloc, fault)),
     }

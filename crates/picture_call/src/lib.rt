@@ -1,6 +1,7 @@
 //! The call for pictures: words, and a program with an output of it in, a picture of the output's journal out.
 //!
-//! It reads what an audit reads, and ends as the audit does. `specs/Shown.antt` says what a call has read and written.
+//! It reads what an audit reads, and checks the program as the command does whose output it draws. `specs/Shown.antt` says what a
+//! call has read and written.
 //!
 //! Begin with `serve_picture` in `call.rt`. The program `lithe_picture` calls it, and the tests of `picture_call_tests` serve
 //! pictures from memory.
@@ -9,6 +10,10 @@
 mod asking;
 mod call;
 mod drawing;
+mod laws;
+mod options;
+mod runner;
 mod text;
 
 pub use call::{no_memory_for_picture, no_picture_for_words, serve_picture};
+pub use laws::{outputs_are_legal, runs_end_as_audits};

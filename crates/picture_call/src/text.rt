@@ -4,7 +4,9 @@ ghost use Rattle.picture_call.specs.Texts.{fault_text, own_text};
 
 use lithe_call::{Fault, Status, constant_text};
 
-const USAGE: &[u8] = b"usage: lithe_picture text --harts N\n       lithe_picture svg --harts N\n";
+const USAGE: &[u8] = b"usage: lithe_picture text --harts N [--of run|tally|pipe]
+       lithe_picture svg --harts N [--of run|tally|pipe]
+";
 
 /// The text of a status, where it is always the same: that of `lithe`, but for the forms of the words.
 pub fn own_text(status: Status) -> &'static [u8]

@@ -6,6 +6,8 @@ mod ends;
 #[cfg(test)]
 mod pictures;
 #[cfg(test)]
+mod runners;
+#[cfg(test)]
 mod serving;
 #[cfg(test)]
 mod statuses;

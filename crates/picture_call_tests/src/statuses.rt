@@ -5,10 +5,12 @@ use outside_io::MemSink;
 use picture_call::{no_memory_for_picture, no_picture_for_words};
 use std::test::Fail;
 
-const USAGE: &[u8] = b"usage: lithe_picture text --harts N\n       lithe_picture svg --harts N\n";
+const USAGE: &[u8] = b"usage: lithe_picture text --harts N [--of run|tally|pipe]
+       lithe_picture svg --harts N [--of run|tally|pipe]
+";
 
-// Words that are no form: the forms are those of an audit but for their first word.
-const NO_FORMS: [&[&str]; 9] = [
+// Words that are no form.
+const NO_FORMS: [&[&str]; 22] = [
     &[],
     &["svg"],
     &["png", "--harts", "2"],
@@ -18,6 +20,19 @@ const NO_FORMS: [&[&str]; 9] = [
     &["text", "svg", "--harts", "2"],
     &["--harts", "2", "text"],
     &["svg", "--harts", "2", "--harts", "2"],
+    &["text", "--of", "pipe"],
+    &["text", "--harts", "2", "--of"],
+    &["text", "--harts", "2", "--of="],
+    &["text", "--of", "--harts", "2"],
+    &["text", "--harts", "--of", "pipe", "2"],
+    &["svg", "--harts", "2", "--of", "solo"],
+    &["svg", "--harts", "2", "--of", "audit"],
+    &["svg", "--harts", "2", "--of", "pipes"],
+    &["svg", "--harts", "2", "pipe"],
+    &["svg", "--of", "run", "--harts", "2", "--of", "run"],
+    &["svg", "--harts", "2", "--of", "run", "--of=tally"],
+    &["svg", "--harts", "2", "--from", "run"],
+    &["--of", "run", "svg", "--harts", "2"],
 ];
 
 #[test]
@@ -30,10 +45,14 @@ fn words_that_are_no_form_are_reported(rt: HostRuntime) -> Result<(), Fail> {
 }
 
 // The options are those of an audit.
-const FORMS: [&[&str]; 3] = [
+const FORMS: [&[&str]; 7] = [
     &["text", "--harts=2"],
     &["text", "--harts", "02"],
     &["svg", "--harts", "16"],
+    &["text", "--harts", "2", "--of", "run"],
+    &["text", "--of=run", "--harts", "2"],
+    &["svg", "--of", "tally", "--harts=2"],
+    &["svg", "--harts=2", "--of=pipe"],
 ];
 
 #[test]

@@ -1,7 +1,8 @@
 //! The audit.
 ghost use Rattle.std.specs.Prelude.{◌≡◌, ◌≤◌, ◌+◌, length, Ok, Err, IfOk, MatchResult};
-ghost use Rattle.array_tree.specs.Trees.{program_of};
+ghost use Rattle.array_tree.specs.Trees.{declarations_of, program_of};
 ghost use Rattle.transfer_table.specs.Plan.{site_count, most_entries};
+ghost use Rattle.array_meaning.specs.Stores.{AreSized, arrays_of};
 ghost use Rattle.array_meaning.specs.Work.{final_store};
 ghost use Rattle.array_eval.specs.ArrayText.{array_text};
 ghost use Rattle.journal_text.specs.Reading.{lines_of};
@@ -12,6 +13,7 @@ ghost use Rattle.run_audit.specs.Parts.{most_audited};
 
 use crate::verdict::Verdict;
 use array_eval::{run_one, write_arrays};
+use array_tree::Program;
 use disjoint_check::Accepted;
 use journal_text::{TextFault, cut_line, read_entries};
 use std::alloc::{AllocError, Global};
@@ -34,16 +36,36 @@ pub fn audit(
         (array_text (program_of accepted.now.program)
         (final_store (program_of accepted.now.program))) output.now) result }
 {
-    let wanted = wanted_lines(alloc, accepted)?;
-    audit_against(alloc, accepted.plan(), meant, &wanted, output)
+    audit_by(alloc, accepted.program(), accepted.plan(), meant, output)
+}
+
+/// The same of a program and a plan, which may be that of an accepted program with the same sites.
+///
+/// Each array must have a cell, and all at most 4,096.
+pub fn audit_by(
+    alloc: Global,
+    program: &Program,
+    plan: &Plan,
+    meant: &[bool],
+    output: &[u8],
+) -> Result<Verdict, TextFault>
+    requires short { length output.now ≤ most_audited }
+    requires sized { AreSized (arrays_of (declarations_of program.now.arrays)) }
+    requires meant { length meant.now ≡ site_count plan.now }
+    ensures { Reads (λ verdict. verdict) (audit_of plan.now meant.now
+        (array_text (program_of program.now) (final_store (program_of program.now))) output.now)
+        result }
+{
+    let wanted = wanted_lines(alloc, program)?;
+    audit_against(alloc, plan, meant, &wanted, output)
 }
 
 // The array lines of the program, by the one-thread evaluator. So a verdict needs no harts.
-fn wanted_lines(alloc: Global, accepted: &Accepted<'_>) -> Result<Vec<u8>, AllocError>
-    ensures { IfOk result (λ text. text.items ≡ array_text (program_of accepted.now.program)
-        (final_store (program_of accepted.now.program))) }
+fn wanted_lines(alloc: Global, program: &Program) -> Result<Vec<u8>, AllocError>
+    requires { AreSized (arrays_of (declarations_of program.now.arrays)) }
+    ensures { IfOk result (λ text. text.items ≡ array_text (program_of program.now)
+        (final_store (program_of program.now))) }
 {
-    let program = accepted.program();
     let store = run_one(alloc, program)?;
     write_arrays(alloc, program, &store)
 }

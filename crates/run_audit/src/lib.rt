@@ -10,7 +10,7 @@ mod lines;
 mod parts;
 mod verdict;
 
-pub use auditing::audit;
+pub use auditing::{audit, audit_by};
 pub use laws::legal_outputs_are_found;
 pub use lines::{text_fault_line, verdict_line};
 pub use parts::parts_of;

@@ -1,7 +1,9 @@
 //! The picture.
 ghost use Rattle.std.specs.Prelude.{◌≡◌, ◌≤◌, IfOk, MatchResult, Ok, Err, length};
-ghost use Rattle.array_tree.specs.Trees.{program_of};
+ghost use Rattle.array_tree.specs.Trees.{declarations_of, program_of};
 ghost use Rattle.transfer_table.specs.Plan.{site_count, most_entries};
+ghost use Rattle.array_meaning.specs.Plans.{plan_of};
+ghost use Rattle.array_meaning.specs.Stores.{AreSized, arrays_of};
 ghost use Rattle.array_meaning.specs.Work.{final_store};
 ghost use Rattle.array_meaning.specs.Entered.{entered_of};
 ghost use Rattle.array_eval.specs.ArrayText.{array_text};
@@ -13,11 +15,11 @@ ghost use Rattle.run_picture.specs.Picture.{behind, drawn_in, entries_behind, jo
 ghost use Rattle.run_picture.specs.Seen.{picture_seen};
 
 use crate::shapes::shapes_of;
-use disjoint_check::Accepted;
-use entered_sites::entered_by;
+use array_tree::Program;
+use entered_sites::entered;
 use journal_picture::{Shape, svg_picture, text_picture};
 use journal_text::{TextFault, cut_line, read_entries};
-use run_audit::{Verdict, audit, verdict_line};
+use run_audit::{Verdict, audit_by, verdict_line};
 use std::alloc::{AllocError, Global};
 use transfer_table::{Entries, Entry, Plan};
 
@@ -38,61 +40,78 @@ pub struct Picture {
 }
 
 /// The picture of the journal of an output of at most 4,194,304 bytes, with the verdict on the output, or the first fault of its
-/// text, as `audit` tells it. A journal that isn't legal is drawn up to its first fault, which is marked.
+/// text, as `audit` returns it. A journal that isn't legal is drawn up to its first fault, which is marked.
+///
+/// Each array of the program must have a cell, and all at most 4,096; the plan's sites must be the program's.
 #[tactic(auto, using(crate::proofs::Reading::stop))]
 pub fn picture_of(
     alloc: Global,
-    accepted: &Accepted<'_>,
     form: Form,
+    program: &Program,
+    plan: &Plan,
     output: &[u8],
 ) -> Result<Picture, TextFault>
-    requires { length output.now ≤ most_audited }
+    requires short { length output.now ≤ most_audited }
+    requires sized { AreSized (arrays_of (declarations_of program.now.arrays)) }
+    requires parents { plan.now.parents ≡ plan_of (program_of program.now) }
     ensures picture { Reads picture_seen
-        (picture_of form (program_of accepted.now.program) accepted.now.plan output.now) result }
-    ensures verdict { Reads (λ picture. picture.verdict) (audit_of accepted.now.plan
-        (entered_of (program_of accepted.now.program)) (array_text (program_of accepted.now.program)
-        (final_store (program_of accepted.now.program))) output.now) result }
+        (picture_of form (program_of program.now) plan.now output.now) result }
+    ensures verdict { Reads (λ picture. picture.verdict) (audit_of plan.now
+        (entered_of (program_of program.now)) (array_text (program_of program.now)
+        (final_store (program_of program.now))) output.now) result }
 {
-    let entered = entered_by(alloc, accepted)?;
-    let verdict = verdict_on(alloc, accepted, &entered, output)?;
-    let picture = picture_by(alloc, accepted, &entered, form, verdict, output)?;
+    let entered = entered_by_plan(alloc, program, plan)?;
+    let verdict = verdict_on(alloc, program, plan, &entered, output)?;
+    let picture = picture_by(alloc, form, program, plan, &entered, verdict, output)?;
     Ok(picture)
+}
+
+// Of each site of the plan, whether the program enters it.
+fn entered_by_plan(alloc: Global, program: &Program, plan: &Plan) -> Result<Vec<bool>, AllocError>
+    requires sized { AreSized (arrays_of (declarations_of program.now.arrays)) }
+    requires parents { plan.now.parents ≡ plan_of (program_of program.now) }
+    ensures entered { IfOk result (λ list. list.items ≡ entered_of (program_of program.now)) }
+    ensures each { IfOk result (λ list. length list.items ≡ site_count plan.now) }
+{
+    entered(alloc, program, plan.sites())
 }
 
 // The verdict of the audit, by the sites that the program enters.
 fn verdict_on(
     alloc: Global,
-    accepted: &Accepted<'_>,
+    program: &Program,
+    plan: &Plan,
     entered: &[bool],
     output: &[u8],
 ) -> Result<Verdict, TextFault>
     requires short { length output.now ≤ most_audited }
-    requires entered { entered.now ≡ entered_of (program_of accepted.now.program) }
-    requires each { length entered.now ≡ site_count accepted.now.plan }
-    ensures { Reads (λ verdict. verdict) (audit_of accepted.now.plan
-        (entered_of (program_of accepted.now.program)) (array_text (program_of accepted.now.program)
-        (final_store (program_of accepted.now.program))) output.now) result }
+    requires sized { AreSized (arrays_of (declarations_of program.now.arrays)) }
+    requires entered { entered.now ≡ entered_of (program_of program.now) }
+    requires each { length entered.now ≡ site_count plan.now }
+    ensures { Reads (λ verdict. verdict) (audit_of plan.now
+        (entered_of (program_of program.now)) (array_text (program_of program.now)
+        (final_store (program_of program.now))) output.now) result }
 {
-    audit(alloc, accepted, entered, output)
+    audit_by(alloc, program, plan, entered, output)
 }
 
-// The picture that tells this verdict, by the sites that the program enters.
+// The picture that has this verdict, by the sites that the program enters.
 fn picture_by(
     alloc: Global,
-    accepted: &Accepted<'_>,
-    entered: &[bool],
     form: Form,
+    program: &Program,
+    plan: &Plan,
+    entered: &[bool],
     verdict: Verdict,
     output: &[u8],
 ) -> Result<Picture, AllocError>
     requires short { length output.now ≤ most_audited }
-    requires entered { entered.now ≡ entered_of (program_of accepted.now.program) }
-    requires each { length entered.now ≡ site_count accepted.now.plan }
+    requires parents { plan.now.parents ≡ plan_of (program_of program.now) }
+    requires entered { entered.now ≡ entered_of (program_of program.now) }
+    requires each { length entered.now ≡ site_count plan.now }
     ensures { IfOk result (λ picture. picture_seen picture ≡ picture_by form
-        (program_of accepted.now.program) accepted.now.plan output.now verdict) }
+        (program_of program.now) plan.now output.now verdict) }
 {
-    let program = accepted.program();
-    let plan = accepted.plan();
     let arrays = program.arrays.declarations.len();
     let list = entries_behind(alloc, plan, arrays, output)?;
     let shapes = shapes_of(alloc, program)?;

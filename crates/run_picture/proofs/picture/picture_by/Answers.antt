@@ -1,8 +1,6 @@
 use Rattle.std.proofs.Common.{◌≡◌, ◌∙◌, ℕ, Bool, List, length, ap, sym, arith}
 use Rattle.std.proofs.lemmas.List.{length-map}
-use Rattle.transfer_table.specs.Plan.{Plan, site_count}
 use Rattle.transfer_table.specs.declared.entry.Entry.{Entry}
-use Rattle.array_tree.specs.declared.tree.Program.{Program}
 use Rattle.array_tree.specs.Trees.{program_of, declaration_of}
 use Rattle.array_meaning.specs.Entered.{entered_of}
 use Rattle.journal_picture.specs.declared.shape.Shape.{Shape}
@@ -15,32 +13,27 @@ use Rattle.run_picture.proofs.picture.picture_by.Goals as goal
 
 pub pictured-requires-clause-shapes : goal.pictured-requires-clause-shapes
 pictured-requires-clause-shapes c =
-    let program = program_of c.args.accepted.now.program in
-    let shapes : c.deref.result.now ≡ shapes_of program =
-    c.deref.ensures.value ∙ c.in_ok-shapes.ensures ∙ ap (λ (p : Program). shapes_of (program_of p)) c.program-program.ensures.same in
-    ap length shapes ∙ shape_count program ∙ sym (ap length c.program-program.ensures.kept.parents) ∙ sym (ap site_count c.plan-plan.ensures.same)
+    let program = program_of c.args.program.now in
+    let shapes : c.deref.result.now ≡ shapes_of program = c.deref.ensures.value ∙ c.in_ok-shapes.ensures in
+    ap length shapes ∙ shape_count program ∙ sym (ap length c.requires.parents)
 
 pub returns : goal.returns
 returns c =
-    let own = c.args.accepted.now in
-    let program = program_of own.program in
-    let plan = c.plan-plan.result.now in
+    let program = program_of c.args.program.now in
+    let plan = c.args.plan.now in
     let form = c.args.form in
     let verdict = c.args.verdict in
     let output = c.args.output.now in
-    let kept = c.program-program.result.now.arrays.declarations.ok in
-    let counted : c.len-arrays.result ≡ length c.program-program.result.now.arrays.declarations.items = omega (arith, kept, c.len-arrays.ensures) in
-    let many : c.len-arrays.result ≡ length program.arrays =
-    counted ∙ sym (length-map c.program-program.result.now.arrays.declarations.items declaration_of) ∙ ap (λ (p : Program). length (program_of p).arrays) c.program-program.ensures.same in
-    let list : c.as_slice.result.now ≡ entries_behind own.plan (length program.arrays) output =
-    c.as_slice.ensures ∙ c.in_ok-list.ensures.same ∙ ap (λ (p : Plan). entries_behind p c.len-arrays.result output) c.plan-plan.ensures.same
-    ∙ ap (λ (n : ℕ). entries_behind own.plan n output) many in
-    let shapes : c.deref.result.now ≡ shapes_of program =
-    c.deref.ensures.value ∙ c.in_ok-shapes.ensures ∙ ap (λ (p : Program). shapes_of (program_of p)) c.program-program.ensures.same in
     let meant = c.args.entered.now in
-    let whole = ap (λ (p : Plan). pictured form p meant c.deref.result.now verdict c.as_slice.result.now) c.plan-plan.ensures.same
-    ∙ ap (λ (m : List Bool). pictured form own.plan m c.deref.result.now verdict c.as_slice.result.now) c.requires.entered
-    ∙ ap (λ (s : List Shape). pictured form own.plan (entered_of program) s verdict c.as_slice.result.now) shapes
-    ∙ ap (λ (l : List Entry). pictured form own.plan (entered_of program) (shapes_of program) verdict l) list in
+    let kept = c.args.program.now.arrays.declarations.ok in
+    let counted : c.len-arrays.result ≡ length c.args.program.now.arrays.declarations.items = omega (arith, kept, c.len-arrays.ensures) in
+    let many : c.len-arrays.result ≡ length program.arrays =
+    counted ∙ sym (length-map c.args.program.now.arrays.declarations.items declaration_of) in
+    let list : c.as_slice.result.now ≡ entries_behind plan (length program.arrays) output =
+    c.as_slice.ensures ∙ c.in_ok-list.ensures.same ∙ ap (λ (n : ℕ). entries_behind plan n output) many in
+    let shapes : c.deref.result.now ≡ shapes_of program = c.deref.ensures.value ∙ c.in_ok-shapes.ensures in
+    let whole = ap (λ (m : List Bool). pictured form plan m c.deref.result.now verdict c.as_slice.result.now) c.requires.entered
+    ∙ ap (λ (s : List Shape). pictured form plan (entered_of program) s verdict c.as_slice.result.now) shapes
+    ∙ ap (λ (l : List Entry). pictured form plan (entered_of program) (shapes_of program) verdict l) list in
     same_answer c.pictured.result picture_seen (pictured form plan meant c.deref.result.now verdict c.as_slice.result.now)
-    (pictured form own.plan (entered_of program) (shapes_of program) verdict (entries_behind own.plan (length program.arrays) output)) whole c.pictured.ensures
+    (pictured form plan (entered_of program) (shapes_of program) verdict (entries_behind plan (length program.arrays) output)) whole c.pictured.ensures

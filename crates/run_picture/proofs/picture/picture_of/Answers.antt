@@ -12,15 +12,13 @@ use Rattle.run_picture.proofs.picture.picture_of.Goals as goal
 
 pub returns-clause-picture : goal.returns-clause-picture
 returns-clause-picture c =
-    let a = c.args.accepted.now in
-    let program = program_of a.program in
-    go_on (λ (v : Verdict). v) picture_seen (λ (v : Verdict). picture_by c.args.form program a.plan c.args.output.now v)
-    (audit_of a.plan (entered_of program) (array_text program (final_store program)) c.args.output.now) c.in_ok-verdict.verdict c.in_ok-picture.picture
+    let program = program_of c.args.program.now in
+    go_on (λ (v : Verdict). v) picture_seen (λ (v : Verdict). picture_by c.args.form program c.args.plan.now c.args.output.now v)
+    (audit_of c.args.plan.now (entered_of program) (array_text program (final_store program)) c.args.output.now) c.in_ok-verdict.verdict c.in_ok-picture.picture
     c.in_ok-verdict.ensures c.in_ok-picture.ensures
 
 pub returns-clause-verdict : goal.returns-clause-verdict
 returns-clause-verdict c =
-    let a = c.args.accepted.now in
-    let program = program_of a.program in
+    let program = program_of c.args.program.now in
     let own = ap (λ (p : Pictured). p.verdict) c.in_ok-picture.ensures in
-    subst (λ (v : Verdict). audit_of a.plan (entered_of program) (array_text program (final_store program)) c.args.output.now ≡ Ok v) (sym own) c.in_ok-verdict.ensures
+    subst (λ (v : Verdict). audit_of c.args.plan.now (entered_of program) (array_text program (final_store program)) c.args.output.now ≡ Ok v) (sym own) c.in_ok-verdict.ensures

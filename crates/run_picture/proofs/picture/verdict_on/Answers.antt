@@ -8,7 +8,6 @@ use Rattle.run_picture.proofs.picture.verdict_on.Goals as goal
 
 pub returns : goal.returns
 returns c =
-    let a = c.args.accepted.now in
-    let program = program_of a.program in
-    subst (λ (meant : List Bool). Reads (λ verdict. verdict) (audit_of a.plan meant (array_text program (final_store program)) c.args.output.now) c.audit.result)
-    c.requires.entered c.audit.ensures
+    let program = program_of c.args.program.now in
+    subst (λ (meant : List Bool). Reads (λ verdict. verdict) (audit_of c.args.plan.now meant (array_text program (final_store program)) c.args.output.now) c.audit_by.result)
+    c.requires.entered c.audit_by.ensures

@@ -1,0 +1,149 @@
+-- From the faults of the steps to those of the whole.
+use Rattle.std.proofs.Common.{◌≡◌, ◌∙◌, ◌⊎◌, ◌≤◌, ℕ, List, length, Option, Some, None, Result, Ok, Err, IfOk, IfErr, OnOk, refl, sym, ap, subst, inl, inr}
+use Rattle.transfer_table.specs.Plan.{Plan}
+use Rattle.array_tree.specs.Trees.{ProgramTree}
+use Rattle.array_lang.specs.Spelled.{Spells}
+use Rattle.disjoint_check.specs.FaultOf.{check_fault_of}
+use Rattle.disjoint_check.specs.declared.fault.CheckFault.{CheckFault}
+use Rattle.disjoint_check.specs.declared.fault.CheckFault.TheVariants as check
+use Rattle.disjoint_check.proofs.Accepting.{none_of_accepted}
+use Rattle.journal_text.specs.declared.fault.TextFault.{TextFault}
+use Rattle.journal_text.specs.declared.fault.TextFault.TheVariants as text
+use Rattle.array_meaning.specs.Plans.{plan_of}
+use Rattle.array_meaning.specs.Work.{final_store}
+use Rattle.array_meaning.specs.Entered.{entered_of}
+use Rattle.array_eval.specs.ArrayText.{array_text}
+use Rattle.journal_text.specs.Seen.{Reads}
+use Rattle.run_audit.specs.Audit.{audit_of}
+use Rattle.run_picture.specs.Picture.{Pictured, picture_of}
+use Rattle.run_picture.specs.declared.picture.Form.{Form}
+use Rattle.lithe_call.specs.Faults.{IsNoRun, TellsUntallied, TellsUnpiped}
+use Rattle.lithe_call.specs.Lines.{TellsRefusal, TellsText}
+use Rattle.lithe_call.specs.Programs.{table_plan}
+use Rattle.lithe_call.specs.declared.fault.Fault.{Fault}
+use Rattle.lithe_call.specs.declared.fault.Fault.TheVariants as fault
+use Rattle.lithe_call.proofs.Runs.{told_plan}
+use Rattle.lithe_call.proofs.Tallying.{untallied_line}
+use Rattle.lithe_call.proofs.Piping.{unpiped_line}
+use Rattle.picture_call.specs.declared.runner.Runner.{Runner}
+use Rattle.picture_call.specs.declared.runner.Runner.TheVariants.{Run, Tally, Pipe}
+use Rattle.picture_call.specs.Causes.{AreRefused, HaveNoPicture, IsRefusedBy, TellsNoOutput, TellsNoPicture}
+use Rattle.picture_call.specs.Pictures.{AreDrawn, IsRunBy}
+
+-- a text that spells no program has no picture
+pub no_run_no_picture : (runner : Runner) (harts : ℕ) (first second : List ℕ) (why : Fault) → IsNoRun (λ bytes line. AreRefused runner harts line bytes second) first why
+    → HaveNoPicture runner harts first second why
+no_run_no_picture runner harts first second fault.Usage h = h
+no_run_no_picture runner harts first second fault.TooLong h = h
+no_run_no_picture runner harts first second fault.ReadFault h = h
+no_run_no_picture runner harts first second (fault.Syntax line) h = inl h
+no_run_no_picture runner harts first second (fault.Refused line) h = h
+no_run_no_picture runner harts first second fault.Memory h = tt
+
+-- what is so of the program is so of the bytes that spell it
+pub program_no_picture : (runner : Runner) (harts : ℕ) (first second : List ℕ) (program : ProgramTree) (why : Fault) → length first ≤ 65536 → Spells first program
+    → TellsNoPicture runner harts program second why → HaveNoPicture runner harts first second why
+program_no_picture runner harts first second program fault.Usage short spelled tells = absurd tells
+program_no_picture runner harts first second program fault.TooLong short spelled tells = absurd tells
+program_no_picture runner harts first second program fault.ReadFault short spelled tells = absurd tells
+program_no_picture runner harts first second program (fault.Syntax line) short spelled tells =
+    inr (record { program = program; input = record { short = short; spelled = spelled; run = tells.0 }; is = tells.1 })
+program_no_picture Run harts first second program (fault.Refused line) short spelled tells = record {
+  short = short;
+  program = program;
+  spelled = spelled;
+  refused = λ accepted. let bad : None ≡ Some tells.fault = sym (none_of_accepted program harts accepted) ∙ tells.is in cc bad;
+  first = tells;
+}
+program_no_picture Tally harts first second program (fault.Refused line) short spelled tells = untallied_line harts first program (fault.Refused line) short spelled tells
+program_no_picture Pipe harts first second program (fault.Refused line) short spelled tells = unpiped_line harts first program (fault.Refused line) short spelled tells
+program_no_picture runner harts first second program fault.Memory short spelled tells = tt
+
+-- the check refuses the program to `run`
+pub check_no_picture : (harts : ℕ) (program : ProgramTree) (output : List ℕ) (cause : CheckFault) (why : Fault) → TellsRefusal program cause why
+    → (cause ≡ check.Memory) ⊎ (check_fault_of program harts ≡ Some cause) → TellsNoPicture Run harts program output why
+check_no_picture harts program output cause fault.Usage tells first = absurd tells
+check_no_picture harts program output cause fault.TooLong tells first = absurd tells
+check_no_picture harts program output cause fault.ReadFault tells first = absurd tells
+check_no_picture harts program output cause (fault.Syntax line) tells first = absurd tells
+check_no_picture harts program output cause (fault.Refused line) tells first = elim first [
+  | inl memory ↦ absurd (tells.0 memory)
+  | inr is ↦ record { fault = cause; is = is; real = tells.0; told = tells.1 }
+]
+check_no_picture harts program output cause fault.Memory tells first = tt
+
+-- it is refused to `tally`, or to `pipe`
+pub tally_no_picture : (harts : ℕ) (program : ProgramTree) (output : List ℕ) (why : Fault) → TellsUntallied harts program why → TellsNoPicture Tally harts program output why
+tally_no_picture harts program output fault.Usage tells = absurd tells
+tally_no_picture harts program output fault.TooLong tells = absurd tells
+tally_no_picture harts program output fault.ReadFault tells = absurd tells
+tally_no_picture harts program output (fault.Syntax line) tells = absurd tells
+tally_no_picture harts program output (fault.Refused line) tells = tells
+tally_no_picture harts program output fault.Memory tells = tt
+
+pub pipe_no_picture : (harts : ℕ) (program : ProgramTree) (output : List ℕ) (why : Fault) → TellsUnpiped harts program why → TellsNoPicture Pipe harts program output why
+pipe_no_picture harts program output fault.Usage tells = absurd tells
+pipe_no_picture harts program output fault.TooLong tells = absurd tells
+pipe_no_picture harts program output fault.ReadFault tells = absurd tells
+pipe_no_picture harts program output (fault.Syntax line) tells = absurd tells
+pipe_no_picture harts program output (fault.Refused line) tells = tells
+pipe_no_picture harts program output fault.Memory tells = tt
+
+-- the output is refused by the program's plan
+output_no_picture : (runner : Runner) (harts : ℕ) (program : ProgramTree) (output : List ℕ) (why : Fault) → IsRunBy runner harts program
+    → TellsNoOutput (table_plan program harts) program output why → TellsNoPicture runner harts program output why
+output_no_picture runner harts program output fault.Usage run tells = absurd tells
+output_no_picture runner harts program output fault.TooLong run tells = absurd tells
+output_no_picture runner harts program output fault.ReadFault run tells = absurd tells
+output_no_picture runner harts program output (fault.Syntax line) run tells = (run, tells)
+output_no_picture runner harts program output (fault.Refused line) run tells = absurd tells
+output_no_picture runner harts program output fault.Memory run tells = tt
+
+pub right_plan : (plan own : Plan) (program : ProgramTree) (harts : ℕ) → plan ≡ own → own.parents ≡ plan_of program → own.harts ≡ harts → plan ≡ table_plan program harts
+right_plan plan own program harts same parents count =
+    same ∙ told_plan own program parents ∙ ap (table_plan program) count
+
+pub plan_no_picture : {X : Type 0} (result : Result X Fault) (runner : Runner) (harts : ℕ) (program : ProgramTree) (plan : Plan) (output : List ℕ) → plan ≡ table_plan program harts
+    → IsRunBy runner harts program → IfErr result (TellsNoOutput plan program output) → IfErr result (TellsNoPicture runner harts program output)
+plan_no_picture (Ok x) runner harts program plan output same run tells = tt
+plan_no_picture (Err why) runner harts program plan output same run tells =
+    output_no_picture runner harts program output why run (subst (λ (p : Plan). TellsNoOutput p program output why) same tells)
+
+pub plan_picture : {X : Type 0} (result : Result X Fault) (seen : X → Pictured) (form : Form) (harts : ℕ) (program : ProgramTree) (plan : Plan) (output : List ℕ) → plan ≡ table_plan program harts
+    → IfOk result (λ x. picture_of form program plan output ≡ Ok (seen x)) → IfOk result (λ x. picture_of form program (table_plan program harts) output ≡ Ok (seen x))
+plan_picture (Ok x) seen form harts program plan output same is = subst (λ (p : Plan). picture_of form program p output ≡ Ok (seen x)) same is
+plan_picture (Err why) seen form harts program plan output same is = tt
+
+pub plan_runs : {X : Type 0} (result : Result X Fault) (runner : Runner) (harts : ℕ) (program : ProgramTree) → IsRunBy runner harts program → OnOk result (IsRunBy runner harts program)
+plan_runs (Ok x) runner harts program is = is
+plan_runs (Err why) runner harts program is = tt
+
+-- a fault of the output's text
+pub text_no_output : (plan : Plan) (program : ProgramTree) (output : List ℕ) (cause : TextFault) (why : Fault) → TellsText cause why
+    → ((cause ≡ text.Memory → ⊥) → audit_of plan (entered_of program) (array_text program (final_store program)) output ≡ Err cause) → TellsNoOutput plan program output why
+text_no_output plan program output cause fault.Usage tells found = absurd tells
+text_no_output plan program output cause fault.TooLong tells found = absurd tells
+text_no_output plan program output cause fault.ReadFault tells found = absurd tells
+text_no_output plan program output cause (fault.Syntax line) tells found = record { fault = cause; found = found tells.0; real = tells.0; told = tells.1 }
+text_no_output plan program output cause (fault.Refused line) tells found = absurd tells
+text_no_output plan program output cause fault.Memory tells found = tt
+
+-- what reading found, where it isn't want of memory
+pub read_found : {A B : Type 0} (same : A → B) (wanted : Result B TextFault) (cause : TextFault) → Reads same wanted (Err cause) → (cause ≡ text.Memory → ⊥) → wanted ≡ Err cause
+read_found same wanted (text.BadLine line) reads real = reads
+read_found same wanted (text.BadNumber line) reads real = reads
+read_found same wanted (text.WrongCount said found) reads real = reads
+read_found same wanted text.Memory reads real = absurd (real refl)
+
+-- ---- what a call of the program's picture returns, for the bytes that spell the program
+module _ {X : Type 0} (seen : X → Pictured) (form : Form) (runner : Runner) (harts : ℕ) (first second : List ℕ) (program : ProgramTree)
+    (short : length first ≤ 65536) (spelled : Spells first program) where
+  pub drawn_of : (result : Result X Fault) → OnOk result (IsRunBy runner harts program)
+      → IfOk result (λ x. picture_of form program (table_plan program harts) second ≡ Ok (seen x))
+      → IfOk result (λ x. AreDrawn form runner harts (seen x) first second)
+  drawn_of (Ok x) run drawn = record { program = program; input = record { short = short; spelled = spelled; run = run }; drawn = drawn }
+  drawn_of (Err why) run drawn = tt
+
+  pub not_drawn_of : (result : Result X Fault) → IfErr result (TellsNoPicture runner harts program second) → IfErr result (HaveNoPicture runner harts first second)
+  not_drawn_of (Ok x) tells = tt
+  not_drawn_of (Err why) tells = program_no_picture runner harts first second program why short spelled tells
