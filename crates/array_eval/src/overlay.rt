@@ -51,7 +51,15 @@ impl Overlay {
         })
     }
 
-    /// Lays one more pair, in the place of an earlier one of its cell. If an allocation fails, the pairs stay.
+    /// Adds one more pair; an earlier pair of the same cell is replaced.
+    ///
+    /// # Errors
+    ///
+    /// `AllocError` if an allocation fails. The pairs are then unchanged, and they had no room for the cell.
+    ///
+    /// # Memory
+    ///
+    /// It allocates if the room is used up.
     #[tactic(auto, using(array_meaning::proofs::LastLemmas::rising_lay))]
     pub fn put(&mut self, cell: u16, value: i64) -> Result<(), AllocError>
         ensures ok { OnOk result (self.new.pairs ≡ lay cell value self.old.pairs) }

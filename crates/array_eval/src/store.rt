@@ -80,7 +80,15 @@ impl Store {
         self.paged.page(number)
     }
 
-    /// Writes a cell, in place if no copy shares the list of pages or the page. If an allocation fails, nothing changes.
+    /// Writes a cell, in place if no copy shares the list of pages or the page. The cell must exist.
+    ///
+    /// # Errors
+    ///
+    /// `AllocError` if an allocation fails. The store is then unchanged.
+    ///
+    /// # Memory
+    ///
+    /// It allocates a list of pages and a page, each only if a copy shares it or it doesn't exist yet.
     pub fn put(&mut self, cell: u16, value: i64) -> Result<(), AllocError>
         requires { cell < length self.old }
         ensures written { OnOk result (self.new ≡ written self.old cell value) }
@@ -97,7 +105,11 @@ impl Store {
         }
     }
 
-    /// An equal store. It allocates nothing of its own.
+    /// An equal store, which shares the pages with this one.
+    ///
+    /// # Errors
+    ///
+    /// `AllocError`, as the contract allows. This implementation does not allocate.
     pub fn copy(&self) -> Result<Store, AllocError>
         ensures { IfOk result (λ store. store ≡ self.now) }
     {
@@ -123,8 +135,15 @@ impl Store {
         Ok(store)
     }
 
-    /// Writes an overlay's cells. Each of them must be there. The new store is made first, so if an allocation fails, nothing
-    /// changes.
+    /// Writes an overlay's cells. Each of them must exist.
+    ///
+    /// # Errors
+    ///
+    /// `AllocError` if an allocation fails. The store is then unchanged, because the new store is made first.
+    ///
+    /// # Memory
+    ///
+    /// It allocates a list of pages, and each page that it writes.
     pub fn merge(&mut self, written: &Overlay) -> Result<(), AllocError>
         requires { All (λ pair. pair.0 < length self.old) written.now.pairs }
         ensures merged { OnOk result (self.new ≡ after written.now.pairs self.old) }

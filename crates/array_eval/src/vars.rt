@@ -88,7 +88,11 @@ impl Vars {
         None
     }
 
-    /// Equal variables, shared with these. It allocates nothing of its own.
+    /// Equal variables, shared with these.
+    ///
+    /// # Errors
+    ///
+    /// `AllocError`, as the contract allows. This implementation does not allocate.
     pub fn copy(&self) -> Result<Vars, AllocError>
         ensures { IfOk result (λ vars. vars ≡ self.now) }
     {

@@ -12,6 +12,10 @@ use std::alloc::{AllocError, Global};
 const MINUS: u8 = 4;
 
 /// Adds the text of an expression.
+///
+/// # Errors
+///
+/// `AllocError` if an allocation fails.
 #[cycle(print)]
 pub fn print_expression(
     alloc: Global,
@@ -65,6 +69,10 @@ fn print_operand(
 }
 
 /// Adds a number in decimal.
+///
+/// # Errors
+///
+/// `AllocError` if an allocation fails.
 pub fn print_number(alloc: Global, out: &mut Vec<u8>, value: i64) -> Result<(), AllocError>
     ensures { OnOk result (out.new.items ≡ out.old.items ++ signed_decimal value) }
 {

@@ -311,6 +311,10 @@ fn print_block(
 }
 
 /// Adds the statements of a block, one after another.
+///
+/// # Errors
+///
+/// `AllocError` if an allocation fails.
 #[cycle(print)]
 pub fn print_statements(
     alloc: Global,

@@ -59,7 +59,15 @@ impl Model for Base {
 }
 
 impl Base {
-    /// A base with no wish yet, and room for 15 wishes at each of so many sites.
+    /// A base without a wish, and with room for 15 wishes at each of `sites` sites.
+    ///
+    /// # Errors
+    ///
+    /// `AllocError` if an allocation fails.
+    ///
+    /// # Memory
+    ///
+    /// It allocates the room for wishes. No other call allocates.
     pub fn new(alloc: Global, sites: u16) -> Result<Base, AllocError>
         ensures { IfOk result (λ b. b ≡ record {
           wishes = record { sites = []; room = 15 * sites };

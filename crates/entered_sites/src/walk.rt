@@ -14,10 +14,18 @@ use array_tree::{Block, Blocks, Name, Program, Stmt};
 use site_counts::sites_in_block;
 use std::alloc::{AllocError, Global};
 
-/// Of each site of a program's plan, in the plan's order, whether the one-thread meaning enters it from zero cells.
+/// For each site of a program's plan, in the plan's order: whether the one-thread meaning enters it from zero cells.
 ///
-/// `sites` must be the number of the plan's sites. Each array must have a cell, and all at most 4,096. The error is want
-/// of memory alone. A program without a construct under an `if` enters all its sites, and isn't run for that.
+/// `sites` must be the number of the plan's sites. Each array must have a cell, and all arrays together at most 4,096. A
+/// program without a construct under an `if` enters all its sites, and isn't evaluated.
+///
+/// # Errors
+///
+/// `AllocError` if an allocation fails.
+///
+/// # Memory
+///
+/// It allocates a flag for each site, and a store if a construct stands under an `if`.
 pub fn entered(alloc: Global, program: &Program, sites: u16) -> Result<Vec<bool>, AllocError>
     requires sized { AreSized (arrays_of (declarations_of program.now.arrays)) }
     requires sites { sites ≡ sites_in (program_of program.now).body }

@@ -8,7 +8,16 @@ use array_tree::Program;
 use pipe_walk::PipeFault;
 use std::alloc::{AllocError, Global};
 
-/// The line that tells on which cell two pieces of a program cross, and of which construct; the fault isn't want of memory.
+/// The line of a crossing: the cell on which two pieces of a program cross, and their construct. The fault must not be
+/// `Memory`.
+///
+/// # Errors
+///
+/// `AllocError` if an allocation fails.
+///
+/// # Memory
+///
+/// It allocates the line.
 pub fn crossing_line(
     alloc: Global,
     program: &Program,

@@ -9,7 +9,15 @@ use array_tree::{Arrays, Name, Program};
 use disjoint_check::{CheckFault, Limit};
 use std::alloc::{AllocError, Global};
 
-/// The line that tells why the program isn't accepted; the fault isn't want of memory.
+/// The line of the condition that the program fails. The fault must not be `Memory`.
+///
+/// # Errors
+///
+/// `AllocError` if an allocation fails.
+///
+/// # Memory
+///
+/// It allocates the line.
 pub fn refusal_line(
     alloc: Global,
     program: &Program,

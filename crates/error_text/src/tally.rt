@@ -6,8 +6,16 @@ use crate::refusal::add_at_line;
 use std::alloc::{AllocError, Global};
 use tally_cells::TallyFault;
 
-/// The line that tells why the branches and members of a program can't have rows of their own; the fault isn't want of
-/// memory.
+/// The line that gives the reason why the branches and members of a program can't have rows of their own. The fault must not be
+/// `Memory`.
+///
+/// # Errors
+///
+/// `AllocError` if an allocation fails.
+///
+/// # Memory
+///
+/// It allocates the line.
 pub fn tally_line(alloc: Global, fault: TallyFault) -> Result<Vec<u8>, AllocError>
     requires { fault ≢ TallyFault.Memory }
     ensures { IfOk result (λ line. line.items ≡ tally_text fault) }

@@ -37,8 +37,11 @@ pub struct Board<L: Laid> {
 impl<L: Laid> Board<L> {
     ghost use Rattle.lent_board.specs.Of.{IsOf};
 
-    /// Makes Register of the site, a child of the owner, whose home the hart then is. A hart that
-    /// finds the site claimed gets the word.
+    /// Makes Register of the site, a child of the owner. The hart becomes the site's home.
+    ///
+    /// # Errors
+    ///
+    /// `Taken` with the site's word if the site was claimed. The hart then made no entry.
     pub fn register(&self, seat: &mut HartSeat, site: u16) -> Result<(), Taken>
         requires of { IsOf self.now seat.old }
         requires site { IsSite self.now.plan site }
@@ -57,8 +60,11 @@ impl<L: Laid> Board<L> {
         Ok(())
     }
 
-    /// Makes Skip of the site, a child of the owner, in which the hart stays. A hart that finds the site
-    /// claimed gets the word.
+    /// Makes Skip of the site, a child of the owner. The hart stays in its owner.
+    ///
+    /// # Errors
+    ///
+    /// `Taken` with the site's word if the site was claimed. The hart then made no entry.
     pub fn skip(&self, seat: &mut HartSeat, site: u16) -> Result<(), Taken>
         requires of { IsOf self.now seat.old }
         requires site { IsSite self.now.plan site }

@@ -55,8 +55,16 @@ impl<'p> Model for BarrierState<'p> {
 }
 
 impl<'p> BarrierState<'p> {
-    /// A barrier that waits for the pieces of these jobs. They are one to 64 jobs of one site and one phase, each at the
-    /// place that it names. No other call takes memory.
+    /// A barrier that waits for the pieces of these jobs. They are one to 64 jobs of one site and one phase, each at the index
+    /// that it names.
+    ///
+    /// # Errors
+    ///
+    /// `AllocError` if an allocation fails.
+    ///
+    /// # Memory
+    ///
+    /// It allocates the book, and the store and the overlay of the merge. No other call allocates.
     pub fn new(alloc: Global, jobs: Vec<Job<'p>>) -> Result<BarrierState<'p>, AllocError>
         requires { IsGroup (map job_of jobs.items) }
         ensures { IfOk result (λ barrier. barrier ≡ open_book jobs.entry.items) }

@@ -19,8 +19,17 @@ use journal_text::TextFault;
 use run_audit::{Verdict, audit, parts_of, text_fault_line, verdict_line};
 use std::alloc::Global;
 
-/// The line of the verdict on the output that stands behind a program, or why there is none. An input without a line `%%` has no
-/// program part, so it is a `Syntax` fault whatever its length.
+/// The line of the verdict on the output after a program. `harts` is 1 to 16.
+///
+/// # Errors
+///
+/// `Fault::TooLong` if the program part is longer than its limit. `Syntax` if it spells no program, or the output's text is no
+/// output; an input without a line `%%` has no program part, so it is `Syntax` whatever its length. `Refused` if the program
+/// isn't accepted. `Memory` if an allocation fails.
+///
+/// # Memory
+///
+/// It allocates the program, the array lines, the journal and the line.
 pub fn audited(alloc: Global, harts: u8, bytes: &[u8]) -> Result<Answer, Fault>
     requires short { length bytes.now ≤ most_audited }
     requires some_hart { 1 ≤ harts }

@@ -16,7 +16,11 @@ pub const MOST_BYTES: usize = 65_536;
 /// The greatest length of the input of an audit, in bytes: a program and an output.
 pub const MOST_AUDITED: usize = 4_194_304;
 
-/// The command that the words give, if they are a form. Else they are none, or memory ran out while they were read.
+/// The command that the words are a form of.
+///
+/// # Errors
+///
+/// `Fault::Usage` if the words are no form. `Fault::Memory` if an allocation fails while the words are read.
 pub fn asked_command(alloc: Global, words: &[String]) -> Result<Command, Fault>
     ensures form { IfOk result (λ command. form_of (map string_bytes words.now) ≡ Some command) }
     ensures some_hart { IfOk result (λ command. 1 ≤ harts_in command) }

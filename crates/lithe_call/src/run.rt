@@ -34,7 +34,15 @@ use std::alloc::{AllocError, Global};
 use std::sync::Wait;
 use std::thread::Threads;
 
-/// What the command writes for the program that the bytes spell, or why there is nothing to write.
+/// The output of a command that runs programs, for the program that the bytes spell.
+///
+/// # Errors
+///
+/// `Fault::Syntax` if the bytes spell no program. `Refused` if the program isn't accepted. `Memory` if an allocation fails.
+///
+/// # Memory
+///
+/// It allocates the program, its run and the output.
 pub fn answer<R: Threads + Wait + Sync, G: Gate>(
     rt: &R,
     alloc: Global,

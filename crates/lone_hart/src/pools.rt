@@ -89,7 +89,15 @@ pub fn fail_in_pool(pool: &mut Pool, place: u8)
     pool.fail(place);
 }
 
-/// What the `par` of a pool writes that is full, or of which a piece failed: then the result is an allocation failure.
+/// The writes of the `par` of a pool that is full, or of which a piece failed.
+///
+/// # Errors
+///
+/// `AllocError` if a piece failed, or an allocation fails.
+///
+/// # Memory
+///
+/// It allocates the overlay.
 pub fn take_from_pool<'p>(nested: &Nested<'p>, pool: Pool<'p>) -> Result<Overlay, AllocError>
     requires of { IsPoolOf nested.now pool }
     requires over { IsFull pool.book ⊎ HasFailed pool.book }

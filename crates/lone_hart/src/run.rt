@@ -27,9 +27,16 @@ use std::alloc::{AllocError, Global};
 
 /// Runs an accepted program on one hart, and returns. The plan must have one hart.
 ///
-/// The store is that of the one-thread meaning, and the journal, which is listed, is complete for the plan and the sites that
-/// this meaning enters: every transfer is legal, every site is gone, and exactly the entered ones came and went. If an
-/// allocation fails anywhere, the whole run returns that.
+/// The store is the store of the one-thread meaning. The journal is listed, and complete for the plan and the sites that this
+/// meaning enters: every transfer is legal, every site is gone, and exactly the entered ones came and went.
+///
+/// # Errors
+///
+/// `AllocError` if any allocation fails.
+///
+/// # Memory
+///
+/// It allocates the store, the journal, and a machine and an overlay for each piece.
 pub fn run_alone(alloc: Global, accepted: &Accepted<'_>) -> Result<Outcome, AllocError>
     requires { accepted.now.plan.harts ≡ 1 }
     ensures store { IfOk result

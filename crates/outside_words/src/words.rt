@@ -44,6 +44,14 @@ impl<T: Drop> From<AllocFailed<T>> for NoWords {
 }
 
 /// The words of the command line, without the program's name.
+///
+/// # Errors
+///
+/// `NoWords::NoMemory` if an allocation fails. `NoWords::NotText` if a word isn't UTF-8.
+///
+/// # Memory
+///
+/// It allocates the words.
 pub fn words_of<R: Env + AllocGlobal>(rt: &R) -> Result<Vec<String>, NoWords> {
     let mut words = Vec::new(rt.alloc());
     for word in env::args(rt)? {

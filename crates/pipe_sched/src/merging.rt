@@ -14,8 +14,16 @@ use std::alloc::{AllocError, Global};
 use step_eval::Nested;
 
 impl<'p> PipeState<'p> {
-    /// What the whole construct writes where no two of its pieces cross, each cell with its last value, in whatever order the
-    /// pieces came. Every piece must be filled or failed; where one has failed, the result is an allocation failure.
+    /// What the whole construct writes if no two of its pieces cross: each cell with its last value, in whatever order the
+    /// pieces came. Every piece must be filled or failed.
+    ///
+    /// # Errors
+    ///
+    /// `AllocError` if a piece has failed, or an allocation fails.
+    ///
+    /// # Memory
+    ///
+    /// It allocates a store and the overlay.
     pub fn take_all(self) -> Result<Overlay, AllocError>
         requires { IsFull self }
         ensures failed { HasFailed self.entry → IsErr result }

@@ -88,7 +88,14 @@ impl<'p> Model for Pipe<'p> {
 impl<'p> Pipe<'p> {
     /// A pipe of which no piece was handed out. The construct must be a `team`.
     ///
-    /// It makes the room for wishes and for one ready context of each piece. Beside it only `enter` and `take_all` allocate.
+    /// # Errors
+    ///
+    /// `AllocError` if an allocation fails.
+    ///
+    /// # Memory
+    ///
+    /// It allocates the room for wishes, and for one ready context of each piece. Of the other calls only `enter` and
+    /// `take_all` allocate.
     pub fn new(alloc: Global, nested: Nested<'p>) -> Result<Pipe<'p>, AllocError>
         requires { kind_of (statement_of nested.construct) ≡ Some kind.Team }
         ensures { IfOk result (λ pipe. pipe ≡ new_scheduler nested.entry) }
@@ -97,6 +104,14 @@ impl<'p> Pipe<'p> {
     }
 
     /// The pipe that `new` makes, with room for `wishes` wishes. A wish beyond the room is dropped.
+    ///
+    /// # Errors
+    ///
+    /// `AllocError` if an allocation fails.
+    ///
+    /// # Memory
+    ///
+    /// It allocates as `new` does.
     pub fn with_wishes(
         alloc: Global,
         nested: Nested<'p>,
@@ -167,8 +182,16 @@ impl<'p> Pipe<'p> {
         self.state.has_failed()
     }
 
-    /// What the whole construct writes where no two of its pieces cross, each cell with its last value, in whatever order the
-    /// pieces came. Every piece must be filled or failed; where one has failed, the result is an allocation failure.
+    /// What the whole construct writes if no two of its pieces cross: each cell with its last value, in whatever order the
+    /// pieces came. Every piece must be filled or failed.
+    ///
+    /// # Errors
+    ///
+    /// `AllocError` if a piece has failed, or an allocation fails.
+    ///
+    /// # Memory
+    ///
+    /// It allocates a store and the overlay.
     pub fn take_all(self) -> Result<Overlay, AllocError>
         requires { IsFull self.state }
         ensures failed { HasFailed self.entry.state → IsErr result }

@@ -49,7 +49,13 @@ impl<'p> Model for PipeState<'p> {
 impl<'p> PipeState<'p> {
     /// A pipeline of which no piece was handed out. The construct must be a `team`.
     ///
-    /// Of the calls below only `next` and `take_all` allocate.
+    /// # Errors
+    ///
+    /// `AllocError` if an allocation fails.
+    ///
+    /// # Memory
+    ///
+    /// It allocates a slot for each piece and a number for each member. Of the calls below only `next` and `take_all` allocate.
     pub fn new(alloc: Global, nested: Nested<'p>) -> Result<PipeState<'p>, AllocError>
         requires { kind_of (statement_of nested.construct) ≡ Some kind.Team }
         ensures { IfOk result (λ pipe. pipe ≡ new_pipe nested.entry) }

@@ -17,11 +17,19 @@ use journal_text::{TextFault, cut_line, read_entries};
 use std::alloc::{AllocError, Global};
 use transfer_table::{Entries, Plan, first_fault};
 
-/// The verdict on an output of at most 4,194,304 bytes for the program, or the first fault of its text.
+/// The verdict on an output of at most 4,194,304 bytes for the program.
 ///
-/// A fault behind the array lines has its line in the output.
-/// The array lines are compared first, as bytes, and then the journal is checked, by the sites that are meant to be entered:
-/// a truth value for each site, that of site `s` at place `s - 1`.
+/// It compares the array lines first, as bytes. Then it checks the journal by the sites that are meant to be entered: `meant`
+/// has a flag for each site, at index `s - 1` for site `s`.
+///
+/// # Errors
+///
+/// The first error of the output's text after the array lines, with its line in the output. `TextFault::Memory` if an
+/// allocation fails.
+///
+/// # Memory
+///
+/// It allocates the array lines and the journal.
 pub fn audit(
     alloc: Global,
     accepted: &Accepted<'_>,

@@ -12,10 +12,18 @@ use array_tree::Program;
 use std::alloc::{AllocError, Global};
 use transfer_table::{Entry, Plan};
 
-/// The lines that tell how many cells the program has, the sum of what the store has in them, how many sites the plan has,
-/// and how many of the entries register one. The sum wraps.
+/// The lines of a summary: the number of the program's cells, the sum of their values in the store, the number of the plan's
+/// sites, and how many of the entries register one. The sum wraps.
 ///
-/// Each array must have a cell, and all at most 4,096; the store must have one value per cell.
+/// Each array must have a cell, and all arrays together at most 4,096. The store must have one value for each cell.
+///
+/// # Errors
+///
+/// `AllocError` if an allocation fails.
+///
+/// # Memory
+///
+/// It allocates the text.
 pub fn write_summary(
     alloc: Global,
     program: &Program,

@@ -38,7 +38,11 @@ pub const BOTH_PHASES: [(u16, i64); 12] = [
     (11, 1),
 ];
 
-/// The program of a text of at most 65,536 bytes. It fails where the text spells none.
+/// The program of a text of at most 65,536 bytes.
+///
+/// # Errors
+///
+/// A failure of the test if the text is longer or spells no program, or an allocation fails.
 pub fn parsed(alloc: Global, text: &[u8]) -> Result<Program, Fail> {
     if text.len() > 65_536 {
         return Err(Fail::new("a longer text than any program's"));
@@ -46,7 +50,11 @@ pub fn parsed(alloc: Global, text: &[u8]) -> Result<Program, Fail> {
     Ok(parse(alloc, text)?)
 }
 
-/// The program as an accepted one, on one hart. It fails where it isn't accepted.
+/// The program as an accepted one, on one hart.
+///
+/// # Errors
+///
+/// A failure of the test if the program isn't accepted, or an allocation fails.
 pub fn accepted<'p>(alloc: Global, program: &'p Program) -> Result<Accepted<'p>, Fail> {
     Ok(check(alloc, program, 1)?)
 }

@@ -8,7 +8,11 @@ ghost use Rattle.sched_api.specs.Calls.{IsHeard, Lends, RoseUnlessLent, claim_of
 use crate::scheduler::{Lent, Next, Scheduler};
 use hart_port::{Entered, Port, Taken};
 
-/// Registers the site, and calls the parent. Where the site is taken, the parent isn't called.
+/// Registers the site, and calls the parent.
+///
+/// # Errors
+///
+/// `Taken` if the site was claimed. The parent is then not called.
 pub fn sched_register<P: Port, S: Scheduler>(
     port: &mut P,
     ph: P::Hold,

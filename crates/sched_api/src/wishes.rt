@@ -28,7 +28,15 @@ impl Model for Wishes {
 }
 
 impl Wishes {
-    /// No wish, with room for so many.
+    /// An empty list of wishes, with room for `room` of them.
+    ///
+    /// # Errors
+    ///
+    /// `AllocError` if an allocation fails.
+    ///
+    /// # Memory
+    ///
+    /// It allocates the room. No other call allocates.
     pub fn new(alloc: Global, room: usize) -> Result<Wishes, AllocError>
         ensures { IfOk result (λ w. w ≡ record { sites = []; room = room }) }
     {

@@ -55,8 +55,11 @@ impl<'a, S: Drop> SiteLine<'a, S> {
         unreachable!()
     }
 
-    /// Puts the scheduler into the cell. A cell that has one already gives it back, and this line then knows the one that
-    /// stands there.
+    /// Puts the scheduler into the cell.
+    ///
+    /// # Errors
+    ///
+    /// The scheduler itself if the cell has one. This line then knows the scheduler in the cell.
     pub fn publish(&mut self, shared: Box<S>) -> Result<&'a S, Box<S>>
         ensures cell { self.new.note.cell ≡ self.old.note.cell }
         ensures gives { MatchResult result (λ published. published.now ≡ shared.value)

@@ -31,7 +31,15 @@ impl Model for SiteTree {
 }
 
 impl SiteTree {
-    /// The sites of a plan.
+    /// The tree of a plan's sites.
+    ///
+    /// # Errors
+    ///
+    /// `AllocError` if an allocation fails.
+    ///
+    /// # Memory
+    ///
+    /// It allocates two links and a copy of the parent for each site.
     pub fn new(alloc: Global, plan: &Plan) -> Result<SiteTree, AllocError>
         ensures { IfOk result (λ tree. tree ≡ plan.now) }
     {

@@ -49,10 +49,19 @@ pub fn jobs_of<'p>(
     )
 }
 
-/// The job of the piece at one place of a phase: an equal one to what `jobs_of` has there. It copies the variables and the
+/// The job of the piece at an index of a phase: equal to the job that `jobs_of` has there. It copies the variables and the
 /// store for this job alone.
 ///
-/// It starts from this store, which has as many cells as the one before the construct.
+/// It starts from this store, which has as many cells as the store before the construct. `phase` is below the number of phases,
+/// `place` below the number of members.
+///
+/// # Errors
+///
+/// `AllocError` if an allocation fails.
+///
+/// # Memory
+///
+/// It allocates the list of the phase's works.
 pub fn job_at<'p>(
     alloc: Global,
     nested: &Nested<'p>,

@@ -90,10 +90,13 @@ impl<'p> StepMachine<'p> {
         })
     }
 
-    /// Takes what the construct that is awaited wrote, after which the machine goes on behind it.
+    /// Gives the machine the writes of the construct that it awaits. The machine then goes on after the construct.
     ///
     /// The last step must have handed the construct out, and these must be its writes, each cell with its last value.
-    /// If an allocation fails, the machine is failed. This body allocates nothing; the contract leaves that open.
+    ///
+    /// # Errors
+    ///
+    /// `AllocError`, as the contract allows; the machine is then failed. This implementation does not allocate.
     pub fn supply(&mut self, written: &Overlay) -> Result<(), AllocError>
         requires awaits { self.old.stage ≡ Awaiting }
         requires written { AreAwaited self.old written.now.pairs }

@@ -57,7 +57,11 @@ impl<'a, C, R> TurnsHand<'a, C, R> {
 }
 
 impl<'a, C: Drop + 'a, R: Wait + 'a> TurnsHand<'a, C, R> {
-    /// What `put_last` of the scheduler does.
+    /// What `put_last` of the scheduler does, under the lock.
+    ///
+    /// # Errors
+    ///
+    /// The context itself if all room is filled.
     pub fn put_last(&self, rt: &R, c: C) -> Result<(), C>
         ensures { IfErr result (λ back. back ≡ c) }
     {

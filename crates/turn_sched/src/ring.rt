@@ -34,7 +34,15 @@ impl Model for Ring {
 }
 
 impl Ring {
-    /// No place, with room for so many.
+    /// An empty ring, with room for `room` places.
+    ///
+    /// # Errors
+    ///
+    /// `AllocError` if an allocation fails.
+    ///
+    /// # Memory
+    ///
+    /// It allocates the room. No other call allocates.
     pub fn new(alloc: Global, room: usize) -> Result<Ring, AllocError>
         ensures { IfOk result (λ r. r ≡ record { places = []; room = room }) }
     {

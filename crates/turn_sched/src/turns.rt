@@ -63,8 +63,15 @@ impl<C> Model for Turns<C> {
 }
 
 impl<C: Drop> Turns<C> {
-    /// A scheduler of the site, with memory for `room` contexts and for places of so many children. No other call takes
-    /// memory.
+    /// A scheduler of the site, with memory for `room` contexts and for the places of `children` children.
+    ///
+    /// # Errors
+    ///
+    /// `AllocError` if an allocation fails.
+    ///
+    /// # Memory
+    ///
+    /// It allocates all room. No other call allocates.
     pub fn new(
         alloc: Global,
         site: u16,
@@ -81,7 +88,11 @@ impl<C: Drop> Turns<C> {
         })
     }
 
-    /// Puts a context last: one that isn't begun, or one that was paused. Where all room is filled, it is given back.
+    /// Puts a context last, either one that isn't begun or one that was paused.
+    ///
+    /// # Errors
+    ///
+    /// The context itself if all room is filled.
     pub fn put_last(&mut self, c: C) -> Result<(), C>
         ensures { PutsLast self.old c result self.new }
     {

@@ -35,8 +35,15 @@ impl<C> Model for Agenda<C> {
 }
 
 impl<C: Drop> Agenda<C> {
-    /// An agenda of contexts that are not begun, with memory for `room` ready contexts and for `wishes` wishes. No other
-    /// call takes memory.
+    /// An agenda of contexts that are not begun, with memory for `room` ready contexts and for `wishes` wishes.
+    ///
+    /// # Errors
+    ///
+    /// `AllocError` if an allocation fails.
+    ///
+    /// # Memory
+    ///
+    /// It allocates the room for contexts and wishes. No other call allocates.
     pub fn new(
         alloc: Global,
         room: usize,
@@ -109,7 +116,11 @@ impl<C: Drop> Agenda<C> {
         self.unbegun.pop_back()
     }
 
-    /// Puts a context last among those that are ready. Where they fill their room, it is given back.
+    /// Puts a context last among the ready ones.
+    ///
+    /// # Errors
+    ///
+    /// The context itself if all room is filled.
     pub fn put_ready(&mut self, c: C) -> Result<(), C>
         ensures { PutsReady self.old c result self.new }
     {
