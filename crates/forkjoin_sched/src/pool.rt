@@ -81,8 +81,16 @@ impl<'p> Model for Pool<'p> {
 }
 
 impl<'p> Pool<'p> {
-    /// A pool of these jobs, none of which is begun. They are one to 64 jobs of one site and one phase, each at the place
-    /// that it names. No other call but `take_all` allocates.
+    /// A pool of these jobs, none of which is begun. They are one to 64 jobs of one site and one phase, each at the index that
+    /// it names.
+    ///
+    /// # Errors
+    ///
+    /// `AllocError` if an allocation fails.
+    ///
+    /// # Memory
+    ///
+    /// It allocates the book, the room for wishes and for ready contexts. Of the other calls only `take_all` allocates.
     pub fn new(alloc: Global, jobs: Vec<Job<'p>>) -> Result<Pool<'p>, AllocError>
         requires { IsGroup (map job_of jobs.items) }
         ensures { IfOk result (λ pool. pool ≡ new_pool jobs.entry.items) }
@@ -91,6 +99,14 @@ impl<'p> Pool<'p> {
     }
 
     /// The pool that `new` makes, with room for `wishes` wishes. A wish beyond the room is dropped.
+    ///
+    /// # Errors
+    ///
+    /// `AllocError` if an allocation fails.
+    ///
+    /// # Memory
+    ///
+    /// It allocates as `new` does.
     pub fn with_wishes(
         alloc: Global,
         jobs: Vec<Job<'p>>,
@@ -241,8 +257,15 @@ impl<'p> Pool<'p> {
         }
     }
 
-    /// The writes of all pieces, merged in the order of their places. Every place must be filled or failed; where one has
-    /// failed, the result is an allocation failure.
+    /// The writes of all pieces, merged in the order of their indices. Every piece must be filled or failed.
+    ///
+    /// # Errors
+    ///
+    /// `AllocError` if a piece has failed, or an allocation fails.
+    ///
+    /// # Memory
+    ///
+    /// It allocates a store and the overlay.
     pub fn take_all(self) -> Result<Overlay, AllocError>
         requires { IsFull self.book }
         ensures failed { HasFailed self.entry.book → IsErr result }

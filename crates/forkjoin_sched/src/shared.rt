@@ -40,7 +40,15 @@ impl<'p> Model for SharedPool<'p> {
 }
 
 impl<'p> SharedPool<'p> {
-    /// Puts the pool behind a lock, and beside it a copy of its jobs and an empty slot for each. No other call allocates.
+    /// A pool under a lock, beside a copy of its jobs and an empty slot for each job.
+    ///
+    /// # Errors
+    ///
+    /// `AllocError` if an allocation fails.
+    ///
+    /// # Memory
+    ///
+    /// It allocates the copy and the slots. No other call allocates.
     pub fn new(alloc: Global, pool: Pool<'p>) -> Result<SharedPool<'p>, AllocError>
         ensures { IfOk result (λ shared. shared ≡ record {
           site = pool.entry.site;

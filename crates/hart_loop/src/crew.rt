@@ -27,11 +27,19 @@ use std::sync::Wait;
 use std::thread;
 use std::thread::Threads;
 
-/// Runs an accepted program on harts that move by these ports, of which there is one for each hart of the plan, and settles the
-/// accounts of what the harts were lent. It waits until all of them are back.
+/// Runs an accepted program on harts that move by these ports, one for each hart of the plan, and settles the accounts of what
+/// the harts were lent. Blocks until all harts are back.
 ///
-/// The members of each `team` go on as is said. The piece is that of the program's body, and each port comes back as the same
-/// hart's.
+/// `members` chooses whether the members of each `team` wait for one another. The result is the piece of the program's body,
+/// and each port comes back as the same hart's.
+///
+/// # Errors
+///
+/// `AllocError` if any allocation fails.
+///
+/// # Memory
+///
+/// It allocates the schedulers of each site, the machines and the overlays.
 pub fn run_ports<
     'p,
     R: Threads + Wait + Sync,

@@ -24,13 +24,22 @@ use transfer_table::{Entry, first_fault};
 /// For so many harts the board word has a field.
 const MOST_ON_WORDS: u8 = 4;
 
-/// Runs an accepted program on the harts of its plan, at least two, each on a thread. It waits until all of them are back.
+/// Runs an accepted program on the harts of its plan, at least two, each on a thread. Blocks until all of them are back.
 ///
-/// The store is that of the one-thread meaning, and the journal, which is that of a closed board, is complete for the plan and
-/// the sites that this meaning enters: every transfer is legal, every site is gone, and exactly the entered ones came and went.
-/// The caller's thread checks that, and runs the program anew if a journal isn't so. Up to four harts move on a word board, and
-/// more on a wide one. If an allocation fails anywhere, the whole run returns that. A hart that has taken a piece passes the
-/// gate before its first step.
+/// The store is the store of the one-thread meaning. The journal is that of a closed board, and complete for the plan and the
+/// sites that this meaning enters: every transfer is legal, every site is gone, and exactly the entered ones came and went. The
+/// caller's thread checks that, and runs the program again if a journal fails the check.
+///
+/// Up to four harts move on a word board, more on a wide board. A hart that has taken a piece passes the gate before its first
+/// step.
+///
+/// # Errors
+///
+/// `AllocError` if any allocation fails.
+///
+/// # Memory
+///
+/// It allocates the board, the schedulers of each site, the machines, the overlays and the store.
 pub fn run_harts<R: Threads + Wait + Sync, G: Gate>(
     rt: &R,
     alloc: Global,

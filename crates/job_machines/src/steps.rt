@@ -10,6 +10,14 @@ use std::alloc::{AllocError, Global};
 use step_eval::{Found as Met, Nested, StepMachine};
 
 /// A context that runs a machine for the job.
+///
+/// # Errors
+///
+/// `AllocError` if an allocation fails.
+///
+/// # Memory
+///
+/// It allocates the context and the machine.
 pub fn started<'p>(alloc: Global, job: Job<'p>) -> Result<Running<StepMachine<'p>>, AllocError>
     ensures { IfOk result (λ running. running ≡ fresh_machine job.entry) }
 {

@@ -52,8 +52,16 @@ impl<'p> Model for Book<'p> {
 }
 
 impl<'p> Book<'p> {
-    /// A book of these jobs, whose places are open. They are one to 64 jobs of one site and one phase, each at the
-    /// place that it names. Of the calls below only `take_all` allocates.
+    /// A book of these jobs, whose pieces are open. They are one to 64 jobs of one site and one phase, each at the index that
+    /// it names.
+    ///
+    /// # Errors
+    ///
+    /// `AllocError` if an allocation fails.
+    ///
+    /// # Memory
+    ///
+    /// It allocates a place for each job. Of the calls below only `blank_store` and `take_all` allocate.
     pub fn new(alloc: Global, jobs: Vec<Job<'p>>) -> Result<Book<'p>, AllocError>
         requires { IsGroup (map job_of jobs.items) }
         ensures { IfOk result (λ book. book ≡ open_book jobs.entry.items) }
@@ -196,8 +204,15 @@ impl<'p> Book<'p> {
         }
     }
 
-    /// The writes of all pieces, merged in the order of their places. The book must be full; where a place has failed,
-    /// the result is an allocation failure.
+    /// The writes of all pieces, merged in the order of their indices. The book must be full.
+    ///
+    /// # Errors
+    ///
+    /// `AllocError` if a piece has failed, or an allocation fails.
+    ///
+    /// # Memory
+    ///
+    /// It allocates a store and the overlay.
     pub fn take_all(self) -> Result<Overlay, AllocError>
         requires { IsFull self }
         ensures failed { HasFailed self.entry → IsErr result }

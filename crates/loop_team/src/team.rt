@@ -96,9 +96,16 @@ impl<'p> Model for Team<'p> {
 }
 
 impl<'p> Team<'p> {
-    /// A team whose first phase is there to be begun. The construct must be a `team`.
+    /// A team whose first phase can be begun. The construct must be a `team`.
     ///
-    /// It makes all room, for ready contexts one a member. Beside it only `arrive` and `take_all` allocate.
+    /// # Errors
+    ///
+    /// `AllocError` if an allocation fails.
+    ///
+    /// # Memory
+    ///
+    /// It allocates all room, with room for one ready context for each member. Of the other calls only `arrive`, `keep` and
+    /// `take_all` allocate.
     pub fn new(alloc: Global, nested: Nested<'p>) -> Result<Team<'p>, AllocError>
         requires { kind_of (statement_of nested.construct) ≡ Some kind.Team }
         ensures { IfOk result (λ team. IsNew nested.entry team) }
@@ -107,6 +114,14 @@ impl<'p> Team<'p> {
     }
 
     /// The team that `new` makes, with room for `wishes` wishes. A wish beyond the room is dropped.
+    ///
+    /// # Errors
+    ///
+    /// `AllocError` if an allocation fails.
+    ///
+    /// # Memory
+    ///
+    /// It allocates as `new` does.
     pub fn with_wishes(
         alloc: Global,
         nested: Nested<'p>,
@@ -199,10 +214,16 @@ impl<'p> Team<'p> {
         }
     }
 
-    /// Takes a piece to the barrier of the phase that runs. Where it opens, what the phase wrote is put on the store, and
-    /// the members of the next phase are there to be begun.
+    /// Takes a piece to the barrier of the current phase. If the barrier opens, the team adds the phase's writes to its store,
+    /// and the members of the next phase can be begun.
     ///
-    /// If an allocation for the next phase fails, the team is failed: the phase that opened was its last one.
+    /// # Errors
+    ///
+    /// `AllocError` if an allocation for the next phase fails. The team is then failed: the phase that opened was its last one.
+    ///
+    /// # Memory
+    ///
+    /// It allocates the jobs and the barrier of the next phase.
     pub fn arrive(&mut self, piece: Piece<'p>) -> Result<Arrival<'p>, AllocError>
         ensures { MovesOn self.old piece.entry result self.new }
     {
@@ -322,8 +343,15 @@ impl<'p> Team<'p> {
         self.failed || self.opened == self.nested.phases()
     }
 
-    /// What the whole construct writes: each cell with its last value. The team must be over; if it is failed, the result
-    /// is an allocation failure.
+    /// What the whole construct writes: each cell with its last value. The team must be over.
+    ///
+    /// # Errors
+    ///
+    /// `AllocError` if the team is failed, or an allocation fails.
+    ///
+    /// # Memory
+    ///
+    /// It allocates the overlay.
     pub fn take_all(self) -> Result<Overlay, AllocError>
         requires { IsOver self }
         ensures failed { self.entry.failed ≡ true → IsErr result }
