@@ -9,7 +9,7 @@ use std::alloc::{AllocError, Global};
 use std::collections::VecDeque;
 use std::marker::Model;
 
-/// What a callback gives.
+/// The receipt of a callback.
 #[derive(Drop)]
 pub struct TurnsHeard {
     told: Told,
@@ -31,7 +31,7 @@ impl Hearing for TurnsHeard {
     }
 }
 
-// Only the callbacks below call it.
+// Only the callbacks below call this function.
 fn heard(call: Call, child: u16, count: u8) -> TurnsHeard
     ensures { result ≡ record { call = call; child = child; count = count } }
 {
@@ -40,7 +40,7 @@ fn heard(call: Call, child: u16, count: u8) -> TurnsHeard
     }
 }
 
-/// A scheduler of contexts of any type. A hart that comes runs the first context, and where there is none it is lent to the
+/// A scheduler of contexts of any type. A hart that comes runs the first context. If there is none, the hart is lent to the
 /// child whose turn it is.
 #[derive(Drop)]
 pub struct Turns<C> {
