@@ -14,12 +14,12 @@ use std::sync::Arc;
 
 /// The value of each cell. The cells of the arrays are numbered from 0 in order of declaration.
 ///
-/// Contracts see a store as the list of its values. A copy shares them all until one of the two is written, and then
-/// each page of cells in which nothing is written.
+/// Contracts see a store as the list of its values. A copy shares them all until one of the two is written, and then each page
+/// without a write.
 #[derive(Debug, Drop)]
 pub struct Store {
     alloc: Global,
-    // Why the list of pages is behind an `Arc`, as each page is: a copy costs the same for a store of any size.
+    // Why the list of pages is behind an `Arc`, as each page is: copying costs the same for a store of any size.
     paged: Arc<Paged>,
 }
 
@@ -33,11 +33,15 @@ impl Model for Store {
 }
 
 impl Store {
-    /// A store of so many cells, each 0.
+    /// A store of `cells` cells, each 0.
     ///
     /// # Errors
     ///
     /// `AllocError` if an allocation fails.
+    ///
+    /// # Memory
+    ///
+    /// It allocates one page and a list of pages.
     pub fn zero(alloc: Global, cells: u16) -> Result<Store, AllocError>
         ensures { IfOk result (λ store. store ≡ replicate cells (pos 0)) }
     {
@@ -47,7 +51,7 @@ impl Store {
         })
     }
 
-    /// What a cell has.
+    /// The value of a cell. The cell must exist.
     pub fn get(&self, cell: u16) -> i64
         requires { cell < length self.now }
         ensures { result ≡ at_cell self.now cell }
@@ -64,7 +68,7 @@ impl Store {
         self.paged.get(cell)
     }
 
-    /// How many cells it has.
+    /// The number of cells.
     pub(crate) fn count(&self) -> usize
         ensures { result ≡ length self.now }
     {
@@ -119,11 +123,15 @@ impl Store {
         })
     }
 
-    /// The store after an overlay's cells are written. Each of them must be there.
+    /// The store after an overlay's cells are written. Each of them must exist.
     ///
     /// # Errors
     ///
     /// `AllocError` if an allocation fails.
+    ///
+    /// # Memory
+    ///
+    /// It allocates a list of pages, and each page that it writes.
     #[tactic(auto, using(array_meaning::proofs::StepLemmas::length_after))]
     pub fn with(&self, written: &Overlay) -> Result<Store, AllocError>
         requires { All (λ pair. pair.0 < length self.now) written.now.pairs }
@@ -154,7 +162,7 @@ impl Store {
         Ok(())
     }
 
-    /// A store of what is seen over this one. It shares each page of this one that isn't marked as changed.
+    /// A store of the values of copies over this one. It shares each page of this one that isn't marked as changed.
     pub(crate) fn changed_to(
         &self,
         alloc: Global,

@@ -54,7 +54,7 @@ pub fn spread(alloc: Global, program: &Program) -> Result<Program, TallyFault>
     Ok(spread_program(alloc, program)?)
 }
 
-// The same of a program that can be spread.
+// The same for a program that can be spread.
 fn spread_program(alloc: Global, program: &Program) -> Result<Program, AllocError>
     requires meaning { HasMeaning (program_of program.now) }
     requires sound { spread_fault_of (program_of program.now) ≡ None }
@@ -68,7 +68,7 @@ fn spread_program(alloc: Global, program: &Program) -> Result<Program, AllocErro
     })
 }
 
-// The arrays of a program, and the rows behind them.
+// The arrays of a program, followed by the rows.
 fn spread_arrays(alloc: Global, program: &Program) -> Result<Arrays, AllocError>
     requires { HasMeaning (program_of program.now) }
     ensures { IfOk result (λ arrays. declarations_of arrays
