@@ -87,7 +87,7 @@ pub fn walk_indices(alloc: Global, program: &Program) -> Result<(), WalkFault>
     indices_in(alloc, &layout, program)
 }
 
-// Where the program's arrays lie.
+// The layout of the program's arrays.
 fn layout_of(alloc: Global, program: &Program) -> Result<Layout<'_>, WalkFault>
     requires { AreSized (arrays_of (declarations_of program.now.arrays)) }
     ensures layout { IfOk result (λ layout. layout ≡ arrays_of (declarations_of program.now.arrays)) }
@@ -99,7 +99,7 @@ fn layout_of(alloc: Global, program: &Program) -> Result<Layout<'_>, WalkFault>
     }
 }
 
-// The same with the layout at hand.
+// The same, with the layout given.
 fn indices_in(alloc: Global, layout: &Layout, program: &Program) -> Result<(), WalkFault>
     requires layout { layout.now ≡ arrays_of (declarations_of program.now.arrays) }
     requires sized { AreSized layout.now }
