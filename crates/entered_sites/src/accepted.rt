@@ -1,4 +1,4 @@
-//! What an accepted program enters.
+//! The sites that an accepted program enters.
 ghost use Rattle.std.specs.Prelude.{◌≡◌, IfOk, length};
 ghost use Rattle.array_tree.specs.Trees.{program_of};
 ghost use Rattle.array_meaning.specs.Entered.{entered_of};
