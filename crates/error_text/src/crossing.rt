@@ -1,4 +1,4 @@
-//! The line that tells why the members of a program can't overtake.
+//! The line that reports why the members of a program can't overtake.
 ghost use Rattle.std.specs.Prelude.{◌≢◌, ◌≡◌, IfOk};
 ghost use Rattle.array_tree.specs.Trees.{program_of};
 ghost use Rattle.error_text.specs.CrossingText.{crossing_text};

@@ -1,4 +1,4 @@
-//! The line that tells a fault of the text.
+//! The line that reports an error of the text.
 ghost use Rattle.std.specs.Prelude.{◌≡◌, ◌≢◌, IfOk};
 ghost use Rattle.error_text.specs.SyntaxText.{syntax_text, text_at};
 

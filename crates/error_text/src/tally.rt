@@ -1,4 +1,4 @@
-//! The line that tells why a program isn't spread.
+//! The line that reports why a program can't be spread.
 ghost use Rattle.std.specs.Prelude.{◌≢◌, ◌≡◌, IfOk};
 ghost use Rattle.error_text.specs.TallyText.{tally_text};
 

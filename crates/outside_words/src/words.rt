@@ -6,12 +6,12 @@ use std::env;
 use std::io::{Error, ErrorKind};
 use std::rt::Env;
 
-/// Why the words can't be had.
+/// Why the words can't be read.
 #[derive(Clone, Copy, Debug, PartialEq, Eq, Drop)]
 pub enum NoWords {
     /// A word isn't UTF-8, so the words are no form.
     NotText,
-    /// Want of memory.
+    /// An allocation failed.
     NoMemory,
 }
 

@@ -1,4 +1,4 @@
-//! Merging what pieces wrote.
+//! Merging the writes of pieces.
 ghost use Rattle.std.specs.Prelude.{◌≡◌, ◌*◌, ◌<◌, ◌≤◌, IfOk, IsErr, length};
 ghost use Rattle.array_eval.specs.Traces.{fresh, noted_all};
 ghost use Rattle.step_eval.specs.Nests.{nested_of, nested_writes};
@@ -42,7 +42,7 @@ impl<'p> PipeState<'p> {
     }
 }
 
-// The store before a construct, of which no cell is written yet.
+// The store before a construct, no cell of which is marked.
 pub(crate) fn fresh_store(alloc: Global, nested: &Nested) -> Result<MarkedStore, AllocError>
     ensures { IfOk result (λ store. store ≡ fresh nested.now.store) }
 {
@@ -56,7 +56,7 @@ pub(crate) fn first_store(nested: &Nested) -> Result<Store, AllocError>
     nested.store.copy()
 }
 
-// Merges what the first members wrote in the first phases: phase after phase, and member after member.
+// Merges the writes of the first members in the first phases: phase after phase, and member after member.
 pub(crate) fn merge_phases(
     slots: &[Slot],
     phases: usize,
@@ -73,7 +73,7 @@ pub(crate) fn merge_phases(
     }
 }
 
-// Merges what the first members wrote in a phase, member after member.
+// Merges the writes of the first members in a phase, member after member.
 pub(crate) fn merge_phase(
     slots: &[Slot],
     phases: usize,

@@ -46,7 +46,7 @@ pub fn audit(
     audit_against(alloc, accepted.plan(), meant, &wanted, output)
 }
 
-// The array lines of the program, by the one-thread evaluator. So a verdict needs no harts.
+// The array lines of the program, by the one-thread evaluator. Why: a verdict then needs no harts.
 fn wanted_lines(alloc: Global, accepted: &Accepted<'_>) -> Result<Vec<u8>, AllocError>
     ensures { IfOk result (λ text. text.items ≡ array_text (program_of accepted.now.program)
         (final_store (program_of accepted.now.program))) }
@@ -56,7 +56,7 @@ fn wanted_lines(alloc: Global, accepted: &Accepted<'_>) -> Result<Vec<u8>, Alloc
     write_arrays(alloc, program, &store)
 }
 
-// The verdict by the array lines that are wanted.
+// The verdict by the wanted array lines.
 fn audit_against(
     alloc: Global,
     plan: &Plan,
@@ -73,7 +73,7 @@ fn audit_against(
     audited(alloc, plan, meant, &found)
 }
 
-/// What comes of the array lines: the first that differs, how many there are, and what stands behind them.
+/// The result of comparing array lines: the first line that differs, their number, and the text after them.
 #[derive(Clone, Copy)]
 pub struct ArrayLines<'t> {
     pub differs: Option<u32>,
@@ -106,7 +106,7 @@ fn compared<'t>(wanted: &[u8], output: &'t [u8]) -> Result<ArrayLines<'t>, TextF
     })
 }
 
-// The first line that differs, where this line is compared last.
+// The first line that differs, if this line is compared last.
 fn first_difference(differs: Option<u32>, line: u32, wanted: &[u8], found: &[u8]) -> Option<u32>
     ensures { result ≡ earliest differs line wanted.now found.now }
 {
@@ -116,7 +116,7 @@ fn first_difference(differs: Option<u32>, line: u32, wanted: &[u8], found: &[u8]
     }
 }
 
-// The verdict on compared lines and the journal behind them.
+// The verdict on compared lines and the journal after them.
 fn audited(
     alloc: Global,
     plan: &Plan,
@@ -134,7 +134,7 @@ fn audited(
     }
 }
 
-// The fault as the output's lines are counted.
+// The fault, with its line counted in the output.
 fn told_behind(fault: TextFault, lines: u32) -> TextFault
     requires few { lines ≤ most_audited }
     requires within { IsWithin (most_audited + 1) fault }
@@ -147,7 +147,7 @@ fn told_behind(fault: TextFault, lines: u32) -> TextFault
     }
 }
 
-// The verdict on the entries, where the array lines are read.
+// The verdict on the entries, after the array lines were read.
 fn verdict(
     alloc: Global,
     plan: &Plan,

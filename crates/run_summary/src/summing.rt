@@ -1,4 +1,4 @@
-//! What a run comes to, in four lines.
+//! The four lines of a run's summary.
 ghost use Rattle.std.specs.Prelude.{◌≡◌, ◌≤◌, IfOk, length, count_by};
 ghost use Rattle.array_tree.specs.Trees.{declarations_of};
 ghost use Rattle.array_meaning.specs.Bounds.{most_cells};
@@ -47,7 +47,7 @@ pub fn write_summary(
     Ok(text.into_bytes())
 }
 
-// The sum of so many cells, which are all.
+// The sum of all cells, of which there are so many.
 fn sum(store: &Store, cells: usize) -> i64
     requires whole { cells ≡ length store.now }
     requires few { cells ≤ most_cells }
@@ -67,7 +67,7 @@ fn added(sum: i64, value: i64) -> i64
     sum.wrapping_add(value)
 }
 
-// How many of the entries register a site.
+// The number of entries that register a site.
 fn registers(list: &[Entry]) -> usize
     ensures { result ≡ count_by is_register list.now }
 {

@@ -34,7 +34,7 @@ pub fn first_jobs<'p>(alloc: Global, program: &'p Program) -> Result<Vec<Job<'p>
     ensures { IfOk result (λ jobs. IsGroup (map job_of jobs.items)) }
 {
     let nested = first_construct(alloc, program)?;
-    // Reading its phases makes the invariant of a construct known.
+    // Why: reading its phases makes the construct's invariant known.
     let _phases = nested.phases();
     Ok(jobs_of(alloc, &nested, 0, &nested.store)?)
 }
