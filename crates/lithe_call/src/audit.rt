@@ -1,4 +1,4 @@
-//! From bytes to the verdict on the output that stands behind their program.
+//! From bytes to the verdict on the output after their program.
 ghost use Rattle.std.specs.Prelude.{◌≡◌, ◌≤◌, ◌++◌, ◌∷◌, [], codes, length, IfOk, IfErr, Result, Ok, Err};
 ghost use Rattle.array_meaning.specs.Bounds.{most_bytes};
 ghost use Rattle.command_words.specs.declared.command.Command.TheVariants.{Audit};
@@ -50,7 +50,7 @@ pub fn audited(alloc: Global, harts: u8, bytes: &[u8]) -> Result<Answer, Fault>
     Ok(Answer { text, ending })
 }
 
-// How a command ends that writes the line of a verdict.
+// The ending of a command that writes the line of a verdict.
 fn ending(verdict: Verdict) -> Ending
     ensures { status_of_ending result ≡ status_by verdict }
 {
@@ -60,7 +60,7 @@ fn ending(verdict: Verdict) -> Ending
     }
 }
 
-// The verdict on the second part by the program of the first.
+// The verdict on the second part, by the program of the first.
 fn verdict(alloc: Global, harts: u8, first: &[u8], second: &[u8]) -> Result<Verdict, Fault>
     requires short { length first.now ≤ most_bytes }
     requires short_output { length second.now ≤ most_audited }

@@ -1,4 +1,4 @@
-//! The command that the words ask for.
+//! The command of the words.
 ghost use Rattle.std.specs.Prelude.{◌≡◌, ◌≤◌, Some, IfOk, IfErr, map, string_bytes};
 ghost use Rattle.command_words.specs.Form.{form_of};
 ghost use Rattle.run_audit.specs.Parts.{most_audited};
@@ -35,7 +35,7 @@ pub fn asked_command(alloc: Global, words: &[String]) -> Result<Command, Fault>
     }
 }
 
-/// How many harts the plan of the command's program is made for.
+/// The number of harts of the plan of the command's program.
 pub fn harts(command: Command) -> u8
     ensures { result ≡ harts_in command }
 {

@@ -60,7 +60,7 @@ pub fn piped<R: Threads + Wait + Sync, G: Gate>(
     }
 }
 
-// The fault of a program two pieces of which cross.
+// The fault of a program with a crossing of two pieces.
 fn crossing_fault(alloc: Global, program: &Program, fault: PipeFault) -> Fault
     ensures { TellsCrossing (program_of program.now) fault result }
 {
@@ -73,7 +73,7 @@ fn crossing_fault(alloc: Global, program: &Program, fault: PipeFault) -> Fault
     }
 }
 
-// The arrays and the journal that a run leaves whose members overtake.
+// The arrays and the journal of a run whose members overtake.
 fn overtaken<R: Threads + Wait + Sync, G: Gate>(
     rt: &R,
     alloc: Global,

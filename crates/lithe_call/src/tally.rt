@@ -82,7 +82,7 @@ fn with_rows(alloc: Global, harts: u8, program: &Program) -> Result<Program, Fau
     }
 }
 
-// The fault of a program that isn't spread.
+// The fault of a program that can't be spread.
 fn tally_fault(alloc: Global, fault: TallyFault) -> Fault
     ensures { TellsTally fault result }
 {
@@ -95,7 +95,7 @@ fn tally_fault(alloc: Global, fault: TallyFault) -> Fault
     }
 }
 
-// The arrays of the given program and the journal that a run of the one with rows leaves.
+// The arrays of the given program, and the journal of a run of the program with rows.
 fn sums<R: Threads + Wait + Sync, G: Gate>(
     rt: &R,
     alloc: Global,

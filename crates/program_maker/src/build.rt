@@ -6,7 +6,7 @@ ghost use Rattle.program_maker.specs.Made.{declared, number, columns, rows};
 use array_tree::{ArrayDecl, Block, Blocks, Expr, Name, Op, Stmt};
 use std::alloc::{AllocError, Global};
 
-/// A literal.
+/// A literal, from 0 to 255.
 pub fn number(value: u8) -> Expr
     ensures { expression_of result ≡ number value }
 {
