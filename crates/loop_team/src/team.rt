@@ -26,7 +26,7 @@ use std::mem;
 use step_eval::{Nested, jobs_of};
 use work_agenda::{Agenda, MOST_WISHES};
 
-/// What a callback of a team gives.
+/// The receipt of a callback of a team.
 #[derive(Drop)]
 pub struct TeamHeard {
     told: Told,
@@ -48,7 +48,7 @@ impl Hearing for TeamHeard {
     }
 }
 
-// Only callbacks call it.
+// Only callbacks call this function.
 pub(crate) fn heard(call: Call, child: u16, count: u8) -> TeamHeard
     ensures { result ≡ record { call = call; child = child; count = count } }
 {
@@ -57,8 +57,8 @@ pub(crate) fn heard(call: Call, child: u16, count: u8) -> TeamHeard
     }
 }
 
-/// The scheduler of one `team`. It has the members that haven't begun the phase that runs, the contexts that are ready to
-/// go on, the wishes of its children, the barrier of the phase, and the store that the phases before it left.
+/// The scheduler of one `team`. It has the members that haven't begun the current phase, the contexts that are ready to go on,
+/// the wishes of its children, the barrier of the phase, and the store that the earlier phases left.
 #[derive(Drop)]
 pub struct Team<'p> {
     alloc: Global,
@@ -66,7 +66,8 @@ pub struct Team<'p> {
     agenda: Agenda<TeamWork<'p>>,
     opened: u8,
     barrier: BarrierState<'p>,
-    // Its cells are the start of the next phase, and its marks the result of `take_all`: opening a phase merges that phase alone.
+    // Its cells are the start of the next phase, and its marks the result of `take_all`. Why: opening a phase then merges only
+    // that phase.
     store: MarkedStore,
     failed: bool,
 }
@@ -154,14 +155,14 @@ impl<'p> Team<'p> {
         &self.nested
     }
 
-    // How many phases have opened.
+    // The number of phases that have opened.
     pub(crate) fn opened(&self) -> u8
         ensures { result ≡ self.now.opened }
     {
         self.opened
     }
 
-    // The jobs of the phase that runs, or that ran last.
+    // The jobs of the current phase, or of the last one.
     pub(crate) fn jobs(&self) -> &[Job<'p>]
         ensures { result.now ≡ self.now.barrier.jobs }
     {
@@ -177,7 +178,7 @@ impl<'p> Team<'p> {
         &first.store
     }
 
-    // The job of a place whose piece is still to come.
+    // The job at an index whose piece is awaited.
     pub(crate) fn open_job(&self, place: u8) -> Option<&Job<'p>>
         ensures { MatchOption result (IsNotAwaited self.now place)
             (λ job. IsAwaited self.now place job.now) }
@@ -189,14 +190,14 @@ impl<'p> Team<'p> {
         }
     }
 
-    // How many contexts are ready to go on.
+    // The number of ready contexts.
     pub(crate) fn ready_count(&self) -> usize
         ensures { result ≡ length self.now.agenda.ready }
     {
         self.agenda.ready_count()
     }
 
-    // Takes the oldest context that is ready to go on, if there is one.
+    // Takes the oldest ready context, if there is one.
     pub(crate) fn take_ready(&mut self) -> Option<TeamWork<'p>>
         ensures { TakesReady self.old result self.new }
     {
@@ -237,11 +238,15 @@ impl<'p> Team<'p> {
         }
     }
 
-    /// What `arrive` does with a piece whose place is known: that of its job, which must be open. No jobs are compared.
+    /// What `arrive` does with a piece whose slot is known: the slot of its job, which must be open. No jobs are compared.
     ///
     /// # Errors
     ///
     /// `AllocError` if an allocation fails.
+    ///
+    /// # Memory
+    ///
+    /// It allocates as `arrive` does.
     pub fn keep(&mut self, piece: Piece<'p>) -> Result<Arrival<'p>, AllocError>
         requires own { IsPlaceOf self.old.barrier piece.job.place piece.job }
         requires open { IsMarked self.old.barrier piece.job.place Open }
@@ -257,7 +262,7 @@ impl<'p> Team<'p> {
         }
     }
 
-    // What `arrive` does with a piece. Where it is known that the phase's jobs start from the store of the piece's job, that isn't
+    // What `arrive` does with a piece. If the phase's jobs are known to start from the store of the piece's job, stores aren't
     // compared.
     pub(crate) fn take_in(
         &mut self,
@@ -274,7 +279,7 @@ impl<'p> Team<'p> {
         }
     }
 
-    // Whether the piece of the job is still to come, where the phase's jobs start from its store.
+    // Whether the piece of the job is awaited, if the phase's jobs start from its store.
     fn waits_for(&self, job: &Job) -> bool
         requires { StartsFrom self.now job.now.store }
         ensures { IsTrue result → IsPlaceOf self.now.barrier job.now.place job.now × IsMarked self.now.barrier job.now.place Open }
@@ -285,7 +290,7 @@ impl<'p> Team<'p> {
         }
     }
 
-    // Goes on after the phase that runs has opened, and wrote this.
+    // Goes on after the current phase has opened, with these writes.
     fn go_on(&mut self, written: &Overlay) -> Result<(), AllocError>
         requires full { IsFull self.old.barrier }
         requires phase { self.old.opened < phases_in self.old.nested }
@@ -313,15 +318,15 @@ impl<'p> Team<'p> {
         }
     }
 
-    /// Whether the place is there in the phase that runs, and its piece is still to come.
+    /// Whether the slot at this index exists in the current phase and waits for its piece.
     pub fn is_open(&self, place: u8) -> bool
         ensures { IsTrue result ↔ IsMarked self.now.barrier place Open }
     {
         self.barrier.is_free(place)
     }
 
-    /// Reports that an allocation failed for the piece of a place. The place must be open. The team is then failed, and no member
-    /// of a later phase begins. The team keeps no note of the place, and its other places still take pieces.
+    /// Reports that an allocation failed for the piece at an index. Its slot must be open. The team is then failed, and no
+    /// member of a later phase begins. The team doesn't record the index, and its other slots still take pieces.
     pub fn fail(&mut self, place: u8)
         requires { IsMarked self.old.barrier place Open }
         ensures { self.new ≡ failed_team self.old }
@@ -365,7 +370,7 @@ impl<'p> Team<'p> {
     }
 }
 
-// Puts what a phase wrote on the store that the phases before it left.
+// Adds the writes of a phase to the store that the earlier phases left.
 fn lay_phase(nested: &Nested, phase: u8, store: &mut MarkedStore, written: &Overlay)
     requires fit { IsFitNest (nested_of nested.now) }
     requires phase { phase < phases_in nested.now }
@@ -382,7 +387,7 @@ struct Phase<'p> {
     unbegun: VecDeque<TeamWork<'p>>,
 }
 
-// The phase that comes after as many, over the store that these left.
+// The phase after this many, over the store that they left.
 fn phase_of<'p>(
     alloc: Global,
     nested: &Nested<'p>,
