@@ -21,7 +21,7 @@ use std::sync::Wait;
 use std::thread::Threads;
 use transfer_table::{Entry, first_fault};
 
-/// For so many harts the board word has a field.
+/// The number of harts for which the board word has a field.
 const MOST_ON_WORDS: u8 = 4;
 
 /// Runs an accepted program on the harts of its plan, at least two, each on a thread. Blocks until all of them are back.
@@ -61,13 +61,17 @@ pub fn run_harts<R: Threads + Wait + Sync, G: Gate>(
 }
 
 /// Runs an accepted program, no two pieces of which cross, on the harts of its plan, each on a thread, with members that
-/// overtake: each goes on to its next phase as soon as those below it have done that phase. It waits until all harts are back.
+/// overtake: each goes on to its next phase as soon as those below it have done that phase. Blocks until all harts are back.
 ///
-/// The store and the journal are as those of `run_harts`, but for one hart the journal is the list that its port kept.
+/// The store and the journal are as those of `run_harts`, but for one hart the journal is the list of its port.
 ///
 /// # Errors
 ///
 /// `AllocError` if an allocation fails.
+///
+/// # Memory
+///
+/// It allocates as `run_harts` does.
 pub fn run_piped<R: Threads + Wait + Sync, G: Gate>(
     rt: &R,
     alloc: Global,
@@ -156,8 +160,8 @@ fn run_once<R: Threads + Wait + Sync, F: Fn(u8, u16, u8, u8) + Sync>(
     }
 }
 
-// Whether a run's journal is complete for the sites that the program enters. Lock-protected state doesn't show which sites
-// these are, so that no proof about the harts has it.
+// Whether a run's journal is complete for the sites that the program enters. Why a check at run time: lock-protected state
+// doesn't show which sites these are, so no proof about the harts has it.
 fn is_complete(
     alloc: Global,
     accepted: &Accepted<'_>,
