@@ -16,6 +16,10 @@ const MINUS: u8 = 4;
 /// # Errors
 ///
 /// `AllocError` if an allocation fails.
+///
+/// # Memory
+///
+/// It allocates if the text has no room.
 #[cycle(print)]
 pub fn print_expression(
     alloc: Global,
@@ -73,6 +77,10 @@ fn print_operand(
 /// # Errors
 ///
 /// `AllocError` if an allocation fails.
+///
+/// # Memory
+///
+/// It allocates if the text has no room.
 pub fn print_number(alloc: Global, out: &mut Vec<u8>, value: i64) -> Result<(), AllocError>
     ensures { OnOk result (out.new.items ≡ out.old.items ++ signed_decimal value) }
 {

@@ -315,6 +315,10 @@ fn print_block(
 /// # Errors
 ///
 /// `AllocError` if an allocation fails.
+///
+/// # Memory
+///
+/// It allocates if the text has no room, and the margin of each block.
 #[cycle(print)]
 pub fn print_statements(
     alloc: Global,

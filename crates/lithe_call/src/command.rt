@@ -21,6 +21,10 @@ pub const MOST_AUDITED: usize = 4_194_304;
 /// # Errors
 ///
 /// `Fault::Usage` if the words are no form. `Fault::Memory` if an allocation fails while the words are read.
+///
+/// # Memory
+///
+/// It allocates the commands and the matches of `clap`.
 pub fn asked_command(alloc: Global, words: &[String]) -> Result<Command, Fault>
     ensures form { IfOk result (λ command. form_of (map string_bytes words.now) ≡ Some command) }
     ensures some_hart { IfOk result (λ command. 1 ≤ harts_in command) }
