@@ -58,8 +58,8 @@ cutting_fault (cutting.BadToken at) = BadToken at
 cutting_fault (cutting.NumberTooLarge at) = NumberTooLarge at
 cutting_fault cutting.Memory = Memory
 
--- The fault is the text's first: that of cutting it, and else the first of its tokens. Want of memory may come at any
--- text, and is no fault of it.
+-- The fault is the text's first: a fault of its tokens, or else of the grammar. An allocation failure may occur for any text,
+-- and is no fault of the text.
 pub data HasFault (text : List ℕ) (fault : SyntaxFault) : Type 0 where
   in_cutting : (cause : TokenFault) → tokens_of text ≡ Err cause → fault ≡ cutting_fault cause
       → fault ≢ Memory → HasFault text fault
@@ -67,7 +67,7 @@ pub data HasFault (text : List ℕ) (fault : SyntaxFault) : Type 0 where
       → HasTokenFault tokens (length text) fault → fault ≢ Memory → HasFault text fault
   no_memory : fault ≡ Memory → HasFault text fault
 
--- The answer is this program, unless memory ran out.
+-- The result is this program, unless an allocation failed.
 abbrev pub IsRead : ProgramTree → Result Program SyntaxFault → Type 0
 IsRead p (Ok program) = program_of program ≡ p
 IsRead p (Err fault) = fault ≡ Memory

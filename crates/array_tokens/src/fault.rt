@@ -9,6 +9,6 @@ pub enum TokenFault {
     BadToken { at: u32 },
     /// The first digit of a number above 9223372036854775807.
     NumberTooLarge { at: u32 },
-    /// Want of memory.
+    /// An allocation failed.
     Memory,
 }

@@ -28,6 +28,7 @@ pub record Load : Type 0 where
   pub leaves : ℕ
   pub credits : ℕ
 
+-- no hart at any step
 abbrev pub no_load : Load
 no_load = record { claims = 0; seals = 0; reserves = 0; lands = 0; leaves = 0; credits = 0 }
 

@@ -111,6 +111,7 @@ pub record KnowsSites (p : Plan) (t : TableState) (h : ℕ) (m : Marks) (closing
   pub alone : (x : ℕ) → is_in m.empty x ≡ true → SawChildren p m x → IsAlone p t h x
   pub gone : (x : ℕ) → is_in m.gone x ≡ true → IsSite p x × ((row t x).stage ≡ Gone)
 
+-- a view is right: what it knows of its hart, of its pending step and of the sites
 pub record Knows (lay : Layout) (p : Plan) (es : List Entry) (t : TableState) (v : View)
     (closing : ℕ → Bool) (guests_of : ℕ → ℕ) (made : ℕ) (ended : List Ended) : Type 0 where
   pub itself : KnowsItself p es t v made ended

@@ -13,7 +13,7 @@ pub fn jot_keeps()
     ensures { (lay : Layout) → JotKeeps lay }
 {}
 
-/// Adding to the want of a site keeps the rule and the journal.
+/// Adding to the want of a site keeps the invariant and the journal.
 pub fn credit_keeps()
     ensures { (lay : Layout) → CreditKeeps lay }
 {}

@@ -7,6 +7,7 @@ use Rattle.transfer_table.specs.declared.entry.Stage.{Stage}
 use Rattle.transfer_table.specs.declared.entry.Stage.TheVariants.{New, Live, Gone}
 use Rattle.transfer_table.specs.declared.entry.Entry.{Entry}
 
+-- 1 for a site that has begun
 abbrev pub started : Stage → ℕ
 started New = 0
 started Live = 1

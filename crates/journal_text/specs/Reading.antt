@@ -16,6 +16,7 @@ use Rattle.journal_text.specs.declared.fault.TextFault.TheVariants.{BadLine, Bad
 abbrev pub lines_of : List ℕ → List (List ℕ)
 lines_of text = slice_split (λ byte. byte == 10) text
 
+-- the words of a line
 abbrev pub words_of : List ℕ → List (List ℕ)
 words_of line = slice_split (λ byte. byte == 32) line
 
@@ -65,6 +66,7 @@ pub record Row : Type 0 where
   pub site : List ℕ
   pub deed : Deed
 
+-- the row of these words
 abbrev pub row_with : List ℕ → List ℕ → List ℕ → Deed → Row
 row_with place hart site deed = record { place = place; hart = hart; site = site; deed = deed }
 
@@ -81,9 +83,11 @@ row_of words = None
 abbrev pub most_hart : ℕ
 most_hart = 255
 
+-- the greatest number of a site
 abbrev pub most_site : ℕ
 most_site = 65535
 
+-- the greatest number of requested harts
 abbrev pub most_count : ℕ
 most_count = 255
 
@@ -110,6 +114,7 @@ abbrev pub or_fault : {A : Type 0} → TextFault → Option A → Result A TextF
 or_fault fault None = Err fault
 or_fault fault (Some x) = Ok x
 
+-- the result of f on a value, or the fault
 abbrev pub and_then : {A B : Type 0} → (A → Result B TextFault) → Result A TextFault
     → Result B TextFault
 and_then f (Ok x) = f x

@@ -191,7 +191,7 @@ fn a_hand_puts_contexts_back(rt: HostRuntime) -> Result<(), Fail> {
     Ok(())
 }
 
-// Whether a team has failed, and whether it is over.
+// Whether a team has failed, and whether it is done.
 fn state<'a, 'r, 'p, R: Wait + 'a>(rt: &'a R, hand: &TeamHand<'a, 'r, 'p, R>) -> (bool, bool) {
     (hand.has_failed(rt), hand.is_over(rt))
 }

@@ -10,6 +10,7 @@ pub record Plan : Type 0 where
   pub harts : ℕ
   pub parents : List ℕ
 
+-- the number of a plan's sites
 abbrev pub site_count : Plan → ℕ
 site_count p = length p.parents
 
@@ -43,9 +44,11 @@ is_within p s o = leads_up p s o o
 abbrev pub most_harts : ℕ
 most_harts = 16
 
+-- the greatest number of sites
 abbrev pub most_sites : ℕ
 most_sites = 4095
 
+-- the greatest number of entries of a legal list
 abbrev pub most_entries : ℕ
 most_entries = 65535
 
