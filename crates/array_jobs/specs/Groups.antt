@@ -19,7 +19,7 @@ pub record IsGroup (jobs : List JobTree) : Type 0 where
       → AreAlike a b
   pub places : (i : ℕ) (job : JobTree) → slice_get jobs i ≡ Some job → job.place ≡ i
 
--- Two lists have the same jobs, in whatever order and however often.
+-- Two lists have the same jobs, in any order and any number of times.
 pub record HaveSameJobs (xs ys : List JobTree) : Type 0 where
   pub to : (job : JobTree) → IsMember job xs → IsMember job ys
   pub from : (job : JobTree) → IsMember job ys → IsMember job xs

@@ -55,10 +55,10 @@ names_around vars = map (λ v. v.0) vars
 abbrev pub program_in : JobTree → ProgramTree
 program_in job = record { arrays = job.arrays; body = statements_of job.work }
 
--- A job is fit to be run if, with the loop variables around, no name of the work is used twice or unknown, all is in its
--- limits, each static index is inside its array, and the pieces of each site are apart. The store has one value per cell, and
--- the sites' numbers have room. Of the variables it is required only that no loop of the work takes the name of one of them, or
--- of an array.
+-- A job that is fit to run, with the loop variables around it. No name of the work is used twice or unknown, all is in its
+-- limits, and each static index is inside its array. The pieces of each site are apart. The store has one value for each cell,
+-- and the sites' numbers have room. The variables need only this: no loop of the work has the name of one of them, or of an
+-- array.
 pub record IsFit (job : JobTree) : Type 0 where
   pub single_names : IsTrue (are_declared_once job.arrays [])
   pub new_variables : IsTrue

@@ -55,7 +55,7 @@ abbrev pub IsMember : {A : Type 0} → A → List A → Type 0
 IsMember x [] = ⊥
 IsMember x (y ∷ more) = (y ≡ x) ⊎ IsMember x more
 
--- Two lists have the same members, in whatever order and however often.
+-- Two lists have the same members, in any order and any number of times.
 pub record HaveSameMembers (xs ys : List Steps) : Type 0 where
   pub to : (x : Steps) → IsMember x xs → IsMember x ys
   pub from : (x : Steps) → IsMember x ys → IsMember x xs

@@ -3,8 +3,8 @@
 //! The crate holds definitions and laws, for authors of checkers and evaluators and for auditors. No code here runs: each
 //! function's contract is a law, and its body is empty.
 //!
-//! Begin with `final_store` in `specs/Work.antt`, the store that a program leaves, and `IsAccepted` in `specs/Accepted.antt`. The
-//! evaluator `run_one` of `array_eval` computes `final_store`, and the tests of `language_tests` run it on programs.
+//! Begin with `final_store` in `specs/Work.antt`, the store that a program leaves, and `IsAccepted` in `specs/Accepted.antt`.
+//! The evaluator `run_one` of `array_eval` computes `final_store`, and the tests of `language_tests` run it on programs.
 #![tactic(auto)]
 
 ghost use Rattle.array_meaning.specs.Laws.{WritesDependOnReads, ArePiecesIndependent, AreBranchesIndependent, AreMembersIndependent, ApartIsTested, ClashesAreTested, LeastClashIsTold, PlansAreRight, SitesArePlanned, EnteredSitesAreCounted, EnteredDependsOnReads, BranchesEnterAlone, MembersEnterAlone, StayInsideParts, LaterPartsAreOutside};

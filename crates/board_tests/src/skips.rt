@@ -81,8 +81,8 @@ fn has_come_and_gone(board: &WordBoard, seat: &mut HartSeat) -> bool
     registered && closing && has(board, 844424930131968, [5, 0, 7]) && board.see_gone(seat, 3)
 }
 
-// Whether the entries are complete if only site 3 is meant to be entered, and otherwise the fault is the least site that is
-// registered and not meant, or meant and not registered.
+// Whether the entries are complete if only site 3 is meant to be entered. If they aren't, whether the fault is the least site
+// that is registered and not meant, or meant and not registered.
 fn is_told(alloc: Global, plan: &Plan, entries: &[Entry], meant: [bool; 3]) -> Result<bool, Fail>
     requires { site_count plan.now ≡ 3 }
 {

@@ -17,7 +17,7 @@ started Gone = 1
 abbrev pub has_begun : List Entry → ℕ → Bool
 has_begun es x = nat_le 1 (registers x es + skips x es)
 
--- A site's row as its word shows it. The word of a site that is gone since one around it was skipped was never touched: it shows
--- a new site.
+-- A site's row as its word shows it. The word of a site that is gone since one around it was skipped was never touched: it
+-- shows a new site.
 abbrev pub shown : List Entry → TableState → ℕ → Row
 shown es t x = if has_begun es x then row t x else blank

@@ -41,8 +41,8 @@ duplicate_name program =
     first_fault (duplicate_declaration program.arrays []
     ∷ duplicate_in program.body (names_of program.arrays) ∷ [])
 
--- The line of the first statement that, outside the blocks in it, indexes a name that is no array's, or uses a name without
--- index that is no variable's of a loop around it.
+-- The line of the first statement with an unknown name, outside the blocks in it: it indexes a name that is no array's, or uses
+-- a name without index that is no variable's of a loop around.
 abbrev mutual
   pub unknown_in : Sequence → List (List ℕ) → List (List ℕ) → Option ℕ
   unknown_in ended arrays vars = None

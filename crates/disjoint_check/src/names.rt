@@ -106,8 +106,8 @@ fn duplicate_among<'s>(arrays: &Arrays, blocks: &'s Blocks, loops: &'s Loops<'s>
     None
 }
 
-/// The line of the first statement that, outside the blocks in it, indexes a name that is no array's, or uses a name without
-/// index that is no variable's of a loop around it.
+/// The line of the first statement with an unknown name, outside the blocks in it: it indexes a name that is no array's, or
+/// uses a name without index that is no variable's of a loop around.
 pub(crate) fn unknown_name(program: &Program) -> Option<u32>
     ensures { result ≡ unknown_name (program_of program.now) }
 {

@@ -83,8 +83,8 @@ impl<L: Laid> Board<L> {
         Ok(())
     }
 
-    /// Makes Request of the site for `count` more harts. The hart is in the site and its home, and hasn't closed it. `count` is at
-    /// least 1, and all its requests of the site add up to fewer than the plan's harts.
+    /// Makes Request of the site for `count` more harts. The hart is in the site and its home, and hasn't closed it. `count` is
+    /// at least 1, and all its requests of the site add up to fewer than the plan's harts.
     pub fn request(&self, seat: &mut HartSeat, site: u16, count: u8)
         requires of { IsOf self.now seat.old }
         requires site { IsSite self.now.plan site }

@@ -81,8 +81,13 @@ pub extern "C" fn lithe_hart_register(hart: &mut LitheHart, site: &mut u16) -> u
 
 /// Requests `count` more harts at the owner. A load and an addition.
 ///
-/// Returns, in this order, 1 (not home) if the hart isn't the home of its owner, 4 (is closed) if it closed it, 3 (too many
-/// wished) if the site would have requested in all more than the board's other harts. It requests no hart then.
+/// Returns, in this order:
+///
+/// - 1 (not home) if the hart isn't the home of its owner,
+/// - 4 (is closed) if the hart closed it,
+/// - 3 (too many wished) if the site would have requested in all more than the board's other harts.
+///
+/// The call requests no hart then.
 #[unsafe(no_mangle)]
 pub extern "C" fn lithe_hart_request(hart: &mut LitheHart, count: u8) -> u32
     ensures { AnswersRequest hart.old.lent count result hart.new.lent }
@@ -93,8 +98,13 @@ pub extern "C" fn lithe_hart_request(hart: &mut LitheHart, count: u8) -> u32
 /// Tries to enter the site as a guest. The site is then the hart's owner. A load, and an exchange if the loaded word admits the
 /// hart.
 ///
-/// Returns 7 (no such site) if the number isn't 1 to harts times levels, 9 (not wanted) if the loaded word doesn't admit the
-/// hart, 10 (moved) if the exchange found another word. The hart stays in its owner then.
+/// Returns
+///
+/// - 7 (no such site) if the number isn't 1 to harts times levels,
+/// - 9 (not wanted) if the loaded word doesn't admit the hart,
+/// - 10 (moved) if the exchange found another word.
+///
+/// The hart stays in its owner then.
 #[unsafe(no_mangle)]
 pub extern "C" fn lithe_hart_enter(hart: &mut LitheHart, site: u16) -> u32
     ensures { AnswersEnter hart.old.lent site result hart.new.lent }
@@ -135,8 +145,13 @@ pub extern "C" fn lithe_hart_see_empty(hart: &mut LitheHart) -> u32
 
 /// Ends the owner, if it is closed and has no guest. Its parent is then the hart's owner. Two loads and a swap.
 ///
-/// Returns, in this order, 1 (not home) if the hart isn't the home of its owner, 5 (not closed) if it hasn't closed it, 6 (not
-/// empty) if the second loaded word has a guest. The site stays live then.
+/// Returns, in this order:
+///
+/// - 1 (not home) if the hart isn't the home of its owner,
+/// - 5 (not closed) if the hart hasn't closed it,
+/// - 6 (not empty) if the second loaded word has a guest.
+///
+/// The site stays live then.
 #[unsafe(no_mangle)]
 pub extern "C" fn lithe_hart_unregister(hart: &mut LitheHart) -> u32
     ensures { AnswersUnregister hart.old.lent result hart.new.lent }

@@ -88,7 +88,8 @@ pub record SpellUntallied (harts : ℕ) (bytes line : List ℕ) : Type 0 where
   pub refused : IsTallied harts program → ⊥
   pub first : IsUntallied harts program line
 
--- The program is accepted, but two pieces cross at one of its sites, and the line reports the first such site and its least cell.
+-- The program is accepted, but two pieces cross at one of its sites, and the line reports the first such site and its least
+-- cell.
 pub record IsCrossed (harts : ℕ) (program : ProgramTree) (line : List ℕ) : Type 0 where
   pub accepted : IsAcceptedFor program harts
   pub fault : PipeFault

@@ -63,7 +63,7 @@ IsDue pipe j k = IsFirst (phases_in pipe.nested) pipe.marks j k
 abbrev pub NoneIsDue : PipeParts → Type 0
 NoneIsDue pipe = (j k : ℕ) → ¬ IsReady (phases_in pipe.nested) pipe.marks j k
 
--- A piece has begun if it was handed out, whatever its later state.
+-- A piece has begun if it was handed out, for any later state.
 abbrev pub is_begun : Mark → Bool
 is_begun Waiting = false
 is_begun Barred = false

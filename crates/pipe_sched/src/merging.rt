@@ -14,8 +14,8 @@ use std::alloc::{AllocError, Global};
 use step_eval::Nested;
 
 impl<'p> PipeState<'p> {
-    /// What the whole construct writes if no two of its pieces cross: each cell with its last value, in whatever order the
-    /// pieces came. Every piece must be filled or failed.
+    /// What the whole construct writes if no two of its pieces cross: each cell with its last value. The pieces may have come
+    /// in any order. Every piece must be filled or failed.
     ///
     /// # Errors
     ///

@@ -182,8 +182,8 @@ impl<'p> Pipe<'p> {
         self.state.has_failed()
     }
 
-    /// What the whole construct writes if no two of its pieces cross: each cell with its last value, in whatever order the
-    /// pieces came. Every piece must be filled or failed.
+    /// What the whole construct writes if no two of its pieces cross: each cell with its last value. The pieces may have come
+    /// in any order. Every piece must be filled or failed.
     ///
     /// # Errors
     ///

@@ -2,8 +2,8 @@
 ghost use Rattle.run_audit.specs.Legal.{LegalOutputsAreFound};
 
 /// For every plan, a flag for each of its sites, the array lines of every program and store, and every output: an audit finds
-/// so many entries legal exactly if the output is these lines, followed by the text of a list of so many entries that is
-/// complete for the plan and the sites that are meant.
+/// so many entries legal exactly for these outputs. The output is the array lines, followed by the text of a list of so many
+/// entries. The list is complete for the plan and the sites that are meant.
 pub fn legal_outputs_are_found()
     ensures { LegalOutputsAreFound }
 {}

@@ -23,8 +23,8 @@ RunFails harts levels fails memory (LevelCount n) = (n ≡ levels) × (16 < leve
 RunFails harts levels fails memory (Task error) = fails error ⊎ memory error
 RunFails harts levels fails memory (NotEnded why) = IsReason harts why
 
--- With these seats a board of this size has ended: each of its harts is at the base again, and all that the harts did is a list of
--- entries that the table of lent harts admits, after which no site is live.
+-- With these seats a board of this size has ended: each of its harts is at the base again, and all that the harts did is a list
+-- of entries that the table of lent harts admits, after which no site is live.
 abbrev pub AllAreHome : Size → List OpenSeat → Type 0
 AllAreHome size seats =
     (length seats ≡ size.harts) × ((n : ℕ) → n < size.harts → IsHomeAgain seats n) × HasFinished size seats

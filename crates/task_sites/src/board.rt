@@ -104,8 +104,8 @@ impl<B: Naming> CrewSeat<B> {
     }
 }
 
-/// Each call is the board's own, which checks its precondition and refuses an entry that the table of lent harts does not admit. No
-/// call allocates.
+/// Each call is the board's own, which checks its precondition and refuses an entry that the table of lent harts does not
+/// admit. No call allocates.
 impl<B: Naming> CrewBoard<B> {
     /// Names a board.
     pub fn new(board: OpenBoard) -> CrewBoard<B>

@@ -98,8 +98,8 @@ impl<'c, T: TaskKind, R, B: Naming> Hart<'c, T, R, B> {
 }
 
 impl<'c, T: TaskKind, R: Wait, B: Naming> Hart<'c, T, R, B> {
-    /// Registers a site for the tasks below the hart's owner and requests so many harts. Returns the site's number, or `None` if the
-    /// hart is the home of as many sites as the board has levels: nothing is changed then.
+    /// Registers a site for the tasks below the hart's owner and requests so many harts. Returns the site's number, or `None`
+    /// if the hart is the home of as many sites as the board has levels: nothing is changed then.
     pub(crate) fn open(&self, tasks: &Arc<Site<T>, Global>, wish: u8) -> Option<u16> {
         let parent = self.owner();
         let site = self.register()?;
@@ -248,8 +248,8 @@ impl<'c, T: TaskKind, R: Wait, B: Naming> Hart<'c, T, R, B> {
         self.crew.perches.wake_hart((home % 256) as u8, site);
     }
 
-    /// Sleeps at the hart's owner until there is a wish below it, or the count is down. Returns the tasks of a site that the hart has
-    /// entered instead, if there was a wish.
+    /// Sleeps at the hart's owner until there is a wish below it, or the count is down. Returns the tasks of a site that the
+    /// hart has entered instead, if there was a wish.
     pub(crate) fn rest(&self, left: &Countdown) -> Option<Arc<Site<T>, Global>> {
         let owner = self.owner();
         self.crew.perches.announce(self.number, owner);

@@ -228,7 +228,8 @@ fn shared_site<T: Task>(
     Ok(Arc::new(alloc, site)?)
 }
 
-// Runs the tasks of a site of which the hart is the home, with the guests that come, until all have ended and no guest is inside.
+// Runs the tasks of a site of which the hart is the home, with the guests that come, until all have ended and no guest is
+// inside.
 fn lead<T: Task, R: Wait, B: Naming, L: Levels<T, R, B>>(
     alloc: Global,
     hart: &Hart<'_, T, R, B>,

@@ -1,5 +1,5 @@
--- A table of tasks. A task's word is 0 while the task waits, 1 while a hart has it, 2 once its outcome is in its slot, and 3 once
--- the outcome was collected.
+-- A table of tasks. A task's word is 0 while the task waits, 1 while a hart has it, 2 once its outcome is in its slot, and 3
+-- once the outcome was collected.
 use Rattle.std.specs.Prelude.{◌≡◌, ◌≢◌, ◌⊎◌, ℕ, List, ◌∷◌, Result, IfOk, IfErr, slice_index, length}
 use mathlib.Core.Option.{Option, some}
 use lib.ListN.{get_elem?}

@@ -7,7 +7,8 @@
 //!
 //! # Example
 //!
-//! The length of a text, by halves of the text. The task borrows the text, may be cut so many times, and has no error of its own.
+//! The length of a text, by halves of the text. The task borrows the text, may be cut so many times, and has no error of its
+//! own.
 //!
 //! ```text
 //! #[derive(Drop)]

@@ -25,22 +25,22 @@ ArePiecesTold arrays (t ∷ rest) (piece ∷ more) =
 abbrev pub Round : Type 0
 Round = Vars → List Steps
 
--- The recorded stretches of each piece are right, whatever values the variables have between their bounds.
+-- The recorded stretches of each piece are right, for any values of the variables between their bounds.
 abbrev pub IsRoundTold : Arrays → List (List Touch) → Bounds → Round → Type 0
 IsRoundTold arrays tables bounds round =
     (vars : Vars) → AreWithin bounds vars → ArePiecesTold arrays tables (round vars)
 
--- The pieces are apart, whatever values the variables have between their bounds.
+-- The pieces are apart, for any values of the variables between their bounds.
 abbrev pub IsRoundApart : Arrays → Bounds → Round → Type 0
 IsRoundApart arrays bounds round =
     (vars : Vars) → AreWithin bounds vars → IsApart arrays (round vars)
 
--- In each round of a construct the pieces are apart, whatever values the variables have between their bounds.
+-- In each round of a construct the pieces are apart, for any values of the variables between their bounds.
 abbrev pub AreAllRoundsApart : Arrays → Bounds → (Vars → List (List Steps)) → Type 0
 AreAllRoundsApart arrays bounds rounds =
     (vars : Vars) → AreWithin bounds vars → AreRoundsApart arrays (rounds vars)
 
--- At each site the pieces are apart, whatever values the variables have between their bounds.
+-- At each site the pieces are apart, for any values of the variables between their bounds.
 abbrev pub AreAllSitesApart : Arrays → Bounds → (Vars → List Site) → Type 0
 AreAllSitesApart arrays bounds sites =
     (vars : Vars) → AreWithin bounds vars → AreSitesApart arrays (sites vars)

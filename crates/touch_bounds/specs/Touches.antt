@@ -62,7 +62,7 @@ pub record IsReach (arrays : Arrays) (array : List ℕ) (index : Option ℤ)
   pub inside : IsTrue (is_inside (length_of arrays array) index)
   pub covered : (cell : ℕ) → Covers arrays array index cell → Includes cells cell
 
--- The cells are a reach of the index, whatever values the variables have between their bounds.
+-- The cells are a reach of the index, for any values of the variables between their bounds.
 abbrev pub IsReachOf : Arrays → List ℕ → Expression → Bounds → Stretch → Type 0
 IsReachOf arrays array index bounds cells =
     (vars : Vars) → AreWithin bounds vars
@@ -81,7 +81,7 @@ AreVisitsTold arrays touches [] = Unit {0}
 AreVisitsTold arrays touches (v ∷ more) =
     IsVisitTold arrays touches v × AreVisitsTold arrays touches more
 
--- The recorded stretches cover a visit with an index, whatever values the variables have between their bounds.
+-- The recorded stretches cover a visit with an index, for any values of the variables between their bounds.
 abbrev pub IsIndexTold : Arrays → List Touch → Bounds → Bool → List ℕ → Expression → Type 0
 IsIndexTold arrays touches bounds writes array index =
     (line : ℕ) (vars : Vars) → AreWithin bounds vars

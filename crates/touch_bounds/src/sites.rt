@@ -108,9 +108,9 @@ fn statement_is_settled<'s>(
     }
 }
 
-/// Whether the text shows that the pieces of each round are apart, at each site that a block enters for any number from `low`
-/// to before `high`, and for any values of the variables between their bounds. If the result is false, they may still be apart,
-/// or an allocation failed. The time is in proportion to the text, for any number of turns.
+/// Whether the text shows that the pieces of each round are apart at each site that a block enters, for any number from `low`
+/// to before `high`. It holds for any values of the variables between their bounds. If the result is false, they may still be
+/// apart, or an allocation failed. The time is in proportion to the text, for any number of turns.
 ///
 /// Pieces that are apart in each turn, but overlap across turns, aren't settled. The caller then checks their rounds turn by
 /// turn.

@@ -1,4 +1,5 @@
-//! Bounds of the cells that statements touch: for each array a stretch of cells that are read and one of cells that are written.
+//! Bounds of the cells that statements touch: for each array a stretch of cells that are read and one of cells that are
+//! written.
 //!
 //! If the bounds of an index leave its array, or a name is no array's, the bounds are unknown, and the caller walks the round.
 //! So bounds need no premise.

@@ -90,9 +90,9 @@ abbrev pub RowsTellEntries : Type 0
 RowsTellEntries = (p : Plan) (es : List Entry) (t : TableState) → IsPlan p → Reaches p es t
     → (s : ℕ) → IsSite p s → IsCounted p es t s
 
--- How a site begins and ends, by its own entries: it is registered or skipped at most once; a new site is neither, a live one is
--- registered; what was unregistered, or skipped itself, is gone. A gone site that was neither registered nor skipped itself was
--- skipped with a site around it, so its parent is a site that is gone.
+-- How a site begins and ends, by its own entries: it is registered or skipped at most once; a new site is neither, a live one
+-- is registered; what was unregistered, or skipped itself, is gone. A gone site that was neither registered nor skipped itself
+-- was skipped with a site around it, so its parent is a site that is gone.
 pub record BeginsOnce (p : Plan) (es : List Entry) (t : TableState) (s : ℕ) : Type 0 where
   pub once : registers s es + skips s es ≤ 1
   pub fresh : (row t s).stage ≡ New → (registers s es + skips s es ≡ 0) × (unregisters s es ≡ 0)

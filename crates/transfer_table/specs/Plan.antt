@@ -56,8 +56,8 @@ most_entries = 65535
 abbrev pub room : Plan → ℕ
 room p = site_count p * (3 * p.harts - 1)
 
--- At least one hart, not too many harts and sites, a legal list isn't too long, and each site's parent is smaller than the site.
--- `short` doesn't follow from the other limits: 16 harts and 4,095 sites would have room for 192,465 entries.
+-- At least one hart, not too many harts and sites, a legal list isn't too long, and each site's parent is smaller than the
+-- site. `short` doesn't follow from the other limits: 16 harts and 4,095 sites would have room for 192,465 entries.
 pub record IsPlan (p : Plan) : Type 0 where
   pub some_hart : 1 ≤ p.harts
   pub few_harts : p.harts ≤ most_harts

@@ -137,8 +137,8 @@ moved t h s = slice_set t.owners h s
 abbrev pub with_row : TableState → ℕ → Row → List Row
 with_row t s r = slice_set t.rows (s - 1) r
 
--- The row of a site that is gone and has no home. Why: a skipped site differs from an unregistered one by its missing home, so a
--- row needs no fourth stage.
+-- The row of a site that is gone and has no home. Why: a skipped site differs from an unregistered one by its missing home, so
+-- a row needs no fourth stage.
 abbrev pub swept_row : Row → Row
 swept_row r = record r { stage = Gone; home = None }
 

@@ -28,12 +28,12 @@ IsMemberClear arrays member rounds =
     (high early late : ℕ) (one other : Steps) → member < high → early < late →
     IsPiece rounds member late one → IsPiece rounds high early other → IsSeparate arrays one other
 
--- The member is clear whatever values the variables have between their bounds.
+-- The member is clear for any values of the variables between their bounds.
 abbrev pub IsMemberAlwaysClear : Arrays → Bounds → ℕ → (Vars → List (List Steps)) → Type 0
 IsMemberAlwaysClear arrays bounds member rounds =
     (vars : Vars) → AreWithin bounds vars → IsMemberClear arrays member (rounds vars)
 
--- The rounds have no crossing, whatever values the variables have between their bounds.
+-- The rounds have no crossing, for any values of the variables between their bounds.
 abbrev pub HasNeverCrossing : Arrays → Bounds → (Vars → List (List Steps)) → Type 0
 HasNeverCrossing arrays bounds rounds =
     (vars : Vars) → AreWithin bounds vars → HasNoCrossing arrays (rounds vars)

@@ -122,7 +122,7 @@ HasTurned body turn high before after =
     HaveMoved arrays (works_with (Turns body turn high) before around) store next
     (works_of after around) store next
 
--- The first work has moved past its construct, whatever the construct wrote.
+-- The first work has moved past its construct, for any writes of the construct.
 abbrev pub IsPast : Arrays → Trace → List WorkAt → List WorkAt → Type 0
 IsPast arrays store [] after = ⊥
 IsPast arrays store (w ∷ more) after = after ≡ moved arrays store.cells w ++ more
