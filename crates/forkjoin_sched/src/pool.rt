@@ -52,8 +52,8 @@ pub(crate) fn heard(call: Call, child: u16, count: u8) -> PoolHeard
     }
 }
 
-/// The scheduler of one `par`. It has the pieces that are not begun, the contexts that are ready to go on, the wishes of its
-/// children, and the book of its pieces under a mutex, which each call holds to its end.
+/// The scheduler of one `par`. It has the pieces that are not begun, the contexts that are ready to go on, and the wishes of
+/// its children. The book of its pieces is under a mutex, which each call holds to its end.
 #[derive(Drop)]
 pub struct Pool<'p> {
     site: u16,

@@ -11,8 +11,8 @@ use std::sync::Mutex;
 use std::sync::atomic::{AtomicBool, AtomicU64, Ordering};
 
 /// A pool that harts share until it is handed out. Beside the lock are its site and its jobs, which never change, the number of
-/// ready contexts, a flag whether the pool is full, and a slot for each job, from which a hart takes the job whose job index it
-/// has.
+/// ready contexts, and a flag whether the pool is full. A slot for each job has the job until a hart with the job's index takes
+/// it.
 #[derive(Drop)]
 pub struct SharedPool<'p> {
     site: u16,
