@@ -58,7 +58,7 @@ pub(crate) fn heard(call: Call, child: u16, count: u8) -> TeamHeard
 }
 
 /// The scheduler of one `team`. It has the members that haven't begun the current phase, the contexts that are ready to go on,
-/// the wishes of its children, the barrier of the phase, and the store that the earlier phases left.
+/// and the wishes of its children. It also has the barrier of the phase, and the store that the earlier phases left.
 #[derive(Drop)]
 pub struct Team<'p> {
     alloc: Global,
