@@ -106,11 +106,11 @@ abbrev pub first_over : Bool → Option ℕ → Option ℕ
 first_over true rest = Some 0
 first_over false rest = later rest
 
--- the place of the first `true`
+-- the index of the first `true`
 abbrev pub first_true : List Bool → Option ℕ
 first_true [] = None
 first_true (b ∷ bs) = first_over b (first_true bs)
 
--- the place in the list of the first token of a program that passes a limit
+-- the index of the first token of a program that passes a limit
 abbrev pub first_beyond : {tokens : List Spot} {p : ProgramTree} → SpellsProgram tokens p → Option ℕ
 first_beyond d = first_true (program_beyond d)

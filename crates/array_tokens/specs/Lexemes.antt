@@ -13,14 +13,14 @@ use Rattle.array_tokens.specs.declared.token.Token.{Token}
 use Rattle.array_tokens.specs.declared.fault.TokenFault.{TokenFault}
 use Rattle.array_tokens.specs.declared.fault.TokenFault.TheVariants.{NotAscii, BadToken, NumberTooLarge, Memory}
 
--- a token without its place
+-- a token without its position
 pub data Lexeme : Type 0 where
   name : (bytes : List ℕ) → Lexeme
   number : (value : ℕ) → Lexeme
   word : (w : Word) → Lexeme
   sign : (s : Sign) → Lexeme
 
--- a token: the place of its first byte, and its line
+-- a token: the position of its first byte, and its line
 pub record Spot : Type 0 where
   pub lexeme : Lexeme
   pub at : ℕ

@@ -92,7 +92,7 @@ module _ (p : Plan) (es : List Entry) (t : TableState) (v : View) where
     pub mine : v.mine ≡ made_by v.hart es
     pub placed : AreAt es v.mine v.places
     pub owner : v.owner ≡ owner t v.hart
-    -- the entry that it is to write stands in the journal at its place, and is the last that it made
+    -- the entry that it is to write is in the journal at its index, and is the last that it made
     pub drawn : (d : Drawn) → v.drawn ≡ Some d
         → (slice_get es d.place ≡ Some d.entry) × is_last v.mine d.entry
     pub joined : v.hart ≡ 0 → (v.made ≡ made) × (v.ended ≡ ended)

@@ -32,7 +32,7 @@ ClaimKeeps lay = (p : Plan) (s : St) (k : Stands lay p s) (id : ℕ) (v : View) 
     → Keeps lay p s k (after_step s x (bit_or (slice_index s.words x) 1) id
     (claim_view x (slice_index s.words x) v))
 
--- writing the drawn entry at its place
+-- writing the drawn entry at its index
 abbrev pub JotKeeps : Layout → Type 0
 JotKeeps lay = (p : Plan) (s : St) (k : Stands lay p s) (id : ℕ) (v : View) (place : ℕ) (e : Entry)
     → get_elem? s.views id ≡ some v → IsSeat v → v.drawn ≡ Some record { place = place; entry = e }
@@ -131,7 +131,7 @@ JoinKeeps lay = (p : Plan) (s : St) (k : Stands lay p s) (id other : ℕ) (v w :
 
 -- ---- these make an entry of the journal, each by one addition to the first word
 
--- the first word grows, and the seat draws the place that it showed
+-- the first word grows, and the seat draws the index that it showed
 abbrev pub after_tick : Layout → St → ℕ → ℕ → (ℕ → View) → St
 after_tick lay s amount id next = let word : ℕ = slice_index s.words 0 in
     after_step s 0 ((word + amount) % 2 ^ 64) id (next (entries_of lay word))

@@ -8,7 +8,7 @@ pub fn claim_keeps()
     ensures { (lay : Layout) → ClaimKeeps lay }
 {}
 
-/// Writing an entry at its place keeps the rule and the journal.
+/// Writing an entry at its index keeps the invariant and the journal.
 pub fn jot_keeps()
     ensures { (lay : Layout) → JotKeeps lay }
 {}
@@ -18,7 +18,7 @@ pub fn credit_keeps()
     ensures { (lay : Layout) → CreditKeeps lay }
 {}
 
-/// A look at a site keeps the rule and the journal.
+/// A look at a site keeps the invariant and the journal.
 pub fn glance_keeps()
     ensures { (lay : Layout) → GlanceKeeps lay }
 {}
@@ -33,7 +33,7 @@ pub fn see_drained_keeps()
     ensures { (lay : Layout) → SeeDrainedKeeps lay }
 {}
 
-/// A look at the owners in the first word that may see the owner empty keeps the rule and the journal.
+/// A look at the owners in the first word that may see the owner empty keeps the invariant and the journal.
 pub fn see_empty_keeps()
     ensures { SeeEmptyKeeps }
 {}

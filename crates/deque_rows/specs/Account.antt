@@ -9,7 +9,7 @@ abbrev pub times : ℕ → List ℕ → ℕ
 times x [] = 0
 times x (y ∷ ys) = (if y == x then 1 else 0) + times x ys
 
--- the first list is the second with some of its places left out
+-- the first list is the second with some of its elements left out
 abbrev pub InOrder : List ℕ → List ℕ → Type 0
 InOrder [] ys = Unit {0}
 InOrder (x ∷ xs) [] = ⊥

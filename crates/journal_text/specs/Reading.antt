@@ -59,7 +59,7 @@ deed_of action (under ∷ around ∷ []) =
     then Some (registers (drop 1 around)) else None
 deed_of action more = None
 
--- a line that has the form of a row: the words of its place, its hart and its site, and its deed
+-- a line that has the form of a row: the words of its index, its hart and its site, and its deed
 pub record Row : Type 0 where
   pub place : List ℕ
   pub hart : List ℕ
@@ -101,7 +101,7 @@ entry_by plan hart site yields = Some (Yield hart site)
 entry_by plan hart site unregisters = Some (Unregister hart site)
 entry_by plan hart site skips = Some (Skip hart site)
 
--- the entry of a row at this place, if all its numbers are right: its first one is the place
+-- the entry of a row at this index, if all its numbers are right: the first number is the index
 abbrev pub entry_in : Plan → ℕ → Row → Option Entry
 entry_in plan place row =
     if spells place row.place
@@ -120,7 +120,7 @@ abbrev pub and_then : {A B : Type 0} → (A → Result B TextFault) → Result A
 and_then f (Ok x) = f x
 and_then f (Err fault) = Err fault
 
--- the entry of the line that has these words; the line of place 0 is the second
+-- the entry of the line that has these words; the line of index 0 is the second
 abbrev pub entry_of : Plan → ℕ → List (List ℕ) → Result Entry TextFault
 entry_of plan place words =
     and_then (λ row. or_fault (BadNumber (place + 2)) (entry_in plan place row))
@@ -133,7 +133,7 @@ count_in (word ∷ number ∷ []) =
     else Err (BadLine 1)
 count_in words = Err (BadLine 1)
 
--- the entries of the lines from this place on; what stands behind the last newline is a line without one
+-- the entries of the lines from this index on; the text after the last newline is a line without one
 abbrev pub entries_of : Plan → ℕ → List (List ℕ) → Result (List Entry) TextFault
 entries_of plan place [] = Ok []
 entries_of plan place (last ∷ []) = if length last == 0 then Ok [] else Err (BadLine (place + 2))

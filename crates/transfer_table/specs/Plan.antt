@@ -5,7 +5,7 @@ use Rattle.transfer_table.specs.Causes.{cause_if, first_cause}
 use Rattle.transfer_table.specs.declared.plan.PlanFault.{PlanFault}
 use Rattle.transfer_table.specs.declared.plan.PlanFault.TheVariants as fault
 
--- the number of harts, and the parent of each site, that of site s at place s - 1; site 0 is the base
+-- the number of harts, and the parent of each site, that of site s at index s - 1; site 0 is the base
 pub record Plan : Type 0 where
   pub harts : ℕ
   pub parents : List ℕ

@@ -11,7 +11,7 @@ use Rattle.transfer_table.specs.declared.entry.Entry.TheVariants.{Register, Requ
 use Rattle.transfer_table.specs.declared.entry.NotAdmitted.{NotAdmitted}
 use Rattle.transfer_table.specs.declared.entry.NotAdmitted.TheVariants as refusal
 
--- the owner of each hart, and a row for each site, that of site s at place s - 1
+-- the owner of each hart, and a row for each site, that of site s at index s - 1
 pub record TableState : Type 0 where
   pub owners : List ℕ
   pub rows : List Row

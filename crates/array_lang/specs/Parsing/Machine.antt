@@ -1,5 +1,5 @@
 -- Reading tokens one after another, with what is under way kept in a state. The machine says nothing that the grammar
--- doesn't: what it reads is what the grammar spells. It gives the place where a text first goes wrong.
+-- doesn't: what it reads is what the grammar spells. It finds the position at which a text first goes wrong.
 use Rattle.std.specs.Prelude.{ℕ, zero, suc, ℤ, pos, neg_ℤ, List, [], ◌∷◌, ◌++◌, Option, Some, None, Result, Ok, Err}
 use Rattle.array_tokens.specs.Lexemes.{Lexeme, name, number, word, sign, Spot}
 use Rattle.array_tokens.specs.declared.token.Word.TheVariants as words
@@ -320,7 +320,7 @@ step (phase_closed c ps p) n line t = step_statement (with_done n (team_of c (ps
 abbrev pub program : List Declaration → List Statement → ProgramTree
 program ds done = record { arrays = ds; body = sequence done }
 
--- the program, where the tokens end here
+-- the program, if the tokens end here
 abbrev pub at_end : Mode → List Declaration → List Statement → List Frame
     → Result ProgramTree (List Spot)
 at_end declaring ds done [] = Ok (program ds done)

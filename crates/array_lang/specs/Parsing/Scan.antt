@@ -35,7 +35,7 @@ depth_after depth l = depth
 abbrev pub is_over : ℕ → Reach → Bool
 is_over depth r = nat_lt most_open depth || nat_lt most_marks (marks_of r)
 
--- the place in the list of the first token that passes a limit
+-- the index of the first token that passes a limit
 abbrev pub nested_at : Reach → ℕ → List Spot → Option ℕ
 nested_at r depth [] = None
 nested_at r depth (t ∷ ts) =
