@@ -59,7 +59,7 @@ impl Paged {
         self.count
     }
 
-    /// The cells of a page, with any behind the last cell.
+    /// The cells of a page, including those after the last cell of the store.
     pub(crate) fn page(&self, number: usize) -> &[i64]
         requires { number < pages_for (length self.now) }
         ensures whole { length result.now ≡ cells_on_page }

@@ -118,7 +118,7 @@ pub record Knows (lay : Layout) (p : Plan) (es : List Entry) (t : TableState) (v
   pub does : DoesRight lay p es t v v.doing
   pub sites : KnowsSites p t v.hart v.marks closing guests_of
 
--- ---- the rule
+-- ---- the invariant
 
 -- The words and the views represent a journal, a state of the table, the number of seats that were made, the harts that were
 -- joined into hart 0's seat, and the closing bit of each site.

@@ -16,7 +16,7 @@ use std::alloc::{AllocError, Global};
 ///
 /// # Memory
 ///
-/// It allocates a flag for each site, and a store if a construct stands under an `if`.
+/// It allocates a flag for each site, and a store if a construct is under an `if`.
 pub fn entered_by(alloc: Global, accepted: &Accepted<'_>) -> Result<Vec<bool>, AllocError>
     ensures entered { IfOk result
         (λ list. list.items ≡ entered_of (program_of accepted.now.program)) }

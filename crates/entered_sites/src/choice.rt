@@ -1,4 +1,4 @@
-//! Whether a program has a choice of sites: whether a construct stands under an `if`.
+//! Whether a program has a choice of sites: whether a construct is under an `if`.
 ghost use Rattle.std.specs.Prelude.{◌≡◌};
 ghost use Rattle.array_tree.specs.Trees.{statement_of, sequence_of, sequences_of};
 ghost use Rattle.array_meaning.specs.Choices.{has_no_site_under_if, statement_has_no_site_under_if, have_no_site_under_if};

@@ -25,7 +25,7 @@ use std::alloc::{AllocError, Global};
 ///
 /// # Memory
 ///
-/// It allocates a flag for each site, and a store if a construct stands under an `if`.
+/// It allocates a flag for each site, and a store if a construct is under an `if`.
 pub fn entered(alloc: Global, program: &Program, sites: u16) -> Result<Vec<bool>, AllocError>
     requires sized { AreSized (arrays_of (declarations_of program.now.arrays)) }
     requires sites { sites ≡ sites_in (program_of program.now).body }

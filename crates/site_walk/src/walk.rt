@@ -21,7 +21,7 @@ use std::alloc::Global;
 /// numbers need no second pass.
 ///
 /// Each array must have a cell, and all arrays together at most 4,096. If the walk finds nothing and no name is unknown, the
-/// pieces of each site are apart: an unknown array would have a cell behind the last.
+/// pieces of each site are apart: an unknown array would have a cell after the last.
 ///
 /// # Errors
 ///
