@@ -101,7 +101,7 @@ pub fn fail_in_pool(pool: &mut Pool, place: u8)
 ///
 /// # Memory
 ///
-/// It allocates the overlay.
+/// It allocates a store and the overlay.
 pub fn take_from_pool<'p>(nested: &Nested<'p>, pool: Pool<'p>) -> Result<Overlay, AllocError>
     requires of { IsPoolOf nested.now pool }
     requires over { IsFull pool.book ⊎ HasFailed pool.book }
