@@ -303,8 +303,8 @@ impl<'t> Tools<'t> {
         sched_enter(port, hold, &mut hand, rt)
     }
 
-    /// The next action of a hart that is inside. Blocks until there is one. A guest leaves if there is nothing to do. The hart
-    /// at the base and the home wait until their work is done.
+    /// The next action of a hart that is inside. A guest gets `Nothing` if there is nothing to do. The hart at the base and the
+    /// home back off until there is something to do, or their work is done.
     pub fn next<'b, 'p, R: Wait + 'b>(
         &mut self,
         rt: &'b R,
