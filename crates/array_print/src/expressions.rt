@@ -12,6 +12,14 @@ use std::alloc::{AllocError, Global};
 const MINUS: u8 = 4;
 
 /// Adds the text of an expression.
+///
+/// # Errors
+///
+/// `AllocError` if an allocation fails.
+///
+/// # Memory
+///
+/// It allocates if the text has no room.
 #[cycle(print)]
 pub fn print_expression(
     alloc: Global,
@@ -65,6 +73,14 @@ fn print_operand(
 }
 
 /// Adds a number in decimal.
+///
+/// # Errors
+///
+/// `AllocError` if an allocation fails.
+///
+/// # Memory
+///
+/// It allocates if the text has no room.
 pub fn print_number(alloc: Global, out: &mut Vec<u8>, value: i64) -> Result<(), AllocError>
     ensures { OnOk result (out.new.items ≡ out.old.items ++ signed_decimal value) }
 {

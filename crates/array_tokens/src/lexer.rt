@@ -20,8 +20,16 @@ enum Found<'t> {
     TooLarge,
 }
 
-/// The tokens of a text, or the first fault of cutting it: a byte that isn't ASCII anywhere comes first, then
-/// the first place with no token or with a number that is too large.
+/// Cuts a text into tokens.
+///
+/// # Errors
+///
+/// The first error: a byte that isn't ASCII anywhere in the text, or else the first position with no token or with a number
+/// that is too large. `TokenFault::Memory` if an allocation fails.
+///
+/// # Memory
+///
+/// It allocates the list of tokens. A token borrows its name from the text.
 pub fn tokens(alloc: Global, text: &[u8]) -> Result<Vec<Token<'_>>, TokenFault>
     requires { length text.now < 2 ^ 32 }
     ensures { Gives (λ found. spots found.items) result (tokens_of text.now) }

@@ -17,6 +17,10 @@ pub const ROOM: u32 = 16_384;
 /// # Errors
 ///
 /// `AllocError` if an allocation fails.
+///
+/// # Memory
+///
+/// It allocates as `rows_for` does.
 pub fn rows(alloc: Global, harts: u8) -> Result<Vec<HartRows>, AllocError>
     requires { (1 ≤ harts) × (harts ≤ 16) }
     ensures count { IfOk result (λ rows. vec_len rows ≡ harts) }

@@ -38,7 +38,8 @@ impl Model for MemSource {
 }
 
 impl MemSource {
-    /// A source of these bytes that gives at most `most` of them a call, and fails at the calls with these numbers, counted from 1.
+    /// A source of these bytes that gives at most `most` of them a call, and fails at the calls with these numbers, counted
+    /// from 1.
     ///
     /// # Errors
     ///
@@ -136,8 +137,8 @@ impl Model for MemSink {
 }
 
 impl MemSink {
-    /// An empty sink with room for so many bytes. It takes at most `most` bytes a call, and fails at the calls with these numbers,
-    /// counted from 1.
+    /// An empty sink with room for so many bytes. It takes at most `most` bytes a call, and fails at the calls with these
+    /// numbers, counted from 1.
     ///
     /// # Errors
     ///
