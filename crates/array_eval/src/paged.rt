@@ -1,5 +1,5 @@
 //! Cells on pages.
-ghost use Rattle.std.specs.Prelude.{◌≡◌, ◌↔◌, ◌*◌, ◌<◌, ◌≤◌, IsTrue, false, IfOk, OnOk, OnErr, length, replicate, take, drop, pos};
+ghost use Rattle.std.specs.Prelude.{◌≡◌, ◌↔◌, ◌*◌, ◌<◌, ◌≤◌, IsTrue, false, IfOk, OnOk, OnErr, length, replicate, take, pos};
 ghost use Rattle.array_meaning.specs.Stores.{at_cell, written};
 ghost use Rattle.array_eval.specs.Equal.{store_eq};
 ghost use Rattle.array_eval.specs.Copies.{over_store};

@@ -3,7 +3,7 @@
 ghost use Rattle.std.specs.Prelude.{◌≡◌, ◌++◌, OnOk};
 ghost use Rattle.std.specs.Fmt.{signed_decimal};
 ghost use Rattle.array_tree.specs.Trees.{expression_of};
-ghost use Rattle.array_print.specs.Texts.{expression_text, grouped_text, groups_left, groups_right, groups_negated, strength_of, op_strength, op_text};
+ghost use Rattle.array_print.specs.Texts.{expression_text, grouped_text, groups_left, strength_of, op_strength, op_text};
 
 use array_tree::{Expr, Op};
 use std::alloc::{AllocError, Global};

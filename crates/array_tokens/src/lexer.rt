@@ -1,6 +1,6 @@
 //! Bytes to tokens.
 
-ghost use Rattle.std.specs.Prelude.{◌≡◌, ℕ, ◌<◌, ◌≤◌, ◌^◌, ◌==◌, nat_le, if◌then◌else◌, map, length, slice_index, position, not, IfSome, IfOk, count_by, Result, OnOk, IfErr, List, [], ◌∷◌, Option, Some, None};
+ghost use Rattle.std.specs.Prelude.{◌≡◌, ℕ, ◌<◌, ◌≤◌, ◌^◌, ◌==◌, nat_le, if◌then◌else◌, length, slice_index, position, not, IfSome, IfOk, count_by, Result, OnOk, IfErr, List, [], ◌∷◌, Option, Some, None};
 ghost use Rattle.array_tokens.specs.Lexemes.{is_ascii, is_name_byte, is_blank, is_digit, is_letter, is_in_line, word_of, sign_of, number_of_digits, front_of, sign_front, Spot, with_tokens, then_cut, Fails, cut, spots, tokens_of, lexeme_of, named, Gives};
 ghost use Rattle.array_tokens.specs.Literals.{greatest_literal};
 ghost use Rattle.std.specs.List.{prefix_len};

@@ -2,7 +2,7 @@
 ghost use Rattle.std.specs.Prelude.{◌≡◌, ℕ, ◌+◌, ◌-◌, ◌*◌, ◌<◌, ◌≤◌, length, slice_set, slice_index};
 ghost use Rattle.deque_rows.specs.Account.{Rose};
 ghost use Rattle.deque_rows.specs.Rows.{IsLevel, place, row_room, home_log, home_logs, pass_logs, bares, kin};
-ghost use Rattle.deque_rows.specs.Calls.{FoundBare, Pushes, PopGives, StealGives, WasBare};
+ghost use Rattle.deque_rows.specs.Calls.{Pushes, PopGives, StealGives, WasBare};
 
 use crate::hart::HartRows;
 use crate::stolen::Stolen;

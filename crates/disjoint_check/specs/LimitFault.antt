@@ -39,7 +39,7 @@ limit_fault_of program harts = first_fault
     (TooManyPieces (capped (pieces_in program.body)))
     ∷ [])
 
--- The conditions on names, ranges and size. For up to four harts, the limit on sites implies that the journal's entries have
+-- The conditions on names, ranges and size. For up to five harts, the limit on sites implies that the journal's entries have
 -- room.
 pub record MeetsLimits (program : ProgramTree) (harts : ℕ) : Type 0 where
   pub single_names : IsTrue (has_single_names program)

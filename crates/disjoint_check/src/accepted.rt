@@ -1,7 +1,6 @@
 //! Programs that are accepted.
-ghost use Rattle.std.specs.Prelude.{◌≡◌, ◌≤◌, ◌-◌, IfOk, IfErr, Some, None, slice_get, map};
+ghost use Rattle.std.specs.Prelude.{◌≡◌, ◌≤◌, ◌-◌, IfOk, IfErr, Some, None, slice_get};
 ghost use Rattle.array_tree.specs.Trees.{program_of};
-ghost use Rattle.array_meaning.specs.Plans.{plan_of};
 ghost use Rattle.transfer_table.specs.Plan.{IsSite, plan_fault_of};
 ghost use Rattle.disjoint_check.specs.Meaning.{IsAcceptedFor};
 ghost use Rattle.disjoint_check.specs.Inside.Unrolled.{parents_in};

@@ -1,6 +1,5 @@
 //! The conditions on names, ranges and size.
 ghost use Rattle.std.specs.Prelude.{◌≡◌, ◌≤◌};
-ghost use Rattle.std.specs.Option.{option_map};
 ghost use Rattle.array_tree.specs.Trees.{program_of};
 ghost use Rattle.disjoint_check.specs.LimitFault.{limit_fault_of};
 

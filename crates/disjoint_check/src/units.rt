@@ -1,5 +1,5 @@
 //! The units of work of a program.
-ghost use Rattle.std.specs.Prelude.{◌≡◌, ℕ, ◌+◌, ◌*◌, unsigned_abs};
+ghost use Rattle.std.specs.Prelude.{◌≡◌, ℕ, ◌+◌, ◌*◌};
 ghost use Rattle.array_tree.specs.Trees.{expression_of, statement_of, sequence_of, sequences_of};
 ghost use Rattle.array_meaning.specs.Work.{span};
 ghost use Rattle.array_meaning.specs.Limits.{expression_units_of, units_of, statement_units_of, branches_units_of, phases_units_of};

@@ -1,5 +1,5 @@
 //! The sites of a program, found by unrolling its loops, whose bounds are literals.
-ghost use Rattle.std.specs.Prelude.{◌≡◌, [], IfOk, length, unsigned_abs};
+ghost use Rattle.std.specs.Prelude.{◌≡◌, [], IfOk};
 ghost use Rattle.array_tree.specs.Trees.{statement_of, sequence_of, sequences_of, program_of};
 ghost use Rattle.disjoint_check.specs.Inside.Unrolled.{with_statement, with_sequence, with_branches, with_phases, repeat, last_site, parts};
 

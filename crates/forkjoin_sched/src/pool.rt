@@ -1,8 +1,7 @@
 //! Pools.
 ghost use Rattle.std.specs.Prelude.{◌≡◌, ◌↔◌, ◌<◌, IsTrue, IfOk, IsErr, map, length};
 ghost use Rattle.sched_api.specs.declared.hearing.Told.{Told};
-ghost use Rattle.sched_api.specs.Calls.{registered_told, unregistered_told, requested_told, yielded_told, blocked_told};
-ghost use Rattle.sched_api.specs.Wishes.{with_wishes, without_child};
+ghost use Rattle.sched_api.specs.Wishes.{with_wishes};
 ghost use Rattle.array_jobs.specs.Jobs.{job_of};
 ghost use Rattle.array_jobs.specs.Groups.{IsGroup};
 ghost use Rattle.work_agenda.specs.Agenda.{GivesReady};

@@ -1,7 +1,5 @@
 -- Harts that share the table keep no account of their entries for sites.
 use Rattle.std.specs.Prelude.{ℕ, List}
-use Rattle.transfer_table.specs.declared.entry.Entry.{Entry}
-use Rattle.transfer_table.specs.Plan.{Plan}
 use Rattle.hart_work.specs.Accounts.{Account}
 
 -- The account of several harts, which is never right.

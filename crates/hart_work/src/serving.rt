@@ -1,6 +1,6 @@
 //! The procedure of a hart at a site.
 ghost use Rattle.std.specs.Prelude.{◌≡◌, ◌≤◌, ◌<◌, ◌+◌, ◌-◌, ℕ, List, IfOk, OnOk, true, false};
-ghost use Rattle.transfer_table.specs.Plan.{Plan, IsSite, parent};
+ghost use Rattle.transfer_table.specs.Plan.{Plan, IsSite};
 ghost use Rattle.transfer_table.specs.Entry.{requested};
 ghost use Rattle.transfer_table.specs.declared.entry.Entry.{Entry};
 ghost use Rattle.hart_port.specs.PortView.{IsPortView, is_in};

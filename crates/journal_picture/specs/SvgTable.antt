@@ -4,7 +4,6 @@ use Rattle.std.specs.List.{concat}
 use Rattle.std.specs.Fmt.{decimal}
 use Rattle.transfer_table.specs.Plan.{Plan, parent, site_count}
 use Rattle.transfer_table.specs.Table.{TableState, row}
-use Rattle.transfer_table.specs.declared.entry.Row.{Row}
 use Rattle.journal_picture.specs.declared.shape.Shape.{Shape}
 use Rattle.journal_picture.specs.declared.visits.Visits.{Visits}
 use Rattle.journal_picture.specs.SvgBars.{about_text, shape_of}

@@ -1,5 +1,5 @@
 //! The table of sites.
-ghost use Rattle.std.specs.Prelude.{◌≡◌, ◌≤◌, ◌++◌, ◌*◌, ◌+◌, ◌-◌, IfOk, OnOk, length, min, string_bytes};
+ghost use Rattle.std.specs.Prelude.{◌≡◌, ◌≤◌, ◌++◌, ◌*◌, ◌+◌, ◌-◌, IfOk, OnOk, length, string_bytes};
 ghost use Rattle.transfer_table.specs.Plan.{IsSite, site_count};
 ghost use Rattle.journal_picture.specs.SvgTable.{inside_text, is_listed, listed_row, rows_from, site_row, site_words, sites_note, slot_at, table_head, table_height, table_row, table_svg, visits_part, wishes_part};
 

@@ -3,7 +3,6 @@ ghost use Rattle.std.specs.Prelude.{◌≡◌, ◌≤◌, ◌++◌, ◌*◌, ◌
 ghost use Rattle.transfer_table.specs.Entry.{hart_of, site_of};
 ghost use Rattle.transfer_table.specs.Plan.{site_count, most_entries};
 ghost use Rattle.journal_picture.specs.TextPicture.{requesting, at_sites_line, at_sites_text, band_count, band_text, bands_text, deed, deed_lines, deeds_line, deeds_text, doer, doers_line, doers_text, hart_name, idle_line, idle_words, idles_text, lanes_text, mark_text, numbers_line, numbers_text, shown_text, sites_text, strip_lines, text_of, text_picture, unmet_line, unmets_text};
-ghost use Rattle.journal_picture.specs.Drawn.{state_after};
 ghost use Rattle.journal_picture.specs.Faults.{fault_line_of};
 
 use crate::drawn::{before, board_after};

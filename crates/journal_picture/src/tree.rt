@@ -1,5 +1,5 @@
 //! The tree of the sites in text, with their numbers.
-ghost use Rattle.std.specs.Prelude.{◌≡◌, ◌++◌, ◌≤◌, OnOk, IfOk, codes, length, string_bytes};
+ghost use Rattle.std.specs.Prelude.{◌≡◌, ◌++◌, ◌≤◌, OnOk, length, string_bytes};
 ghost use Rattle.std.specs.Fmt.{decimal};
 ghost use Rattle.transfer_table.specs.Plan.{IsSite, site_count};
 ghost use Rattle.transfer_table.specs.Table.{row};

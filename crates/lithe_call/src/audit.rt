@@ -1,5 +1,5 @@
 //! From bytes to the verdict on the output after their program.
-ghost use Rattle.std.specs.Prelude.{◌≡◌, ◌≤◌, ◌++◌, ◌∷◌, [], codes, length, IfOk, IfErr, Result, Ok, Err};
+ghost use Rattle.std.specs.Prelude.{◌≡◌, ◌≤◌, ◌++◌, ◌∷◌, [], length, IfOk, IfErr, Result, Ok, Err};
 ghost use Rattle.array_meaning.specs.Bounds.{most_bytes};
 ghost use Rattle.command_words.specs.declared.command.Command.TheVariants.{Audit};
 ghost use Rattle.run_audit.specs.Parts.{most_audited};

@@ -1,6 +1,5 @@
 //! The top call: from the words and the input to the output and the status.
 ghost use Rattle.std.specs.Prelude.{◌≡◌, ◌≢◌, ◌⊎◌, ◌≤◌, true, length, ℕ, List, map, string_bytes, vec_len, Some, None, IfOk, IfErr, IsErrOf};
-ghost use Rattle.outside_io.specs.Outside.{Rose};
 ghost use Rattle.array_meaning.specs.Bounds.{most_bytes};
 ghost use Rattle.command_words.specs.declared.command.Command.{Command};
 ghost use Rattle.command_words.specs.declared.command.Command.TheVariants.{Make};
@@ -9,7 +8,7 @@ ghost use Rattle.lithe_call.specs.Telling.{Tells};
 ghost use Rattle.command_words.specs.Form.{form_of};
 ghost use Rattle.command_words.specs.Parts.{harts_in, size_in};
 ghost use Rattle.lithe_call.specs.Command.{runs_programs};
-ghost use Rattle.lithe_call.specs.Inputs.{limit_of, AreInput, ReadsAll, GivesTooMuch, FailsToRead};
+ghost use Rattle.lithe_call.specs.Inputs.{limit_of, ReadsAll, GivesTooMuch, FailsToRead};
 ghost use Rattle.lithe_call.specs.Auditing.{status_of_ending};
 ghost use Rattle.lithe_call.specs.Output.{IsOutputOf, IsRunOf, IsTallyOf, IsPipeOf};
 ghost use Rattle.lithe_call.specs.Faults.{SpellRefused, SpellUntallied, SpellUnpiped, IsFault, IsNoOutput, IsNoRun};

@@ -1,9 +1,6 @@
 //! From bytes to the output of the program that they spell.
 ghost use Rattle.std.specs.Prelude.{◌≡◌, ◌≢◌, ◌≤◌, IfOk, IfErr, length, true};
 ghost use Rattle.array_tree.specs.Trees.{program_of};
-ghost use Rattle.array_lang.specs.Spelled.{HasFault};
-ghost use Rattle.disjoint_check.specs.FaultOf.{check_fault_of};
-ghost use Rattle.disjoint_check.specs.AcceptedProgram.{IsAcceptedProgram};
 ghost use Rattle.lithe_call.specs.Output.{IsOutput, IsRunOf, IsRunOutput, IsSummary};
 ghost use Rattle.command_words.specs.Parts.{harts_in};
 ghost use Rattle.lithe_call.specs.Command.{runs_programs};

@@ -1,6 +1,5 @@
 //! The schedulers of the sites, as the single hart has them.
-ghost use Rattle.std.specs.Prelude.{◌≡◌, ◌≤◌, ℕ, IfOk, IsSome, Some};
-ghost use Rattle.hart_work.specs.Tasks.{HasNext, HasAccount};
+ghost use Rattle.std.specs.Prelude.{◌≡◌, ◌≤◌, ℕ, Some};
 ghost use Rattle.lone_hart.specs.Sites.{construct_in, jobs_left, IsSettledSite, IsOwed, IsOverSite, HearsAt};
 ghost use Rattle.lone_hart.specs.Served.{is_serving, is_lent, is_failed};
 

@@ -1,11 +1,11 @@
 //! Pools, as the single hart has them.
-ghost use Rattle.std.specs.Prelude.{◌≡◌, ◌≤◌, ◌⊎◌, ℕ, List, IfOk, IsErr, length, suc, map};
+ghost use Rattle.std.specs.Prelude.{◌≡◌, ◌≤◌, ◌⊎◌, ℕ, List, IfOk, IsErr, length, suc};
 ghost use Rattle.transfer_table.specs.Plan.{Plan};
 ghost use Rattle.transfer_table.specs.declared.entry.Entry.{Entry};
 ghost use Rattle.array_tree.specs.Trees.{statement_of};
 ghost use Rattle.array_jobs.specs.Jobs.{JobParts, job_of};
 ghost use Rattle.join_book.specs.Books.{Filled, IsFull, HasFailed, marked_book};
-ghost use Rattle.step_eval.specs.Nests.{NestedParts, nested_of, nested_writes, phases_of, jobs_in};
+ghost use Rattle.step_eval.specs.Nests.{NestedParts, nested_of, nested_writes, phases_of};
 ghost use Rattle.machine_accounts.specs.Machines.{IsFreshJob};
 ghost use Rattle.forkjoin_sched.specs.declared.work.PoolWork.TheVariants.{Begin};
 ghost use Rattle.hart_work.specs.Tasks.{HasNext, HasAccount};

@@ -1,5 +1,5 @@
 //! A source and a sink in memory that fail at listed calls.
-ghost use Rattle.std.specs.Prelude.{◌≡◌, ◌<◌, ◌≤◌, ℕ, Bool, List, length, take, Option, Some, IfOk};
+ghost use Rattle.std.specs.Prelude.{◌≡◌, ◌<◌, ◌≤◌, ℕ, Bool, List, length, Some, IfOk};
 ghost use Rattle.outside_io.specs.Outside.{Reads, Writes};
 ghost use Rattle.outside_io.specs.Failing.{is_listed, feed_fill, fed, tray_put, laid_in, new_feed, new_tray};
 

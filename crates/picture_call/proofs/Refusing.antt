@@ -1,5 +1,5 @@
 -- From the faults of the steps to those of the whole.
-use Rattle.std.proofs.Common.{◌≡◌, ◌∙◌, ◌⊎◌, ◌≤◌, ℕ, List, length, Option, Some, None, Result, Ok, Err, IfOk, IfErr, OnOk, refl, sym, ap, subst, inl, inr}
+use Rattle.std.proofs.Common.{◌≡◌, ◌∙◌, ◌⊎◌, ◌≤◌, ℕ, List, length, Some, None, Result, Ok, Err, IfOk, IfErr, OnOk, refl, sym, ap, subst, inl, inr}
 use Rattle.transfer_table.specs.Plan.{Plan}
 use Rattle.array_tree.specs.Trees.{ProgramTree}
 use Rattle.array_lang.specs.Spelled.{Spells}
@@ -27,7 +27,7 @@ use Rattle.lithe_call.proofs.Tallying.{untallied_line}
 use Rattle.lithe_call.proofs.Piping.{unpiped_line}
 use Rattle.picture_call.specs.declared.runner.Runner.{Runner}
 use Rattle.picture_call.specs.declared.runner.Runner.TheVariants.{Run, Tally, Pipe}
-use Rattle.picture_call.specs.Causes.{AreRefused, HaveNoPicture, IsRefusedBy, TellsNoOutput, TellsNoPicture}
+use Rattle.picture_call.specs.Causes.{AreRefused, HaveNoPicture, TellsNoOutput, TellsNoPicture}
 use Rattle.picture_call.specs.Pictures.{AreDrawn, IsRunBy}
 
 -- a text that spells no program has no picture

@@ -1,8 +1,7 @@
 //! Pipes.
 ghost use Rattle.std.specs.Prelude.{◌≡◌, ◌↔◌, IsTrue, IfOk, IsErr, Some};
 ghost use Rattle.sched_api.specs.declared.hearing.Told.{Told};
-ghost use Rattle.sched_api.specs.Calls.{registered_told, unregistered_told, requested_told, yielded_told, blocked_told};
-ghost use Rattle.sched_api.specs.Wishes.{with_wishes, without_child};
+ghost use Rattle.sched_api.specs.Wishes.{with_wishes};
 ghost use Rattle.array_tree.specs.Trees.{statement_of};
 ghost use Rattle.step_eval.specs.declared.shape.Kind.TheVariants as kind;
 ghost use Rattle.step_eval.specs.Nests.{nested_of, nested_writes, IsFitNest};

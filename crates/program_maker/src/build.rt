@@ -1,6 +1,6 @@
 //! The parts of a program, each at line 1.
 ghost use Rattle.std.specs.Prelude.{◌≡◌, [], ◌∷◌, pos, codes, IfOk};
-ghost use Rattle.array_tree.specs.Trees.{Number, Var, Read, Binary, Assign, For, Par, expression_of, statement_of, sequence_of, sequences_of, declaration_of, sequence, sequences};
+ghost use Rattle.array_tree.specs.Trees.{Number, Var, Read, Binary, Assign, For, Par, expression_of, statement_of, sequence_of, declaration_of, sequence, sequences};
 ghost use Rattle.program_maker.specs.Made.{declared, number, columns, rows};
 
 use array_tree::{ArrayDecl, Block, Blocks, Expr, Name, Op, Stmt};

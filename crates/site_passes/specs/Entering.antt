@@ -3,7 +3,6 @@ use Rattle.std.specs.Prelude.{◌≡◌, ℕ, zero, suc, ◌+◌, Bool, true, fa
 use Rattle.array_tree.specs.Trees.{Statement}
 use Rattle.array_meaning.specs.Stores.{Arrays, Vars, Store, HaveCells, arrays_of, after}
 use Rattle.array_meaning.specs.Steps.{exec}
-use Rattle.array_meaning.specs.Work.{sequence_work}
 use Rattle.array_meaning.specs.Entered.{Entering, loop_entered, sequence_entered, statement_entered, sequence_part}
 use Rattle.array_jobs.specs.Works.{WorkTree, branch_of, member_of, steps_of}
 use Rattle.array_jobs.specs.Jobs.{JobTree}

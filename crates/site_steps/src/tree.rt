@@ -1,5 +1,5 @@
 //! Plans with their children in order.
-ghost use Rattle.std.specs.Prelude.{◌≡◌, ◌≤◌, ◌-◌, ◌↔◌, IsTrue, IfOk, length};
+ghost use Rattle.std.specs.Prelude.{◌≡◌, ◌≤◌, ◌-◌, ◌↔◌, IsTrue, IfOk};
 ghost use Rattle.transfer_table.specs.Plan.{Plan, IsPlan, IsSite, parent, site_count};
 ghost use Rattle.site_steps.specs.Children.{NextChild, AreLinkedFrom, site_if};
 

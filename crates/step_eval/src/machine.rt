@@ -5,7 +5,6 @@ ghost use Rattle.contexts.specs.declared.machine.Step.TheVariants.{More};
 ghost use Rattle.array_tree.specs.Trees.{statement_of};
 ghost use Rattle.array_jobs.specs.Jobs.{job_of};
 ghost use Rattle.step_eval.specs.declared.stage.Stage.TheVariants.{Awaiting, Failed};
-ghost use Rattle.step_eval.specs.Rest.{rest_sites};
 ghost use Rattle.step_eval.specs.Machines.{IsRight, fresh_machine, is_awaiting, to_do, left_of, Advances, HasMoved, HasGone, HasGoneOn, AreAwaited, IsFinished};
 ghost use Rattle.step_eval.specs.Inside.Frames.{works_of, IsStacked, IsMore, Ran};
 ghost use Rattle.step_eval.specs.Inside.Parts.{while_going, Advanced, IsLayoutOf, IsHandedOut, IsConstructNext, stage_by, sites_seen, step_by};

@@ -1,5 +1,5 @@
 //! The sites that a step passes, as a hart gets them.
-ghost use Rattle.std.specs.Prelude.{◌≡◌, ℕ, ◌+◌, ◌≤◌, Option};
+ghost use Rattle.std.specs.Prelude.{◌≡◌, ℕ, ◌+◌, ◌≤◌};
 ghost use Rattle.step_eval.specs.Passes.{some_span};
 ghost use Rattle.step_eval.specs.Inside.Frames.{span_told};
 

@@ -1,5 +1,5 @@
 -- Why a board does not end.
-use Rattle.std.proofs.Common.{◌≡◌, ℕ, List, subst}
+use Rattle.std.proofs.Common.{◌≡◌, ℕ, List}
 use Rattle.open_table.specs.declared.table.Size.{Size}
 use Rattle.open_board.specs.declared.seat.OpenSeat.{OpenSeat}
 use Rattle.open_board.specs.declared.ending.NotEnded.{NotEnded}

@@ -1,5 +1,5 @@
 //! The state that all harts of a run share.
-ghost use Rattle.std.specs.Prelude.{◌≡◌, IfOk};
+ghost use Rattle.std.specs.Prelude.{◌≡◌};
 
 use crate::board::{CrewBoard, Naming};
 use crate::countdown::Countdown;

@@ -1,5 +1,5 @@
 //! Two hands on one team, each with a seat of its own.
-ghost use Rattle.std.specs.Prelude.{◌≡◌, ◌≤◌, length, map, vec_len};
+ghost use Rattle.std.specs.Prelude.{◌≡◌, ◌≤◌, map, vec_len};
 ghost use Rattle.claim_words.specs.Seats.{AreAll, IsOf, kin};
 ghost use Rattle.loop_team.specs.Rows.{RowsFit};
 

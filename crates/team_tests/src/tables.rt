@@ -1,6 +1,6 @@
 //! Tables by which the members of small teams are claimed.
-ghost use Rattle.std.specs.Prelude.{◌≡◌, ◌≤◌, length, map, vec_len, IfOk};
-ghost use Rattle.claim_words.specs.Seats.{AreAll, IsOf, kin};
+ghost use Rattle.std.specs.Prelude.{◌≡◌, ◌≤◌, IfOk};
+ghost use Rattle.claim_words.specs.Seats.{IsOf, kin};
 
 use loop_team::{ClaimSeat, ClaimTable};
 use std::alloc::Global;

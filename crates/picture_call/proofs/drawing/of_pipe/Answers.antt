@@ -1,4 +1,4 @@
-use Rattle.std.proofs.Common.{◌≡◌, ◌∙◌, ap, sym, subst}
+use Rattle.std.proofs.Common.{◌≡◌, ◌∙◌, ap, subst}
 use Rattle.array_tree.specs.declared.tree.Program.{Program}
 use Rattle.array_tree.specs.Trees.{program_of}
 use Rattle.array_meaning.proofs.InsideLemmas.{sized_in_range}
@@ -8,7 +8,6 @@ use Rattle.phase_order.specs.Crossings.{HasNoCrossings}
 use Rattle.pipe_walk.specs.FirstCrossing.{IsFaultOf}
 use Rattle.run_picture.specs.Seen.{picture_seen}
 use Rattle.lithe_call.proofs.Piping.{check_told, crossing_told}
-use Rattle.picture_call.specs.Pictures.{IsRunBy}
 use Rattle.picture_call.specs.declared.runner.Runner.TheVariants as runner
 use Rattle.picture_call.proofs.Refusing.{pipe_no_picture, plan_no_picture, plan_picture, plan_runs, right_plan}
 use Rattle.picture_call.proofs.drawing.of_pipe.Goals as goal

@@ -1,12 +1,10 @@
-use Rattle.std.proofs.Common.{◌≡◌, ◌∙◌, ap, sym, subst}
+use Rattle.std.proofs.Common.{◌≡◌, ◌∙◌, ap}
 use Rattle.array_tree.specs.declared.tree.Program.{Program}
 use Rattle.array_tree.specs.Trees.{program_of}
 use Rattle.array_meaning.proofs.InsideLemmas.{sized_in_range}
 use Rattle.array_meaning.specs.Plans.{plan_of}
 use Rattle.transfer_table.specs.Plan.{Plan}
 use Rattle.run_picture.specs.Seen.{picture_seen}
-use Rattle.lithe_call.specs.Programs.{table_plan}
-use Rattle.lithe_call.proofs.Runs.{told_plan}
 use Rattle.picture_call.specs.declared.runner.Runner.TheVariants as runner
 use Rattle.picture_call.proofs.Refusing.{check_no_picture, plan_no_picture, plan_picture, plan_runs, right_plan}
 use Rattle.picture_call.proofs.drawing.of_run.Goals as goal

@@ -1,4 +1,4 @@
-use Rattle.std.proofs.Common.{◌≡◌, ◌∙◌, ap, sym, subst}
+use Rattle.std.proofs.Common.{◌≡◌, ◌∙◌, ap, subst}
 use Rattle.array_tree.specs.declared.tree.Program.{Program}
 use Rattle.array_tree.specs.Trees.{program_of, ProgramTree}
 use Rattle.array_meaning.proofs.InsideLemmas.{sized_in_range}
