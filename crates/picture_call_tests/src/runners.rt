@@ -49,11 +49,12 @@ h1   base  base  base
 unm     0     0     0
 idl     1     1     1
 
-base
-  s1 pool, line 3, home h0
+   req   met unmet guest  made  base
+     0     0     0     0     1    s1 pool, line 3, home h0
 
 reg registers a site, req requests harts, unreg unregisters the site
 unm unmet wishes, idl idle harts, ! a child of the base has an unmet wish while a hart is idle
+of sites: req requested harts, met and unmet wishes, guest most guests at once, made entries inside
 illegal: line 1 differs
 ";
 
@@ -105,11 +106,12 @@ h1   base  base  base    s1  base  base
 unm     0     0     1     0     0     0
 idl     1     1    !1     0     1     1
 
-base
-  s1 team, line 3, home h0
+   req   met unmet guest  made  base
+     1     1     0     1     3    s1 team, line 3, home h0
 
 reg registers a site, req requests harts, unreg unregisters the site
 unm unmet wishes, idl idle harts, ! a child of the base has an unmet wish while a hart is idle
+of sites: req requested harts, met and unmet wishes, guest most guests at once, made entries inside
 legal 5
 ";
 
