@@ -17,7 +17,7 @@ use Rattle.lithe_call.proofs.Endings.{parts_meet, same_parts, refused_ends}
 use Rattle.picture_call.specs.declared.runner.Runner.{Runner}
 use Rattle.picture_call.specs.declared.runner.Runner.TheVariants.{Run, Tally, Pipe}
 use Rattle.picture_call.specs.Causes.{AreNoText, AreRefused, HasNoText, HasRefused, IsLong}
-use Rattle.picture_call.specs.Pictures.{AreDrawn, AreJudged, HasPicture, IsJudged, SpellRun, command_of}
+use Rattle.picture_call.specs.Pictures.{AreDrawn, AreJudged, HasPicture, IsJudged, SpellRun, command_of, teams_of}
 
 -- what goes on from a verdict and keeps it comes of that verdict
 kept : (f : Verdict → Pictured) (picture : Pictured) (found : Result Verdict TextFault) → ((v : Verdict) → (f v).verdict ≡ v)
@@ -30,7 +30,7 @@ is_judged : (form : Form) (runner : Runner) (harts : ℕ) (picture : Pictured) (
 is_judged form runner harts picture first second are = record {
   program = are.program;
   input = are.input;
-  found = kept (λ v. picture_by form are.program (table_plan are.program harts) second v) picture (found_in harts are.program second) (λ v. refl) are.drawn;
+  found = kept (λ v. picture_by form (teams_of runner) are.program (table_plan are.program harts) second v) picture (found_in harts are.program second) (λ v. refl) are.drawn;
 }
 
 pub drawn_judged : (form : Form) (runner : Runner) (harts : ℕ) (bytes : List ℕ) (picture : Pictured) → HasPicture form runner harts bytes picture

@@ -1,5 +1,5 @@
 -- How pictures stand to the commands of `lithe`.
-use Rattle.std.proofs.Common.{◌≡◌, ◌≤◌, ℕ, List, length, refl, inl, inr}
+use Rattle.std.proofs.Common.{◌≤◌, ℕ, List, length, refl, inl, inr}
 use Rattle.transfer_table.specs.Plan.{IsPlan}
 use Rattle.transfer_table.proofs.Plans.{is_plan}
 use Rattle.array_tree.specs.Trees.{ProgramTree}
