@@ -6,6 +6,7 @@
 //! Begin with `Pool` in `pool.rt`, then `PoolHand` in `calls.rt`; the tests of `pool_tests` run pools by one hart and by threads.
 #![tactic(auto)]
 
+mod batch;
 mod calls;
 mod hand;
 pub mod laws;
@@ -13,9 +14,11 @@ mod looks;
 mod offering;
 mod pieces;
 mod pool;
+mod same_jobs;
 mod shared;
 mod work;
 
+pub use batch::PieceBatch;
 pub use hand::PoolHand;
 pub use looks::{Found, Looks};
 pub use pool::{Pool, PoolHeard};

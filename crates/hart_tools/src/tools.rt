@@ -1,5 +1,5 @@
 //! What a hart has for all sites: its rows, its right to claim, and where each site's rows are.
-ghost use Rattle.std.specs.Prelude.{◌≡◌, ◌≢◌, ◌<◌, ◌≤◌, ◌+◌, ◌↔◌, ◌⊎◌, false, None, IsTrue, IfOk, IfSome, length, map, reverse, vec_len};
+ghost use Rattle.std.specs.Prelude.{◌≡◌, ◌≢◌, ◌<◌, ◌≤◌, ◌+◌, ◌↔◌, ◌⊎◌, false, None, IsTrue, IfOk, IfSome, length, map, option_map, reverse, vec_len};
 ghost use Rattle.std.specs.Option.{ForSome};
 ghost use Rattle.deque_rows.specs.Rows.{IsLevel, home_log, row_room, kin as rows_kin};
 ghost use Rattle.claim_words.specs.Seats.{IsOf, kin as seat_kin};
@@ -7,6 +7,7 @@ ghost use Rattle.hart_tools.specs.Places.{Fits, PoolFits, TeamFits, site_at};
 ghost use Rattle.hart_tools.specs.Hands.{HasTried, IsWhole};
 ghost use Rattle.hart_tools.specs.Stocks.{AreTools};
 ghost use Rattle.hart_tools.specs.Told.{inside};
+ghost use Rattle.hart_tools.specs.Keeping.{start_of, HandsOver, IsBareUnlessRun};
 ghost use Rattle.hart_port.specs.Count.{Rose};
 ghost use Rattle.hart_port.specs.PortView.{IsPortView, is_in, Registers, MayRequest, requested_by, yielded, MayUnregister, unregistered};
 ghost use Rattle.sched_api.specs.Calls.{RoseUnlessLent};
@@ -19,7 +20,7 @@ use crate::whole::Whole;
 use array_jobs::{Job, Piece};
 use crossbeam_utils::Backoff;
 use deque_rows::HartRows;
-use forkjoin_sched::SharedPool;
+use forkjoin_sched::{PieceBatch, SharedPool};
 use hart_port::{Port, Taken};
 use loop_team::{ClaimSeat, SharedTeam};
 use pipe_sched::PipeHand;
@@ -270,7 +271,10 @@ impl<'t> Tools<'t> {
         let backoff = Backoff::new();
         'tries: for _ in rt.forever() {
             match self.try_once(rt, grip, port, hold) {
-                Lent::Inside(Next::Run(None)) => return Some(self.next(rt, grip, false)),
+                Lent::Inside(Next::Run(None)) => {
+                    let mut kept = None;
+                    return Some(self.next(rt, grip, &mut kept, false));
+                }
                 Lent::Inside(Next::Run(Some(job))) => return Some(Next::Run(job)),
                 Lent::Inside(Next::Lend(child)) => return Some(Next::Lend(child)),
                 Lent::Inside(Next::Nothing) => return Some(Next::Nothing),
@@ -304,31 +308,68 @@ impl<'t> Tools<'t> {
     }
 
     /// Waits for what the hart does next that is inside. A guest leaves where there is nothing to do, and the base and the home
-    /// wait until their work is over.
+    /// wait until their work is over. Before the hart leaves, waits or visits a child, it hands the pieces over that it has kept.
     pub fn next<'b, 'p, R: Wait + 'b>(
         &mut self,
         rt: &'b R,
         grip: Grip<'b, 'p>,
+        kept: &mut Option<PieceBatch<'p>>,
         is_home: bool,
     ) -> Next<Job<'p>>
         requires { Fits self.old grip }
-        ensures { self.new ≡ self.old }
+        ensures tools { self.new ≡ self.old }
+        ensures start { option_map start_of kept.new ≡ option_map start_of kept.old }
+        ensures bare { IsBareUnlessRun result kept.new }
     {
         let is_guest = !is_home && !matches!(grip, Grip::Base(_));
         let backoff = Backoff::new();
         'looks: for _ in rt.forever() {
             if self.is_over(rt, grip, is_home) {
+                let _ = self.hand_over(rt, grip, kept);
                 return Next::Nothing;
             }
             match self.look(rt, grip) {
                 Next::Run(Some(job)) => return Next::Run(job),
                 Next::Run(None) => {}
-                Next::Lend(child) => return Next::Lend(child),
-                Next::Nothing if is_guest => return Next::Nothing,
-                Next::Nothing => backoff.snooze(),
+                Next::Lend(child) => {
+                    let _ = self.hand_over(rt, grip, kept);
+                    return Next::Lend(child);
+                }
+                Next::Nothing => {
+                    let had_any = self.hand_over(rt, grip, kept);
+                    if is_guest {
+                        return Next::Nothing;
+                    }
+                    if !had_any {
+                        backoff.snooze();
+                    }
+                }
             }
         }
         unreachable!()
+    }
+
+    // Hands over the pieces that the hart has kept. Whether there were any.
+    fn hand_over<'b, 'p, R: Wait + 'b>(
+        &mut self,
+        rt: &'b R,
+        grip: Grip<'b, 'p>,
+        kept: &mut Option<PieceBatch<'p>>,
+    ) -> bool
+        requires { Fits self.old grip }
+        ensures tools { self.new ≡ self.old }
+        ensures kept { HandsOver kept.old result kept.new }
+    {
+        let Some(batch) = kept else { return false };
+        if batch.is_empty() {
+            return false;
+        }
+        match grip {
+            Grip::Pool(place) => place.hand::<R>(&mut self.rows).hand_over(rt, batch),
+            // Only a pool's pieces are kept.
+            _ => batch.clear(),
+        }
+        true
     }
 
     // What a hart gets that is inside.

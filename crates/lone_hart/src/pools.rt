@@ -35,7 +35,7 @@ pub fn open_pool<'p>(alloc: Global, nested: &Nested<'p>) -> Result<Pool<'p>, All
     ensures room { IfOk result (λ pool. pool.agenda.wishes.room ≡ wishes_inside nested.now) }
 {
     let jobs = jobs_of(alloc, nested, 0, &nested.store)?;
-    Pool::with_wishes(alloc, jobs, room_for_wishes(nested))
+    Pool::of_one_start(alloc, jobs, room_for_wishes(nested))
 }
 
 /// What the hart does next in the pool: the next job, or nothing where every job came back or one failed.
