@@ -1,3 +1,4 @@
 pub mod PhaseBooks
 mod RowSteps
 mod Offered
+mod Starts

@@ -49,6 +49,12 @@ pub record IsSameSite {S : Type 0} (before after : HartSite S) : Type 0 where
   pub opened : after.opened ≡ before.opened
   pub turns : after.turns ≡ before.turns
 
+-- A batch that is there stays, and one that begins has no pieces.
+abbrev pub Begins : Option BatchParts → Option BatchParts → Type 0
+Begins None None = Unit {0}
+Begins None (Some after) = after.pieces ≡ []
+Begins (Some before) after = after ≡ Some before
+
 -- A piece is kept behind those that were kept before, or it is given back.
 abbrev pub Keeps : Option BatchParts → PieceParts → Result (Unit {0}) PieceParts → Option BatchParts → Type 0
 Keeps before piece (Ok done) None = ⊥

@@ -1,11 +1,11 @@
 //! One site, as one of several harts has it.
-ghost use Rattle.std.specs.Prelude.{◌≡◌, IfOk, IsSome, IfSome, Some, None, option_map};
+ghost use Rattle.std.specs.Prelude.{◌≡◌, [], IfOk, IsSome, IfSome, Some, None, option_map};
 ghost use Rattle.step_eval.specs.Nests.{NestedParts, nested_of, nested_writes};
 ghost use Rattle.hart_tools.specs.Places.{Fits};
 ghost use Rattle.hart_tools.specs.Hands.{IsWhole};
 ghost use Rattle.hart_work.specs.Tasks.{HasAccount};
 ghost use Rattle.hart_loop.specs.Openings.{IsOpened, kept_in, shared_of};
-ghost use Rattle.hart_loop.specs.Owing.{IsSettled, IsOwed, IsSameSite, Keeps, pool_in, StartsBatch};
+ghost use Rattle.hart_loop.specs.Owing.{IsSettled, IsOwed, IsOwn, IsSameSite, Begins, Keeps, pool_in, StartsBatch};
 
 use crate::in_directory::InDirectory;
 use crate::members::Members;
@@ -164,12 +164,13 @@ impl<'a, 'p, S: InDirectory<'p>> HartSite<'a, 'p, S> {
     pub(crate) fn own(&mut self, task: Task<Job<'p>>) -> Task<Job<'p>>
         requires { IsSettled S.held self.old }
         ensures site { IsSameSite self.old self.new }
-        ensures batch { self.new.batch ≡ self.old.batch }
+        ensures settled { IsSettled S.held self.new }
         ensures account { HasAccount (IsSettled S.held self.new) (IsOwed S.held self.new) result }
     {
         match task {
             Task::Piece(job) => Task::Piece(self.own_job(job)),
-            task => task,
+            Task::Visit(child) => Task::Visit(child),
+            Task::Nothing => Task::Nothing,
         }
     }
 
@@ -177,17 +178,27 @@ impl<'a, 'p, S: InDirectory<'p>> HartSite<'a, 'p, S> {
     fn own_job(&mut self, job: Job<'p>) -> Job<'p>
         requires { IsSettled S.held self.old }
         ensures site { IsSameSite self.old self.new }
-        ensures batch { self.new.batch ≡ self.old.batch }
         ensures owed { IsOwed S.held self.new result }
     {
-        let owned = match self.pool() {
+        match self.find_own(job) {
+            Ok(own) => {
+                self.known = true;
+                own
+            }
+            Err(job) => {
+                self.known = false;
+                job
+            }
+        }
+    }
+
+    // The pool's own job of the place that this job names. The job is given back where there is none.
+    fn find_own(&self, job: Job<'p>) -> Result<Job<'p>, Job<'p>>
+        ensures { IfOk result (IsOwn (pool_in (shared_of S.held self.now))) }
+    {
+        match self.pool() {
             Some(pool) => pool.own(job),
             None => Err(job),
-        };
-        self.known = owned.is_ok();
-        match owned {
-            Ok(own) => own,
-            Err(job) => job,
         }
     }
 
@@ -202,18 +213,29 @@ impl<'a, 'p, S: InDirectory<'p>> HartSite<'a, 'p, S> {
         if !self.known {
             return Err(piece);
         }
-        if self.batch.is_none() {
-            self.batch = self.empty_batch(alloc);
-        }
+        self.begin_batch(alloc);
         match &mut self.batch {
             Some(batch) => batch.add(piece),
             None => Err(piece),
         }
     }
 
+    // Begins a batch, if there is none and its pieces' store is known.
+    fn begin_batch(&mut self, alloc: Global)
+        requires { IsSettled S.held self.old }
+        ensures site { IsSameSite self.old self.new }
+        ensures settled { IsSettled S.held self.new }
+        ensures begins { Begins self.old.batch self.new.batch }
+    {
+        if self.batch.is_none() {
+            self.batch = self.empty_batch(alloc);
+        }
+    }
+
     // No pieces, of jobs that start where the pool's own do.
     fn empty_batch(&self, alloc: Global) -> Option<PieceBatch<'p>>
-        ensures { IfSome result (StartsBatch (pool_in (shared_of S.held self.now))) }
+        ensures starts { IfSome result (StartsBatch (pool_in (shared_of S.held self.now))) }
+        ensures bare { IfSome result (λ batch. batch.pieces ≡ []) }
     {
         let start = self.pool()?.start()?.copy().ok()?;
         Some(PieceBatch::new(alloc, start))
