@@ -2,3 +2,4 @@ pub mod PhaseBooks
 mod RowSteps
 mod Offered
 mod Starts
+mod Handed
