@@ -1,5 +1,5 @@
 -- The pieces of a pool that a hart keeps, and the job that it has out.
-use Rattle.std.specs.Prelude.{◌≡◌, ◌++◌, ◌∷◌, [], IsTrue, Option, Some, None, Result, Ok, Err}
+use Rattle.std.specs.Prelude.{◌≡◌, ◌++◌, ◌∷◌, [], IsTrue, IfSome, Option, Some, None, Result, Ok, Err}
 use Rattle.array_jobs.specs.Jobs.{JobParts}
 use Rattle.array_jobs.specs.PieceParts.{PieceParts}
 use Rattle.forkjoin_sched.specs.Pools.{StartFrom}
@@ -23,11 +23,6 @@ abbrev pub StartsBatch : Option SharedParts → BatchParts → Type 0
 StartsBatch None batch = ⊥
 StartsBatch (Some pool) batch = StartFrom batch.start pool.jobs
 
--- So do those of the pieces that are kept, if any are.
-abbrev pub KeepsOf : Option SharedParts → Option BatchParts → Type 0
-KeepsOf pool None = Unit {0}
-KeepsOf pool (Some batch) = StartsBatch pool batch
-
 -- The job is the pool's own.
 abbrev pub IsOwn : Option SharedParts → JobParts → Type 0
 IsOwn None job = ⊥
@@ -36,7 +31,7 @@ IsOwn (Some pool) job = HasJob pool job
 -- The scheduler was made for the construct if the hart opened the site, and the pieces that the hart keeps are of its pool.
 pub record IsSettled {S : Type 0} (held : S → SharedSite) (site : HartSite S) : Type 0 where
   pub opened : IsOpened held site
-  pub keeps : KeepsOf (pool_in (shared_of held site)) site.batch
+  pub keeps : IfSome site.batch (StartsBatch (pool_in (shared_of held site)))
 
 -- The job is out. It is the pool's own, if the hart knows that.
 pub record IsOwed {S : Type 0} (held : S → SharedSite) (site : HartSite S) (job : JobParts) : Type 0 where

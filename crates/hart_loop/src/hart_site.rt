@@ -145,9 +145,9 @@ impl<'a, 'p, S: InDirectory<'p>> HartSite<'a, 'p, S> {
     fn pool(&self) -> Option<&SharedPool<'p>>
         ensures { option_map (λ pool. pool.now) result ≡ pool_in (shared_of S.held self.now) }
     {
-        match self.shared()? {
-            SharedSite::Pool { home: _, pool } => Some(pool),
-            _ => None,
+        match self.shared() {
+            Some(shared) => pool_of(shared),
+            None => None,
         }
     }
 
@@ -227,9 +227,10 @@ impl<'a, 'p, S: InDirectory<'p>> HartSite<'a, 'p, S> {
         ensures settled { IsSettled S.held self.new }
         ensures begins { Begins self.old.batch self.new.batch }
     {
-        if self.batch.is_none() {
-            self.batch = self.empty_batch(alloc);
+        if self.batch.is_some() {
+            return;
         }
+        self.batch = self.empty_batch(alloc);
     }
 
     // No pieces, of jobs that start where the pool's own do.
@@ -294,5 +295,15 @@ impl<'a, 'p, S: InDirectory<'p>> HartSite<'a, 'p, S> {
         } else {
             Ok(whole)
         }
+    }
+}
+
+// The pool, where the scheduler is one.
+fn pool_of<'b, 'p>(shared: &'b SharedSite<'p>) -> Option<&'b SharedPool<'p>>
+    ensures { option_map (λ pool. pool.now) result ≡ pool_in (Some shared.now) }
+{
+    match shared {
+        SharedSite::Pool { home: _, pool } => Some(pool),
+        SharedSite::Team(_) | SharedSite::Pipe(_) | SharedSite::Alone => None,
     }
 }

@@ -1,5 +1,5 @@
 -- The pieces that a hart keeps to itself for a while.
-use Rattle.std.specs.Prelude.{◌≡◌, ◌↔◌, [], Bool, false, IsTrue, Option, Some, None}
+use Rattle.std.specs.Prelude.{◌≡◌, [], Bool, false, Option, Some, None}
 use Rattle.array_meaning.specs.Stores.{Store}
 use Rattle.array_jobs.specs.Jobs.{JobParts}
 use Rattle.sched_api.specs.declared.scheduler.Next.{Next}
@@ -15,11 +15,11 @@ abbrev pub IsBare : Option BatchParts → Type 0
 IsBare None = Unit {0}
 IsBare (Some batch) = batch.pieces ≡ []
 
--- All pieces that were kept are handed over. The result says whether there were any.
+-- All pieces that were kept are handed over. The result is false only if there were none.
 abbrev pub HandsOver : Option BatchParts → Bool → Option BatchParts → Type 0
-HandsOver None result after = (result ≡ false) × (after ≡ None)
-HandsOver (Some batch) result after =
-    (IsTrue result ↔ (¬ (batch.pieces ≡ []))) × (after ≡ Some (record batch { pieces = [] }))
+HandsOver None any after = after ≡ None
+HandsOver (Some batch) any after =
+    (any ≡ false → batch.pieces ≡ []) × (after ≡ Some (record batch { pieces = [] }))
 
 -- A hart that doesn't get a job keeps no pieces.
 abbrev pub IsBareUnlessRun : Next JobParts → Option BatchParts → Type 0

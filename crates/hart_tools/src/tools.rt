@@ -1,5 +1,5 @@
 //! What a hart has for all sites: its rows, its right to claim, and where each site's rows are.
-ghost use Rattle.std.specs.Prelude.{◌≡◌, ◌≢◌, ◌<◌, ◌≤◌, ◌+◌, ◌↔◌, ◌⊎◌, false, None, IsTrue, IfOk, IfSome, length, map, option_map, reverse, vec_len};
+ghost use Rattle.std.specs.Prelude.{◌≡◌, ◌≢◌, ◌<◌, ◌≤◌, ◌+◌, ◌↔◌, ◌⊎◌, [], false, None, IsTrue, IfOk, IfSome, length, map, option_map, reverse, vec_len};
 ghost use Rattle.std.specs.Option.{ForSome};
 ghost use Rattle.deque_rows.specs.Rows.{IsLevel, home_log, row_room, kin as rows_kin};
 ghost use Rattle.claim_words.specs.Seats.{IsOf, kin as seat_kin};
@@ -307,6 +307,7 @@ impl<'t> Tools<'t> {
         sched_enter(port, hold, &mut hand, rt)
     }
 
+    #[tactic(auto, using(crate::proofs::Keeping::hands_start, crate::proofs::Keeping::hands_bare))]
     /// Waits for what the hart does next that is inside. A guest leaves where there is nothing to do, and the base and the home
     /// wait until their work is over. Before the hart leaves, waits or visits a child, it hands the pieces over that it has kept.
     pub fn next<'b, 'p, R: Wait + 'b>(
@@ -364,12 +365,25 @@ impl<'t> Tools<'t> {
         if batch.is_empty() {
             return false;
         }
+        self.empty(rt, grip, batch);
+        true
+    }
+
+    // Puts all pieces of a batch into the pool of their jobs. Only a pool's pieces are kept.
+    fn empty<'b, 'p, R: Wait + 'b>(
+        &mut self,
+        rt: &'b R,
+        grip: Grip<'b, 'p>,
+        batch: &mut PieceBatch<'p>,
+    )
+        requires { Fits self.old grip }
+        ensures tools { self.new ≡ self.old }
+        ensures batch { batch.new ≡ record batch.old { pieces = [] } }
+    {
         match grip {
             Grip::Pool(place) => place.hand::<R>(&mut self.rows).hand_over(rt, batch),
-            // Only a pool's pieces are kept.
-            _ => batch.clear(),
+            Grip::Base(_) | Grip::Team(_) | Grip::Pipe(_) | Grip::Nobody => batch.clear(),
         }
-        true
     }
 
     // What a hart gets that is inside.
