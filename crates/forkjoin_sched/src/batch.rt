@@ -61,11 +61,10 @@ impl<'p> PieceBatch<'p> {
         requires { Starts self.old.start piece }
         ensures { Adds self.old piece.entry result self.new }
     {
-        if self.pieces.try_reserve(1).is_err() {
-            return Err(piece);
+        match self.pieces.push(piece) {
+            Ok(()) => Ok(()),
+            Err(failed) => Err(failed.value),
         }
-        self.pieces.push_reserved(piece);
-        Ok(())
     }
 
     /// Drops all pieces.
@@ -91,7 +90,10 @@ impl<'p> PieceBatch<'p> {
     fn take(&mut self) -> Option<Piece<'p>>
         ensures { Takes self.old result self.new }
     {
-        self.pieces.pop()
+        match self.pieces.pop() {
+            Some(piece) => Some(piece),
+            None => None,
+        }
     }
 
     // Whether it is known that all jobs of the pool start from the batch's store.
