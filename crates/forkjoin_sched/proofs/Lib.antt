@@ -3,3 +3,4 @@ mod RowSteps
 mod Offered
 mod Starts
 mod Handed
+mod SameJobs

@@ -1,10 +1,17 @@
-//! Whether jobs that start from one store are equal.
+//! Whether lists of jobs are equal.
 ghost use Rattle.std.specs.Prelude.{◌≡◌, ◌↔◌, IsTrue, map};
 ghost use Rattle.array_meaning.specs.Stores.{Store};
 ghost use Rattle.array_jobs.specs.Jobs.{job_of};
 ghost use Rattle.forkjoin_sched.specs.Pools.{StartFrom};
 
 use array_jobs::Job;
+
+/// Whether jobs are equal, each to that at its index.
+pub(crate) fn have_same_jobs(xs: &[Job], ys: &[Job]) -> bool
+    ensures { IsTrue result ↔ (map job_of xs.now ≡ map job_of ys.now) }
+{
+    xs == ys
+}
 
 /// Whether jobs that all start from one store are equal, each to that at its index. No stores are compared.
 pub(crate) fn have_same_work(xs: &[Job], ys: &[Job]) -> bool

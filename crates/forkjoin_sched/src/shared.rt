@@ -1,11 +1,12 @@
 //! Pools that harts share.
 ghost use Rattle.std.specs.Prelude.{◌≡◌, ◌↔◌, length, map, IfOk, IfSome, IsTrue, vec_len};
+ghost use Rattle.array_meaning.specs.Stores.{Store};
 ghost use Rattle.array_jobs.specs.Jobs.{job_of};
 ghost use Rattle.forkjoin_sched.specs.Pools.{StartFrom};
 ghost use Rattle.forkjoin_sched.specs.Shared.{HasJob, GivesOwn};
 
 use crate::pool::Pool;
-use crate::same_jobs::have_same_work;
+use crate::same_jobs::{have_same_jobs, have_same_work};
 use array_eval::Store;
 use array_jobs::{Job, copy_jobs};
 use sched_api::Scheduler;
@@ -114,10 +115,25 @@ impl<'p> SharedPool<'p> {
     pub fn has_jobs_of(&self, pool: &Pool<'p>) -> bool
         ensures { IsTrue result ↔ (map job_of pool.now.book.jobs ≡ map job_of self.now.jobs) }
     {
-        match (self.start(), pool.start()) {
-            (Some(own), Some(start)) if *own == *start => have_same_work(pool.jobs(), &self.jobs),
-            _ => pool.jobs() == self.jobs.as_slice(),
+        if self.starts_as(pool) {
+            have_same_work(pool.jobs(), self.jobs())
+        } else {
+            have_same_jobs(pool.jobs(), self.jobs())
         }
+    }
+
+    // Whether it is known that all jobs of the pool start where all of these do.
+    fn starts_as(&self, pool: &Pool<'p>) -> bool
+        ensures { IsTrue result → (start : Store) × StartFrom start pool.now.book.jobs
+            × StartFrom start self.now.jobs }
+    {
+        let Some(own) = self.start() else {
+            return false;
+        };
+        let Some(start) = pool.start() else {
+            return false;
+        };
+        *own == *start
     }
 
     // Whether the job is that of the place that it names.
