@@ -66,12 +66,12 @@ still_opened held site now same is =
     subst (λ k. IfSome now.opened (IsMadeFor (option_map held (kept_in k)))) (sym same.keeper)
     (subst (λ o. IfSome o (IsMadeFor (shared_of held site))) (sym same.opened) is)
 
--- the job of a piece that came back, where it is known to be the pool's own, starts where the jobs of the site's batch do
-pub owed_starts : {S : Type 0} (held : S → SharedSite) (site now : HartSite S) (batch : BatchParts) (job : JobParts) → IsOwed held site job
-    → IsTrue site.known → IsSameSite site now → IsSettled held now → now.batch ≡ Some batch → job.store ≡ batch.start
-owed_starts held site now batch job owed known same settled is =
+-- the pool's own job starts where the jobs of the site's batch do
+pub kept_start : {S : Type 0} (held : S → SharedSite) (site now : HartSite S) (batch : BatchParts) (job : JobParts) → IsOwn (pool_in (shared_of held site)) job
+    → IsSameSite site now → IsSettled held now → now.batch ≡ Some batch → job.store ≡ batch.start
+kept_start held site now batch job own same settled is =
     let starts : StartsBatch (pool_in (shared_of held now)) batch = subst (λ b. IfSome b (StartsBatch (pool_in (shared_of held now)))) is settled.keeps in
-    own_starts (pool_in (shared_of held now)) batch job starts (subst (λ p. IsOwn p job) (sym (same_pool held site now same)) (owed.own known))
+    own_starts (pool_in (shared_of held now)) batch job starts (subst (λ p. IsOwn p job) (sym (same_pool held site now same)) own)
 
 -- a turn was taken
 pub next_of : (task : Task JobParts) (before after : ℕ) → after < before → HasNext before task after

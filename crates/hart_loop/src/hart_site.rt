@@ -210,9 +210,21 @@ impl<'a, 'p, S: InDirectory<'p>> HartSite<'a, 'p, S> {
         ensures settled { IsSettled S.held self.new }
         ensures keeps { Keeps self.old.batch piece.entry result self.new.batch }
     {
-        if !self.known {
-            return Err(piece);
+        if self.known {
+            self.keep_own(alloc, piece)
+        } else {
+            Err(piece)
         }
+    }
+
+    // Keeps a piece whose job is the pool's own.
+    fn keep_own(&mut self, alloc: Global, piece: Piece<'p>) -> Result<(), Piece<'p>>
+        requires settled { IsSettled S.held self.old }
+        requires own { IsOwn (pool_in (shared_of S.held self.old)) piece.job }
+        ensures site { IsSameSite self.old self.new }
+        ensures settled { IsSettled S.held self.new }
+        ensures keeps { Keeps self.old.batch piece.entry result self.new.batch }
+    {
         self.begin_batch(alloc);
         match &mut self.batch {
             Some(batch) => batch.add(piece),
