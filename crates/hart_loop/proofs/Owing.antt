@@ -36,6 +36,10 @@ still_keeps pool None (Some after) same keeps = absurd (let bad : Some after.sta
 still_keeps None (Some before) (Some after) same keeps = absurd keeps
 still_keeps (Some pool) (Some before) (Some after) same keeps = subst (λ (s : Store). StartFrom s pool.jobs) (sym (same_Some after.start before.start same)) keeps
 
+-- a batch whose pieces start where the jobs of the pool do
+pub begun_starts : (pool : Option SharedParts) (shared : SharedParts) (batch : BatchParts) → Some shared ≡ pool → StartFrom batch.start shared.jobs → StartsBatch pool batch
+begun_starts pool shared batch same starts = subst (λ p. StartsBatch p batch) same starts
+
 -- a batch to which a piece was added or not
 pub adds_start : (before : BatchParts) (piece : PieceParts) (added : Result (Unit {0}) PieceParts) (after : BatchParts) → Adds before piece added after
     → after.start ≡ before.start

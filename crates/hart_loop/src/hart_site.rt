@@ -250,8 +250,16 @@ impl<'a, 'p, S: InDirectory<'p>> HartSite<'a, 'p, S> {
         ensures starts { IfSome result (StartsBatch (pool_in (shared_of S.held self.now))) }
         ensures bare { IfSome result (λ batch. batch.pieces ≡ []) }
     {
-        let start = self.pool()?.start()?.copy().ok()?;
-        Some(PieceBatch::new(alloc, start))
+        let Some(pool) = self.pool() else {
+            return None;
+        };
+        let Some(start) = pool.start() else {
+            return None;
+        };
+        match start.copy() {
+            Ok(start) => Some(PieceBatch::new(alloc, start)),
+            Err(AllocError) => None,
+        }
     }
 
     /// How many harts more than its home the site has work for: none where no other hart finds it, or has a hand on it.
