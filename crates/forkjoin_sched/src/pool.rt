@@ -205,7 +205,7 @@ impl<'p> Pool<'p> {
         ensures book { Puts self.old.book piece.entry result self.new.book }
         ensures rest { self.new ≡ with_book self.old self.new.book }
     {
-        self.alike = self.alike && known;
+        self.alike = known;
         match self.book.acquire(()) {
             Acquired::Got(mut book, ()) => {
                 let deposit = book.put(piece);
