@@ -2,7 +2,7 @@
 ghost use Rattle.std.specs.Prelude.{◌≡◌, ◌↔◌, length, map, IfOk, IfSome, IsTrue, vec_len};
 ghost use Rattle.array_meaning.specs.Stores.{Store};
 ghost use Rattle.array_jobs.specs.Jobs.{job_of};
-ghost use Rattle.forkjoin_sched.specs.Pools.{StartFrom};
+ghost use Rattle.forkjoin_sched.specs.Pools.{StartFrom, HaveOneStart};
 ghost use Rattle.forkjoin_sched.specs.Shared.{HasJob, GivesOwn};
 
 use crate::pool::Pool;
@@ -84,13 +84,20 @@ impl<'p> SharedPool<'p> {
     pub fn start(&self) -> Option<&Store>
         ensures { IfSome result (λ start. StartFrom start.now self.now.jobs) }
     {
-        if !self.alike {
+        if !self.has_one_start() {
             return None;
         }
-        match self.jobs.first() {
+        match self.jobs().first() {
             Some(job) => Some(&job.store),
             None => None,
         }
+    }
+
+    // Whether it is known that all jobs start from one store.
+    fn has_one_start(&self) -> bool
+        ensures { IsTrue result → HaveOneStart self.now.jobs }
+    {
+        self.alike
     }
 
     /// The pool's own job of the place that this job names, in its stead.
