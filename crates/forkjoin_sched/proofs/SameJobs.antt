@@ -5,13 +5,12 @@ use Rattle.std.specs.Cmp.Lexicographic.{pointwise}
 use Rattle.std.proofs.lemmas.Bool.{and_parts}
 use Rattle.std.proofs.lemmas.List.{take_more, take_all, map-append}
 use Rattle.std.proofs.lemmas.Option.{same_Some, slice_get-map, slice_get_read}
-use Rattle.array_meaning.specs.Stores.{Store}
 use Rattle.array_jobs.specs.Jobs.{JobParts, JobTree, job_of}
 use Rattle.array_jobs.specs.Equal.{job_eq}
 use Rattle.array_jobs.specs.EqualLaws.{job_same, job_refl}
-use Rattle.forkjoin_sched.specs.Pools.{StartFrom}
+use Rattle.forkjoin_sched.specs.Pools.{HaveSameStart}
 
-pub same_stores : (xs ys : List JobParts) (i : ℕ) (x y : JobParts) → (start : Store) × StartFrom start xs × StartFrom start ys → i < length xs → i < length ys
+pub same_stores : (xs ys : List JobParts) (i : ℕ) (x y : JobParts) → HaveSameStart xs ys → i < length xs → i < length ys
     → x ≡ get_or xs i x → y ≡ get_or ys i y → x.store ≡ y.store
 same_stores xs ys i x y from below within is at =
     from.1 i x (slice_get_read xs (length xs) i x refl below is) ∙ sym (from.2 i y (slice_get_read ys (length ys) i y refl within at))

@@ -32,6 +32,10 @@ abbrev pub HaveOneStart : List JobParts → Type 0
 HaveOneStart jobs = (i k : ℕ) (a b : JobParts) → slice_get jobs i ≡ Some a → slice_get jobs k ≡ Some b
     → a.store ≡ b.store
 
+-- The jobs of both lists start from one store.
+abbrev pub HaveSameStart : List JobParts → List JobParts → Type 0
+HaveSameStart xs ys = (start : Store) × StartFrom start xs × StartFrom start ys
+
 -- The pool of jobs none of which is begun, in the order of their places, with room for so many wishes.
 abbrev pub roomy_pool : List JobParts → ℕ → PoolParts
 roomy_pool jobs wishes = record {

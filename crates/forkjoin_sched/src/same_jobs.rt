@@ -1,8 +1,7 @@
 //! Whether lists of jobs are equal.
 ghost use Rattle.std.specs.Prelude.{◌≡◌, ◌↔◌, IsTrue, map};
-ghost use Rattle.array_meaning.specs.Stores.{Store};
 ghost use Rattle.array_jobs.specs.Jobs.{job_of};
-ghost use Rattle.forkjoin_sched.specs.Pools.{StartFrom};
+ghost use Rattle.forkjoin_sched.specs.Pools.{HaveSameStart};
 
 use array_jobs::Job;
 
@@ -15,7 +14,7 @@ pub(crate) fn have_same_jobs(xs: &[Job], ys: &[Job]) -> bool
 
 /// Whether jobs that all start from one store are equal, each to that at its index. No stores are compared.
 pub(crate) fn have_same_work(xs: &[Job], ys: &[Job]) -> bool
-    requires { (start : Store) × StartFrom start xs.now × StartFrom start ys.now }
+    requires { HaveSameStart xs.now ys.now }
     ensures { IsTrue result ↔ (map job_of xs.now ≡ map job_of ys.now) }
 {
     if xs.len() != ys.len() {

@@ -1,8 +1,7 @@
 //! Pools that harts share.
 ghost use Rattle.std.specs.Prelude.{◌≡◌, ◌↔◌, length, map, IfOk, IfSome, IsTrue, vec_len};
-ghost use Rattle.array_meaning.specs.Stores.{Store};
 ghost use Rattle.array_jobs.specs.Jobs.{job_of};
-ghost use Rattle.forkjoin_sched.specs.Pools.{StartFrom, HaveOneStart};
+ghost use Rattle.forkjoin_sched.specs.Pools.{StartFrom, HaveOneStart, HaveSameStart};
 ghost use Rattle.forkjoin_sched.specs.Shared.{HasJob, GivesOwn};
 
 use crate::pool::Pool;
@@ -131,8 +130,7 @@ impl<'p> SharedPool<'p> {
 
     // Whether it is known that all jobs of the pool start where all of these do.
     fn starts_as(&self, pool: &Pool<'p>) -> bool
-        ensures { IsTrue result → (start : Store) × StartFrom start pool.now.book.jobs
-            × StartFrom start self.now.jobs }
+        ensures { IsTrue result → HaveSameStart pool.now.book.jobs self.now.jobs }
     {
         let Some(own) = self.start() else {
             return false;
