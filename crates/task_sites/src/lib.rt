@@ -15,6 +15,7 @@ mod countdown;
 mod crew;
 mod hart;
 mod levels;
+mod observer;
 mod perches;
 mod site;
 
@@ -23,4 +24,5 @@ pub use countdown::Countdown;
 pub use crew::Crew;
 pub use hart::Hart;
 pub use levels::{CrewHarts, Levels, NoLevel, OneMore, serve_base};
+pub use observer::{Observer, Unobserved};
 pub use site::Site;
