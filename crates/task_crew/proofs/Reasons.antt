@@ -10,5 +10,5 @@ use Rattle.task_crew.specs.Runs.{IsReason}
 -- a cause that names the seats has what a caller sees of it
 pub seen : (size : Size) (seats : List OpenSeat) (why : NotEnded) → CantEnd size seats why → IsReason size.harts why
 seen size seats WrongCount cause = tt
-seen size seats (OutOfOrder place hart) cause = cause.1.0 , cause.1.1.1.1
-seen size seats (InSite hart site) cause = cause.1.0 , cause.1.1.1.1.1
+seen size seats (OutOfOrder place hart) cause = (cause.1.0, cause.1.1.1.1)
+seen size seats (InSite hart site) cause = (cause.1.0, cause.1.1.1.1.1)

@@ -216,8 +216,9 @@ where
     let room = Vec::with_capacity(alloc, seats.len())?;
     let home: Hart<'_, T, R, B> = Hart::new(rt, crew, seats.remove(0));
     let guests = seated(rt, alloc, crew, seats)?;
-    let (guests, home, outcome) =
-        run_all::<B, T, R, L>(rt, alloc, crew, home, guests, levels, task);
+    let (guests, home, outcome) = run_all::<B, T, R, L>(
+        rt, alloc, crew, home, guests, levels, task,
+    );
     Ok((outcome, seats_of(room, home, guests)?))
 }
 

@@ -55,12 +55,12 @@ impl HartEvents {
         if self.fault.is_some() {
             return;
         }
-        if self.running == 0 {
+        let Some(running) = self.running.checked_sub(1) else {
             self.fault = Some(TraceError::Unpaired);
             return;
-        }
+        };
         match self.events.push(Event::End(nanos)) {
-            Ok(()) => self.running -= 1,
+            Ok(()) => self.running = running,
             Err(_) => self.fault = Some(TraceError::OutOfMemory),
         }
     }

@@ -66,7 +66,11 @@ fn a_clock_that_fails_is_reported(rt: HostRuntime) -> Result<(), Fail> {
         assert_eq!(rt; count, Ok(3));
         drop(handle);
         let why = trace.into_events(rt.alloc()).err();
-        let expected = if readings < 7 { Some(TraceError::NoClock) } else { None };
+        let expected = if readings < 7 {
+            Some(TraceError::NoClock)
+        } else {
+            None
+        };
         assert_eq!(rt; why, expected, "after {readings} readings");
     }
     Ok(())
@@ -81,7 +85,10 @@ fn a_hart_without_a_row_is_reported(rt: HostRuntime) -> Result<(), Fail> {
     let handle = Traced::new(&rt, Some(&trace));
     handle.task_begins(1, 0);
     drop(handle);
-    assert_eq!(rt; trace.into_events(rt.alloc()).err(), Some(TraceError::UnknownHart));
+    assert_eq!(rt;
+        trace.into_events(rt.alloc()).err(),
+        Some(TraceError::UnknownHart)
+    );
     Ok(())
 }
 
@@ -99,7 +106,10 @@ fn unpaired_events_are_reported(rt: HostRuntime) -> Result<(), Fail> {
             handle.task_ends(0);
         }
         drop(handle);
-        assert_eq!(rt; trace.into_events(rt.alloc()).err(), Some(TraceError::Unpaired));
+        assert_eq!(rt;
+            trace.into_events(rt.alloc()).err(),
+            Some(TraceError::Unpaired)
+        );
     }
     Ok(())
 }

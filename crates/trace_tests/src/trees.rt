@@ -38,7 +38,11 @@ impl<'p> Task for Tree<'p> {
             return Ok(1);
         }
         let counts = harts.fork_join(alloc, branches_of(alloc, &self)?)?;
-        Ok(counts.iter().fold(1u64, |sum, part| sum.wrapping_add(*part)))
+        Ok(
+            counts
+                .iter()
+                .fold(1u64, |sum, part| sum.wrapping_add(*part)),
+        )
     }
 }
 
