@@ -1,80 +1,141 @@
 //! Events as Chrome's trace events.
+ghost use Rattle.std.specs.Prelude.{◌≡◌, ◌≤◌, ◌∷◌, [], None, Some, OnOk, IfOk, string_bytes, codes};
+ghost use Rattle.serde.specs.Event.{field_key, double};
+ghost use Rattle.serde.specs.declared.name.Case.TheVariants.{AsIs};
+ghost use Rattle.serde_json.specs.Sent.{IsTextOf};
+ghost use Rattle.task_trace.specs.Chrome.{Grows, text_member, number_member, micros, common_members, event_members, hart_members, members_from, trace_members};
+
 use crate::error::TraceError;
 use crate::event::Event;
 use serde::{Described, Serialize, Serializer};
 use std::alloc::Global;
 
 /// The events of each hart, as `chrome://tracing` and Perfetto read them.
+#[derive(Clone, Copy)]
 struct ChromeTrace<'p> {
     harts: &'p [Vec<Event>],
 }
 
-impl Described for ChromeTrace<'_> {}
+impl Described for ChromeTrace<'_> {
+    ghost writes = { λ trace old new. Grows old new (trace_members trace.harts.now) };
+}
 
-// Why by hand: the text grows event by event, without a second list of events.
+// Why by hand: the text grows event by event, without a second list of events, and it is known what is written.
 impl Serialize for ChromeTrace<'_> {
     fn serialize<S: Serializer>(&self, out: &mut S) -> Result<(), S::Error> {
         out.begin_map(None)?;
         out.key("traceEvents")?;
         out.begin_seq(None)?;
-        for (hart, events) in self.harts.iter().enumerate() {
-            write_events(out, hart as u64, events.as_slice())?;
-        }
+        write_harts(out, self.harts)?;
         out.end_seq()?;
-        out.key("displayTimeUnit")?;
-        out.str("ns")?;
+        write_text(out, "displayTimeUnit", "ns")?;
         out.end_map()
     }
 }
 
+// Writes the events of all harts.
+fn write_harts<S: Serializer>(out: &mut S, harts: &[Vec<Event>]) -> Result<(), S::Error>
+    ensures { OnOk result (Grows (S.written out.old) (S.written out.new) (members_from 0 harts.now)) }
+{
+    'harts: for hart in 0..harts.len() {
+        write_hart(out, hart as u64, harts[hart].as_slice())?;
+    }
+    Ok(())
+}
+
 // Writes the events of a hart.
-fn write_events<S: Serializer>(out: &mut S, hart: u64, events: &[Event]) -> Result<(), S::Error> {
-    for event in events {
+fn write_hart<S: Serializer>(out: &mut S, hart: u64, events: &[Event]) -> Result<(), S::Error>
+    ensures { OnOk result
+        (Grows (S.written out.old) (S.written out.new) (hart_members hart events.now)) }
+{
+    'events: for event in events {
         write_event(out, hart, *event)?;
     }
     Ok(())
 }
 
 // Writes an event of a hart.
-fn write_event<S: Serializer>(out: &mut S, hart: u64, event: Event) -> Result<(), S::Error> {
+fn write_event<S: Serializer>(out: &mut S, hart: u64, event: Event) -> Result<(), S::Error>
+    ensures { OnOk result
+        (Grows (S.written out.old) (S.written out.new) (event_members hart event)) }
+{
     match event {
-        Event::Begin(site, nanos) => {
-            write_start(out, "B", nanos, hart)?;
-            out.key("args")?;
-            out.begin_map(None)?;
-            out.key("site")?;
-            out.u64(u64::from(site))?;
-            out.end_map()?;
-        }
-        Event::End(nanos) => write_start(out, "E", nanos, hart)?,
+        Event::Begin(site, nanos) => write_begin(out, hart, site, nanos),
+        Event::End(nanos) => write_end(out, hart, nanos),
     }
+}
+
+// Writes that a task begins.
+fn write_begin<S: Serializer>(out: &mut S, hart: u64, site: u16, nanos: u64) -> Result<(), S::Error>
+    ensures { OnOk result
+        (Grows (S.written out.old) (S.written out.new) (event_members hart (Event.Begin site nanos))) }
+{
+    write_common(out, "B", nanos, hart)?;
+    out.key("args")?;
+    out.begin_map(None)?;
+    write_number(out, "site", u64::from(site))?;
+    out.end_map()?;
     out.end_map()
 }
 
-// Writes what begins and ends have in common. A viewer takes the hart for a thread, and the time in microseconds.
-fn write_start<S: Serializer>(
+// Writes that a task ends.
+fn write_end<S: Serializer>(out: &mut S, hart: u64, nanos: u64) -> Result<(), S::Error>
+    ensures { OnOk result
+        (Grows (S.written out.old) (S.written out.new) (event_members hart (Event.End nanos))) }
+{
+    write_common(out, "E", nanos, hart)?;
+    out.end_map()
+}
+
+// Writes what begins and ends have in common.
+fn write_common<S: Serializer>(
     out: &mut S,
     kind: &str,
     nanos: u64,
     hart: u64,
-) -> Result<(), S::Error> {
+) -> Result<(), S::Error>
+    ensures { OnOk result
+        (Grows (S.written out.old) (S.written out.new) (common_members kind.now nanos hart)) }
+{
     out.begin_map(None)?;
-    out.key("name")?;
-    out.str("task")?;
-    out.key("ph")?;
-    out.str(kind)?;
-    out.key("ts")?;
-    out.f64(nanos as f64 / 1000.0)?;
-    out.key("pid")?;
-    out.u64(0)?;
-    out.key("tid")?;
-    out.u64(hart)
+    write_text(out, "name", "task")?;
+    write_text(out, "ph", kind)?;
+    write_time(out, nanos)?;
+    write_number(out, "pid", 0)?;
+    write_number(out, "tid", hart)
 }
 
-/// Writes the events of each hart as JSON. The number of a hart is its place in the slice.
+// Writes the time of an event, in microseconds.
+fn write_time<S: Serializer>(out: &mut S, nanos: u64) -> Result<(), S::Error>
+    ensures { OnOk result (Grows (S.written out.old) (S.written out.new)
+        (field_key (codes "ts") AsIs ∷ double (micros nanos) ∷ [])) }
+{
+    out.key("ts")?;
+    out.f64(nanos as f64 / f64::from(1000u16))
+}
+
+// Writes a member with a text.
+fn write_text<S: Serializer>(out: &mut S, key: &str, value: &str) -> Result<(), S::Error>
+    ensures { OnOk result
+        (Grows (S.written out.old) (S.written out.new) (text_member key.now value.now)) }
+{
+    out.key(key)?;
+    out.str(value)
+}
+
+// Writes a member with a number.
+fn write_number<S: Serializer>(out: &mut S, key: &str, value: u64) -> Result<(), S::Error>
+    ensures { OnOk result
+        (Grows (S.written out.old) (S.written out.new) (number_member key.now value)) }
+{
+    out.key(key)?;
+    out.u64(value)
+}
+
+/// Writes the events of each hart as JSON. The number of a hart is its index in the slice.
 ///
 /// A task is a pair of events, `B` and `E`. The thread `tid` is the hart, `ts` is the time in microseconds, and `args` has the site
-/// that the hart was in.
+/// that the hart was in. The events of a hart stand in their order.
 ///
 /// # Errors
 ///
@@ -83,7 +144,9 @@ fn write_start<S: Serializer>(
 /// # Memory
 ///
 /// The text, about 150 bytes for each task.
-pub fn chrome_trace(alloc: Global, harts: &[Vec<Event>]) -> Result<String, TraceError> {
+pub fn chrome_trace(alloc: Global, harts: &[Vec<Event>]) -> Result<String, TraceError>
+    ensures { IfOk result (λ text. IsTextOf (Some (trace_members harts.now)) (string_bytes text)) }
+{
     // Why no other error: the trace has only texts and finite numbers.
     match serde_json::to_string(alloc, &ChromeTrace { harts }) {
         Ok(text) => Ok(text),
