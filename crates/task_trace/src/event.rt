@@ -36,6 +36,7 @@ impl HartEvents {
     }
 
     /// Keeps that a task begins.
+    #[tactic(auto, using(crate::proofs::Nested::more))]
     pub(crate) fn begin(&mut self, site: u16, nanos: u64) {
         if self.fault.is_some() {
             return;
@@ -51,6 +52,7 @@ impl HartEvents {
     }
 
     /// Keeps that the task that began last of those that run ends.
+    #[tactic(auto, using(crate::proofs::Nested::fewer))]
     pub(crate) fn end(&mut self, nanos: u64) {
         if self.fault.is_some() {
             return;
