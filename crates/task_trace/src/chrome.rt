@@ -9,6 +9,7 @@ use crate::error::TraceError;
 use crate::event::Event;
 use serde::{Described, Serialize, Serializer};
 use std::alloc::Global;
+use std::num::nearest_u64_to_f64;
 
 /// The events of each hart, as `chrome://tracing` and Perfetto read them.
 #[derive(Clone, Copy)]
@@ -29,7 +30,8 @@ impl Serialize for ChromeTrace<'_> {
         write_harts(out, self.harts)?;
         out.end_seq()?;
         write_text(out, "displayTimeUnit", "ns")?;
-        out.end_map()
+        out.end_map()?;
+        Ok(())
     }
 }
 
@@ -73,9 +75,10 @@ fn write_begin<S: Serializer>(out: &mut S, hart: u64, site: u16, nanos: u64) -> 
     write_common(out, "B", nanos, hart)?;
     out.key("args")?;
     out.begin_map(None)?;
-    write_number(out, "site", u64::from(site))?;
+    write_number(out, "site", site as u64)?;
     out.end_map()?;
-    out.end_map()
+    out.end_map()?;
+    Ok(())
 }
 
 // Writes that a task ends.
@@ -102,7 +105,8 @@ fn write_common<S: Serializer>(
     write_text(out, "ph", kind)?;
     write_time(out, nanos)?;
     write_number(out, "pid", 0)?;
-    write_number(out, "tid", hart)
+    write_number(out, "tid", hart)?;
+    Ok(())
 }
 
 // Writes the time of an event, in microseconds.
@@ -111,7 +115,14 @@ fn write_time<S: Serializer>(out: &mut S, nanos: u64) -> Result<(), S::Error>
         (field_key (codes "ts") AsIs ∷ double (micros nanos) ∷ [])) }
 {
     out.key("ts")?;
-    out.f64(nanos as f64 / f64::from(1000u16))
+    out.f64(micros_of(nanos))
+}
+
+// Nanoseconds in microseconds, the nearest double.
+fn micros_of(nanos: u64) -> f64
+    ensures { result ≡ micros nanos }
+{
+    nearest_u64_to_f64(nanos) / nearest_u64_to_f64(1000)
 }
 
 // Writes a member with a text.

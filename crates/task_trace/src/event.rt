@@ -1,6 +1,6 @@
 //! The events of one hart.
-ghost use Rattle.std.specs.Prelude.{◌≡◌, ◌+◌, IfOk};
-ghost use Rattle.task_trace.specs.Nesting.{Leaves, IsNested};
+ghost use Rattle.std.specs.Prelude.{◌≡◌, ◌+◌, Some, IfOk};
+ghost use Rattle.task_trace.specs.Nesting.{running_after, IsNested};
 
 use crate::error::TraceError;
 use std::alloc::Global;
@@ -22,7 +22,7 @@ pub(crate) struct HartEvents {
     running: u64,
     // Why an event is missing. No event is kept after that.
     fault: Option<TraceError>,
-    ghost nested: { Leaves 0 events.items running },
+    ghost nested: { running_after 0 events.items ≡ Some running },
 }
 
 impl HartEvents {

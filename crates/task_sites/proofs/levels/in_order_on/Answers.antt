@@ -1,4 +1,4 @@
-use Rattle.std.proofs.Common.{◌≡◌, ◌≤◌, ℕ, All, ap, arith, length, sym, subst}
+use Rattle.std.proofs.Common.{◌≤◌, ℕ, ap, arith, length, sym, subst}
 use Rattle.std.specs.Vec.Iter.{into_iter_items, into_iter_len}
 use Rattle.tasks.proofs.Rest.{one_more, first_of, others_of}
 use Rattle.task_sites.proofs.levels.in_order_on.Goals as goal
