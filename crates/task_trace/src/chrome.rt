@@ -51,17 +51,17 @@ fn write_hart<S: Serializer>(out: &mut S, hart: u64, events: &[Event]) -> Result
         (Grows (S.written out.old) (S.written out.new) (hart_members hart events.now)) }
 {
     'events: for event in events {
-        write_event(out, hart, *event)?;
+        write_event(out, hart, event)?;
     }
     Ok(())
 }
 
 // Writes an event of a hart.
-fn write_event<S: Serializer>(out: &mut S, hart: u64, event: Event) -> Result<(), S::Error>
+fn write_event<S: Serializer>(out: &mut S, hart: u64, event: &Event) -> Result<(), S::Error>
     ensures { OnOk result
-        (Grows (S.written out.old) (S.written out.new) (event_members hart event)) }
+        (Grows (S.written out.old) (S.written out.new) (event_members hart event.now)) }
 {
-    match event {
+    match *event {
         Event::Begin(site, nanos) => write_begin(out, hart, site, nanos),
         Event::End(nanos) => write_end(out, hart, nanos),
     }
