@@ -12,11 +12,11 @@ hart_append hart (e ∷ es) fs =
     ap (λ ms. event_members hart e ++ ms) (hart_append hart es fs) ∙ sym (append_assoc (event_members hart e) (hart_members hart es) (hart_members hart fs))
 
 -- one event more
-pub hart_more : (hart : ℕ) (es : List Event) (i : ℕ) (e : Event) → i < length es → e ≡ get_or es i e
-    → hart_members hart (take (i + 1) es) ≡ hart_members hart (take i es) ++ event_members hart e
-hart_more hart es i e lt is =
-    ap (hart_members hart) (take_more es i e lt ∙ ap (λ x. take i es ++ x ∷ []) (sym is))
-    ∙ (hart_append hart (take i es) (e ∷ []) ∙ ap (λ ms. hart_members hart (take i es) ++ ms) (append-nil (event_members hart e)))
+pub hart_more : (hart : ℕ) (es : List Event) (i : ℕ) (d : Event) → i < length es
+    → hart_members hart (take (i + 1) es) ≡ hart_members hart (take i es) ++ event_members hart (get_or es i d)
+hart_more hart es i d lt =
+    ap (hart_members hart) (take_more es i d lt)
+    ∙ (hart_append hart (take i es) (get_or es i d ∷ []) ∙ ap (λ ms. hart_members hart (take i es) ++ ms) (append-nil (event_members hart (get_or es i d))))
 
 members_append : (k : ℕ) (hs gs : List (Vec Event Global)) → members_from k (hs ++ gs) ≡ members_from k hs ++ members_from (k + length hs) gs
 members_append k [] gs = let e : k ≡ k + 0 = omega arith in ap (λ n. members_from n gs) e

@@ -50,8 +50,8 @@ fn write_hart<S: Serializer>(out: &mut S, hart: u64, events: &[Event]) -> Result
     ensures { OnOk result
         (Grows (S.written out.old) (S.written out.new) (hart_members hart events.now)) }
 {
-    'events: for event in events {
-        write_event(out, hart, event)?;
+    'events: for index in 0..events.len() {
+        write_event(out, hart, &events[index])?;
     }
     Ok(())
 }
