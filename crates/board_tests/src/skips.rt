@@ -2,7 +2,7 @@
 ghost use Rattle.std.specs.Prelude.{◌≡◌, ◌<◌, [], ◌∷◌, true, false, length};
 ghost use Rattle.transfer_table.specs.Plan.{site_count};
 ghost use Rattle.hart_port.specs.PortView.{is_in};
-ghost use Rattle.board_words.specs.Words.{width};
+ghost use Rattle.board_rule.specs.Encodings.{width};
 ghost use Rattle.board_rule.specs.Views.{fresh_view};
 ghost use Rattle.word_board.specs.Of.{IsOf};
 
