@@ -1,6 +1,6 @@
 //! What a hand does under the lock of its pool.
 ghost use Rattle.std.specs.Prelude.{◌≡◌, ◌+◌, ◌≤◌, ℕ, List, length, MatchOption};
-ghost use Rattle.work_agenda.specs.Agenda.{GivesReady};
+ghost use Rattle.sched_api.specs.Agenda.{GivesReady};
 ghost use Rattle.deque_rows.specs.Rows.{IsLevel, home_log, row_room};
 ghost use Rattle.forkjoin_sched.specs.declared.looks.Found.TheVariants.{HandedOut, Work};
 ghost use Rattle.forkjoin_sched.specs.Hands.{Sees, found_by, AnswersUnder, GivesReadyUnder, OffersUnder};

@@ -24,7 +24,7 @@ use std::collections::VecDeque;
 use std::marker::Model;
 use std::mem;
 use step_eval::{Nested, jobs_of};
-use work_agenda::{Agenda, MOST_WISHES};
+use sched_api::{Agenda, MOST_WISHES};
 
 /// What a callback of a team gives.
 #[derive(Drop)]

@@ -19,3 +19,7 @@ pub use wishes::Wishes;
 
 #[cfg(test)]
 mod tests;
+mod agenda;
+#[cfg(test)]
+mod agenda_tests;
+pub use agenda::{Agenda, MOST_WISHES};
