@@ -8,15 +8,15 @@
 //! protocol.
 #![tactic(auto)]
 
+mod entries;
 pub mod laws;
 mod layout;
 mod rule;
 mod view;
-mod entries;
 mod words;
 
+pub use entries::{Drawn, Ended};
 pub use layout::{Laid, Layout};
 pub use rule::BoardRule;
 pub use view::{Doing, Look, LookKind, Marks, View};
-pub use entries::{Drawn, Ended};
 pub use words::{GUEST, entry_of, word_of};

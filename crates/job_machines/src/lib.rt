@@ -3,12 +3,12 @@
 //! They are the same on one hart and on several. What they tell of the sites of their jobs serves a hart that keeps an account.
 #![tactic(auto)]
 
-mod machines;
-mod steps;
-pub mod planned_sites;
-pub mod site_passes;
-pub mod site_parts;
-pub mod piece_accounts;
 pub mod machine_accounts;
+mod machines;
+pub mod piece_accounts;
+pub mod planned_sites;
+pub mod site_parts;
+pub mod site_passes;
+mod steps;
 
 pub use machines::JobMachines;

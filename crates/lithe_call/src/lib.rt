@@ -18,9 +18,9 @@ mod pipe;
 mod reading;
 mod run;
 mod status;
+mod summing;
 mod tally;
 mod writing;
-mod summing;
 
 pub use audit::text_fault;
 pub use call::{lithe, no_form_for_words, no_memory_for_words};
@@ -30,5 +30,5 @@ pub use laws::told_bytes_are_served;
 pub use reading::{ReadError, read_all};
 pub use run::{refusal, syntax_fault};
 pub use status::{Status, constant_text};
-pub use writing::write_all;
 pub use summing::write_summary;
+pub use writing::write_all;

@@ -2,9 +2,9 @@
 ghost use Rattle.std.specs.Prelude.{◌≡◌};
 ghost use Rattle.lone_hart.specs.Sites.{wishes_inside};
 
+use sched_api::MOST_WISHES;
 use site_counts::sites_in_statement;
 use step_eval::Nested;
-use sched_api::MOST_WISHES;
 
 /// How many harts a site can ask for: all but its home.
 const WISHES_PER_SITE: u64 = 15;

@@ -18,4 +18,5 @@ pub use sure::{SureSink, SureSource};
 #[cfg(test)]
 mod tests;
 mod words;
+
 pub use words::{NoWords, words_of};

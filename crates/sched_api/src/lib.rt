@@ -17,9 +17,10 @@ pub use primitives::{
 pub use scheduler::{Lent, Next, Scheduler};
 pub use wishes::Wishes;
 
-#[cfg(test)]
-mod tests;
 mod agenda;
 #[cfg(test)]
 mod agenda_tests;
+#[cfg(test)]
+mod tests;
+
 pub use agenda::{Agenda, MOST_WISHES};

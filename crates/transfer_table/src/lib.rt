@@ -9,10 +9,10 @@ mod board;
 mod entries;
 mod entry;
 mod fault;
+pub mod guest_counts;
 pub mod laws;
 mod plan;
 pub mod site_accounts;
-pub mod guest_counts;
 
 pub use board::Board;
 pub use entries::Entries;
