@@ -9,11 +9,11 @@ use Rattle.array_eval.specs.declared.vars.Binding.{Binding}
 abbrev pub pair_of : Binding → List ℕ × ℤ
 pair_of binding = (binding.name, binding.value)
 
--- The pairs are those of each variable.
+-- The pairs of the variables.
 abbrev pub pairs_of : List Binding → Vars
 pairs_of bindings = map pair_of bindings
 
--- This is what is kept behind a pointer, and nothing where there is none.
+-- The elements behind a pointer; none if there is no pointer.
 abbrev pub kept_in : {X V Z : Type 0} → (V → List X) → Option (Arc V Z) → List X
 kept_in items None = []
 kept_in items (Some kept) = items (arc_value kept)

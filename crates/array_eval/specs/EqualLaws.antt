@@ -16,6 +16,7 @@ store_decides a b = slice_eq-Decides Decides-int_eq a b (store_eq a b) refl
 pub name_decides : (a b : List ℕ) → Decides (name_eq a b) (a ≡ b)
 name_decides a b = slice_eq-Decides Decides-eqb a b (name_eq a b) refl
 
+-- A name with a value, as a pair.
 abbrev pair : List ℕ → ℤ → List ℕ × ℤ
 pair name value = (name, value)
 

@@ -18,7 +18,7 @@ names_var (Read array index) var = names_var index var
 names_var (Neg e) var = names_var e var
 names_var (Binary op a b) var = names_var a var || names_var b var
 
--- What a turn leaves.
+-- The trace after one turn.
 abbrev pub after_turn : Arrays → Vars → FixedTurn → Trace → Trace
 after_turn arrays vars (Sets cell value) t =
     noted cell (value_of arrays vars (expression_of value.now) t.cells) t

@@ -1,4 +1,4 @@
--- What the evaluator's values stand for.
+-- The models of the evaluator's values.
 use Rattle.std.specs.Prelude.{ℕ, ℤ, List, [], ◌∷◌, ◌++◌, map, reverse}
 use Rattle.array_eval.specs.declared.scope.LoopVar.{LoopVar}
 use Rattle.array_eval.specs.declared.scope.Scope.{Scope, Outermost, Kept, Turn', Stack'}
@@ -8,11 +8,11 @@ use Rattle.array_meaning.specs.Stores.{Vars}
 abbrev pub loop_var : LoopVar → List ℕ × ℤ
 loop_var v = (v.name.now, v.value)
 
--- The variables lie one after another, the innermost last.
+-- The variables of a stack, the innermost last.
 abbrev pub stacked : List LoopVar → Vars
 stacked vars = reverse (map loop_var vars)
 
--- The scope has these loop variables around, the innermost first.
+-- The loop variables of a scope, the innermost first.
 abbrev pub vars_of : Scope → Vars
 vars_of Outermost = []
 vars_of (Kept vars) = vars.now

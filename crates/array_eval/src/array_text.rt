@@ -8,14 +8,17 @@ use crate::store::Store;
 use array_tree::{Name, Program};
 use std::alloc::{AllocError, Global};
 
-/// The array lines of a program's store: for each array its name, ` =`, and after a space each the decimal values of
-/// its cells.
+/// The array lines of a program's store: for each array its name, ` =`, and after a space each the decimal values of its cells.
 ///
-/// Each array must have a cell, and all at most 4,096; the store must have one value per cell.
+/// Each array must have a cell, and all arrays together at most 4,096. The store must have one value for each cell.
 ///
 /// # Errors
 ///
 /// `AllocError` if an allocation fails.
+///
+/// # Memory
+///
+/// It allocates the text.
 pub fn write_arrays(alloc: Global, program: &Program, store: &Store) -> Result<Vec<u8>, AllocError>
     requires sized { AreSized (arrays_of (declarations_of program.now.arrays)) }
     requires whole { length store.now ≡ cells_of (arrays_of (declarations_of program.now.arrays)) }

@@ -1,4 +1,4 @@
-//! Where arrays and indexes lead.
+//! The positions to which arrays and indexes lead.
 ghost use Rattle.std.specs.Prelude.{◌≡◌, ◌≤◌, ◌<◌, ◌^◌, List, [], ℤ};
 ghost use Rattle.array_tree.specs.Trees.{declarations_of, expression_of};
 ghost use Rattle.array_meaning.specs.Bounds.{most_cells};
@@ -8,7 +8,7 @@ use crate::layout::Layout;
 use crate::value::is_dynamic;
 use array_tree::{Arrays, Expr, Name};
 
-/// The cell that an index of an array leads to, where its value is `value`.
+/// The cell to which an index of an array leads, if its value is `value`.
 #[inline]
 pub(crate) fn cell(layout: &Layout, name: &Name, index: &Expr, value: i64) -> usize
     ensures { result ≡ cell_of layout.now name.now (is_dynamic (expression_of index.now)) value }
@@ -17,9 +17,9 @@ pub(crate) fn cell(layout: &Layout, name: &Name, index: &Expr, value: i64) -> us
     place.base + place_in(place.length, index, value)
 }
 
-// The place in an array of this length.
+// The position in an array of this length.
 //
-// Why: whether an index is dynamic is found by a walk through it, and matters only for a value outside the array.
+// Why: a walk through the index finds whether it is dynamic, which matters only for a value outside the array.
 #[inline]
 fn place_in(length: usize, index: &Expr, value: i64) -> usize
     requires some { 0 < length }
@@ -37,7 +37,7 @@ fn place_in(length: usize, index: &Expr, value: i64) -> usize
     }
 }
 
-/// How many cells the arrays have.
+/// The number of cells of the arrays.
 pub fn count_cells(arrays: &Arrays) -> usize
     requires { AreSized (arrays_of (declarations_of arrays.now)) }
     ensures { result ≡ cells_of (arrays_of (declarations_of arrays.now)) }
@@ -54,12 +54,12 @@ pub trait Cells {
     /// Their values.
     ghost values: { Self → List ℤ };
 
-    /// What a cell has, 0 behind the last.
+    /// The value of a cell; 0 after the last cell.
     fn read(&self, cell: usize) -> i64
         ensures { result ≡ at_cell (values self.now) cell };
 }
 
-/// No cell, for expressions that read none: each would be 0.
+/// No cells, for expressions that read none: each would be 0.
 #[derive(Clone, Copy, Debug, Drop)]
 pub struct NoCells;
 

@@ -9,7 +9,7 @@ use crate::page::CELLS;
 use std::alloc::{AllocError, Global};
 use std::marker::Model;
 
-/// The values of a page's cells as they are now, and which of them were written since it was copied.
+/// The values of a page's cells, and a mark for each that was written since the page was copied.
 ///
 /// Contracts see it as the list of values and the list of marks.
 #[derive(Debug, Drop)]
@@ -51,7 +51,7 @@ impl PageCopy {
         self.cells.as_slice()
     }
 
-    /// What a cell has.
+    /// The value of a cell.
     #[inline]
     pub(crate) fn get(&self, place: usize) -> i64
         requires { place < cells_on_page }
@@ -78,7 +78,7 @@ impl PageCopy {
         ensures whole { IsWhole self.old }
     {
         self.cells[place] = value;
-        // A mark that is set isn't written again, since what lies beside it may be another thread's.
+        // Why a mark that is set isn't written again: another thread may use the same cache line.
         let before = self.marks[place];
         if !before {
             self.marks[place] = true;
@@ -87,12 +87,12 @@ impl PageCopy {
     }
 }
 
-/// Copies of pages, each at the number of its page, and room for one of each page: so a page is copied without memory.
+/// Copies of pages, with a slot for each page and room for a copy of each: so copying a page does not allocate.
 ///
-/// Contracts see for each page its copy, where it has one.
+/// Contracts see for each page its copy, if it has one.
 #[derive(Debug, Drop)]
 pub(crate) struct Copies {
-    // For each page 0, or one more than the place of its copy.
+    // For each page 0, or one more than the index of its copy.
     slots: Vec<usize>,
     pages: Vec<PageCopy>,
 }
@@ -111,7 +111,7 @@ impl Model for Copies {
 }
 
 impl Copies {
-    /// No copy yet, of so many pages.
+    /// No copies, of so many pages.
     pub(crate) fn none(alloc: Global, count: usize) -> Result<Copies, AllocError>
         ensures { IfOk result (λ copies. copies ≡ replicate count None) }
     {
@@ -121,7 +121,7 @@ impl Copies {
         })
     }
 
-    /// The copy of a page, where it has one.
+    /// The copy of a page, if it has one.
     #[inline]
     pub(crate) fn get(&self, number: usize) -> Option<&PageCopy>
         requires { number < length self.now }
@@ -163,13 +163,13 @@ impl Copies {
     }
 }
 
-// Puts a page behind the others. There must be room for it.
+// Appends a page. There must be room for it.
 fn push_page(pages: &mut Vec<PageCopy>, page: PageCopy)
     requires { length pages.old.items < vec_capacity pages.old }
     ensures pages { pages.new.items ≡ pages.old.items ++ page ∷ [] }
     ensures room { vec_capacity pages.new ≡ vec_capacity pages.old }
 {
-    // A push isn't known to keep the room.
+    // Why: a push isn't known to keep the room.
     let end = pages.len();
     let _ = pages.insert(end, page);
 }

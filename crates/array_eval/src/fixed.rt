@@ -15,14 +15,15 @@ use crate::scope::Scope;
 use crate::value::{evaluate, is_dynamic};
 use array_tree::{Block, Expr, Name, Op, Stmt};
 
-/// How many turns a loop must have for its cell to be found beforehand.
+/// The least number of turns of a loop whose cell is computed before its first turn.
 ///
-/// Why: beforehand the index is walked up to four times, in a turn once or twice.
+/// Why: computing it before walks the index up to four times, in a turn once or twice.
 const LEAST_TURNS: i64 = 4;
 
-/// What each turn of a loop does, where the loop's body is one assignment to a cell that is the same in each turn.
+/// The turns of a loop whose body is one assignment, to a cell that is the same in each turn.
 ///
-/// Why: the cell is found once, before the first turn. A sum `x[e] = x[e] + v` would find its cell twice in each turn.
+/// Why: the cell is computed once, before the first turn. Otherwise a sum `x[e] = x[e] + v` computes its cell twice in each
+/// turn.
 #[derive(Clone, Copy, Debug, Drop)]
 pub(crate) enum FixedTurn<'s> {
     /// It writes a value to the cell.
@@ -142,7 +143,7 @@ fn names_var(expr: &Expr, var: &Name) -> bool
     }
 }
 
-// What a value adds to the cell of an index, if it is `array[index] + ..`.
+// The value that is added to the cell of an index, if the expression is `array[index] + ..`.
 fn added_to<'s>(array: &Name, index: &Expr, value: &'s Expr) -> Option<&'s Expr>
     ensures { IfSome result (λ right. expression_of value.now
         ≡ Binary op.Add (Read array.now (expression_of index.now)) (expression_of right.now)) }

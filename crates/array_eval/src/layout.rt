@@ -1,4 +1,4 @@
-//! Where the arrays of a program lie.
+//! The positions of a program's arrays.
 ghost use Rattle.std.specs.Prelude.{◌≡◌, ◌≤◌, ◌<◌, ◌+◌, IfOk, length, map, drop, replicate, unsigned_abs};
 ghost use Rattle.array_tree.specs.Trees.{declarations_of, declaration_of};
 ghost use Rattle.array_meaning.specs.Bounds.{most_cells};
@@ -10,10 +10,10 @@ use array_tree::{ArrayDecl, Arrays, Name};
 use std::alloc::{AllocError, Global};
 use std::marker::Model;
 
-/// How many slots there are.
+/// The number of slots.
 const SLOTS: usize = 256;
 
-/// Where an array lies: its place among the arrays, its first cell, and how many it has.
+/// The position of an array: its index among the arrays, its first cell, and its number of cells.
 #[derive(Clone, Copy, Debug, Drop)]
 pub struct Place {
     pub number: usize,
@@ -21,19 +21,20 @@ pub struct Place {
     pub length: usize,
 }
 
-// The first array in a slot: its place among the arrays, and its first cell.
+// The first array of a slot: its index among the arrays, and its first cell.
 #[derive(Clone, Copy, Debug, Drop)]
 struct First {
     number: u16,
     base: u16,
 }
 
-/// The arrays of a program, and where each is found: the first one of each slot of digests. Behind it the others are
-/// looked through, since names of one slot may differ: names chosen to collide cost a look at each declaration.
+/// The arrays of a program, and the first array of each slot of digests. After the slot's first array, the others are searched
+/// one by one, since names of one slot may differ. So with names chosen to collide, a search compares with each declaration.
 ///
 /// The table has 1 KB and is made in one pass. Why each job makes its own: a job's public fields have the arrays alone.
 ///
-/// Contracts see a layout as the arrays. Its type keeps that each array has a cell, and all at most 4,096.
+/// Contracts see a layout as the arrays. The type's invariant: each array has a cell, and all arrays together have at most
+/// 4,096.
 #[derive(Debug, Drop)]
 pub struct Layout<'p> {
     arrays: &'p Arrays,
@@ -60,11 +61,15 @@ impl<'p> Model for Layout<'p> {
 }
 
 impl<'p> Layout<'p> {
-    /// The layout of these arrays. Each must have a cell, and all at most 4,096.
+    /// The layout of these arrays. Each must have a cell, and all together at most 4,096.
     ///
     /// # Errors
     ///
     /// `AllocError` if an allocation fails.
+    ///
+    /// # Memory
+    ///
+    /// It allocates 1 KB.
     pub fn new(alloc: Global, arrays: &'p Arrays) -> Result<Layout<'p>, AllocError>
         requires { AreSized (arrays_of (declarations_of arrays.now)) }
         ensures { IfOk result (λ layout. layout ≡ arrays_of (declarations_of arrays.now)) }
@@ -83,7 +88,7 @@ impl<'p> Layout<'p> {
         })
     }
 
-    /// Where the array of a name lies. Where there is none, it is one cell behind the others.
+    /// The position of the array with a name. If there is none, it is one cell after the others.
     pub fn place_of(&self, name: &Name) -> Place
         ensures number { result.number ≡ number_of self.now name.now }
         ensures base { result.base ≡ base_of self.now name.now }
@@ -105,14 +110,14 @@ impl<'p> Layout<'p> {
         self.arrays
     }
 
-    /// How many arrays there are.
+    /// The number of arrays.
     pub fn count(&self) -> usize
         ensures { result ≡ length self.now }
     {
         self.arrays.declarations.len()
     }
 
-    /// How many cells the arrays have.
+    /// The number of cells of the arrays.
     pub fn cells(&self) -> usize
         ensures cells { result ≡ cells_of self.now }
         ensures small { result ≤ most_cells }
@@ -144,14 +149,14 @@ fn declared_from(declarations: &[ArrayDecl], from: usize) -> &[ArrayDecl]
     &declarations[from..]
 }
 
-// How many cells an array has.
+// The number of cells of an array.
 fn cells_in(array: &ArrayDecl) -> usize
     ensures { result ≡ unsigned_abs array.now.length }
 {
     array.length.unsigned_abs() as usize
 }
 
-// Where the array of a name lies among declarations, before which come those of a slot's first array.
+// The position of the array with a name among declarations. The arrays before a slot's first array come before them.
 fn place_among(declarations: &[ArrayDecl], name: &Name, first: First) -> Place
     requires each { HaveCells (arrays_of (map declaration_of declarations.now)) }
     requires whole { first.base
@@ -187,7 +192,7 @@ fn place_among(declarations: &[ArrayDecl], name: &Name, first: First) -> Place
     }
 }
 
-// Puts each array into its slot, the last one first: what comes earlier takes its place.
+// Puts each array into its slot, the last one first, so that an earlier array replaces a later one.
 fn put_firsts(declarations: &[ArrayDecl], cells: u16, firsts: &mut [First])
     requires cells { cells ≡ cells_of (arrays_of (map declaration_of declarations.now)) }
     requires count { length declarations.now ≤ most_cells }

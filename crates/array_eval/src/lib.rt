@@ -1,7 +1,7 @@
-//! The one-thread evaluator of the array language: stores, what a program leaves in them, and what was written apart.
+//! The one-thread evaluator of the array language: stores, the store that a program leaves, and overlays of written cells.
 //!
 //! `run_one` runs a whole program, and jobs run their works on the same stores. Begin with `run_one` in `run.rt`, then `Store`
-//! and `MarkedStore`; the tests of `language_tests` run programs by it.
+//! and `MarkedStore`; the tests of `language_tests` run programs with it.
 #![tactic(auto)]
 
 mod array_text;

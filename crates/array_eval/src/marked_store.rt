@@ -1,4 +1,4 @@
-//! Stores that know which of their cells were written.
+//! Stores with a mark for each written cell.
 ghost use Rattle.std.specs.Prelude.{◌≡◌, ◌+◌, ◌*◌, ◌<◌, ◌≤◌, All, IfOk, IsSome, None, [], true, length, slice_index_or, slice_set};
 ghost use Rattle.array_meaning.specs.Pieces.{lays, last_writes};
 ghost use Rattle.array_meaning.specs.Stores.{at_cell};
@@ -15,18 +15,18 @@ use crate::store::Store;
 use std::alloc::{AllocError, Global};
 use std::marker::Model;
 
-/// The value of each cell, and which of the cells were written since it was made.
+/// The value of each cell, and a mark for each cell that was written since the marked store was made.
 ///
-/// It reads the pages of the store that it was made from, and copies a page at the first write to it, into room that it has.
-/// Contracts see it as the list of values and the list of marks.
+/// It reads the pages of the store that it was made from. At the first write to a page it copies the page, into room that it
+/// has. Contracts see it as the list of values and the list of marks.
 #[derive(Debug, Drop)]
 pub struct MarkedStore {
     count: usize,
     copies: Copies,
-    // How many cells are marked.
+    // The number of marked cells.
     marked: usize,
-    // The store that was taken last, at first what it was made from, and which of its pages were written since: the next
-    // store that is taken shares the others.
+    // The store that was taken last (at first the store that this one was made from), with a flag for each page that was
+    // written since. The next store that is taken shares the other pages.
     start: Store,
     changed: Vec<bool>,
 }
@@ -48,11 +48,15 @@ impl Model for MarkedStore {
 }
 
 impl MarkedStore {
-    /// What a store has, of which no cell is written yet. No cell is copied.
+    /// A marked store with the values of a store, no cell of which is marked. It copies no cell.
     ///
     /// # Errors
     ///
     /// `AllocError` if an allocation fails.
+    ///
+    /// # Memory
+    ///
+    /// It allocates the slots, and room for a copy of each page.
     pub fn new(alloc: Global, store: &Store) -> Result<MarkedStore, AllocError>
         ensures { IfOk result (λ marked. marked ≡ fresh store.now) }
     {
@@ -69,14 +73,14 @@ impl MarkedStore {
         })
     }
 
-    /// How many cells there are.
+    /// The number of cells.
     pub fn count(&self) -> usize
         ensures { result ≡ length self.now.cells }
     {
         self.count
     }
 
-    /// What a cell has, 0 behind the last.
+    /// The value of a cell; 0 after the last cell.
     #[inline]
     pub fn read(&self, cell: usize) -> i64
         ensures { result ≡ at_cell self.now.cells cell }
@@ -91,7 +95,7 @@ impl MarkedStore {
         }
     }
 
-    /// Writes a cell, if it is there. It does not allocate.
+    /// Writes a cell, if it exists. Does not allocate.
     #[inline]
     pub(crate) fn write(&mut self, cell: usize, value: i64)
         ensures { self.new ≡ noted cell value self.old }
@@ -105,28 +109,33 @@ impl MarkedStore {
         }
     }
 
-    /// Writes an overlay's cells, those that are there, and marks them. It does not allocate, and takes time for the pairs alone.
+    /// Writes and marks the cells of an overlay, those that exist. Does not allocate, and takes time in proportion to the
+    /// pairs.
     ///
-    /// So pieces are merged: where all cells are there, the overlay is laid over what is marked, and its values win. Books cite
-    /// the clause `laid`.
+    /// So pieces are merged: if all cells exist, the overlay is laid over the marked cells, and its values win. The proofs of
+    /// books use the clause `laid`.
     pub fn merge(&mut self, written: &Overlay)
         ensures noted { self.new ≡ noted_all written.now.pairs self.old }
         ensures laid { All (λ pair. pair.0 < length self.old.cells) written.now.pairs
             → marked self.new ≡ lays written.now.pairs (marked self.old) }
     {
-        // What the type keeps of a store is known where a field of it is seen.
+        // Why: reading a field makes the store's invariant known.
         let _ = &self.count;
         for (cell, value) in written.pairs() {
             self.write(usize::from(*cell), *value);
         }
     }
 
-    /// A store of these values. It shares with the one that was taken before, or else with the one that this was made
-    /// from, each page of which no cell was written since.
+    /// A store of these values. It shares each page of which no cell was written since the store was taken that was taken last,
+    /// or else since this one was made.
     ///
     /// # Errors
     ///
     /// `AllocError` if an allocation fails.
+    ///
+    /// # Memory
+    ///
+    /// It allocates a list of pages, and each page with a written cell.
     pub fn to_store(&mut self, alloc: Global) -> Result<Store, AllocError>
         ensures values { IfOk result (λ store. store ≡ self.old.cells) }
         ensures same { self.new ≡ self.old }
@@ -137,12 +146,16 @@ impl MarkedStore {
         Ok(store)
     }
 
-    /// The cells that were written, each with its value. There must be at most 65,535 cells, since an overlay counts its room in
-    /// 16 bits. Stores of programs have at most 4,096.
+    /// The written cells, each with its value. There must be at most 65,535 cells, since an overlay counts its room in 16 bits.
+    /// Stores of programs have at most 4,096.
     ///
     /// # Errors
     ///
     /// `AllocError` if an allocation fails.
+    ///
+    /// # Memory
+    ///
+    /// It allocates a pair for each written cell.
     pub fn written(&self, alloc: Global) -> Result<Overlay, AllocError>
         requires { length self.now.cells < cell_numbers }
         ensures { IfOk result (λ overlay. overlay.pairs ≡ last_writes (marked self.now)) }
@@ -152,8 +165,8 @@ impl MarkedStore {
         Ok(overlay)
     }
 
-    /// Lays the cells that were written, each with its value, into an overlay of no cell. It does not allocate, and makes one
-    /// pass over the pages that were written.
+    /// Lays the written cells, each with its value, into an empty overlay. Does not allocate, and makes one pass over the
+    /// written pages.
     ///
     /// The overlay must have room for as many pairs as there are cells, and there must be at most 65,535 cells.
     pub fn lay_written(&self, overlay: &mut Overlay)
@@ -162,7 +175,7 @@ impl MarkedStore {
         requires room { length self.now.cells ≤ overlay.old.room }
         ensures { overlay.new.pairs ≡ last_writes (marked self.now) }
     {
-        // As in `merge`.
+        // Why: as in `merge`.
         let _ = &self.count;
         self.lay_marked(overlay);
     }
@@ -179,7 +192,7 @@ impl MarkedStore {
         }
     }
 
-    // Lays the cells of a page that are marked, where those before it are laid. A page with no copy has none.
+    // Lays the marked cells of a page, after those of the pages before it. A page without a copy has none.
     fn lay_page(&self, number: usize, overlay: &mut Overlay)
         requires small { length self.now.cells < cell_numbers }
         requires there { number < pages_for (length self.now.cells) }
@@ -221,7 +234,7 @@ fn copy_page(start: &Store, number: usize, copies: &mut Copies)
     }
 }
 
-// Sets a flag. One that is set isn't written again, since what lies beside it may be another thread's.
+// Sets a flag. Why a flag that is set isn't written again: another thread may use the same cache line.
 #[inline]
 fn flag(flags: &mut Vec<bool>, number: usize)
     requires { number < length flags.old.items }

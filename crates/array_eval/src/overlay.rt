@@ -8,7 +8,7 @@ use std::marker::Model;
 
 /// Pairs of a cell and a value, with rising cells.
 ///
-/// Contracts see an overlay as its `pairs`, and beside them its `room`: so many pairs fit without memory.
+/// Contracts see an overlay as its `pairs` and its `room`: so many pairs fit without an allocation.
 #[derive(Debug, Drop)]
 pub struct Overlay {
     pairs: Vec<(u16, i64)>,
@@ -27,7 +27,7 @@ impl Model for Overlay {
 }
 
 impl Overlay {
-    /// An overlay of no cell, with no room. It does not allocate.
+    /// An overlay of no cell, with no room. Does not allocate.
     pub fn empty(alloc: Global) -> Overlay
         ensures pairs { result.pairs ≡ [] }
         ensures room { result.room ≡ 0 }
@@ -37,11 +37,15 @@ impl Overlay {
         }
     }
 
-    /// An overlay of no cell, with room for so many.
+    /// An overlay of no cell, with room for `room` pairs.
     ///
     /// # Errors
     ///
     /// `AllocError` if an allocation fails.
+    ///
+    /// # Memory
+    ///
+    /// It allocates the room.
     pub fn roomy(alloc: Global, room: u16) -> Result<Overlay, AllocError>
         ensures pairs { IfOk result (λ overlay. overlay.pairs ≡ []) }
         ensures room { IfOk result (λ overlay. overlay.room ≡ room) }
@@ -51,7 +55,15 @@ impl Overlay {
         })
     }
 
-    /// Lays one more pair, in the place of an earlier one of its cell. If an allocation fails, the pairs stay.
+    /// Adds one more pair; an earlier pair of the same cell is replaced.
+    ///
+    /// # Errors
+    ///
+    /// `AllocError` if an allocation fails. The pairs are then unchanged, and they had no room for the cell.
+    ///
+    /// # Memory
+    ///
+    /// It allocates if the room is used up.
     #[tactic(auto, using(array_meaning::proofs::LastLemmas::rising_lay))]
     pub fn put(&mut self, cell: u16, value: i64) -> Result<(), AllocError>
         ensures ok { OnOk result (self.new.pairs ≡ lay cell value self.old.pairs) }
@@ -62,9 +74,9 @@ impl Overlay {
         put_pair(&mut self.pairs, cell, value)
     }
 
-    /// Lays one more pair as `put` does, keeps the room and does not allocate.
+    /// Adds one more pair as `put` does, into room that it has. Does not allocate.
     ///
-    /// The cell must be in the list, or the list shorter than the room.
+    /// The list must have the cell, or be shorter than the room.
     #[tactic(auto, using(array_meaning::proofs::LastLemmas::rising_lay))]
     pub fn lay(&mut self, cell: u16, value: i64)
         requires { HasRoom cell self.old.pairs self.old.room }
@@ -74,7 +86,7 @@ impl Overlay {
         let _ = put_pair(&mut self.pairs, cell, value);
     }
 
-    /// Lays a pair behind all others. It allocates nothing and searches nothing.
+    /// Appends a pair. Neither allocates nor searches.
     #[tactic(auto, using(crate::proofs::OverlayLemmas::lay_last, crate::proofs::OverlayLemmas::rising_last))]
     pub(crate) fn append(&mut self, cell: u16, value: i64)
         requires last { All (λ pair. pair.0 < cell) self.old.pairs }
@@ -85,7 +97,7 @@ impl Overlay {
         push_pair(&mut self.pairs, cell, value);
     }
 
-    /// Gives back the room that no pair has. The pairs stay.
+    /// Frees the room that no pair uses. The pairs are unchanged.
     pub fn shrink_to_fit(&mut self)
         ensures pairs { self.new.pairs ≡ self.old.pairs }
         ensures room { self.new.room ≤ self.old.room }
@@ -111,7 +123,7 @@ impl Overlay {
     }
 }
 
-// How many pairs have a smaller cell.
+// The number of pairs with a smaller cell.
 #[tactic(auto, using(crate::proofs::OverlayLemmas::place_after, crate::proofs::OverlayLemmas::place_before, crate::proofs::OverlayLemmas::place_within))]
 fn place(pairs: &[(u16, i64)], cell: u16) -> usize
     requires { IsRising pairs.now }
@@ -131,7 +143,7 @@ fn place(pairs: &[(u16, i64)], cell: u16) -> usize
     low
 }
 
-// Whether the pair at a place is that of a cell.
+// Whether the pair at an index belongs to a cell.
 fn is_there(pairs: &[(u16, i64)], place: usize, cell: u16) -> bool
     ensures { IsTrue result ↔ (place < length pairs.now)
         × ((slice_index_or pairs.now place (0, pos 0)).0 ≡ cell) }
@@ -139,7 +151,7 @@ fn is_there(pairs: &[(u16, i64)], place: usize, cell: u16) -> bool
     place < pairs.len() && pairs[place].0 == cell
 }
 
-// Where the pair of a cell stands, or else where it would stand.
+// The index of a cell's pair, or else the index at which the pair would be.
 fn find(pairs: &[(u16, i64)], cell: u16) -> Result<usize, usize>
     requires { IsRising pairs.now }
     ensures there { IfOk result (StandsAt cell pairs.now) }
@@ -153,7 +165,7 @@ fn find(pairs: &[(u16, i64)], cell: u16) -> Result<usize, usize>
     }
 }
 
-// Lays one more pair. Only where there is no room, and the cell isn't in the list, memory is taken.
+// Adds one more pair. Allocates only if there is no room and the cell isn't in the list.
 fn put_pair(pairs: &mut Vec<(u16, i64)>, cell: u16, value: i64) -> Result<(), AllocError>
     requires { IsRising pairs.old.items }
     ensures ok { OnOk result (pairs.new.items ≡ lay cell value pairs.old.items) }
@@ -175,14 +187,14 @@ fn put_pair(pairs: &mut Vec<(u16, i64)>, cell: u16, value: i64) -> Result<(), Al
     }
 }
 
-// Puts a pair behind the others. There must be room for it.
+// Appends a pair. There must be room for it.
 #[tactic(auto, using(std::proofs::lemmas::List::Edits::insert_end))]
 fn push_pair(pairs: &mut Vec<(u16, i64)>, cell: u16, value: i64)
     requires { length pairs.old.items < vec_capacity pairs.old }
     ensures pairs { pairs.new.items ≡ pairs.old.items ++ (cell, value) ∷ [] }
     ensures room { vec_capacity pairs.new ≡ vec_capacity pairs.old }
 {
-    // A push isn't known to keep the room.
+    // Why: a push isn't known to keep the room.
     let end = pairs.len();
     let _ = pairs.insert(end, (cell, value));
 }

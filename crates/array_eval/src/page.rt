@@ -1,5 +1,5 @@
 //! Pages of cells, which several stores can share.
-ghost use Rattle.std.specs.Prelude.{◌≡◌, ◌<◌, ◌≤◌, IfOk, OnOk, OnErr, length, replicate, pos};
+ghost use Rattle.std.specs.Prelude.{◌≡◌, ◌<◌, ◌≤◌, IfOk, OnOk, OnErr, length, pos};
 ghost use Rattle.array_meaning.specs.Stores.{at_cell, written};
 ghost use Rattle.array_eval.specs.Equal.{store_eq};
 ghost use Rattle.array_eval.specs.Pages.{cells_on_page, padded};
@@ -8,10 +8,10 @@ use std::alloc::{AllocError, Global};
 use std::marker::Model;
 use std::sync::Arc;
 
-/// How many cells a page has.
+/// The number of cells of a page.
 pub(crate) const CELLS: usize = 64;
 
-/// The values of so many cells. A copy shares them until one of the two is written.
+/// The values of the cells of a page. A copy shares them until one of the two is written.
 ///
 /// Contracts see a page as the list of its values.
 #[derive(Debug, Drop)]
@@ -32,7 +32,7 @@ impl Model for Page {
 }
 
 impl Page {
-    /// A page of these cells, with zeros behind them. There must be no more than a page has.
+    /// A page of these cells, followed by zeros. There must be at most as many cells as a page has.
     #[tactic(auto, using(crate::proofs::PageLemmas::zeros_behind))]
     pub(crate) fn new(alloc: Global, cells: &[i64]) -> Result<Page, AllocError>
         requires { length cells.now ≤ cells_on_page }
@@ -54,7 +54,7 @@ impl Page {
         })
     }
 
-    /// What a cell has.
+    /// The value of a cell.
     pub(crate) fn get(&self, cell: usize) -> i64
         requires { cell < cells_on_page }
         ensures { result ≡ at_cell self.now cell }
@@ -70,7 +70,7 @@ impl Page {
         self.cells.as_slice()
     }
 
-    /// Writes a cell: in place if no copy shares the page, and else in a copy of its own.
+    /// Writes a cell, in place if no copy shares the page, and otherwise in a copy of its own.
     pub(crate) fn put(&mut self, alloc: Global, cell: usize, value: i64) -> Result<(), AllocError>
         requires { cell < cells_on_page }
         ensures written { OnOk result (self.new ≡ written self.old cell value) }
@@ -103,7 +103,7 @@ impl PartialEq for Page {
     }
 }
 
-// Whether two pages have the same cells. It looks at them all, and doesn't end at the first that differ: so a compiler can
+// Whether two pages have the same cells. Why it compares all cells, and doesn't end at the first that differ: so a compiler can
 // compare several at once.
 fn are_same(a: &[i64], b: &[i64]) -> bool
     requires a { length a.now ≡ cells_on_page }

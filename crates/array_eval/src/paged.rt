@@ -1,5 +1,5 @@
 //! Cells on pages.
-ghost use Rattle.std.specs.Prelude.{◌≡◌, ◌↔◌, ◌*◌, ◌<◌, ◌≤◌, IsTrue, false, IfOk, OnOk, OnErr, length, replicate, take, drop, pos};
+ghost use Rattle.std.specs.Prelude.{◌≡◌, ◌↔◌, ◌*◌, ◌<◌, ◌≤◌, IsTrue, false, IfOk, OnOk, OnErr, length, replicate, take, pos};
 ghost use Rattle.array_meaning.specs.Stores.{at_cell, written};
 ghost use Rattle.array_eval.specs.Equal.{store_eq};
 ghost use Rattle.array_eval.specs.Copies.{over_store};
@@ -31,7 +31,7 @@ impl Model for Paged {
 }
 
 impl Paged {
-    /// So many cells, each 0.
+    /// `cells` cells, each 0.
     pub(crate) fn zero(alloc: Global, cells: u16) -> Result<Paged, AllocError>
         ensures { IfOk result (λ paged. paged ≡ replicate cells (pos 0)) }
     {
@@ -43,7 +43,7 @@ impl Paged {
         })
     }
 
-    /// What a cell has.
+    /// The value of a cell.
     #[inline]
     pub(crate) fn get(&self, cell: usize) -> i64
         requires { cell < length self.now }
@@ -52,14 +52,14 @@ impl Paged {
         self.pages[cell / CELLS].get(cell % CELLS)
     }
 
-    /// How many cells it has.
+    /// The number of cells.
     pub(crate) fn count(&self) -> usize
         ensures { result ≡ length self.now }
     {
         self.count
     }
 
-    /// The cells of a page, with any behind the last cell.
+    /// The cells of a page, including those after the last cell of the store.
     pub(crate) fn page(&self, number: usize) -> &[i64]
         requires { number < pages_for (length self.now) }
         ensures whole { length result.now ≡ cells_on_page }
@@ -88,7 +88,7 @@ impl Paged {
         })
     }
 
-    /// What is seen over this, on the pages of this where they aren't marked as changed.
+    /// The values of the copies over these cells. Pages that aren't marked as changed are shared.
     pub(crate) fn changed_to(
         &self,
         alloc: Global,
@@ -105,7 +105,7 @@ impl Paged {
         })
     }
 
-    // The pages of what is seen over this, of which those that aren't marked as changed are the same.
+    // The pages of these values. Those that aren't marked as changed are the same.
     fn lay_out(
         &self,
         alloc: Global,
@@ -125,7 +125,7 @@ impl Paged {
         Ok(pages)
     }
 
-    // A page of what is seen over this.
+    // One page of these values.
     fn page_over(
         &self,
         alloc: Global,
@@ -186,7 +186,7 @@ fn has_same_cells(a: &Paged, b: &Paged) -> bool
     a.count == b.count && a.pages == b.pages
 }
 
-// So many times the same page.
+// The same page `count` times.
 fn repeat(alloc: Global, page: &Page, count: usize) -> Result<Vec<Page>, AllocError>
     ensures { IfOk result (λ pages. pages.items ≡ replicate count page.now) }
 {

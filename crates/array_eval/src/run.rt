@@ -16,14 +16,18 @@ use crate::value::evaluate;
 use array_tree::{Block, Blocks, Expr, Name, Program, Stmt};
 use std::alloc::{AllocError, Global};
 
-/// The store that a program ends with on one thread, branches from left to right and phases one after another.
+/// The store with which a program ends on one thread, branches from left to right and phases one after another.
 ///
-/// Each array must have a cell, and all at most 4,096. That the names are known and the indexes inside their arrays
-/// is not needed: a read behind the last cell gives 0, and a write there does nothing.
+/// Each array must have a cell, and all arrays together at most 4,096. The names needn't be known, nor the indexes inside their
+/// arrays: a read after the last cell returns 0, and a write there does nothing.
 ///
 /// # Errors
 ///
 /// `AllocError` if an allocation fails.
+///
+/// # Memory
+///
+/// It allocates the layout, and a store with a copy of each written page.
 #[tactic(auto, using(array_meaning::proofs::StepLemmas::length_after, crate::proofs::TraceLemmas::cells_after))]
 pub fn run_one(alloc: Global, program: &Program) -> Result<Store, AllocError>
     requires { AreSized (arrays_of (declarations_of program.now.arrays)) }
@@ -54,7 +58,7 @@ pub fn run_block<'s>(
     }
 }
 
-/// Runs an assignment: index and value are computed, and then the cell is written.
+/// Runs an assignment: computes index and value, and then writes the cell.
 pub fn run_assign(
     layout: &Layout,
     array: &Name,
@@ -142,7 +146,7 @@ pub fn run_loop<'s>(
     }
 }
 
-// Runs the turns of a loop, each as its body is written.
+// Runs the turns of a loop, each as its body.
 #[cycle(run)]
 fn run_turns<'s>(
     layout: &Layout,

@@ -14,13 +14,13 @@ pub struct LoopVar<'s> {
     pub value: i64,
 }
 
-/// The loop variables around a place in a program, the innermost first. A loop's turn makes one on the stack, and
-/// copies neither a name nor the variables around it, so it allocates nothing.
+/// The loop variables around a position in a program, the innermost first. A loop's turn makes one on the stack, and copies
+/// neither a name nor the variables around it, so it does not allocate.
 #[derive(Drop)]
 pub enum Scope<'s> {
     /// No loop is around.
     Outermost,
-    /// Variables that are kept are around, and no other loop.
+    /// Kept variables are around, and no other loop.
     Kept(&'s Vars),
     /// A loop, and the value of its variable in this turn.
     Turn {
@@ -28,7 +28,7 @@ pub enum Scope<'s> {
         value: i64,
         outer: &'s Scope<'s>,
     },
-    /// Loops whose variables lie one after another, the innermost last.
+    /// Loops whose variables are in a list, the innermost last.
     Stack {
         vars: &'s [LoopVar<'s>],
         outer: &'s Scope<'s>,
@@ -36,7 +36,7 @@ pub enum Scope<'s> {
 }
 
 impl Scope<'_> {
-    /// The value of a variable, 0 where there is none of the name.
+    /// The value of a variable, 0 if no variable has the name.
     #[tactic(auto, using(crate::proofs::ScopeLemmas::bound_or_zero, crate::proofs::ScopeLemmas::bound_inside, crate::proofs::ScopeLemmas::bound_outside))]
     pub fn get(&self, name: &Name) -> i64
         ensures { result ≡ var_of (vars_of self.now) name.now }

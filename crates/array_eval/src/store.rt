@@ -14,12 +14,12 @@ use std::sync::Arc;
 
 /// The value of each cell. The cells of the arrays are numbered from 0 in order of declaration.
 ///
-/// Contracts see a store as the list of its values. A copy shares them all until one of the two is written, and then
-/// each page of cells in which nothing is written.
+/// Contracts see a store as the list of its values. A copy shares them all until one of the two is written, and then each page
+/// without a write.
 #[derive(Debug, Drop)]
 pub struct Store {
     alloc: Global,
-    // Why the list of pages is behind an `Arc`, as each page is: a copy costs the same for a store of any size.
+    // Why the list of pages is behind an `Arc`, as each page is: copying costs the same for a store of any size.
     paged: Arc<Paged>,
 }
 
@@ -33,11 +33,15 @@ impl Model for Store {
 }
 
 impl Store {
-    /// A store of so many cells, each 0.
+    /// A store of `cells` cells, each 0.
     ///
     /// # Errors
     ///
     /// `AllocError` if an allocation fails.
+    ///
+    /// # Memory
+    ///
+    /// It allocates one page and a list of pages.
     pub fn zero(alloc: Global, cells: u16) -> Result<Store, AllocError>
         ensures { IfOk result (λ store. store ≡ replicate cells (pos 0)) }
     {
@@ -47,7 +51,7 @@ impl Store {
         })
     }
 
-    /// What a cell has.
+    /// The value of a cell. The cell must exist.
     pub fn get(&self, cell: u16) -> i64
         requires { cell < length self.now }
         ensures { result ≡ at_cell self.now cell }
@@ -64,14 +68,14 @@ impl Store {
         self.paged.get(cell)
     }
 
-    /// How many cells it has.
+    /// The number of cells.
     pub(crate) fn count(&self) -> usize
         ensures { result ≡ length self.now }
     {
         self.paged.count()
     }
 
-    /// The cells of a page, with any behind the last cell.
+    /// The cells of a page, including those after the last cell of the store.
     pub(crate) fn page(&self, number: usize) -> &[i64]
         requires { number < pages_for (length self.now) }
         ensures whole { length result.now ≡ cells_on_page }
@@ -80,7 +84,15 @@ impl Store {
         self.paged.page(number)
     }
 
-    /// Writes a cell, in place if no copy shares the list of pages or the page. If an allocation fails, nothing changes.
+    /// Writes a cell, in place if no copy shares the list of pages or the page. The cell must exist.
+    ///
+    /// # Errors
+    ///
+    /// `AllocError` if an allocation fails. The store is then unchanged.
+    ///
+    /// # Memory
+    ///
+    /// It allocates a list of pages and a page, each only if a copy shares it or it doesn't exist yet.
     pub fn put(&mut self, cell: u16, value: i64) -> Result<(), AllocError>
         requires { cell < length self.old }
         ensures written { OnOk result (self.new ≡ written self.old cell value) }
@@ -97,7 +109,11 @@ impl Store {
         }
     }
 
-    /// An equal store. It allocates nothing of its own.
+    /// An equal store, which shares the pages with this one.
+    ///
+    /// # Errors
+    ///
+    /// `AllocError`, as the contract allows. This implementation does not allocate.
     pub fn copy(&self) -> Result<Store, AllocError>
         ensures { IfOk result (λ store. store ≡ self.now) }
     {
@@ -107,11 +123,15 @@ impl Store {
         })
     }
 
-    /// The store after an overlay's cells are written. Each of them must be there.
+    /// The store after an overlay's cells are written. Each of them must exist.
     ///
     /// # Errors
     ///
     /// `AllocError` if an allocation fails.
+    ///
+    /// # Memory
+    ///
+    /// It allocates a list of pages, and each page that it writes.
     #[tactic(auto, using(array_meaning::proofs::StepLemmas::length_after))]
     pub fn with(&self, written: &Overlay) -> Result<Store, AllocError>
         requires { All (λ pair. pair.0 < length self.now) written.now.pairs }
@@ -123,8 +143,15 @@ impl Store {
         Ok(store)
     }
 
-    /// Writes an overlay's cells. Each of them must be there. The new store is made first, so if an allocation fails, nothing
-    /// changes.
+    /// Writes an overlay's cells. Each of them must exist.
+    ///
+    /// # Errors
+    ///
+    /// `AllocError` if an allocation fails. The store is then unchanged, because the new store is made first.
+    ///
+    /// # Memory
+    ///
+    /// It allocates a list of pages, and each page that it writes.
     pub fn merge(&mut self, written: &Overlay) -> Result<(), AllocError>
         requires { All (λ pair. pair.0 < length self.old) written.now.pairs }
         ensures merged { OnOk result (self.new ≡ after written.now.pairs self.old) }
@@ -135,7 +162,7 @@ impl Store {
         Ok(())
     }
 
-    /// A store of what is seen over this one. It shares each page of this one that isn't marked as changed.
+    /// A store of the values of copies over this one. It shares each page of this one that isn't marked as changed.
     pub(crate) fn changed_to(
         &self,
         alloc: Global,

@@ -1,4 +1,4 @@
-//! What expressions give.
+//! The values of expressions.
 ghost use Rattle.std.specs.Prelude.{◌≡◌};
 ghost use Rattle.array_tree.specs.Trees.{expression_of};
 ghost use Rattle.array_meaning.specs.Stores.{is_dynamic, value_of};
@@ -31,7 +31,7 @@ pub fn evaluate<C: Cells>(layout: &Layout, expr: &Expr, scope: &Scope, cells: &C
     }
 }
 
-/// Whether an index holds an array read.
+/// Whether an index contains an array read.
 pub fn is_dynamic(index: &Expr) -> bool
     ensures { result ≡ is_dynamic (expression_of index.now) }
 {
@@ -43,7 +43,7 @@ pub fn is_dynamic(index: &Expr) -> bool
     }
 }
 
-// What an operator gives.
+// The value of an operator.
 fn apply(op: Op, a: i64, b: i64) -> i64
     ensures { result ≡ applied op a b }
 {

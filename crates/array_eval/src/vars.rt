@@ -11,13 +11,13 @@ use std::alloc::{AllocError, Global};
 use std::marker::Model;
 use std::sync::Arc;
 
-/// The loop variables around a place in a program, with their values.
+/// The loop variables around a position in a program, with their values.
 ///
 /// Contracts see them as a list of pairs of a name and a value, the innermost loop's first. A copy shares them all.
 #[derive(Debug, Drop)]
 pub struct Vars {
     alloc: Global,
-    // Copies share them. Where there are none, nothing is kept.
+    // Copies share the bindings. `None` if there are no variables.
     bindings: Option<Arc<Vec<Binding>>>,
 }
 
@@ -38,7 +38,7 @@ impl Model for Vars {
 }
 
 impl Vars {
-    /// No loop variable. It does not allocate.
+    /// No loop variable. Does not allocate.
     pub fn empty(alloc: Global) -> Vars
         ensures { result ≡ [] }
     {
@@ -53,6 +53,10 @@ impl Vars {
     /// # Errors
     ///
     /// `AllocError` if an allocation fails.
+    ///
+    /// # Memory
+    ///
+    /// It allocates a list of the variables, with a copy of each name.
     pub fn of_scope(alloc: Global, scope: &Scope) -> Result<Vars, AllocError>
         ensures { IfOk result (λ vars. vars ≡ vars_of scope.now) }
     {
@@ -66,6 +70,10 @@ impl Vars {
     /// # Errors
     ///
     /// `AllocError` if an allocation fails.
+    ///
+    /// # Memory
+    ///
+    /// It allocates a list of the variables, with a copy of each name.
     pub fn with(&self, name: &Name, value: i64) -> Result<Vars, AllocError>
         ensures { IfOk result (λ vars. vars ≡ (name.now, value) ∷ self.now) }
     {
@@ -88,7 +96,11 @@ impl Vars {
         None
     }
 
-    /// Equal variables, shared with these. It allocates nothing of its own.
+    /// Equal variables, shared with these.
+    ///
+    /// # Errors
+    ///
+    /// `AllocError`, as the contract allows. This implementation does not allocate.
     pub fn copy(&self) -> Result<Vars, AllocError>
         ensures { IfOk result (λ vars. vars ≡ self.now) }
     {

@@ -20,7 +20,7 @@ body_of program = record {
   store = first_store (arrays_of program.arrays);
 }
 
--- What it writes, laid over zeros, is the store that the program ends with.
+-- The writes of a program's body, laid over zeros, are the store with which the program ends.
 abbrev pub BodiesGiveFinalStores : Type 0
 BodiesGiveFinalStores = (program : ProgramTree) →
     after (piece_of_job (body_of program)) (first_store (arrays_of program.arrays))

@@ -41,6 +41,7 @@ work_decides a b = (λ h. work_same a b h, λ e. rw e (work_refl b))
 arrays_decide : (ds es : List Declaration) → Decides (declarations_eq ds es) (ds ≡ es)
 arrays_decide ds es = declarations_decided ds es (declarations_eq ds es) refl
 
+-- The job with these parts.
 abbrev made : ℕ → ℕ → ℕ → ℕ → WorkTree → Vars → Store → List Declaration → JobTree
 made site phase place first work vars store arrays = record {
   arrays = arrays;

@@ -10,8 +10,8 @@ pub record AreAlike (a b : JobTree) : Type 0 where
   pub site : a.site ≡ b.site
   pub phase : a.phase ≡ b.phase
 
--- The jobs are a group: at least 1, over the same arrays, of one site and of one phase, where the one at place i has
--- place i. Why any two are compared, and not each with the first: a type can then keep it as a plain fact.
+-- A group of jobs: at least 1, over the same arrays, of one site and of one phase. The job at index i has `place` i. Why any
+-- two are compared, and not each with the first: a type can then keep it as a plain fact.
 pub record IsGroup (jobs : List JobTree) : Type 0 where
   pub some : 0 < length jobs
   pub few : length jobs ≤ most_members
@@ -19,7 +19,7 @@ pub record IsGroup (jobs : List JobTree) : Type 0 where
       → AreAlike a b
   pub places : (i : ℕ) (job : JobTree) → slice_get jobs i ≡ Some job → job.place ≡ i
 
--- Two lists have the same jobs, in whatever order and however often.
+-- Two lists have the same jobs, in any order and any number of times.
 pub record HaveSameJobs (xs ys : List JobTree) : Type 0 where
   pub to : (job : JobTree) → IsMember job xs → IsMember job ys
   pub from : (job : JobTree) → IsMember job ys → IsMember job xs

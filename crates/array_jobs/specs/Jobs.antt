@@ -1,4 +1,4 @@
--- Jobs, and which are fit to be run.
+-- Jobs, and the condition for a job to be fit to run.
 use Rattle.std.specs.Prelude.{◌≡◌, ℕ, ◌+◌, ◌<◌, ◌≤◌, IsTrue, List, [], ◌++◌, length, map}
 use Rattle.array_tree.specs.declared.tree.Arrays.{Arrays}
 use Rattle.array_tree.specs.Trees.{Declaration, ProgramTree, declarations_of}
@@ -12,7 +12,7 @@ use Rattle.array_meaning.specs.Accepted.{are_inside}
 use Rattle.array_jobs.specs.declared.work.Work.{Work}
 use Rattle.array_jobs.specs.Works.{WorkTree, work_of, steps_of, statements_of, sites_of}
 
--- Contracts see these parts of a job.
+-- The parts of a job that contracts see.
 pub record JobParts : Type 0 where
   pub arrays : Arrays
   pub site : ℕ
@@ -23,7 +23,7 @@ pub record JobParts : Type 0 where
   pub vars : Vars
   pub store : Store
 
--- A job is seen without where its parts lie in memory. Two jobs are equal if these parts are.
+-- A job without the addresses of its parts. Two jobs are equal if these parts are.
 pub record JobTree : Type 0 where
   pub arrays : List Declaration
   pub site : ℕ
@@ -34,7 +34,7 @@ pub record JobTree : Type 0 where
   pub vars : Vars
   pub store : Store
 
--- The job is its parts, without where they lie in memory.
+-- The parts of a job, without their addresses.
 abbrev pub job_of : JobParts → JobTree
 job_of job = record {
   arrays = declarations_of job.arrays;
@@ -51,14 +51,14 @@ job_of job = record {
 abbrev pub names_around : Vars → List (List ℕ)
 names_around vars = map (λ v. v.0) vars
 
--- The program has the job's arrays, and its work as the body.
+-- The program with the job's arrays, and its work as the body.
 abbrev pub program_in : JobTree → ProgramTree
 program_in job = record { arrays = job.arrays; body = statements_of job.work }
 
--- A job is fit to be run if, with the loop variables around, no name of the work is used twice or unknown, all is in its
--- limits, each static index is inside its array, and the pieces of each site are apart. The store has one value per cell, and
--- the sites' numbers have room. Of the variables it is required only that no loop of the work takes the name of one of them, or
--- of an array.
+-- A job that is fit to run, with the loop variables around it. No name of the work is used twice or unknown, all is in its
+-- limits, and each static index is inside its array. The pieces of each site are apart. The store has one value for each cell,
+-- and the sites' numbers have room. The variables need only this: no loop of the work has the name of one of them, or of an
+-- array.
 pub record IsFit (job : JobTree) : Type 0 where
   pub single_names : IsTrue (are_declared_once job.arrays [])
   pub new_variables : IsTrue

@@ -5,15 +5,15 @@ use Rattle.array_meaning.specs.Pieces.{piece_of}
 use Rattle.array_jobs.specs.Works.{steps_of}
 use Rattle.array_jobs.specs.Jobs.{JobParts, JobTree, job_of}
 
--- Contracts see these parts of a piece.
+-- The parts of a piece that contracts see.
 pub record PieceParts : Type 0 where
   pub job : JobParts
   pub written : List Write
 
--- This is what a job writes: each cell with its last value, in rising order.
+-- The writes of a job: each cell with its last value, in rising order.
 abbrev pub piece_of_job : JobTree → List Write
 piece_of_job job = piece_of (arrays_of job.arrays) (steps_of job.work job.vars) job.store
 
--- A piece has exactly what its job writes.
+-- The piece has exactly the writes of its job.
 abbrev pub IsRight : PieceParts → Type 0
 IsRight piece = piece.written ≡ piece_of_job (job_of piece.job)

@@ -11,12 +11,16 @@ use array_eval::{Store, Vars, count_cells};
 use array_tree::Program;
 use std::alloc::{AllocError, Global};
 
-/// The body of a program as the one piece of site 0, the base: it starts from zeros, and the first site inside it is 1.
-/// The program must meet all conditions, as one that is accepted does.
+/// The body of a program as the one piece of site 0, the base: it starts from zeros, and the first site inside it is 1. The
+/// program must meet all conditions, as an accepted one does.
 ///
 /// # Errors
 ///
 /// `AllocError` if an allocation fails.
+///
+/// # Memory
+///
+/// It allocates a store of zeros.
 pub fn body_job<'p>(alloc: Global, program: &'p Program) -> Result<Job<'p>, AllocError>
     requires { IsAccepted (program_of program.now) }
     ensures { IfOk result (λ job. job_of job ≡ body_of (program_of program.now)) }

@@ -9,6 +9,10 @@ use std::alloc::{AllocError, Global};
 /// # Errors
 ///
 /// `AllocError` if an allocation fails.
+///
+/// # Memory
+///
+/// It allocates a list. Variables and stores are shared.
 pub fn copy_jobs<'p>(alloc: Global, jobs: &[Job<'p>]) -> Result<Vec<Job<'p>>, AllocError>
     ensures { IfOk result (λ copies. copies.items ≡ jobs.now) }
 {

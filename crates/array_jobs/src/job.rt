@@ -11,25 +11,24 @@ use std::marker::Model;
 
 /// The work of one branch of a `par`, or of one member of a `team` in one phase, with all that it starts from.
 ///
-/// Contracts see a job as its parts. Its type keeps that it is fit to be run.
+/// Contracts see a job as its parts. The type's invariant: the job is fit to run.
 #[derive(Debug, Drop)]
 pub struct Job<'p> {
     /// The arrays of the program.
     pub arrays: &'p Arrays,
-    /// The number of the site that the job is a piece of.
+    /// The number of the site of which the job is a piece, 0 to 4,095.
     pub site: u16,
     /// The phase, from 0 to 7; 0 for a branch.
     pub phase: u8,
     /// The number of the branch or of the member, from 0 to 63.
     pub place: u8,
-    /// The number that the next site inside the work gets. With the number of the sites that the work has it is
-    /// at most 4,096.
+    /// The number of the next site inside the work. Its sum with the number of the work's sites is at most 4,096.
     pub first: u16,
-    /// What is run.
+    /// The statements that run.
     pub work: Work<'p>,
     /// The loop variables around the work.
     pub vars: Vars,
-    /// The store that the work starts from, with one value per cell of the arrays.
+    /// The store from which the work starts, with one value for each cell of the arrays.
     pub store: Store,
 }
 
@@ -58,11 +57,11 @@ impl<'p> Model for Job<'p> {
 }
 
 impl<'p> Job<'p> {
-    /// An equal job.
+    /// An equal job, which shares variables and store.
     ///
     /// # Errors
     ///
-    /// `AllocError` if an allocation fails.
+    /// `AllocError`, as the contract allows. This implementation does not allocate.
     pub fn copy(&self) -> Result<Job<'p>, AllocError>
         ensures { IfOk result (λ job. job ≡ self.now) }
     {

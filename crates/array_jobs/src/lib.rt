@@ -1,8 +1,8 @@
-//! Jobs: the work of one branch, or of one member in one phase, with all that it starts from; and pieces, what
-//! that work writes.
+//! Jobs and pieces. A job is the work of one branch, or of one member in one phase, with all that it starts from. A piece is a
+//! job with its writes.
 //!
-//! A construct is cut into jobs (`step_eval`), harts run them, and schedulers collect the pieces. Begin with `Job` in `job.rt`
-//! and `piece_of` in `piece.rt`; the tests of `job_tests` make jobs and compare their pieces with a run of the whole.
+//! `step_eval` cuts a construct into jobs, harts run them, and schedulers collect the pieces. Begin with `Job` in `job.rt` and
+//! `piece_of` in `piece.rt`; the tests of `job_tests` make jobs and compare their pieces with a run of the whole.
 #![tactic(auto)]
 
 mod body;

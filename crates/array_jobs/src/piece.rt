@@ -12,8 +12,7 @@ use array_eval::{Layout, MarkedStore, Overlay, Scope, run_block, run_loop};
 use std::alloc::{AllocError, Global};
 use std::marker::Model;
 
-/// A job with what it writes: exactly the cells that the work writes from the job's variables and store, each with
-/// its last value.
+/// A job with its writes: exactly the cells that the work writes from the job's variables and store, each with its last value.
 #[derive(Debug, Drop)]
 pub struct Piece<'p> {
     pub job: Job<'p>,
@@ -41,7 +40,7 @@ impl<'p> Model for Piece<'p> {
 impl<'p> Piece<'p> {
     ghost use Rattle.array_jobs.specs.PieceParts.{PieceParts, IsRight};
 
-    /// The piece of a job. What is written must be what the job writes.
+    /// The piece of a job. `written` must be the job's writes.
     pub fn new(job: Job<'p>, written: Overlay) -> Piece<'p>
         requires { IsRight record { job = job; written = written.pairs } }
         ensures { result ≡ record { job = job.entry; written = written.pairs } }
@@ -55,6 +54,10 @@ impl<'p> Piece<'p> {
 /// # Errors
 ///
 /// `AllocError` if an allocation fails.
+///
+/// # Memory
+///
+/// It allocates a layout, a marked store and the overlay.
 pub fn piece_of<'p>(alloc: Global, job: Job<'p>) -> Result<Piece<'p>, AllocError>
     ensures { IfOk result (λ piece. piece.job ≡ job.entry) }
 {
@@ -62,11 +65,15 @@ pub fn piece_of<'p>(alloc: Global, job: Job<'p>) -> Result<Piece<'p>, AllocError
     Ok(Piece { job, written })
 }
 
-/// What a job writes, by running its work on a copy of its store: each cell with its last value.
+/// The writes of a job, by running its work on a copy of its store: each cell with its last value.
 ///
 /// # Errors
 ///
 /// `AllocError` if an allocation fails.
+///
+/// # Memory
+///
+/// It allocates a layout, a marked store and the overlay.
 pub fn written_by(alloc: Global, job: &Job) -> Result<Overlay, AllocError>
     ensures { IfOk result (λ overlay. overlay.pairs ≡ piece_of_job (job_of job.now)) }
 {

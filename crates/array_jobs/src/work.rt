@@ -1,4 +1,4 @@
-//! What a job runs.
+//! The statements that a job runs.
 ghost use Rattle.std.specs.Prelude.{◌≡◌, ◌↔◌, ◌<◌, ◌^◌, IsTrue};
 ghost use Rattle.array_jobs.specs.Works.{work_of, sites_of};
 ghost use Rattle.array_jobs.specs.Equal.{work_eq};
@@ -6,13 +6,12 @@ ghost use Rattle.array_jobs.specs.Equal.{work_eq};
 use array_tree::{Block, Name};
 use site_counts::{sites_in_block, sites_in_turns};
 
-/// What a job runs.
+/// The statements that a job runs.
 #[derive(Clone, Copy, Debug, Drop)]
 pub enum Work<'p> {
     /// A branch of a `par`.
     Branch(&'p Block),
-    /// What a member of a `team` has in one phase: the body for each of its own iterations, from `low` to before
-    /// `high`.
+    /// The work of a member of a `team` in one phase: the body for each of its own iterations, from `low` to before `high`.
     Member {
         var: &'p Name,
         low: i64,
@@ -63,7 +62,7 @@ fn same_work(a: &Work, b: &Work) -> bool
     }
 }
 
-/// How many sites the work has, those on both sides of each `if` among them. That must be below `2^32`.
+/// The number of the work's sites, on both sides of each `if`. It must be below `2^32`.
 pub fn sites_in(work: &Work) -> u32
     requires { sites_of (work_of work.now) < 2 ^ 32 }
     ensures { result ≡ sites_of (work_of work.now) }

@@ -10,7 +10,7 @@ use Rattle.array_tree.specs.declared.tree.Op.TheVariants as ops
 use Rattle.array_lang.specs.declared.operator.Strength.{Strength}
 use Rattle.array_lang.specs.declared.operator.Strength.TheVariants.{Comparison as comparison, Addition as addition, Product as product}
 
--- a token at a place, on a line
+-- a token at a position, on a line
 abbrev pub spot : Lexeme → ℕ → ℕ → Spot
 spot l a n = record { lexeme = l; at = a; line = n }
 

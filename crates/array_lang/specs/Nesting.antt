@@ -20,6 +20,7 @@ is_mark (sign signs.OpenGroup) = true
 is_mark (sign signs.OpenIndex) = true
 is_mark l = is_some (operator_of l)
 
+-- the number of marks of the outermost expression after this token
 abbrev pub marks_after : ℕ → Lexeme → ℕ
 marks_after m l = if is_mark l then m + 1 else m
 
@@ -33,14 +34,17 @@ marks_beyond m (t ∷ ts) =
 abbrev pub between : List Spot → List Spot → List Spot
 between s t = take (length s - length t) s
 
+-- whether each token of an expression passes the limit on marks
 abbrev pub expression_beyond : {s t : List Spot} {x : Expression}
     → SpellsExpression s t x → List Bool
 expression_beyond {s} {t} d = marks_beyond 0 (between s t)
 
+-- the same for the tokens of a bound, which never pass it
 abbrev pub bound_beyond : {s t : List Spot} {v : ℤ} → SpellsBound s t v → List Bool
 bound_beyond plain_bound = false ∷ []
 bound_beyond negative_bound = false ∷ false ∷ []
 
+-- the same for the tokens of a range
 abbrev pub range_beyond : {s t : List Spot} {b : List ℕ} {low high : ℤ}
     → SpellsRange s t b low high → List Bool
 range_beyond (range d e) = false ∷ false ∷ (bound_beyond d ++ false ∷ bound_beyond e)
@@ -92,19 +96,21 @@ abbrev pub program_beyond : {tokens : List Spot} {p : ProgramTree}
     → SpellsProgram tokens p → List Bool
 program_beyond d = declarations_beyond d.declares ++ sequence_beyond 0 d.does
 
+-- the index after this one
 abbrev pub later : Option ℕ → Option ℕ
 later None = None
 later (Some k) = Some (k + 1)
 
+-- the index of the first token that passes a limit
 abbrev pub first_over : Bool → Option ℕ → Option ℕ
 first_over true rest = Some 0
 first_over false rest = later rest
 
--- the place of the first `true`
+-- the index of the first `true`
 abbrev pub first_true : List Bool → Option ℕ
 first_true [] = None
 first_true (b ∷ bs) = first_over b (first_true bs)
 
--- the place in the list of the first token of a program that passes a limit
+-- the index of the first token of a program that passes a limit
 abbrev pub first_beyond : {tokens : List Spot} {p : ProgramTree} → SpellsProgram tokens p → Option ℕ
 first_beyond d = first_true (program_beyond d)

@@ -17,17 +17,17 @@ pub record Spells (text : List ℕ) (p : ProgramTree) : Type 0 where
   pub tree : SpellsProgram tokens p
   pub fits : first_beyond tree ≡ None
 
--- the place of the first token, or where the text ends
+-- the position of the first token, or of the end of the text
 abbrev pub place_of : ℕ → List Spot → ℕ
 place_of end [] = end
 place_of end (t ∷ ts) = t.at
 
--- the token at this place in a list, if any, doesn't stand among the first n
+-- the token at this index of a list, if any, doesn't stand among the first n
 abbrev pub IsAfter : ℕ → Option ℕ → Type 0
 IsAfter n None = Unit {0}
 IsAfter n (Some k) = n ≤ k
 
--- The first token with which no program goes on is at this place. In a program that begins with the tokens before it,
+-- The first token with which no program goes on is at this position. In a program that begins with the tokens before it,
 -- none of these passes a limit.
 pub record IsUnexpected (tokens : List Spot) (end at : ℕ) : Type 0 where
   pub rest : List Spot
@@ -35,7 +35,7 @@ pub record IsUnexpected (tokens : List Spot) (end at : ℕ) : Type 0 where
   pub place : at ≡ place_of end rest
   pub within : IsAfter (length stops.front) (first_beyond stops.begins.2)
 
--- The token at this place in the list stands at this place of the text. In a program that begins with the tokens up to
+-- The token at this index of the list is at this position of the text. In a program that begins with the tokens up to
 -- and including it, it is the first that passes a limit.
 pub record IsTooNested (tokens : List Spot) (end at : ℕ) : Type 0 where
   pub index : ℕ
@@ -58,8 +58,8 @@ cutting_fault (cutting.BadToken at) = BadToken at
 cutting_fault (cutting.NumberTooLarge at) = NumberTooLarge at
 cutting_fault cutting.Memory = Memory
 
--- The fault is the text's first: that of cutting it, and else the first of its tokens. Want of memory may come at any
--- text, and is no fault of it.
+-- The fault is the text's first: a fault of its tokens, or else of the grammar. An allocation failure may occur for any text,
+-- and is no fault of the text.
 pub data HasFault (text : List ℕ) (fault : SyntaxFault) : Type 0 where
   in_cutting : (cause : TokenFault) → tokens_of text ≡ Err cause → fault ≡ cutting_fault cause
       → fault ≢ Memory → HasFault text fault
@@ -67,7 +67,7 @@ pub data HasFault (text : List ℕ) (fault : SyntaxFault) : Type 0 where
       → HasTokenFault tokens (length text) fault → fault ≢ Memory → HasFault text fault
   no_memory : fault ≡ Memory → HasFault text fault
 
--- The answer is this program, unless memory ran out.
+-- The result is this program, unless an allocation failed.
 abbrev pub IsRead : ProgramTree → Result Program SyntaxFault → Type 0
 IsRead p (Ok program) = program_of program ≡ p
 IsRead p (Err fault) = fault ≡ Memory

@@ -85,6 +85,14 @@ fn body<'a, 't>(alloc: Global, tokens: &'a [Token<'t>]) -> Result<Block, Stop<'a
 }
 
 /// The program that the tokens spell.
+///
+/// # Errors
+///
+/// `Stop`: the first token with which no program continues, a number that is too large, or an allocation failure.
+///
+/// # Memory
+///
+/// It allocates the tree.
 #[tactic(auto, using(crate::proofs::Complete::settle_declaring))]
 pub fn program<'a, 't>(alloc: Global, tokens: &'a [Token<'t>]) -> Result<Program, Stop<'a, 't>>
     ensures { IsProgram (spots tokens.now) result }

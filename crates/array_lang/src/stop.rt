@@ -40,6 +40,10 @@ impl<T: Drop> From<AllocFailed<T>> for Stop<'_, '_> {
 pub type Parsed<'a, 't, T> = Result<(T, &'a [Token<'t>]), Stop<'a, 't>>;
 
 /// The tokens after this sign.
+///
+/// # Errors
+///
+/// `Stop` at the first token if it isn't this sign.
 pub fn expect<'a, 't>(tokens: &'a [Token<'t>], sign: Sign) -> Result<&'a [Token<'t>], Stop<'a, 't>>
     ensures { IsRestAfter (spots tokens.now) sign result }
 {
@@ -54,6 +58,10 @@ pub fn expect<'a, 't>(tokens: &'a [Token<'t>], sign: Sign) -> Result<&'a [Token<
 }
 
 /// The tokens after this word.
+///
+/// # Errors
+///
+/// `Stop` at the first token if it isn't this word.
 pub fn expect_word<'a, 't>(
     tokens: &'a [Token<'t>],
     word: Word,

@@ -1,4 +1,4 @@
--- What a program must be to be run: nine conditions, each a word of its own.
+-- What a program must be to be run: nine conditions, each a definition of its own.
 use Rattle.std.specs.Prelude.{ℕ, ◌≤◌, Bool, true, ◌&&◌, List, [], ◌∷◌, Option, Some, None, IsTrue, ℤ, pos, int_le, int_lt}
 use Rattle.array_tree.specs.Trees.{ProgramTree}
 use Rattle.array_meaning.specs.Bounds.{most_depth, most_units, most_sites, most_pieces}

@@ -1,4 +1,4 @@
--- The limits of a program, each under its one name: so many are the most that a program may have.
+-- The limits of a program, each with its one name.
 use Rattle.std.specs.Prelude.{ℕ}
 
 -- The text of a program has at most so many bytes.

@@ -2,8 +2,8 @@
 use Rattle.std.specs.Prelude.{Bool, true, false, ◌&&◌}
 use Rattle.array_tree.specs.Trees.{Statement, Assign, For, If, Par, Team, Sequence, ended, followed, Sequences, no_more, beside}
 
--- Whether no `par` or `team` stands inside a side of an `if`, so that every site is entered. Given is whether this part stands
--- inside one.
+-- Whether no `par` or `team` stands inside a side of an `if`, so that every site is entered. The flag is whether this part
+-- stands inside a side.
 abbrev mutual
   pub has_no_site_under_if : Sequence → Bool → Bool
   has_no_site_under_if ended inside = true

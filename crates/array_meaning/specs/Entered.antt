@@ -1,4 +1,5 @@
--- Which sites the meaning enters. Both sides of an `if` have their sites in the plan, and the meaning enters those of one side.
+-- The sites that the meaning enters. Both sides of an `if` have their sites in the plan, and the meaning enters those of one
+-- side.
 use Rattle.std.specs.Prelude.{◌≡◌, ℕ, zero, suc, ◌+◌, Bool, true, false, if◌then◌else◌, List, [], ◌∷◌, ◌++◌, length, replicate, ℤ, pos, ◌+ℤ◌}
 use Rattle.array_tree.specs.Trees.{Statement, Assign, For, If, Par, Team, Sequence, ended, followed, Sequences, no_more, beside, ProgramTree}
 use Rattle.array_meaning.specs.Values.{holds}
@@ -9,7 +10,7 @@ use Rattle.array_meaning.specs.Plans.{sites_in}
 use Rattle.array_meaning.specs.Touch.{reads_of}
 use Rattle.array_meaning.specs.Members.{start_of}
 
--- An entering has for each site of a part, in the order of the plan, whether the meaning enters it from a store.
+-- An entering returns, for each site of a part, in the order of the plan, whether the meaning enters the site from a store.
 abbrev pub Entering : Type 0
 Entering = Store → List Bool
 
@@ -21,13 +22,13 @@ Part = Steps × Entering
 abbrev pub entered_then : Arrays → Part → Entering → Entering
 entered_then arrays first rest store = first.1 store ++ rest (exec arrays first.0 store)
 
--- So many turns enter their sites, one after another.
+-- The sites that so many turns enter, one after another.
 abbrev pub turns_entered : Arrays → (ℤ → Part) → ℤ → ℕ → Entering
 turns_entered arrays turn low zero store = []
 turns_entered arrays turn low (suc n) store =
     entered_then arrays (turn low) (turns_entered arrays turn (low +ℤ pos 1) n) store
 
--- The turns of a loop enter their sites, each with the value of the variable.
+-- The sites that the turns of a loop enter, each with the value of the variable.
 abbrev pub loop_entered : Arrays → List ℕ → ℤ → ℤ → (Vars → Part) → Vars → Entering
 loop_entered arrays var low high body vars store =
     turns_entered arrays (λ x. body ((var, x) ∷ vars)) low (span low high) store
@@ -37,7 +38,7 @@ abbrev pub loop_part : Arrays → List ℕ → ℤ → ℤ → (Vars → Part) �
 loop_part arrays var low high body vars =
     (loop var low high (λ there. (body there).0) vars, loop_entered arrays var low high body vars)
 
--- Of an `if` those of the side that runs may be entered, and none of the other's.
+-- The sites that a statement enters. The sites of an `if`'s side are entered only if that side runs.
 abbrev mutual
   pub statement_entered : Arrays → Statement → Vars → Entering
   statement_entered arrays (Assign line array index value) vars store = []
@@ -91,25 +92,26 @@ abbrev pub phases_part : Arrays → Sequences → List ℕ → ℤ → ℤ → V
 phases_part arrays bs var low high vars =
     (phases_work bs var low high vars, phases_entered arrays bs var low high vars)
 
--- The flags of a program have for each site whether the meaning enters it, that of site s at place s - 1.
+-- For each site of a program whether the meaning enters it: for site s at index s - 1.
 abbrev pub entered_of : ProgramTree → List Bool
 entered_of program =
     let arrays = arrays_of program.arrays in
     sequence_entered arrays program.body [] (first_store arrays)
 
--- An entering takes nothing of a store but the cells that steps read.
+-- An entering depends on no cells of a store but those that steps read.
 abbrev pub DependsOnReads : Arrays → Steps → Entering → Type 0
 DependsOnReads arrays steps entering = (a b : Store) → length a ≡ length b
     → ((cell : ℕ) → reads_of arrays steps cell → at_cell a cell ≡ at_cell b cell)
     → entering a ≡ entering b
 
--- This is what the branches enter, each from the one store.
+-- The sites that the branches enter, each from the same store.
 abbrev pub branches_alone : Arrays → Sequences → Vars → Entering
 branches_alone arrays no_more vars store = []
 branches_alone arrays (beside first rest) vars store =
     sequence_entered arrays first vars store ++ branches_alone arrays rest vars store
 
--- This is what so many of the m members enter in a phase, from member j on: each from the one store, over its own iterations.
+-- The sites that so many of the m members enter in a phase, from member j on: each from the same store, over its own
+-- iterations.
 abbrev pub members_alone : Arrays → List ℕ → ℤ → ℤ → ℕ → Sequence → ℕ → ℕ → Vars → Entering
 members_alone arrays var low high m body j zero vars store = []
 members_alone arrays var low high m body j (suc k) vars store =
@@ -117,7 +119,7 @@ members_alone arrays var low high m body j (suc k) vars store =
     (sequence_part arrays body) vars store
     ++ members_alone arrays var low high m body (j + 1) k vars store
 
--- This is what all members enter in a phase.
+-- The sites that all members enter in a phase.
 abbrev pub team_alone : Arrays → List ℕ → ℤ → ℤ → ℕ → Sequence → Vars → Entering
 team_alone arrays var low high m body vars store =
     members_alone arrays var low high m body 0 m vars store

@@ -20,7 +20,7 @@ WritesDependOnReads = (arrays : Arrays) → HaveCells arrays → (steps : Steps)
     ((cell : ℕ) → reads_of arrays steps cell → at_cell s cell ≡ at_cell t cell)
     → writes_of arrays steps s ≡ writes_of arrays steps t
 
--- Pieces that are apart, each run from the one store and merged in any order, give what they give one after another.
+-- Pieces that are apart, each run from the same store and merged in any order, result in the same store as one after another.
 abbrev pub ArePiecesIndependent : Type 0
 ArePiecesIndependent = (arrays : Arrays) → HaveCells arrays
     → (pieces order : List Steps) (store : Store) →
@@ -28,7 +28,7 @@ ArePiecesIndependent = (arrays : Arrays) → HaveCells arrays
     merged (map (λ piece. piece_of arrays piece store) order) []
     ≡ last_writes (writes_of arrays (join pieces) store)
 
--- The branches of a `par`, if they are apart, give what the `par` writes, merged in any order.
+-- The branches of a `par`, if they are apart, write what the `par` writes, merged in any order.
 abbrev pub AreBranchesIndependent : Type 0
 AreBranchesIndependent =
     (arrays : Arrays) → HaveCells arrays
@@ -38,7 +38,7 @@ AreBranchesIndependent =
     merged (map (λ piece. piece_of arrays piece store) order) []
     ≡ last_writes (writes_of arrays (statement_work (Par line branches) vars) store)
 
--- The members of one phase, if they are apart, give what the loop over all iterations writes, merged in any order.
+-- The members of one phase, if they are apart, write what the loop over all iterations writes, merged in any order.
 abbrev pub AreMembersIndependent : Type 0
 AreMembersIndependent = (arrays : Arrays) → HaveCells arrays
     → (var : List ℕ) (low high : ℤ) (members : ℕ) (body : Work) (vars : Vars)
@@ -48,7 +48,7 @@ AreMembersIndependent = (arrays : Arrays) → HaveCells arrays
     merged (map (λ piece. piece_of arrays piece store) order) []
     ≡ last_writes (writes_of arrays (loop var low high body vars) store)
 
--- Pieces are apart exactly where no cell passes the test of an overlap.
+-- Pieces are apart exactly if no cell passes the test of an overlap.
 pub record IsApartByTest (arrays : Arrays) (pieces : List Steps) : Type 0 where
   pub clear : IsApart arrays pieces → (cell : ℕ) → overlaps arrays false false pieces cell ≡ false
   pub apart : ((cell : ℕ) → overlaps arrays false false pieces cell ≡ false) → IsApart arrays pieces
@@ -57,7 +57,7 @@ pub record IsApartByTest (arrays : Arrays) (pieces : List Steps) : Type 0 where
 abbrev pub ApartIsTested : Type 0
 ApartIsTested = (arrays : Arrays) (pieces : List Steps) → IsApartByTest arrays pieces
 
--- A cell passes the test of an overlap exactly where two different pieces clash on it.
+-- A cell passes the test of an overlap exactly if two different pieces clash on it.
 abbrev pub ClashesAreTested : Type 0
 ClashesAreTested = (arrays : Arrays) (pieces : List Steps) (cell : ℕ)
     → (overlaps arrays false false pieces cell ≡ true) ↔ IsClash arrays pieces cell
@@ -67,7 +67,7 @@ abbrev pub LeastClashIsTold : Type 0
 LeastClashIsTold = (arrays : Arrays) (cells : ℕ) (pieces : List Steps)
     → IsLeastClash arrays cells pieces (overlap arrays cells pieces)
 
--- In a plan the parent of a site comes before it, and there are as many as the program has sites.
+-- In a plan, the parent of each site comes before it, and the plan has as many parents as the program has sites.
 pub record IsPlanOf (program : ProgramTree) (plan : List ℕ) : Type 0 where
   pub earlier : AreEarlier 1 plan
   pub count : length plan ≡ sites_in program.body
@@ -76,31 +76,30 @@ pub record IsPlanOf (program : ProgramTree) (plan : List ℕ) : Type 0 where
 abbrev pub PlansAreRight : Type 0
 PlansAreRight = (program : ProgramTree) → IsPlanOf program (plan_of program)
 
--- The sites of the checker are those of the plan, in number.
+-- The sites that the checker visits are as many as those of the plan.
 abbrev pub SitesArePlanned : Type 0
 SitesArePlanned = (body : Sequence) (vars : Vars)
     → length (sequence_sites body vars) ≡ sites_in body
 
--- For each site of the plan, the flag says whether the meaning enters the site.
+-- There is a flag for each site of the plan, whether the meaning enters the site.
 abbrev pub EnteredSitesAreCounted : Type 0
 EnteredSitesAreCounted = (arrays : Arrays) (body : Sequence) (vars : Vars) (store : Store)
     → length (sequence_entered arrays body vars store) ≡ sites_in body
 
--- Which sites a part enters depends only on what it reads: from two stores that agree on these cells it enters the
--- same.
+-- The sites that a part enters depend only on what it reads: from two stores that agree on these cells it enters the same.
 abbrev pub EnteredDependsOnReads : Type 0
 EnteredDependsOnReads =
     (arrays : Arrays) → HaveCells arrays → (body : Sequence) (vars : Vars)
     → DependsOnReads arrays (sequence_work body vars) (sequence_entered arrays body vars)
 
--- Branches that are apart enter, each from the store of the `par`, what they enter one after another.
+-- Branches that are apart enter the same sites, each from the store of the `par`, as one after another.
 abbrev pub BranchesEnterAlone : Type 0
 BranchesEnterAlone =
     (arrays : Arrays) → HaveCells arrays → (branches : Sequences) (vars : Vars) (store : Store) →
     IsApart arrays (branch_works branches vars)
     → branches_entered arrays branches vars store ≡ branches_alone arrays branches vars store
 
--- Members of one phase that are apart enter, each from the one store, what the loop over all iterations enters.
+-- Members of one phase that are apart enter the same sites, each from the same store, as the loop over all iterations.
 abbrev pub MembersEnterAlone : Type 0
 MembersEnterAlone = (arrays : Arrays) → HaveCells arrays
     → (var : List ℕ) (low high : ℤ) (members : ℕ) (body : Sequence) (vars : Vars)

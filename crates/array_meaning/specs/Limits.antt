@@ -49,7 +49,7 @@ is_in_range program =
     && nat_le (cells_of (arrays_of program.arrays)) most_cells))
     && has_right_ranges program.body
 
--- How deep constructs nest in the text.
+-- The depth to which constructs nest in the text.
 abbrev mutual
   pub depth_of : Sequence → ℕ
   depth_of ended = 0

@@ -4,11 +4,12 @@ use Rattle.array_meaning.specs.Stores.{Vars}
 use Rattle.array_meaning.specs.Steps.{Steps}
 use Rattle.array_meaning.specs.Work.{Work, span, loop}
 
--- Member j of m has this first of n iterations, counted from the team's first.
+-- The first of n iterations of member j of m, counted from the team's first.
 abbrev pub first_of : ℕ → ℕ → ℕ → ℕ
 first_of n m j = n * j / m
 
--- The iterations of member j of m begin here; they end where those of the next begin.
+-- The value of the variable in the first iteration of member j of m. The member's iterations end before those of the next
+-- begin.
 abbrev pub start_of : ℤ → ℤ → ℕ → ℕ → ℤ
 start_of low high m j = low +ℤ pos (first_of (span low high) m j)
 
@@ -17,12 +18,12 @@ abbrev pub member_work : List ℕ → ℤ → ℤ → ℕ → Work → ℕ → W
 member_work var low high m body j =
     loop var (start_of low high m j) (start_of low high m (j + 1)) body
 
--- The works are those of so many members, from member j on.
+-- The works of so many members, from member j on.
 abbrev pub member_works : List ℕ → ℤ → ℤ → ℕ → Work → ℕ → ℕ → Vars → List Steps
 member_works var low high m body j zero vars = []
 member_works var low high m body j (suc k) vars =
     member_work var low high m body j vars ∷ member_works var low high m body (j + 1) k vars
 
--- The works are those of all members in one phase.
+-- The works of all members in one phase.
 abbrev pub team_works : List ℕ → ℤ → ℤ → ℕ → Work → Vars → List Steps
 team_works var low high m body vars = member_works var low high m body 0 m vars

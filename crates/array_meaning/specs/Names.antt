@@ -15,7 +15,7 @@ are_declared_once [] before = true
 are_declared_once (d ∷ more) before =
     not (is_among d.name before) && are_declared_once more (d.name ∷ before)
 
--- Whether no loop's variable has a taken name: an array's, or that of a loop around it.
+-- Whether no loop's variable has a taken name: the name of an array or of a loop around it.
 abbrev mutual
   pub has_new_variables : Sequence → List (List ℕ) → Bool
   has_new_variables ended taken = true
@@ -37,7 +37,7 @@ abbrev mutual
   have_new_variables (beside first rest) taken =
       has_new_variables first taken && have_new_variables rest taken
 
--- The names are those of the declarations, in their order.
+-- The names of the declarations, in their order.
 abbrev pub names_of : List Declaration → List (List ℕ)
 names_of declarations = map (λ d. d.name) declarations
 
@@ -56,7 +56,7 @@ uses_known_names (Neg e) arrays vars = uses_known_names e arrays vars
 uses_known_names (Binary op a b) arrays vars =
     uses_known_names a arrays vars && uses_known_names b arrays vars
 
--- Whether each statement does so.
+-- Whether each statement does that.
 abbrev mutual
   pub has_known_names : Sequence → List (List ℕ) → List (List ℕ) → Bool
   has_known_names ended arrays vars = true

@@ -23,7 +23,8 @@ read arrays [] cell = false
 read arrays (v ∷ more) cell =
     (not v.writes && covers arrays v.array v.index cell) || read arrays more cell
 
--- The test decides whether a piece overlaps with an earlier one, of which some changed the cell, or read it.
+-- The test decides whether a piece overlaps with an earlier one. The flags are whether some earlier piece changed the cell, or
+-- read it.
 abbrev pub overlaps : Arrays → Bool → Bool → List Steps → ℕ → Bool
 overlaps arrays was_changed was_read [] cell = false
 overlaps arrays was_changed was_read (piece ∷ more) cell =
@@ -32,12 +33,12 @@ overlaps arrays was_changed was_read (piece ∷ more) cell =
     || overlaps arrays (was_changed || changed arrays (walk arrays piece) cell) (was_read
     || read arrays (walk arrays piece) cell) more cell
 
--- The result is the first of so many numbers, from one on, that passes.
+-- The first of so many numbers, from one on, that passes the test.
 abbrev pub first_from : (ℕ → Bool) → ℕ → ℕ → Option ℕ
 first_from test i zero = None
 first_from test i (suc k) = if test i then Some i else first_from test (i + 1) k
 
--- The result is the least of so many cells on which two pieces overlap.
+-- The least of so many cells on which two pieces overlap.
 abbrev pub overlap : Arrays → ℕ → List Steps → Option ℕ
 overlap arrays cells pieces = first_from (overlaps arrays false false pieces) 0 cells
 

@@ -1,10 +1,10 @@
--- The plan of a program: the parent of each site, in the order of the meaning, both sides of each `if` gone through. Site s
--- stands at place s - 1; the parent is the innermost construct around, 0 for none. Bounds are literals, so no store is needed.
+-- The plan of a program: the parent of each site, in the order of the meaning, through both sides of each `if`. The plan has
+-- the parent of site s at index s - 1: the innermost construct around, or 0. Bounds are literals, so no store is needed.
 use Rattle.std.specs.Prelude.{◌≡◌, ℕ, zero, suc, ◌+◌, ◌*◌, ◌<◌, ◌≤◌, ◌⊎◌, List, [], ◌∷◌, ◌++◌, length}
 use Rattle.array_tree.specs.Trees.{Statement, Assign, For, If, Par, Team, Sequence, ended, followed, Sequences, no_more, beside, ProgramTree}
 use Rattle.array_meaning.specs.Work.{span}
 
--- A part of a program has these parents of its sites, given the construct around it and the number of the next site.
+-- The parents of a part's sites, given the construct around it and the number of the next site.
 abbrev pub Parents : Type 0
 Parents = ℕ → ℕ → List ℕ
 
@@ -22,6 +22,7 @@ repeated (suc n) body around next = and_then body (repeated n body) around next
 abbrev pub construct : Parents → Parents
 construct inside around next = around ∷ inside next (next + 1)
 
+-- The parents of the sites of a sequence, a statement, and branches.
 abbrev mutual
   pub statement_parents : Statement → Parents
   statement_parents (Assign line array index value) around next = []
@@ -44,7 +45,7 @@ abbrev mutual
   branches_parents (beside first rest) around next =
       and_then (sequence_parents first) (branches_parents rest) around next
 
-  -- Each phase has so many iterations.
+  -- The parents of the sites of phases, each of which has so many iterations.
   pub phases_parents : Sequences → ℕ → Parents
   phases_parents no_more iterations around next = []
   phases_parents (beside first rest) iterations around next =
@@ -55,7 +56,7 @@ abbrev mutual
 abbrev pub plan_of : ProgramTree → List ℕ
 plan_of program = sequence_parents program.body 0 1
 
--- How many sites a part of a program has, on both sides of each `if`.
+-- The number of sites of a part of a program, on both sides of each `if`.
 abbrev mutual
   pub statement_sites_in : Statement → ℕ
   statement_sites_in (Assign line array index value) = 0
@@ -74,18 +75,18 @@ abbrev mutual
   branches_sites_in no_more = 0
   branches_sites_in (beside first rest) = sites_in first + branches_sites_in rest
 
--- Each of these parents has a smaller number than its site; the first site has this number.
+-- Each of these parents has a smaller number than its site; the first site has the number `next`.
 abbrev pub AreEarlier : ℕ → List ℕ → Type 0
 AreEarlier next [] = Unit {0}
 AreEarlier next (parent ∷ more) = (parent < next) × AreEarlier (next + 1) more
 
--- Each of these parents is the construct around, or a site from this one on.
+-- Each of these parents is the construct around, or a site from `first` on.
 abbrev pub AreInside : ℕ → ℕ → List ℕ → Type 0
 AreInside around first [] = Unit {0}
 AreInside around first (parent ∷ more) =
     ((parent ≡ around) ⊎ (first ≤ parent)) × AreInside around first more
 
--- None of these parents is one of the n sites from this one on.
+-- None of these parents is one of the n sites from `first` on.
 abbrev pub AreOutside : ℕ → ℕ → List ℕ → Type 0
 AreOutside first n [] = Unit {0}
 AreOutside first n (parent ∷ more) =

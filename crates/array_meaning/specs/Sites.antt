@@ -7,25 +7,25 @@ use Rattle.array_meaning.specs.Work.{span, sequence_work}
 use Rattle.array_meaning.specs.Members.{team_works}
 use Rattle.array_meaning.specs.Touch.{IsApart}
 
--- A site: its construct's line, and what the pieces of each of its rounds do. A `par` has one round with a piece for
--- each branch, a `team` one for each phase with a piece for each member.
+-- A site: its construct's line, and the steps of the pieces of each of its rounds. A `par` has one round with a piece for each
+-- branch, a `team` a round for each phase with a piece for each member.
 pub record Site : Type 0 where
   pub line : ℕ
   pub rounds : List (List Steps)
 
--- Each branch does these steps.
+-- The steps of each branch.
 abbrev pub branch_works : Sequences → Vars → List Steps
 branch_works no_more vars = []
 branch_works (beside first rest) vars = sequence_work first vars ∷ branch_works rest vars
 
--- The members do these steps in each phase.
+-- The steps of the members in each phase.
 abbrev pub phase_rounds : Sequences → List ℕ → ℤ → ℤ → ℕ → Vars → List (List Steps)
 phase_rounds no_more var low high members vars = []
 phase_rounds (beside first rest) var low high members vars =
     team_works var low high members (sequence_work first) vars
     ∷ phase_rounds rest var low high members vars
 
--- The sites are those of so many turns, one after another.
+-- The sites of so many turns, one after another.
 abbrev pub turn_sites : (ℤ → List Site) → ℤ → ℕ → List Site
 turn_sites body low zero = []
 turn_sites body low (suc n) = body low ++ turn_sites body (low +ℤ pos 1) n
@@ -34,7 +34,7 @@ turn_sites body low (suc n) = body low ++ turn_sites body (low +ℤ pos 1) n
 abbrev pub loop_sites : List ℕ → ℤ → ℤ → (Vars → List Site) → Vars → List Site
 loop_sites var low high body vars = turn_sites (λ x. body ((var, x) ∷ vars)) low (span low high)
 
--- A construct comes before those inside it. Of an `if` both sides are taken.
+-- The sites of a statement and of a sequence. A construct comes before those inside it, and both sides of an `if` are included.
 abbrev mutual
   pub statement_sites : Statement → Vars → List Site
   statement_sites (Assign line array index value) vars = []

@@ -1,11 +1,11 @@
--- What work comes to once its loops are unrolled: assignments and choices, one after another.
+-- The steps of work, with its loops unrolled: assignments and choices, one after another.
 use Rattle.std.specs.Prelude.{ℕ, cond, List, [], ◌∷◌, ◌++◌}
 use Rattle.array_tree.specs.Trees.{Expression}
 use Rattle.array_meaning.specs.Values.{holds}
 use Rattle.array_meaning.specs.Stores.{Arrays, Vars, Store, Write, is_dynamic, cell_of, value_of, written, after}
 
--- Done; or an assignment and then the rest; or one of two sides and then the rest. Each keeps the loop variables
--- that are around it, so that it needs nothing but a store.
+-- Steps are done, or an assignment and then the rest, or one of two sides and then the rest. Each step keeps the loop variables
+-- around it, so that it needs only a store.
 pub data Steps : Type 0 where
   Done : Steps
   Set : (line : ℕ) (vars : Vars) (array : List ℕ) (index value : Expression) (rest : Steps) → Steps
@@ -24,8 +24,7 @@ abbrev pub join : List Steps → Steps
 join [] = Done
 join (steps ∷ more) = followed_by steps (join more)
 
--- The writes of steps, in their order: an assignment computes index and value and then writes, and of the two
--- sides of a choice one runs.
+-- The writes of steps, in their order. An assignment computes index and value and then writes. One side of a choice runs.
 abbrev pub writes_of : Arrays → Steps → Store → List Write
 writes_of arrays Done store = []
 writes_of arrays (Set line vars array index value rest) store =
@@ -37,6 +36,6 @@ writes_of arrays (Choose line vars test left right rest) store =
     (writes_of arrays right store) in
     side ++ writes_of arrays rest (after side store)
 
--- The result is the store after the steps.
+-- The store after the steps.
 abbrev pub exec : Arrays → Steps → Store → Store
 exec arrays steps store = after (writes_of arrays steps store) store

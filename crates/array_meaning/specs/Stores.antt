@@ -1,4 +1,4 @@
--- Arrays, loop variables and stores, and what an expression gives with them.
+-- Arrays, loop variables and stores, and the values of expressions.
 use Rattle.std.specs.Prelude.{ℕ, ◌+◌, ◌<◌, ◌≤◌, Bool, true, false, cond, ◌||◌, List, [], ◌∷◌, map, ℤ, pos, unsigned_abs, slice_index_or, slice_set}
 use Rattle.std.specs.Int.{int_rem_euclid}
 use Rattle.array_tree.specs.Equal.{name_eq}
@@ -10,7 +10,7 @@ use Rattle.array_meaning.specs.Values.{wrapping_minus, applied}
 abbrev pub Arrays : Type 0
 Arrays = List (List ℕ × ℕ)
 
--- The variables are those of the loops around, each with its value, the innermost first.
+-- The variables of the loops around, each with its value, the innermost first.
 abbrev pub Vars : Type 0
 Vars = List (List ℕ × ℤ)
 
@@ -26,7 +26,7 @@ Write = ℕ × ℤ
 abbrev pub arrays_of : List Declaration → Arrays
 arrays_of declarations = map (λ d. (d.name, unsigned_abs d.length)) declarations
 
--- The number says how many cells the arrays have.
+-- The number of cells of the arrays.
 abbrev pub cells_of : Arrays → ℕ
 cells_of [] = 0
 cells_of (a ∷ more) = a.1 + cells_of more
@@ -41,22 +41,22 @@ pub record AreSized (arrays : Arrays) : Type 0 where
   pub each : HaveCells arrays
   pub whole : cells_of arrays ≤ most_cells
 
--- The value of a variable is that of the innermost loop with the name.
+-- The value of the variable of the innermost loop with the name.
 abbrev pub var_of : Vars → List ℕ → ℤ
 var_of [] name = pos 0
 var_of (v ∷ more) name = cond (name_eq v.0 name) v.1 (var_of more name)
 
--- An array has this first cell.
+-- The first cell of an array.
 abbrev pub base_of : Arrays → List ℕ → ℕ
 base_of [] name = 0
 base_of (a ∷ more) name = cond (name_eq a.0 name) 0 (a.1 + base_of more name)
 
--- An array has this length, and 1 if there is none of the name.
+-- The length of an array, and 1 if no array has the name.
 abbrev pub length_of : Arrays → List ℕ → ℕ
 length_of [] name = 1
 length_of (a ∷ more) name = cond (name_eq a.0 name) a.1 (length_of more name)
 
--- An index is dynamic where it holds an array read.
+-- An index is dynamic if it contains an array read.
 abbrev pub is_dynamic : Expression → Bool
 is_dynamic (Number n) = false
 is_dynamic (Var name) = false
@@ -64,7 +64,7 @@ is_dynamic (Read name index) = true
 is_dynamic (Neg e) = is_dynamic e
 is_dynamic (Binary op a b) = is_dynamic a || is_dynamic b
 
--- A cell has this value; behind the last it is 0.
+-- The value of a cell; 0 after the last cell.
 abbrev pub at_cell : Store → ℕ → ℤ
 at_cell store cell = slice_index_or store cell (pos 0)
 
@@ -77,17 +77,17 @@ abbrev pub after : List Write → Store → Store
 after [] store = store
 after (w ∷ more) store = after more (written store w.0 w.1)
 
--- An index leads to this place in an array of this length: a dynamic one to its Euclidean remainder.
+-- The position in an array of this length to which an index leads: for a dynamic index its Euclidean remainder.
 abbrev pub place_of : ℕ → Bool → ℤ → ℕ
 place_of length true index = unsigned_abs (int_rem_euclid index (pos length))
 place_of length false index = unsigned_abs index
 
--- An index of an array leads to this cell.
+-- The cell to which an index of an array leads.
 abbrev pub cell_of : Arrays → List ℕ → Bool → ℤ → ℕ
 cell_of arrays name dynamic index =
     base_of arrays name + place_of (length_of arrays name) dynamic index
 
--- An expression has this value.
+-- The value of an expression.
 abbrev pub value_of : Arrays → Vars → Expression → Store → ℤ
 value_of arrays vars (Number n) store = n
 value_of arrays vars (Var name) store = var_of vars name

@@ -1,4 +1,4 @@
--- Which cells steps read and change, over both sides of each choice.
+-- The cells that steps read and change, over both sides of each choice.
 use Rattle.std.specs.Prelude.{◌≡◌, ℕ, ◌+◌, ◌<◌, ◌≤◌, Bool, true, false, List, [], ◌∷◌, ◌++◌, Option, Some, None, ℤ, ◌⊎◌, if◌then◌else◌}
 use Rattle.array_tree.specs.Trees.{Expression, Number, Var, Read, Neg, Binary}
 use Rattle.array_meaning.specs.Stores.{Arrays, Vars, is_dynamic, base_of, length_of, cell_of, value_of}
@@ -11,7 +11,7 @@ pub record Visit : Type 0 where
   pub array : List ℕ
   pub index : Option ℤ
 
--- An index of an array makes this visit. A static index needs no store.
+-- The visit of an index of an array. A static index needs no store.
 abbrev pub visit : Arrays → ℕ → Bool → Vars → List ℕ → Expression → Visit
 visit arrays line writes vars array index = record {
   line = line;
@@ -30,8 +30,8 @@ reads_in arrays line vars (Neg e) = reads_in arrays line vars e
 reads_in arrays line vars (Binary op a b) =
     reads_in arrays line vars a ++ reads_in arrays line vars b
 
--- The walk through steps: of an assignment the reads of the index, those of the value, and the target; of a choice
--- the reads of the condition, the first side and the second.
+-- The walk through steps. An assignment visits the reads of the index, those of the value, and the target. A choice visits the
+-- reads of the condition, the first side and the second.
 abbrev pub walk : Arrays → Steps → List Visit
 walk arrays Done = []
 walk arrays (Set line vars array index value rest) =
@@ -53,11 +53,11 @@ Touches arrays writes [] cell = ⊥
 Touches arrays writes (v ∷ more) cell =
     (v.writes ≡ writes) × Covers arrays v.array v.index cell ⊎ Touches arrays writes more cell
 
--- The steps read these cells.
+-- The cells that the steps read.
 abbrev pub reads_of : Arrays → Steps → ℕ → Type 0
 reads_of arrays steps cell = Touches arrays false (walk arrays steps) cell
 
--- The steps change these cells.
+-- The cells that the steps change.
 abbrev pub changes_of : Arrays → Steps → ℕ → Type 0
 changes_of arrays steps cell = Touches arrays true (walk arrays steps) cell
 

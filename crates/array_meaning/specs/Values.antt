@@ -4,13 +4,13 @@ use Rattle.std.specs.Int.{int_wrap, int_wrapping_div, w64}
 use Rattle.array_tree.specs.declared.tree.Op.{Op}
 use Rattle.array_tree.specs.declared.tree.Op.TheVariants.{Add, Sub, Mul, Div, Rem, Less, Greater, LessEq, GreaterEq, Equal, NotEqual}
 
--- A condition holds where it isn't 0.
+-- A condition holds if it isn't 0.
 abbrev pub holds : ℤ → Bool
 holds (pos zero) = false
 holds (pos (suc n)) = true
 holds (negsuc n) = true
 
--- A comparison gives 1 or 0.
+-- The value of a comparison: 1 or 0.
 abbrev pub one_if : Bool → ℤ
 one_if b = if b then pos 1 else pos 0
 
@@ -38,7 +38,7 @@ quotient a b = if holds b then int_wrapping_div w64 a b else pos 0
 abbrev pub remainder : ℤ → ℤ → ℤ
 remainder a b = if holds b then int_rem a b else pos 0
 
--- An operator gives this value.
+-- The value of an operator.
 abbrev pub applied : Op → ℤ → ℤ → ℤ
 applied Add a b = wrapping_sum a b
 applied Sub a b = wrapping_difference a b

@@ -3,8 +3,8 @@
 //! The crate holds definitions and laws, for authors of checkers and evaluators and for auditors. No code here runs: each
 //! function's contract is a law, and its body is empty.
 //!
-//! Begin with `final_store` in `specs/Work.antt`, the store that a program leaves, and `IsAccepted` in `specs/Accepted.antt`. The
-//! evaluator `run_one` of `array_eval` computes `final_store`, and the tests of `language_tests` run it on programs.
+//! Begin with `final_store` in `specs/Work.antt`, the store that a program leaves, and `IsAccepted` in `specs/Accepted.antt`.
+//! The evaluator `run_one` of `array_eval` computes `final_store`, and the tests of `language_tests` run it on programs.
 #![tactic(auto)]
 
 ghost use Rattle.array_meaning.specs.Laws.{WritesDependOnReads, ArePiecesIndependent, AreBranchesIndependent, AreMembersIndependent, ApartIsTested, ClashesAreTested, LeastClashIsTold, PlansAreRight, SitesArePlanned, EnteredSitesAreCounted, EnteredDependsOnReads, BranchesEnterAlone, MembersEnterAlone, StayInsideParts, LaterPartsAreOutside};
@@ -14,27 +14,28 @@ pub fn writes_depend_on_reads()
     ensures { WritesDependOnReads }
 {}
 
-/// Pieces that are apart, each run from the one store and merged in any order, give what they give one after another.
+/// Pieces that are apart, each run from the same store and merged in any order, result in the same store as one after another.
 pub fn pieces_are_independent()
     ensures { ArePiecesIndependent }
 {}
 
-/// So do the branches of a `par`.
+/// The branches of a `par`, if they are apart, write what the `par` writes, merged in any order.
 pub fn branches_are_independent()
     ensures { AreBranchesIndependent }
 {}
 
-/// So do the members of one phase of a `team`.
+/// The members of one phase of a `team`, if they are apart, write what the loop over all iterations writes, merged in any
+/// order.
 pub fn members_are_independent()
     ensures { AreMembersIndependent }
 {}
 
-/// Pieces are apart exactly where no cell passes the test of an overlap.
+/// Pieces are apart exactly if no cell passes the test of an overlap.
 pub fn apart_is_tested()
     ensures { ApartIsTested }
 {}
 
-/// A cell passes the test of an overlap exactly where one piece changes it and another reads or changes it.
+/// A cell passes the test of an overlap exactly if one piece changes it and another reads or changes it.
 pub fn clashes_are_tested()
     ensures { ClashesAreTested }
 {}
@@ -54,22 +55,22 @@ pub fn sites_are_planned()
     ensures { SitesArePlanned }
 {}
 
-/// For each site of the plan, the flag says whether the meaning enters the site.
+/// There is a flag for each site of the plan, whether the meaning enters the site.
 pub fn entered_sites_are_counted()
     ensures { EnteredSitesAreCounted }
 {}
 
-/// Which sites a part enters depends only on what it reads.
+/// The sites that a part enters depend only on what it reads.
 pub fn entered_depends_on_reads()
     ensures { EnteredDependsOnReads }
 {}
 
-/// So branches that are apart enter what they enter one after another, each from the one store.
+/// So branches that are apart enter the same sites, each from the same store, as one after another.
 pub fn branches_enter_alone()
     ensures { BranchesEnterAlone }
 {}
 
-/// And so do the members of one phase of a `team`.
+/// Members of one phase that are apart enter the same sites, each from the same store, as the loop over all iterations.
 pub fn members_enter_alone()
     ensures { MembersEnterAlone }
 {}
@@ -79,7 +80,7 @@ pub fn parts_stay_inside()
     ensures { StayInsideParts }
 {}
 
-/// Where parts follow one another, no site of a later one is inside one of an earlier.
+/// If parts follow one another, no site of a later part is inside a site of an earlier one.
 pub fn later_parts_are_outside()
     ensures { LaterPartsAreOutside }
 {}

@@ -24,9 +24,11 @@ abbrev mutual
   lineless_sequences (beside first rest) =
       beside (lineless_sequence first) (lineless_sequences rest)
 
+-- a declaration with line 0
 abbrev pub lineless_declaration : Declaration → Declaration
 lineless_declaration array = record { line = 0; name = array.name; length = array.length }
 
+-- a program with 0 for each of its line numbers
 abbrev pub lineless : ProgramTree → ProgramTree
 lineless program = record {
   arrays = map lineless_declaration program.arrays;

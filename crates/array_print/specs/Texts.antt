@@ -1,5 +1,5 @@
--- The text that is printed of a program: each declaration and each statement begins a line of its own, and operands
--- stand in parentheses where their binding strengths ask for it.
+-- The printed text of a program: each declaration and each statement begins a line of its own, and operands are in parentheses
+-- if their binding strengths require it.
 use Rattle.std.specs.Prelude.{ℕ, ℤ, nat_lt, nat_le, nat_eq, Bool, true, false, ◌||◌, ◌&&◌, List, [], ◌++◌, codes, flat_map}
 use Rattle.std.specs.Fmt.{signed_decimal}
 use Rattle.array_tree.specs.declared.tree.Op.{Op}

@@ -6,6 +6,7 @@ use Rattle.array_tree.specs.Trees.{Expression, Number, Var, Read, Neg, Binary, S
 use Rattle.array_lang.specs.Nesting.{most_marks, most_open}
 use Rattle.array_print.specs.Texts.{groups_left, groups_right, groups_negated}
 
+-- each byte may occur in a name
 abbrev pub AreNameBytes : List ℕ → Type 0
 AreNameBytes [] = Unit {0}
 AreNameBytes (b ∷ bs) = (is_name_byte b ≡ true) × AreNameBytes bs
@@ -51,6 +52,7 @@ IsPrintable (Binary op x y) = IsPrintable x × IsPrintable y
 abbrev pub IsWhole : Expression → Type 0
 IsWhole x = IsPrintable x × (marks_of x ≤ most_marks)
 
+-- there is at least one branch or phase
 abbrev pub IsSome : Sequences → Type 0
 IsSome no_more = ⊥
 IsSome (beside p rest) = Unit {0}

@@ -3,7 +3,7 @@
 ghost use Rattle.std.specs.Prelude.{◌≡◌, ◌++◌, OnOk};
 ghost use Rattle.std.specs.Fmt.{signed_decimal};
 ghost use Rattle.array_tree.specs.Trees.{expression_of};
-ghost use Rattle.array_print.specs.Texts.{expression_text, grouped_text, groups_left, groups_right, groups_negated, strength_of, op_strength, op_text};
+ghost use Rattle.array_print.specs.Texts.{expression_text, grouped_text, groups_left, strength_of, op_strength, op_text};
 
 use array_tree::{Expr, Op};
 use std::alloc::{AllocError, Global};
@@ -12,6 +12,14 @@ use std::alloc::{AllocError, Global};
 const MINUS: u8 = 4;
 
 /// Adds the text of an expression.
+///
+/// # Errors
+///
+/// `AllocError` if an allocation fails.
+///
+/// # Memory
+///
+/// It allocates if the text has no room.
 #[cycle(print)]
 pub fn print_expression(
     alloc: Global,
@@ -65,6 +73,14 @@ fn print_operand(
 }
 
 /// Adds a number in decimal.
+///
+/// # Errors
+///
+/// `AllocError` if an allocation fails.
+///
+/// # Memory
+///
+/// It allocates if the text has no room.
 pub fn print_number(alloc: Global, out: &mut Vec<u8>, value: i64) -> Result<(), AllocError>
     ensures { OnOk result (out.new.items ≡ out.old.items ++ signed_decimal value) }
 {

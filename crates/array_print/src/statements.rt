@@ -311,6 +311,14 @@ fn print_block(
 }
 
 /// Adds the statements of a block, one after another.
+///
+/// # Errors
+///
+/// `AllocError` if an allocation fails.
+///
+/// # Memory
+///
+/// It allocates if the text has no room, and the margin of each block.
 #[cycle(print)]
 pub fn print_statements(
     alloc: Global,

@@ -1,6 +1,6 @@
 //! Bytes to tokens.
 
-ghost use Rattle.std.specs.Prelude.{◌≡◌, ℕ, ◌<◌, ◌≤◌, ◌^◌, ◌==◌, nat_le, if◌then◌else◌, map, length, slice_index, position, not, IfSome, IfOk, count_by, Result, OnOk, IfErr, List, [], ◌∷◌, Option, Some, None};
+ghost use Rattle.std.specs.Prelude.{◌≡◌, ℕ, ◌<◌, ◌≤◌, ◌^◌, ◌==◌, nat_le, if◌then◌else◌, length, slice_index, position, not, IfSome, IfOk, count_by, Result, OnOk, IfErr, List, [], ◌∷◌, Option, Some, None};
 ghost use Rattle.array_tokens.specs.Lexemes.{is_ascii, is_name_byte, is_blank, is_digit, is_letter, is_in_line, word_of, sign_of, number_of_digits, front_of, sign_front, Spot, with_tokens, then_cut, Fails, cut, spots, tokens_of, lexeme_of, named, Gives};
 ghost use Rattle.array_tokens.specs.Literals.{greatest_literal};
 ghost use Rattle.std.specs.List.{prefix_len};
@@ -20,8 +20,16 @@ enum Found<'t> {
     TooLarge,
 }
 
-/// The tokens of a text, or the first fault of cutting it: a byte that isn't ASCII anywhere comes first, then
-/// the first place with no token or with a number that is too large.
+/// Cuts a text into tokens.
+///
+/// # Errors
+///
+/// The first error: a byte that isn't ASCII anywhere in the text, or else the first position with no token or with a number
+/// that is too large. `TokenFault::Memory` if an allocation fails.
+///
+/// # Memory
+///
+/// It allocates the list of tokens. A token borrows its name from the text.
 pub fn tokens(alloc: Global, text: &[u8]) -> Result<Vec<Token<'_>>, TokenFault>
     requires { length text.now < 2 ^ 32 }
     ensures { Gives (λ found. spots found.items) result (tokens_of text.now) }

@@ -92,7 +92,7 @@ pub enum Kind<'t> {
     Sign(Sign),
 }
 
-/// A token, with the place of its first byte, counted from 0, and its line, counted from 1.
+/// A token, with the position of its first byte, counted from 0, and its line, counted from 1.
 #[derive(Clone, Copy)]
 pub struct Token<'t> {
     pub kind: Kind<'t>,

@@ -1,5 +1,5 @@
 //! Names of arrays and loop variables.
-ghost use Rattle.std.specs.Prelude.{◌≡◌, ◌↔◌, IsTrue, IfOk, nat_eq};
+ghost use Rattle.std.specs.Prelude.{◌≡◌, ◌↔◌, IfOk, nat_eq};
 ghost use Rattle.std.specs.Cmp.Lexicographic.{pointwise};
 ghost use Rattle.array_tree.specs.Digest.{digest_of};
 
@@ -35,6 +35,10 @@ impl Name {
     /// # Errors
     ///
     /// `AllocError` if the allocation of the copy fails.
+    ///
+    /// # Memory
+    ///
+    /// It allocates a copy of the bytes.
     pub fn new(alloc: Global, bytes: &[u8]) -> Result<Name, AllocError>
         ensures { IfOk result (λ name. name ≡ bytes.now) }
     {
@@ -63,6 +67,10 @@ impl Name {
     /// # Errors
     ///
     /// `AllocError` if the allocation of the copy fails.
+    ///
+    /// # Memory
+    ///
+    /// It allocates a copy of the bytes.
     pub fn copy(&self) -> Result<Name, AllocError>
         ensures { IfOk result (λ name. name ≡ self.now) }
     {

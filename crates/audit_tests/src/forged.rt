@@ -1,4 +1,4 @@
-//! Forged journals, one for each refusal of the table, one that isn't finished, and some that skip a site that is meant.
+//! Forged journals: one for each refusal of the table, one that is incomplete, and some that skip a site that must be entered.
 use crate::told::{BRANCHES, NESTED, told};
 use std::test::Fail;
 

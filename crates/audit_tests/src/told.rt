@@ -1,4 +1,4 @@
-//! What an audit tells.
+//! The lines of an audit.
 ghost use Rattle.std.specs.Prelude.{◌≤◌};
 
 use disjoint_check::check;
@@ -15,7 +15,7 @@ pub const BRANCHES: &str = "array a[4]; par { { a[0] = 1; } { a[1] = 2; } }";
 pub const NESTED: &str =
     "array a[4]; par { { team i in 0..2 by 2 { a[i] = i + 5; } } { a[3] = 9; } }";
 
-/// The line that an audit of the output writes, or that tells the fault of its text.
+/// The line that an audit of the output writes, or the line that reports the error of its text.
 pub fn told(alloc: Global, harts: u8, program: &str, output: &[u8]) -> Result<Vec<u8>, Fail>
     requires some { 1 ≤ harts }
     requires few { harts ≤ 16 }

@@ -9,10 +9,10 @@ use sched_api::{Call, Hearing, Next, Scheduler, Told, Wishes};
 use std::alloc::{AllocError, Global};
 use std::marker::Model;
 
-/// How many wishes there is room for at each site.
+/// The room for wishes at each site.
 const WISHES_PER_SITE: usize = 15;
 
-/// What a callback of the base gives.
+/// The receipt of a callback of the base.
 #[derive(Drop)]
 pub struct BaseHeard {
     told: Told,
@@ -34,7 +34,7 @@ impl Hearing for BaseHeard {
     }
 }
 
-// Only callbacks call it.
+// Only callbacks call this function.
 pub(crate) fn heard(call: Call, child: u16, count: u8) -> BaseHeard
     ensures { result ≡ record { call = call; child = child; count = count } }
 {
@@ -59,7 +59,15 @@ impl Model for Base {
 }
 
 impl Base {
-    /// A base with no wish yet, and room for 15 wishes at each of so many sites.
+    /// A base without a wish, and with room for 15 wishes at each of `sites` sites.
+    ///
+    /// # Errors
+    ///
+    /// `AllocError` if an allocation fails.
+    ///
+    /// # Memory
+    ///
+    /// It allocates the room for wishes. No other call allocates.
     pub fn new(alloc: Global, sites: u16) -> Result<Base, AllocError>
         ensures { IfOk result (λ b. b ≡ record {
           wishes = record { sites = []; room = 15 * sites };
@@ -72,7 +80,7 @@ impl Base {
         })
     }
 
-    /// Takes all wishes off for good: there is no room for any from now on.
+    /// Removes all wishes for good: from then on there is no room for any.
     pub fn shut(&mut self)
         ensures { self.new ≡ shut_base }
     {

@@ -1,4 +1,4 @@
-//! The base behind a lock.
+//! The base under a lock.
 ghost use Rattle.std.specs.Prelude.{◌≡◌, IsOk};
 
 use crate::base::{Base, BaseHeard};
@@ -6,8 +6,7 @@ use sched_api::{Next, Scheduler};
 use std::marker::PhantomData;
 use std::sync::{Mutex, Wait};
 
-/// One hart's hand on a base that harts share. Its calls do what those of `Base` do, under the lock.
-/// Each may wait for the lock.
+/// One hart's hand on a base that harts share. Its calls do what those of `Base` do, under the lock. Each may block.
 pub struct BaseHand<'a, R> {
     lock: &'a Mutex<Base>,
     of: PhantomData<&'a R>,
@@ -20,7 +19,7 @@ impl<'a, R> Drop for BaseHand<'a, R> {
 }
 
 impl<'a, R> BaseHand<'a, R> {
-    /// A hand on the base behind the lock. It doesn't wait.
+    /// A hand on the base under the lock. Does not block.
     pub fn new(lock: &'a Mutex<Base>) -> BaseHand<'a, R> {
         BaseHand {
             lock,
@@ -30,7 +29,7 @@ impl<'a, R> BaseHand<'a, R> {
 }
 
 impl<'a, R: Wait + 'a> BaseHand<'a, R> {
-    /// Takes all wishes of the base off for good.
+    /// Removes all wishes of the base for good.
     pub fn shut(&self, rt: &R) {
         self.lock.lock(rt).shut();
     }
@@ -50,7 +49,7 @@ impl<'a, R: Wait + 'a> Scheduler for BaseHand<'a, R> {
 
     ghost site_of = { λ _. 0 };
 
-    // Nothing is known of what the lock holds, so any answer may come.
+    // Why: contracts know only the type of the lock-protected base, so any result is possible.
     ghost answers = { λ _ _ _. Unit {0} };
 
     ghost hears = { λ _ _ _. Unit {0} };

@@ -1,8 +1,8 @@
-//! The scheduler at the root.
+//! The scheduler at the root of the tree.
 //!
-//! The base lends each hart that comes to it to the top site that asked first. `Base` is for one
-//! thread; a `BaseHand` is one hart's hand on a base behind a lock, and a `SharedBaseHand` on one beside whose lock stands what
-//! a hart with nothing to do looks at.
+//! The base lends each hart that comes to it to the top site with the oldest wish. `Base` is for one thread. `BaseHand` is one
+//! hart's hand on a base under a lock. `SharedBaseHand` is one hart's hand on a base with two atomic flags beside the lock,
+//! which idle harts read. Begin with `Base` in `base.rt`; `src/tests.rt` has an example of each.
 #![tactic(auto)]
 
 mod base;

@@ -8,24 +8,25 @@ use std::marker::PhantomData;
 use std::sync::atomic::{AtomicBool, Ordering};
 use std::sync::{Mutex, Wait};
 
-/// How many times an idle hart loads `is_asked` before it takes a wish: some 10 µs.
+/// The number of loads of `is_asked` before an idle hart takes a wish: some 10 µs.
 ///
-/// Why: a small site is over before a guest could reach it. A hart that enters it costs its home a wait, and finds no work.
+/// Why: a small site completes before a guest could reach it. A hart that enters such a site makes its home wait, and finds no
+/// work.
 const LOOKS: usize = 24;
 
-/// A base that harts share, behind a lock. Two atomic words stand beside the lock, for idle harts, which load them again and
-/// again: whether the base was shut, and whether there may be a wish.
+/// A base that harts share, under a lock. Two atomic flags stand beside the lock, for idle harts, which load them repeatedly:
+/// whether the base was shut, and whether it may have a wish.
 #[derive(Drop)]
 pub struct SharedBase {
     lock: Mutex<Base>,
-    // Whether it was shut. It changes under the lock.
+    // Whether the base was shut. Changed only under the lock.
     is_shut: CachePadded<AtomicBool>,
-    // False only while the base has no wish. It changes under the lock.
+    // False only while the base has no wish. Changed only under the lock.
     is_asked: CachePadded<AtomicBool>,
 }
 
 impl SharedBase {
-    /// Puts the base behind a lock.
+    /// Puts the base under a lock.
     pub fn new(base: Base) -> SharedBase {
         let is_shut = base.is_shut();
         SharedBase {
@@ -35,14 +36,14 @@ impl SharedBase {
         }
     }
 
-    /// Takes all wishes of the base off for good. It may wait for the lock.
+    /// Removes all wishes of the base for good. May block.
     pub fn shut<R: Wait>(&self, rt: &R) {
         let mut base = self.lock.lock(rt);
         base.shut();
         self.is_shut.store(true, Ordering::SeqCst);
     }
 
-    /// Whether the base was shut. It doesn't wait.
+    /// Whether the base was shut. Does not block.
     pub fn is_shut(&self) -> bool {
         self.is_shut.load(Ordering::SeqCst)
     }
@@ -67,7 +68,7 @@ impl SharedBase {
         next
     }
 
-    // Sets `is_asked` by the base's wishes. The caller has the lock.
+    // Sets `is_asked` by the base's wishes. The caller holds the lock.
     fn note_wishes(&self, base: &Base) {
         if base.has_no_wish() {
             self.is_asked.store(false, Ordering::SeqCst);
@@ -75,8 +76,8 @@ impl SharedBase {
     }
 }
 
-/// One hart's hand on a base that harts share. Its calls do what those of `Base` do. `request` and `unregister` wait for the
-/// lock. `enter` takes a wish only if one stands for some 10 µs, and waits for the lock only then. The other calls don't wait.
+/// One hart's hand on a base that harts share. Its calls do what those of `Base` do. `request` and `unregister` take the lock.
+/// `enter` takes a wish, and the lock, only if `is_asked` stays true for some 10 µs. The other calls don't block.
 pub struct SharedBaseHand<'a, R> {
     shared: &'a SharedBase,
     of: PhantomData<&'a R>,
@@ -89,7 +90,7 @@ impl<'a, R> Drop for SharedBaseHand<'a, R> {
 }
 
 impl<'a, R> SharedBaseHand<'a, R> {
-    /// A hand on the base. It doesn't wait.
+    /// A hand on the base. Does not block.
     pub fn new(shared: &'a SharedBase) -> SharedBaseHand<'a, R> {
         SharedBaseHand {
             shared,
@@ -107,7 +108,7 @@ impl<'a, R: Wait + 'a> Scheduler for SharedBaseHand<'a, R> {
 
     ghost site_of = { λ _. 0 };
 
-    // Nothing is known of what the lock holds, so any answer may come.
+    // Why: contracts know only the type of the lock-protected base, so any result is possible.
     ghost answers = { λ _ _ _. Unit {0} };
 
     ghost hears = { λ _ _ _. Unit {0} };

@@ -1,4 +1,4 @@
-//! The base by itself, behind a lock, and under a port.
+//! The base by itself, under a lock, and with a port.
 
 use crate::*;
 use hart_port::{PlainPort, Port, Seen};

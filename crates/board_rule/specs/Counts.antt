@@ -10,7 +10,7 @@ use Rattle.board_rule.specs.declared.view.Doing.TheVariants.{Idle, Claiming, Cre
 use Rattle.transfer_table.specs.Counts.{one_if}
 use Rattle.board_words.specs.Counts.{total, draws_in}
 
--- 1 for a view that has drawn the place and hasn't written its entry
+-- 1 for a view that has drawn the index and hasn't written its entry
 abbrev pub draws : ℕ → View → ℕ
 draws i v = draws_in v.drawn i
 
@@ -28,6 +28,7 @@ pub record Load : Type 0 where
   pub leaves : ℕ
   pub credits : ℕ
 
+-- no hart at any step
 abbrev pub no_load : Load
 no_load = record { claims = 0; seals = 0; reserves = 0; lands = 0; leaves = 0; credits = 0 }
 

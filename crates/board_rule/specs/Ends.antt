@@ -18,7 +18,7 @@ use Rattle.board_words.specs.Words.{journal_word, spelled}
 use Rattle.board_words.specs.Counts.{total, ended_as}
 use Rattle.board_words.specs.Places.{AreAt}
 
--- the words have this journal, each entry at its place
+-- the words have this journal, each entry at its index
 pub record Spells (lay : Layout) (p : Plan) (ws : List ℕ) (es : List Entry) : Type 0 where
   pub count : entries_of lay (slice_index ws 0) ≡ length es
   pub few : length es ≤ room p

@@ -8,6 +8,7 @@ use Rattle.board_rule.specs.declared.layout.Layout.{Layout}
 use Rattle.board_rule.specs.declared.view.View.{View}
 use Rattle.board_rule.specs.Rule.{Stands}
 
+-- A state of the board: its words and the views of its seats.
 abbrev pub St : Type 0
 St = State (Unit {0}) View
 

@@ -43,6 +43,7 @@ abbrev pub after_enter : Layout → ℕ → Doing
 after_enter Owners x = Landing x
 after_enter Guests x = Idle
 
+-- what remains of a Yield once it is made
 abbrev pub after_yield : Layout → ℕ → Doing
 after_yield Owners x = Idle
 after_yield Guests x = Leaving x

@@ -92,7 +92,7 @@ module _ (p : Plan) (es : List Entry) (t : TableState) (v : View) where
     pub mine : v.mine ≡ made_by v.hart es
     pub placed : AreAt es v.mine v.places
     pub owner : v.owner ≡ owner t v.hart
-    -- the entry that it is to write stands in the journal at its place, and is the last that it made
+    -- the entry that it is to write is in the journal at its index, and is the last that it made
     pub drawn : (d : Drawn) → v.drawn ≡ Some d
         → (slice_get es d.place ≡ Some d.entry) × is_last v.mine d.entry
     pub joined : v.hart ≡ 0 → (v.made ≡ made) × (v.ended ≡ ended)
@@ -111,13 +111,14 @@ pub record KnowsSites (p : Plan) (t : TableState) (h : ℕ) (m : Marks) (closing
   pub alone : (x : ℕ) → is_in m.empty x ≡ true → SawChildren p m x → IsAlone p t h x
   pub gone : (x : ℕ) → is_in m.gone x ≡ true → IsSite p x × ((row t x).stage ≡ Gone)
 
+-- a view is right: what it knows of its hart, of its pending step and of the sites
 pub record Knows (lay : Layout) (p : Plan) (es : List Entry) (t : TableState) (v : View)
     (closing : ℕ → Bool) (guests_of : ℕ → ℕ) (made : ℕ) (ended : List Ended) : Type 0 where
   pub itself : KnowsItself p es t v made ended
   pub does : DoesRight lay p es t v v.doing
   pub sites : KnowsSites p t v.hart v.marks closing guests_of
 
--- ---- the rule
+-- ---- the invariant
 
 -- The words and the views represent a journal, a state of the table, the number of seats that were made, the harts that were
 -- joined into hart 0's seat, and the closing bit of each site.

@@ -32,7 +32,7 @@ ClaimKeeps lay = (p : Plan) (s : St) (k : Stands lay p s) (id : ℕ) (v : View) 
     → Keeps lay p s k (after_step s x (bit_or (slice_index s.words x) 1) id
     (claim_view x (slice_index s.words x) v))
 
--- writing the drawn entry at its place
+-- writing the drawn entry at its index
 abbrev pub JotKeeps : Layout → Type 0
 JotKeeps lay = (p : Plan) (s : St) (k : Stands lay p s) (id : ℕ) (v : View) (place : ℕ) (e : Entry)
     → get_elem? s.views id ≡ some v → IsSeat v → v.drawn ≡ Some record { place = place; entry = e }
@@ -131,35 +131,40 @@ JoinKeeps lay = (p : Plan) (s : St) (k : Stands lay p s) (id other : ℕ) (v w :
 
 -- ---- these make an entry of the journal, each by one addition to the first word
 
--- the first word grows, and the seat draws the place that it showed
+-- the first word grows, and the seat draws the index that it showed
 abbrev pub after_tick : Layout → St → ℕ → ℕ → (ℕ → View) → St
 after_tick lay s amount id next = let word : ℕ = slice_index s.words 0 in
     after_step s 0 ((word + amount) % 2 ^ 64) id (next (entries_of lay word))
 
+-- the step of a Register appends exactly its entry
 abbrev pub RegisterAppends : Layout → Type 0
 RegisterAppends lay = (p : Plan) (s : St) (k : Stands lay p s) (id : ℕ) (v : View) (x amount : ℕ)
     → get_elem? s.views id ≡ some v → IsSeat v → v.doing ≡ Claiming x → Adds lay v.owner v.hart x amount
     → Appends lay p s k (Register v.hart (busy_at v.doing))
     (after_tick lay s amount id (λ place. register_view place v))
 
+-- the step of a Request appends exactly its entry
 abbrev pub RequestAppends : Layout → Type 0
 RequestAppends lay = (p : Plan) (s : St) (k : Stands lay p s) (id : ℕ) (v : View) (n amount : ℕ)
     → get_elem? s.views id ≡ some v → IsSeat v → MayRequest p v n → Adds lay v.owner v.hart v.owner amount
     → Appends lay p s k (Request v.hart v.owner n)
     (after_tick lay s amount id (λ place. request_view n place v))
 
+-- the step of an Enter appends exactly its entry
 abbrev pub EnterAppends : Layout → Type 0
 EnterAppends lay = (p : Plan) (s : St) (k : Stands lay p s) (id : ℕ) (v : View) (x amount : ℕ)
     → get_elem? s.views id ≡ some v → IsSeat v → v.doing ≡ Reserved x → Adds lay v.owner v.hart x amount
     → Appends lay p s k (Enter v.hart (busy_at v.doing))
     (after_tick lay s amount id (λ place. enter_view lay place v))
 
+-- the step of a Yield appends exactly its entry
 abbrev pub YieldAppends : Layout → Type 0
 YieldAppends lay = (p : Plan) (s : St) (k : Stands lay p s) (id : ℕ) (v : View) (amount : ℕ)
     → get_elem? s.views id ≡ some v → IsSeat v → MayYield v → Adds lay v.owner v.hart (parent p v.owner) amount
     → Appends lay p s k (Yield v.hart v.owner)
     (after_tick lay s amount id (λ place. yield_view lay place v))
 
+-- the step of an Unregister appends exactly its entry
 abbrev pub UnregisterAppends : Layout → Type 0
 UnregisterAppends lay = (p : Plan) (s : St) (k : Stands lay p s) (id : ℕ) (v : View) (amount : ℕ)
     → get_elem? s.views id ≡ some v → IsSeat v → MayUnregister p v
@@ -167,6 +172,7 @@ UnregisterAppends lay = (p : Plan) (s : St) (k : Stands lay p s) (id : ℕ) (v :
     → Appends lay p s k (Unregister v.hart v.owner)
     (after_tick lay s amount id (λ place. unregister_view place v))
 
+-- the step of a Skip appends exactly its entry
 abbrev pub SkipAppends : Layout → Type 0
 SkipAppends lay = (p : Plan) (s : St) (k : Stands lay p s) (id : ℕ) (v : View) (x amount : ℕ)
     → get_elem? s.views id ≡ some v → IsSeat v → v.doing ≡ Claiming x → Adds lay v.owner v.hart v.owner amount

@@ -21,6 +21,7 @@ use Rattle.board_words.specs.Sets.{union}
 
 -- ---- seats that are made, split and joined
 
+-- the marks of no site
 abbrev pub no_marks : Plan → Marks
 no_marks p = record {
   homes = no_site p;
@@ -54,6 +55,7 @@ first_view p = record (fresh_view p 0) { made = 1 }
 abbrev pub split_left : View → View
 split_left v = record v { made = v.made + 1 }
 
+-- the view of the seat that is split off
 abbrev pub split_right : View → View
 split_right v = fresh_view v.plan v.made
 
@@ -71,6 +73,7 @@ spent_view = fresh_view record { harts = 0; parents = [] } 255
 
 -- ---- looks: what a step makes of the view besides the word that is noted, and the view with that word
 
+-- a noted word of site x
 abbrev pub look_at : ℕ → LookKind → ℕ → Look
 look_at x kind found = record { site = x; kind = kind; found = found }
 
@@ -96,6 +99,7 @@ see_gone_next x found v = record v {
   marks = if is_closed found then gone_marks v.plan x v.marks else v.marks;
 }
 
+-- the view after this look
 abbrev pub see_gone_view : ℕ → ℕ → View → View
 see_gone_view x found v = looked x look.Look found (see_gone_next x found v)
 
@@ -104,6 +108,7 @@ see_gone_view x found v = looked x look.Look found (see_gone_next x found v)
 abbrev pub drained_marks : View → Marks
 drained_marks v = record v.marks { drained = with_site v.marks.drained v.owner }
 
+-- the marks after the owner was seen empty
 abbrev pub empty_marks : View → Marks
 empty_marks v = record v.marks {
   drained = with_site v.marks.drained v.owner;
@@ -121,6 +126,7 @@ see_drained_next lay found v = record v {
   marks = if flight_of found == 0 then marks_without lay v else v.marks;
 }
 
+-- the view after this look
 abbrev pub see_drained_view : Layout → ℕ → View → View
 see_drained_view lay found v = looked v.owner look.Look found (see_drained_next lay found v)
 
@@ -132,14 +138,17 @@ see_empty_next found v = record v {
   };
 }
 
+-- the view after this look
 abbrev pub see_empty_view : ℕ → View → View
 see_empty_view found v = looked 0 look.LookAtBoard found (see_empty_next found v)
 
 -- ---- steps on a site's word
 
+-- the view after a claim that found the word, without the noted word
 abbrev pub claim_next : ℕ → ℕ → View → View
 claim_next x found v = record v { doing = if is_claimed found then v.doing else Claiming x }
 
+-- the view after a claim
 abbrev pub claim_view : ℕ → ℕ → View → View
 claim_view x found v = looked x look.Claim found (claim_next x found v)
 
@@ -147,6 +156,7 @@ claim_view x found v = looked x look.Claim found (claim_next x found v)
 abbrev pub reserve_next : ℕ → ℕ → ℕ → View → View
 reserve_next x w found v = record v { doing = if found == w then Reserved x else v.doing }
 
+-- the view after a reservation
 abbrev pub reserve_view : ℕ → ℕ → ℕ → View → View
 reserve_view x w found v = looked x look.Reserve found (reserve_next x w found v)
 
@@ -154,16 +164,19 @@ reserve_view x w found v = looked x look.Reserve found (reserve_next x w found v
 abbrev pub done_view : View → View
 done_view v = record v { doing = Idle }
 
+-- the view after its owner is closed
 abbrev pub close_view : View → View
 close_view v = record v { marks = record v.marks { closed = with_site v.marks.closed v.owner } }
 
 -- ---- steps on a journal word
 
+-- the view after the entry is written into the journal
 abbrev pub jot_view : View → View
 jot_view v = record v { drawn = None }
 
 -- ---- steps on the first word: each reserves the index of its entry
 
+-- the marks after a site is registered
 abbrev pub home_marks : ℕ → Marks → Marks
 home_marks x m = record m {
   homes = with_site m.homes x;
@@ -172,6 +185,7 @@ home_marks x m = record m {
   empty = without m.empty x;
 }
 
+-- the marks after a site is unregistered
 abbrev pub left_marks : ℕ → Marks → Marks
 left_marks x m = record m {
   homes = without m.homes x;
@@ -189,25 +203,30 @@ made_entry e o place v = record v {
   drawn = Some record { place = place; entry = e };
 }
 
+-- the view after a Register
 abbrev pub register_view : ℕ → View → View
 register_view place v = let x : ℕ = busy_at v.doing in record
     (made_entry (Register v.hart x) x place v) { doing = Idle; marks = home_marks x v.marks }
 
+-- the view after a Request of k harts
 abbrev pub request_view : ℕ → ℕ → View → View
 request_view k place v = record (made_entry (Request v.hart v.owner k) v.owner place v) {
   doing = Crediting v.owner k;
 }
 
+-- the view after an Enter
 abbrev pub enter_view : Layout → ℕ → View → View
 enter_view lay place v = let x : ℕ = busy_at v.doing in
     record (made_entry (Enter v.hart x) x place v) { doing = after_enter lay x }
 
+-- the view after a Yield
 abbrev pub yield_view : Layout → ℕ → View → View
 yield_view lay place v =
     record (made_entry (Yield v.hart v.owner) (parent v.plan v.owner) place v) {
       doing = after_yield lay v.owner;
     }
 
+-- the view after an Unregister
 abbrev pub unregister_view : ℕ → View → View
 unregister_view place v =
     record (made_entry (Unregister v.hart v.owner) (parent v.plan v.owner) place v) {

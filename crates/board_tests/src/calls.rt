@@ -15,7 +15,7 @@ use std::test::Fail;
 use std::thread::Threads;
 use transfer_table::{Entry, Plan, first_fault};
 
-// What the base is told of a call at the site.
+// The receipt of the base's callback for a call at the site.
 fn of_site(call: Call, count: u8) -> Told {
     Told {
         call,
@@ -24,7 +24,7 @@ fn of_site(call: Call, count: u8) -> Told {
     }
 }
 
-// Whether one hart registers the site and asks the base for another hart.
+// Whether one hart registers the site and requests another hart from the base.
 fn has_asked<'a, R: Threads + Wait + Sync>(
     rt: &'a R,
     home: &mut LockedPort<'a, R>,

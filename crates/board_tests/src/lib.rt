@@ -1,7 +1,7 @@
-//! Tests of harts that share a table: call by call on the word board and on a ledger under a lock, and in threads on a
-//! board of either layout.
+//! Tests of harts that share a table: call by call on the word board and on a ledger under a lock, and in threads on a board of
+//! either layout.
 //!
-//! They stand apart since a crate is proved a second time with its tests.
+//! Why a crate of its own: a crate is proved a second time with its tests.
 #![tactic(auto)]
 
 #[cfg(test)]

@@ -1,4 +1,4 @@
-//! Two harts at one site by ports on one ledger: the answers, words and entries of the board's row.
+//! Two harts at one site by ports on one ledger: the results, words and entries of the board's test.
 ghost use Rattle.std.specs.Prelude.{◌≡◌, [], ◌∷◌, true, false};
 ghost use Rattle.hart_port.specs.PortView.{is_in, registered, requested_by, entered};
 ghost use Rattle.hart_port.specs.Locked.{first_locked};
@@ -16,7 +16,7 @@ fn words(rt: &impl Wait, lock: &Mutex<Ledger>) -> (u64, u64) {
     (ledger.board_word(), ledger.site_word(1))
 }
 
-// Whether one hart registers the site and asks for the other, which comes then and not before.
+// Whether one hart registers the site and requests the other, which comes then and not before.
 fn has_come<'a, R: Threads + Wait + Sync>(
     rt: &'a R,
     lock: &Mutex<Ledger>,

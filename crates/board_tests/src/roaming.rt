@@ -1,5 +1,5 @@
-//! Harts that go through the sites of one table, each in a thread of its own, by any port. One procedure serves any tree of sites.
-//! It looks and tries a bounded number of times, so a test ends whatever the schedule.
+//! Harts that go through the sites of one table, each in a thread of its own, by any port. One procedure works for any tree of
+//! sites. It bounds its reads and tries, so a test ends for every schedule.
 ghost use Rattle.std.specs.Prelude.{◌≡◌, ℕ, ◌≤◌, ◌<◌, true, false, length, slice_index_or};
 ghost use Rattle.std.specs.List.{All};
 ghost use Rattle.transfer_table.specs.Plan.{IsSite, parent};
@@ -11,10 +11,11 @@ use std::sync::Wait;
 use std::thread::{Threads, for_each_mut};
 use transfer_table::Plan;
 
-/// How often a hart looks whether a site is gone, or empty.
+/// The number of reads of a hart that checks whether a site is gone, or empty.
 const LOOKS: u32 = 1 << 30;
 
-// Whether the hart came into the site as a guest. It tries so often at most, and no more once the site is gone.
+// Tries to enter the site as a guest, at most so many times, and not after the site is gone. Returns whether the hart is
+// inside.
 fn came_in<P: Port<Hold = ()>>(port: &mut P, site: u16, tries: u32) -> bool
     requires site { IsSite (P.seen port.old).plan site }
     requires child { (P.seen port.old).owner ≡ parent (P.seen port.old).plan site }
@@ -34,7 +35,7 @@ fn came_in<P: Port<Hold = ()>>(port: &mut P, site: u16, tries: u32) -> bool
     false
 }
 
-// Looks until the site is gone. Whether it was seen so.
+// Reads until the site is gone. Returns whether it was seen gone.
 fn saw_gone<P: Port<Hold = ()>>(port: &mut P, site: u16) -> bool
     requires site { IsSite (P.seen port.old).plan site }
     ensures looked { HasLooked (P.seen port.old) (P.seen port.new) }
@@ -48,7 +49,7 @@ fn saw_gone<P: Port<Hold = ()>>(port: &mut P, site: u16) -> bool
     false
 }
 
-// The same of each child of the owner.
+// The same for each child of the owner.
 fn saw_children_gone<P: Port<Hold = ()>>(plan: &Plan, port: &mut P) -> bool
     requires plan { plan.now ≡ (P.seen port.old).plan }
     ensures looked { HasLooked (P.seen port.old) (P.seen port.new) }
@@ -63,7 +64,7 @@ fn saw_children_gone<P: Port<Hold = ()>>(plan: &Plan, port: &mut P) -> bool
     true
 }
 
-// Looks until the owner is empty. Whether it was seen so.
+// Reads until the owner is empty. Returns whether it was seen empty.
 fn saw_empty<P: Port<Hold = ()>>(port: &mut P) -> bool
     requires home { is_in (P.seen port.old).homes (P.seen port.old).owner ≡ true }
     requires closed { is_in (P.seen port.old).closed (P.seen port.old).owner ≡ true }
@@ -78,7 +79,7 @@ fn saw_empty<P: Port<Hold = ()>>(port: &mut P) -> bool
     false
 }
 
-// The home closes its site, waits for those inside, and unregisters it. Whether it did.
+// The home closes its site, waits for the guests, and unregisters it. Returns whether it did.
 fn leave<P: Port<Hold = ()>>(plan: &Plan, port: &mut P) -> bool
     requires plan { plan.now ≡ (P.seen port.old).plan }
     requires home { is_in (P.seen port.old).homes (P.seen port.old).owner ≡ true }
@@ -94,7 +95,8 @@ fn leave<P: Port<Hold = ()>>(plan: &Plan, port: &mut P) -> bool
     true
 }
 
-// The hart leads the site, or is its guest where another hart leads it, and goes through the sites inside. Whether it is back.
+// The hart registers the site, or is its guest if another hart is its home, and goes through the sites inside. Returns whether
+// the hart is back.
 #[cycle(visits)]
 fn visit<P: Port<Hold = ()>>(plan: &Plan, port: &mut P, site: u16, tries: u32) -> bool
     requires plan { plan.now ≡ (P.seen port.old).plan }
@@ -119,7 +121,7 @@ fn visit<P: Port<Hold = ()>>(plan: &Plan, port: &mut P, site: u16, tries: u32) -
     true
 }
 
-// The hart goes through the children of the site that it is in. Whether it is back.
+// The hart goes through the children of its owner. Returns whether the hart is back.
 #[cycle(visits)]
 fn visit_children<P: Port<Hold = ()>>(plan: &Plan, port: &mut P, inside: u16, tries: u32) -> bool
     requires plan { plan.now ≡ (P.seen port.old).plan }
@@ -137,7 +139,8 @@ fn visit_children<P: Port<Hold = ()>>(plan: &Plan, port: &mut P, inside: u16, tr
     true
 }
 
-/// All harts do so at once, from the base. A hart that comes too late to lead a site tries so often to enter it.
+/// All harts go through the sites at once, from the base. A hart that comes too late to register a site tries so often to enter
+/// it.
 pub(crate) fn roam<R: Threads + Wait + Sync, P: Port<Hold = ()> + Send>(
     rt: &R,
     plan: &Plan,
@@ -157,7 +160,7 @@ pub(crate) fn roam<R: Threads + Wait + Sync, P: Port<Hold = ()> + Send>(
     {
         visit_children(plan, port, 0, tries);
     };
-    // As many parts as harts: those of one part go one after another, and each waits for all others.
+    // Why as many parts as harts: those of one part run one after another, and each waits for all others.
     let parts = ports.len().max(1);
     for_each_mut(rt, ports, parts, &go);
 }

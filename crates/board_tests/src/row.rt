@@ -39,7 +39,7 @@ pub(crate) fn has(board: &WordBoard, first: u64, second: u64) -> bool
     board.peek(0) == first && board.peek(1) == second
 }
 
-// Whether one hart registers the site and asks for the other, which comes then and not before.
+// Whether one hart registers the site and requests the other, which comes then and not before.
 fn has_come(board: &WordBoard, home: &mut HartSeat, guest: &mut HartSeat) -> bool
     requires plan { board.now.plan ≡ record { harts = 2; parents = 0 ∷ [] } }
     requires of { IsOf board.now home.old × IsOf board.now guest.old }
@@ -69,7 +69,7 @@ fn has_come(board: &WordBoard, home: &mut HartSeat, guest: &mut HartSeat) -> boo
     has(board, 844424930136065, 1)
 }
 
-// Whether the site, once it is closed, is held by the guest, empty without it, and gone when its home has left.
+// Whether the site, once closed, is held by the guest, empty without it, and gone when its home has left.
 fn has_gone(board: &WordBoard, home: &mut HartSeat, guest: &mut HartSeat) -> bool
     requires plan { board.now.plan ≡ record { harts = 2; parents = 0 ∷ [] } }
     requires of { IsOf board.now home.old × IsOf board.now guest.old }
@@ -98,7 +98,7 @@ fn has_gone(board: &WordBoard, home: &mut HartSeat, guest: &mut HartSeat) -> boo
     yielded && has(board, 1407374883553280, 7) && board.see_gone(home, 1)
 }
 
-// Whether the journal's words spell the row.
+// Whether the journal's words are the five entries.
 fn is_spelled(board: &WordBoard) -> bool
     requires { 6 < width board.now.plan }
 {

@@ -1,7 +1,6 @@
 //! Sites that are skipped. After each call the words are compared.
-ghost use Rattle.std.specs.Prelude.{◌≡◌, ◌<◌, [], ◌∷◌, true, false, length};
+ghost use Rattle.std.specs.Prelude.{◌≡◌, ◌<◌, [], ◌∷◌, true, false};
 ghost use Rattle.transfer_table.specs.Plan.{site_count};
-ghost use Rattle.hart_port.specs.PortView.{is_in};
 ghost use Rattle.board_words.specs.Words.{width};
 ghost use Rattle.board_rule.specs.Views.{fresh_view};
 ghost use Rattle.word_board.specs.Of.{IsOf};
@@ -28,7 +27,7 @@ fn has(board: &WordBoard, first: u64, sites: [u64; 3]) -> bool
         && board.peek(3) == sites[2]
 }
 
-// Whether site 1 is skipped, and then refused, with site 2 below it, whose word stays untouched.
+// Whether site 1 is skipped and then refused, with site 2 below it, whose word is unchanged.
 fn has_skipped(board: &WordBoard, seat: &mut HartSeat) -> bool
     requires plan { board.now.plan ≡ record { harts = 1; parents = 0 ∷ 1 ∷ 0 ∷ [] } }
     requires of { IsOf board.now seat.old }
@@ -44,7 +43,7 @@ fn has_skipped(board: &WordBoard, seat: &mut HartSeat) -> bool
         && has(board, 281474976710656, [5, 0, 0])
 }
 
-// Whether a skipped site is seen gone by its word, and one below it isn't.
+// Whether a skipped site is seen gone by its word, and a site below it isn't.
 fn has_seen(board: &WordBoard, seat: &mut HartSeat) -> bool
     requires plan { board.now.plan ≡ record { harts = 1; parents = 0 ∷ 1 ∷ 0 ∷ [] } }
     requires of { IsOf board.now seat.old }
@@ -81,8 +80,8 @@ fn has_come_and_gone(board: &WordBoard, seat: &mut HartSeat) -> bool
     registered && closing && has(board, 844424930131968, [5, 0, 7]) && board.see_gone(seat, 3)
 }
 
-// Whether the entries lack nothing where just site 3 is meant, and else the least site that is registered and not meant, or
-// meant and not registered, is told.
+// Whether the entries are complete if only site 3 is meant to be entered. If they aren't, whether the fault is the least site
+// that is registered and not meant, or meant and not registered.
 fn is_told(alloc: Global, plan: &Plan, entries: &[Entry], meant: [bool; 3]) -> Result<bool, Fail>
     requires { site_count plan.now ≡ 3 }
 {

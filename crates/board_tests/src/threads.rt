@@ -13,10 +13,10 @@ use std::test::Fail;
 use std::thread::Threads;
 use transfer_table::{Entry, Plan, first_fault};
 
-/// How often a hart tries to enter a site where many harts roam.
+/// The number of tries of a hart to enter a site among many harts.
 const FEW_TRIES: u32 = 16;
 
-/// How often where two harts meet at one site.
+/// The number of tries if two harts meet at one site.
 const MANY_TRIES: u32 = 1 << 20;
 
 // A port for each seat.
@@ -135,7 +135,7 @@ fn sixteen_threads_roam(rt: HostRuntime) -> Result<(), Fail> {
     Ok(())
 }
 
-// The entries of a hart that leads a site, and of another that is its guest.
+// The entries of a hart that is the home of a site, and of another that is its guest.
 fn with_a_guest(home: u8, guest: u8) -> [Entry; 5] {
     [
         Entry::Register {
@@ -162,7 +162,7 @@ fn with_a_guest(home: u8, guest: u8) -> [Entry; 5] {
     ]
 }
 
-// The entries of a hart that leads a site and has no guest.
+// The entries of a hart that is the home of a site and has no guest.
 fn alone(home: u8) -> [Entry; 3] {
     [
         Entry::Register {
@@ -181,7 +181,7 @@ fn alone(home: u8) -> [Entry; 3] {
     ]
 }
 
-// Whether one hart led the site, and the other was its guest or came too late.
+// Whether one hart was the home of the site, and the other was its guest or came too late.
 fn is_row(entries: &[Entry]) -> bool {
     entries == with_a_guest(0, 1).as_slice()
         || entries == with_a_guest(1, 0).as_slice()

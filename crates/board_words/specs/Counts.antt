@@ -4,10 +4,12 @@ use Rattle.transfer_table.specs.Counts.{one_if}
 use Rattle.board_words.specs.declared.entries.Drawn.{Drawn}
 use Rattle.board_words.specs.declared.entries.Ended.{Ended}
 
+-- the sum of f over a list
 abbrev pub total : {V : Type 0} → (V → ℕ) → List V → ℕ
 total f [] = 0
 total f (v ∷ vs) = f v + total f vs
 
+-- 1 if the seat reserved index i and hasn't written it
 abbrev pub draws_in : Option Drawn → ℕ → ℕ
 draws_in None i = 0
 draws_in (Some d) i = one_if (d.place == i)

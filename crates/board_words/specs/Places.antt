@@ -15,5 +15,6 @@ pub record IsPlace (word draws : ℕ) (e : Entry) : Type 0 where
 abbrev pub AreAt : List Entry → List Entry → List ℕ → Type 0
 AreAt journal mine places = AllZip (λ e i. slice_get journal i ≡ Some e) mine places
 
+-- the entry is the last of the list
 abbrev pub is_last : List Entry → Entry → Type 0
 is_last es e = (ds : List Entry) × (es ≡ ds ++ e ∷ [])

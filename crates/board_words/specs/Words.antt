@@ -20,9 +20,11 @@ guest_unit = 65536
 abbrev pub hart_unit : ℕ
 hart_unit = 8
 
+-- one of a count
 abbrev pub count_unit : ℕ
 count_unit = 256
 
+-- one site
 abbrev pub site_unit : ℕ
 site_unit = 65536
 

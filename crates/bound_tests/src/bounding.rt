@@ -1,4 +1,4 @@
-//! Bounds of what expressions give.
+//! Bounds of the values of expressions.
 
 use array_eval::Scope;
 use array_tree::{Name, Stmt};
@@ -32,10 +32,10 @@ fn bounds(alloc: Global, expr: &str, least: i64, greatest: i64) -> Result<Option
     }
 }
 
-// An expression, the least and the greatest `i`, and the bounds that are told, if any are.
+// An expression, the least and the greatest `i`, and the expected bounds, if there are any.
 type Case<'c> = (&'c str, (i64, i64), Option<(i64, i64)>);
 
-// Whether just these bounds are told.
+// Whether exactly these bounds are found.
 fn are_told(rt: &impl Abort, alloc: Global, cases: &[Case<'_>]) -> Result<(), Fail> {
     for (expr, (low, high), told) in cases {
         let wanted = told.map(|(least, greatest)| Interval { least, greatest });

@@ -1,5 +1,4 @@
-//! Tests of bounds, of what is told of the cells that are touched, and of what the walk makes of it, by values worked out
-//! by hand.
+//! Tests of bounds, of recorded stretches of cells, and of the walk that uses them, with values worked out by hand.
 #![tactic(auto)]
 
 #[cfg(test)]

@@ -1,11 +1,11 @@
-//! When a look at a text pays: where the work of what it enters is ten times that of the look, or more.
+//! Which texts are worth analysing: those with ten times the analysis' work, or more.
 use language_tests::programs::parsed;
 use std::alloc::Global;
 use std::test::Fail;
 use touch_bounds::statement_pays;
 
-// Texts, and whether it pays to look at their first statement. A statement counts once in its text, and in its work as often as
-// the loops around it turn. What is never entered counts as the loop or team alone that has no turn.
+// Texts, and whether analysing their first statement is worth its time. A statement counts once in its text, and in its work as
+// often as the loops around it turn. A loop or team without a turn counts without its body.
 const ROWS: [(&str, bool); 10] = [
     ("array a[1]; a[0] = 1;", false),
     ("array a[1]; for i in 0..9 { a[0] = i; }", false),
@@ -40,7 +40,7 @@ const ROWS: [(&str, bool); 10] = [
     ),
 ];
 
-// Whether it pays to look at the first statement of a text.
+// Whether analysing the first statement of a text is worth its time.
 fn pays(alloc: Global, text: &str) -> Result<bool, Fail> {
     let program = parsed(alloc, text)?;
     let first = program.body.statements.first().ok_or("a statement")?;

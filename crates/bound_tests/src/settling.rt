@@ -1,4 +1,4 @@
-//! What the walk finds where the text is looked at first: loops of so many turns that it pays.
+//! The results of the walk for texts that are analysed first: loops with enough turns.
 
 use language_tests::programs::{are_sized, parsed};
 use site_walk::{WalkFault, walk_program};

@@ -1,4 +1,4 @@
-//! What is told of the cells that blocks touch, and of pieces that are apart.
+//! The recorded stretches of the cells that blocks touch, and pieces that are apart.
 ghost use Rattle.array_tree.specs.Trees.{declarations_of};
 ghost use Rattle.array_meaning.specs.Stores.{arrays_of, AreSized};
 
@@ -13,7 +13,7 @@ use touch_bounds::{
     tell_block,
 };
 
-// What is told of each array of a program, in order of declaration, if all can be told.
+// The recorded stretches of each array of a program, in order of declaration, if all are known.
 fn told(rt: &impl Abort, alloc: Global, text: &str) -> Result<Option<Vec<Touch>>, Fail> {
     let program = parsed(alloc, text)?;
     assert!(rt; are_sized(&program.arrays));
@@ -25,7 +25,7 @@ fn told(rt: &impl Abort, alloc: Global, text: &str) -> Result<Option<Vec<Touch>>
     Ok(if all { Some(touches) } else { None })
 }
 
-// Whether just this is told of each text.
+// Whether each text has exactly these recorded stretches.
 fn are_told(rt: &impl Abort, alloc: Global, cases: &[(&str, &[Touch])]) -> Result<(), Fail> {
     for (text, touches) in cases {
         let told = told(rt, alloc, text)?;
@@ -37,7 +37,7 @@ fn are_told(rt: &impl Abort, alloc: Global, cases: &[(&str, &[Touch])]) -> Resul
     Ok(())
 }
 
-// Whether all of each text can be told.
+// Whether all stretches of each text are known.
 fn can_be_told(rt: &impl Abort, alloc: Global, cases: &[(&str, bool)]) -> Result<(), Fail> {
     for (text, told_of) in cases {
         assert!(rt; told(rt, alloc, text)?.is_some() == *told_of, "{text}");
@@ -109,8 +109,8 @@ fn an_index_that_may_be_outside_is_not_told(rt: HostRuntime) -> Result<(), Fail>
     )
 }
 
-// Whether the pieces of the first statement are seen to be apart: its branches, the members in its first phase, or those of
-// all sites that a loop enters.
+// Whether the text shows that the pieces of the first statement are apart: its branches, the members in its first phase, or
+// those of all sites that a loop enters.
 fn are_apart(rt: &impl Abort, alloc: Global, text: &str) -> Result<bool, Fail> {
     let program = parsed(alloc, text)?;
     assert!(rt; are_sized(&program.arrays));
@@ -162,7 +162,7 @@ fn first_is_apart(alloc: Global, program: &Program) -> Result<bool, Fail>
     }
 }
 
-// Whether they are, of each text.
+// The same for each text.
 fn are_seen_apart(rt: &impl Abort, alloc: Global, cases: &[(&str, bool)]) -> Result<(), Fail> {
     for (text, apart) in cases {
         assert!(rt; are_apart(rt, alloc, text)? == *apart, "{text}");

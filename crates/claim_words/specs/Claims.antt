@@ -8,6 +8,7 @@ use Rattle.claim_words.specs.declared.sight.Look.{Look}
 use Rattle.claim_words.specs.declared.sight.LookKind.{LookKind}
 use Rattle.claim_words.specs.declared.sight.LookKind.TheVariants as kind
 
+-- A noted word of a counter.
 abbrev pub look : ℕ → LookKind → ℕ → Look
 look row k found = record { row = row; kind = k; found = found }
 
@@ -16,9 +17,11 @@ abbrev pub weigh : {X : Type 0} → (X → ℕ) → List X → ℕ
 weigh f [] = 0
 weigh f (x ∷ xs) = f x + weigh f xs
 
+-- 1 if a claim is of this counter and member
 abbrev pub is_claim : ℕ → ℕ → ℕ × ℕ → ℕ
 is_claim r m x = if (x.0 == r) && (x.1 == m) then 1 else 0
 
+-- 1 if a number is of this counter
 abbrev pub is_row : ℕ → ℕ → ℕ
 is_row r x = if x == r then 1 else 0
 
@@ -26,6 +29,7 @@ is_row r x = if x == r then 1 else 0
 abbrev pub claims : ℕ → ℕ → Sight → ℕ
 claims r m v = weigh (is_claim r m) v.claimed
 
+-- how often a seat drew a number past a counter's members
 abbrev pub pasts : ℕ → Sight → ℕ
 pasts r v = weigh (is_row r) v.past
 
@@ -47,6 +51,7 @@ pub record Keeps (counts words : List ℕ) (v : Sight) : Type 0 where
   pub told : 0 < v.parts → v.counts ≡ counts
   pub seen : weigh (past_word words) v.looks ≡ 0
 
+-- F holds of each seat's sight
 abbrev pub Each : (Sight → Type 0) → List Sight → Type 0
 Each F views = (port : ℕ) (v : Sight) → get_elem? views port ≡ some v → F v
 
@@ -79,6 +84,7 @@ looked v r n = record v {
   looks = v.looks ++ look r kind.Look n ∷ [];
 }
 
+-- the sight after a number was drawn
 abbrev pub drawn : Sight → ℕ → ℕ → Sight
 drawn v r n = record v {
   trying = 0;
@@ -87,6 +93,7 @@ drawn v r n = record v {
   past = if nat_lt n (slice_index v.counts r) then v.past else v.past ++ r ∷ [];
 }
 
+-- the sight after another seat was joined into this one
 abbrev pub joined : Sight → Sight → Sight
 joined v w = record {
   parts = v.parts + w.parts;

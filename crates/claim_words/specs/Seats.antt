@@ -19,16 +19,20 @@ pub record SeatKin : Type 0 where
   pub counts : List ℕ
   pub parts : ℕ
 
+-- the identity of a seat
 abbrev pub kin : ClaimSeat → SeatKin
 kin s = record { table = s.seat.table_id; counts = (sight s).counts; parts = (sight s).parts }
 
+-- the seat is one of the table
 abbrev pub IsOf : ClaimTable → SeatKin → Type 0
 IsOf t k = (k.table ≡ t.table.shared.table_id) × (k.counts ≡ t.counts.items)
 
+-- the seats are of the table
 abbrev pub AreOf : ClaimTable → List SeatKin → Type 0
 AreOf t [] = Unit {0}
 AreOf t (k ∷ all) = IsOf t k × AreOf t all
 
+-- the number of parts of seats
 abbrev pub parts_of : List SeatKin → ℕ
 parts_of [] = 0
 parts_of (k ∷ all) = k.parts + parts_of all

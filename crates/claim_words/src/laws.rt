@@ -6,8 +6,8 @@ use crate::plays::Share;
 use crate::seat::ClaimSeat;
 use crate::table::ClaimTable;
 
-/// Settles the account of all claims, for all seats of a table: of each row, the members below its word are claimed, each by
-/// one seat once, and no others. It takes no memory.
+/// Settles the account of all claims, for all seats of a table: for each counter, the members below its word are claimed, each
+/// by one seat once, and no others. Does not allocate.
 pub fn claimed(table: ClaimTable, mut seats: Vec<ClaimSeat>)
     requires all { AreAll table (map kin seats.items) }
     ensures accounted { AreAccounted table.counts.items seats.items }

@@ -28,7 +28,7 @@ pub struct Sight {
     pub past: LinkedList<u16>,
     /// One more than the counter in whose word it last saw a free member, until it draws; else 0.
     pub trying: u32,
-    /// The words that it read, in order, each with its counter, and whether by a load or an addition. Why: a counter never falls,
-    /// so a word that was read is at most the counter at the end. So `NoneLeft` means that each member was claimed.
+    /// The words that it read, in order, each with its counter, and whether by a load or an addition. Why: a counter never
+    /// falls, so a word that was read is at most the counter at the end. So `NoneLeft` means that each member was claimed.
     pub looks: LinkedList<Look>,
 }

@@ -25,12 +25,15 @@ program_shape = record (new_shape (codes "lithe_run")) {
   subcommand_required = true;
 }
 
+-- the program without its commands
 abbrev pub program_app : App
 program_app = record { top = program_shape; subs = [] }
 
+-- a command without options
 abbrev pub bare_app : List ℕ → App
 bare_app name = record { top = command_with name []; subs = [] }
 
+-- the command `make`
 abbrev pub make_app : App
 make_app = record { top = command_with (codes "make") made_from; subs = [] }
 

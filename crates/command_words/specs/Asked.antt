@@ -12,14 +12,17 @@ use Rattle.command_words.specs.declared.command.Command.TheVariants.{Solo, Make}
 abbrev pub number_at : ℕ → ℕ → List ℕ → List Row → Option ℕ
 number_at least most name rows = option_and_then (number_in least most) (first_of name rows)
 
+-- the number of harts that was found
 abbrev pub harts_at : List Row → Option ℕ
 harts_at rows = number_at 1 16 (codes "harts") rows
 
+-- the command `make` of the numbers that were found
 abbrev pub make_at : List Row → Option Command
 make_at rows =
     option_and_then (λ seed. option_and_then (λ size. option_map (Make seed size) (harts_at rows))
     (number_at 1 40 (codes "size") rows)) (number_at 0 (2 ^ 64 - 1) (codes "seed") rows)
 
+-- the command of this name, with the options that were found
 abbrev pub command_at : Text → List Row → Option Command
 command_at name rows =
     if bytes_eq name (codes "solo") then Some Solo else

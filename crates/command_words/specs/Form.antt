@@ -13,6 +13,7 @@ use Rattle.command_words.specs.declared.command.Command.TheVariants.{Run, Tally,
 abbrev pub Given : Type 0
 Given = List ℕ × List ℕ
 
+-- the options with one more
 abbrev pub with_option : Given → Option (List Given) → Option (List Given)
 with_option option rest = option_map (λ more. option ∷ more) rest
 
@@ -31,6 +32,7 @@ options_from (Some name) [] = None
 options_from None (word ∷ more) = option_at (long_of word) (λ waits. options_from waits more)
 options_from (Some name) (word ∷ more) = with_option (name, word) (options_from None more)
 
+-- the options of words
 abbrev pub options_of : List (List ℕ) → Option (List Given)
 options_of words = options_from None words
 
@@ -39,6 +41,7 @@ abbrev pub times : List ℕ → List Given → ℕ
 times name [] = 0
 times name (option ∷ more) = if bytes_eq option.0 name then 1 + times name more else times name more
 
+-- whether the name is one of these
 abbrev pub is_known : List (List ℕ) → List ℕ → Bool
 is_known names name = list_any (λ known. bytes_eq known name) names
 
@@ -77,9 +80,11 @@ these names words = option_and_then (λ options. if are_these names options then
 abbrev pub harts_alone : List (List ℕ)
 harts_alone = codes "harts" ∷ []
 
+-- the options of `make`
 abbrev pub made_from : List (List ℕ)
 made_from = codes "seed" ∷ codes "size" ∷ codes "harts" ∷ []
 
+-- the command `make` of these options
 abbrev pub make_of : List Given → Option Command
 make_of options =
     option_and_then (λ seed. option_and_then

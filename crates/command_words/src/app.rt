@@ -19,6 +19,10 @@ const HARTS_COMMANDS: [&str; 4] = ["run", "tally", "pipe", "audit"];
 /// # Errors
 ///
 /// `AllocError` if an allocation fails.
+///
+/// # Memory
+///
+/// It allocates the commands and their options.
 pub fn commands<'a>(alloc: Global) -> Result<Command<'a>, AllocError>
     ensures { IfOk result (λ c. app_of c ≡ lithe_app) }
 {

@@ -28,7 +28,8 @@ impl From<AllocError> for CountError {
     }
 }
 
-/// A number, or the task to run tasks of the numbers 0 to 7. The numbers 3 and 5 fail. Each number counts itself once it has ended.
+/// A number, or a task that runs tasks of the numbers 0 to 7. The numbers 3 and 5 fail. Each number counts itself once it has
+/// ended.
 #[derive(Drop)]
 struct Count<'p> {
     leads: bool,
@@ -79,7 +80,7 @@ fn numbers_of<'p>(alloc: Global, ended: &'p AtomicU64) -> Result<Vec<Count<'p>>,
     Ok(numbers)
 }
 
-// How a run on so many harts with so many levels fails, and how many numbers had ended.
+// The error of a run on so many harts with so many levels, and how many numbers had ended.
 fn failure<R: Threads + Wait + Sync>(
     rt: &R,
     alloc: Global,

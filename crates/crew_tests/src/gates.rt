@@ -2,10 +2,10 @@
 use crossbeam_utils::Backoff;
 use std::sync::atomic::{AtomicBool, AtomicU64, Ordering};
 
-/// How often a task looks at most.
+/// The greatest number of looks of a task.
 const LOOKS: u32 = 20_000_000;
 
-/// A gate that holds each task until so many have come, for so many looks at most.
+/// A gate that holds each task until so many have come, for a bounded number of looks.
 #[derive(Drop)]
 pub struct Gate {
     wanted: u64,
@@ -36,7 +36,7 @@ impl Gate {
         self.ran_out.store(true, Ordering::SeqCst);
     }
 
-    /// How many tasks have come.
+    /// The number of tasks that have come.
     pub fn count(&self) -> u64 {
         self.came.load(Ordering::SeqCst)
     }

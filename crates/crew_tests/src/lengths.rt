@@ -1,4 +1,5 @@
-//! A small library of tasks, as an author writes it: the length of a text, by halves of the text. The page on schedulers walks through it.
+//! A small library of tasks, as an author writes it: the length of a text, by halves of the text. `docs/SCHEDULERS.md` walks
+//! through it.
 ghost use Rattle.std.specs.Prelude.{◌≡◌, ◌≤◌, ℕ, Some, length, refl, IfOk, IfErr, alloc_error};
 ghost use Rattle.crew_tests.specs.declared.lengths.Length.{Length};
 
@@ -10,14 +11,14 @@ use std::thread::Threads;
 use task_crew::{RunError, run_on};
 use tasks::{Harts, Task, TaskKind};
 
-/// A text whose length is wanted. It may be cut into halves, and each half again, `cuts` times.
+/// A text whose length is computed. It may be cut into halves, and each half again, `cuts` times.
 #[derive(Drop)]
 pub struct Length<'p> {
     pub text: &'p [u8],
     pub cuts: u8,
 }
 
-// What the tasks come to. They have no error of their own.
+// The output is a length. The tasks have no error of their own.
 impl<'p> TaskKind for Length<'p> {
     type Output = usize;
 
@@ -96,7 +97,7 @@ impl<'p> Task for Length<'p> {
     }
 }
 
-/// The length of a text, on so many harts.
+/// The length of a text, on `harts` harts.
 ///
 /// # Errors
 ///

@@ -1,7 +1,7 @@
-//! Tests of runs on several harts: tasks that wait for each other at a gate, tasks inside tasks, tasks that fail, wrong numbers,
-//! and a small library as an author writes it.
+//! Tests of runs on several harts: tasks that wait for each other at a gate, tasks inside tasks, tasks that fail, wrong
+//! numbers, and a small library as an author writes it.
 //!
-//! They stand apart since a crate is proved a second time with its tests.
+//! Why a crate of its own: a crate is proved a second time with its tests.
 #![tactic(auto)]
 
 #[cfg(test)]

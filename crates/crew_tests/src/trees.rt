@@ -10,8 +10,8 @@ use std::thread::Threads;
 use task_crew::{RunError, run_on};
 use tasks::{Harts, Task, TaskKind};
 
-/// A task with so many levels of tasks inside it, each of so many tasks. Its output is the number of its leaves. Each leaf passes the
-/// gate, but for those of tasks that are quiet, of which each level has one if the tree is lopsided.
+/// A task with so many levels of tasks inside it, each of so many tasks. Its output is the number of its leaves. Each leaf
+/// passes the gate, but for those of tasks that are quiet, of which each level has one if the tree is lopsided.
 #[derive(Drop)]
 pub struct Tree<'p> {
     levels: u8,

@@ -5,7 +5,7 @@ use Rattle.std.proofs.Math.ListN.{get_or-map as get_or-map_same}
 use Rattle.deque_rows.specs.declared.account.Log.{Log}
 use Rattle.deque_rows.specs.declared.hart.HartRows.{HartRows}
 use Rattle.deque_rows.specs.declared.ends.StealingEnd.{StealingEnd}
-use Rattle.deque_rows.specs.Account.{idle, times, IsKept, IsSettled, Tells, joined}
+use Rattle.deque_rows.specs.Account.{idle, times, IsSettled, Tells, joined}
 use Rattle.deque_rows.specs.Rows.{RowName, Kin, kin, share, home_logs, home_names, pass_logs, owner_log, row_at, AreAll}
 use Rattle.deque_rows.specs.Lines.{end_log, end_name, gathered}
 use Rattle.deque_rows.proofs.Totals.{times-append}

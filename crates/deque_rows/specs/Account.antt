@@ -9,7 +9,7 @@ abbrev pub times : ℕ → List ℕ → ℕ
 times x [] = 0
 times x (y ∷ ys) = (if y == x then 1 else 0) + times x ys
 
--- the first list is the second with some of its places left out
+-- the first list is the second with some of its elements left out
 abbrev pub InOrder : List ℕ → List ℕ → Type 0
 InOrder [] ys = Unit {0}
 InOrder (x ∷ xs) [] = ⊥
@@ -31,6 +31,7 @@ blank parts is_home = record {
   stolen = [];
 }
 
+-- an empty log of no part
 abbrev pub idle : Log
 idle = blank 0 false
 
@@ -58,6 +59,7 @@ pub record RowStands (items : List ℕ) (logs : List Log) : Type 0 where
 abbrev pub after_push : Log → List ℕ → Log
 after_push v xs = record v { pushed = v.pushed ++ xs; kept = v.kept ++ xs }
 
+-- a thief stole these codes
 abbrev pub after_steal : Log → List ℕ → Log
 after_steal v xs = record v { stolen = v.stolen ++ xs }
 
@@ -65,6 +67,7 @@ after_steal v xs = record v { stolen = v.stolen ++ xs }
 abbrev pub Pops : Log → List ℕ → Log → Type 0
 Pops v xs w = (v.kept ≡ w.kept ++ xs) × (w ≡ record v { popped = v.popped ++ xs; kept = w.kept })
 
+-- the log of a seat after another was joined into it
 abbrev pub joined : Log → Log → Log
 joined v w = record v { parts = v.parts + w.parts; stolen = v.stolen ++ w.stolen }
 

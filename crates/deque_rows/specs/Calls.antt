@@ -20,6 +20,7 @@ FoundBare old hart level new =
     (n : ℕ) × Rose (bare old hart level) n
     × (bares new ≡ slice_set (bares old) (place hart level) n)
 
+-- the hart pushed a code onto its own deque of this level
 abbrev pub Pushes : HartRows → ℕ → ℕ → HartRows → Type 0
 Pushes old level code new =
     (home_logs new ≡ slice_set (home_logs old) (level - 1)

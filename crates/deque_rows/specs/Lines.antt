@@ -7,9 +7,11 @@ use Rattle.deque_rows.specs.declared.hart.HartRows.{HartRows}
 use Rattle.deque_rows.specs.Account.{blank}
 use Rattle.deque_rows.specs.Rows.{RowName, home_logs, bares, rooms, row_at}
 
+-- the log of a stealing end
 abbrev pub end_log : StealingEnd → Log
 end_log s = view s.pass
 
+-- the name of a stealing end's deque
 abbrev pub end_name : StealingEnd → RowName
 end_name s = stealer_deque s.stealer
 
@@ -25,6 +27,7 @@ pub record Standing : Type 0 where
   pub bares : List ℕ
   pub rooms : List ℕ
 
+-- all that a hart has besides its own ends' logs and names
 abbrev pub standing : HartRows → Standing
 standing r = record {
   hart = r.hart;

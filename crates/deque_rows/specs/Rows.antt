@@ -9,6 +9,7 @@ use Rattle.deque_rows.specs.declared.ends.StealingEnd.{StealingEnd}
 use Rattle.deque_rows.specs.declared.hart.HartRows.{HartRows}
 use Rattle.deque_rows.specs.Account.{blank, idle, IsSettled}
 
+-- a level that has a deque: 1 to 3
 abbrev pub IsLevel : ℕ → Type 0
 IsLevel level = (1 ≤ level) × (level ≤ 3)
 
@@ -28,6 +29,7 @@ home_logs r = map (λ (h : HomeEnd). worker_view h.worker) r.own.items
 abbrev pub pass_logs : HartRows → List Log
 pass_logs r = map (λ (s : StealingEnd). view s.pass) r.ends.items
 
+-- the counters of empty looks, by the deque's index
 abbrev pub bares : HartRows → List ℕ
 bares r = r.bare.items
 
@@ -35,6 +37,7 @@ bares r = r.bare.items
 abbrev pub rooms : HartRows → List ℕ
 rooms r = map (λ (h : HomeEnd). h.made) r.own.items
 
+-- how many indices the hart's own deque of this level takes in all
 abbrev pub row_room : HartRows → ℕ → ℕ
 row_room r level = slice_index (rooms r) (level - 1)
 
@@ -43,9 +46,11 @@ row_room r level = slice_index (rooms r) (level - 1)
 abbrev pub home_log : HartRows → ℕ → Log
 home_log r level = slice_index_or (home_logs r) (level - 1) idle
 
+-- the log of the stealing end of this deque
 abbrev pub pass_log : HartRows → ℕ → ℕ → Log
 pass_log r hart level = slice_index_or (pass_logs r) (place hart level) idle
 
+-- the counter of empty looks at this deque
 abbrev pub bare : HartRows → ℕ → ℕ → ℕ
 bare r hart level = slice_index (bares r) (place hart level)
 
@@ -64,12 +69,15 @@ pub record Kin : Type 0 where
 abbrev pub share : Log → ℕ × List ℕ
 share v = (v.parts, v.stolen)
 
+-- the names of a hart's own deques
 abbrev pub home_names : HartRows → List RowName
 home_names r = map (λ (h : HomeEnd). worker_deque h.worker) r.own.items
 
+-- the names of all deques, by its stealing ends
 abbrev pub pass_names : HartRows → List RowName
 pass_names r = map (λ (s : StealingEnd). stealer_deque s.stealer) r.ends.items
 
+-- the identity of a hart's access to deques
 abbrev pub kin : HartRows → Kin
 kin r = record {
   hart = r.hart;

@@ -8,8 +8,8 @@ use std::collections::LinkedList;
 pub struct Log {
     /// Its parts of the right to know the whole deque. All passes together have 64.
     ///
-    /// Why: a deque has one part for each hart as a thief, also for its own hart, and the rest for the home. A log with all parts
-    /// knows the whole deque, so `settle` first returns all stealing ends to the homes.
+    /// Why: a deque has one part for each hart as a thief, also for its own hart, and the rest for the home. A log with all
+    /// parts knows the whole deque, so `settle` first returns all stealing ends to the homes.
     pub parts: u64,
     /// Whether it is the pass of the deque's own hart.
     pub is_home: bool,

@@ -2,7 +2,7 @@
 ghost use Rattle.std.specs.Prelude.{◌≡◌, ℕ, ◌+◌, ◌-◌, ◌*◌, ◌<◌, ◌≤◌, length, slice_set, slice_index};
 ghost use Rattle.deque_rows.specs.Account.{Rose};
 ghost use Rattle.deque_rows.specs.Rows.{IsLevel, place, row_room, home_log, home_logs, pass_logs, bares, kin};
-ghost use Rattle.deque_rows.specs.Calls.{FoundBare, Pushes, PopGives, StealGives, WasBare};
+ghost use Rattle.deque_rows.specs.Calls.{Pushes, PopGives, StealGives, WasBare};
 
 use crate::hart::HartRows;
 use crate::stolen::Stolen;
@@ -45,8 +45,8 @@ impl HartRows {
         self.own[usize::from(level) - 1].push(code);
     }
 
-    /// Pops the last job index of this hart's deque of this level. Returns `None` only if the deque was empty at a moment of this
-    /// call.
+    /// Pops the last job index of this hart's deque of this level. Returns `None` only if the deque was empty at a moment of
+    /// this call.
     pub fn pop(&mut self, level: u8) -> Option<u32>
         requires level { IsLevel level }
         ensures kin { kin self.new ≡ kin self.old }
@@ -59,8 +59,8 @@ impl HartRows {
         popped
     }
 
-    /// Steals the first job index of a hart's deque of a level, also of the hart's own. Returns `Empty` only if the deque held at
-    /// most one index at a moment of this call. It retries if another hart came in between, so it may block.
+    /// Steals the first job index of a hart's deque of a level, also of the hart's own. Returns `Empty` only if the deque held
+    /// at most one index at a moment of this call. It retries if another hart came in between, so it may block.
     pub fn steal<R: Wait>(&mut self, rt: &R, hart: u8, level: u8) -> Stolen
         requires level { IsLevel level }
         requires hart { hart < self.old.harts }
@@ -77,9 +77,9 @@ impl HartRows {
         }
     }
 
-    // Raises the counter of empty looks at this deque. Why: an empty pop or steal changes no log of the kit's deque, so each hart
-    // has a counter for each deque. What the deque reports then is about this hart's knowledge, so the prover would accept a body
-    // that always returns Empty and raises the counter. Tests show that indices are found.
+    // Raises the counter of empty looks at this deque. Why: an empty pop or steal changes no log of the kit's deque, so each
+    // hart has a counter for each deque. What the deque reports then is about this hart's knowledge, so the prover would accept
+    // a body that always returns Empty and raises the counter. Tests show that indices are found.
     fn note_bare(&mut self, row: usize)
         requires row { row < length self.old.bare.items }
         requires bare { WasBare self.old row }

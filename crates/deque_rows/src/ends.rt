@@ -1,7 +1,7 @@
 //! The ends of one deque.
 ghost use Rattle.std.specs.Prelude.{◌≡◌, ◌<◌, ◌≤◌, ◌+◌, ◌-◌, ◌^◌, ◌⊎◌, [], ◌∷◌, ◌++◌, List, ℕ, true, false, length, MatchOption, IfOk, ⊤};
 ghost use Rattle.crossbeam_deque.specs.Handles.{view, IsPassOf, worker_deque, worker_flavor, worker_capacity, worker_index, stealer_deque, stealer_flavor, worker_view};
-ghost use Rattle.deque_rows.specs.Account.{blank, after_push, after_steal, joined, Pops, HeldAtMost, Rose, Tells};
+ghost use Rattle.deque_rows.specs.Account.{blank, after_push, after_steal, joined, Pops, HeldAtMost, Tells};
 
 use crate::account::{Account, Log, Popped, Pushed, Share, Stole, Whole};
 use crossbeam_deque::{Pass, Steal, Stealer, Worker};

@@ -1,6 +1,6 @@
 //! Making the deques.
 ghost use Rattle.std.specs.Prelude.{◌≡◌, ℕ, ◌+◌, ◌-◌, ◌*◌, ◌<◌, ◌≤◌, length, map, replicate, slice_index_or, IfOk, vec_len};
-ghost use Rattle.deque_rows.specs.Rows.{RowName, AreAll, AreNew, HasRooms, rooms, kin, home_logs, home_names, owner_log};
+ghost use Rattle.deque_rows.specs.Rows.{AreAll, AreNew, HasRooms, rooms, kin, home_logs, home_names, owner_log};
 ghost use Rattle.deque_rows.specs.declared.making.TheConstants.{ROOM};
 ghost use Rattle.deque_rows.specs.Lines.{IsHome, IsLine, less, standing};
 
@@ -17,6 +17,10 @@ pub const ROOM: u32 = 16_384;
 /// # Errors
 ///
 /// `AllocError` if an allocation fails.
+///
+/// # Memory
+///
+/// It allocates as `rows_for` does.
 pub fn rows(alloc: Global, harts: u8) -> Result<Vec<HartRows>, AllocError>
     requires { (1 ≤ harts) × (harts ≤ 16) }
     ensures count { IfOk result (λ rows. vec_len rows ≡ harts) }

@@ -1,4 +1,4 @@
-//! What is published, and found.
+//! Publishing and finding schedulers.
 ghost use Rattle.std.specs.Prelude.{◌≡◌, length};
 
 use array_tree::Program;
@@ -20,7 +20,7 @@ fn pool_site<'p>(alloc: Global, program: &'p Program) -> Result<Box<SharedSite<'
     Ok(Box::new(alloc, site)?)
 }
 
-// Publishes the scheduler of a program that begins with a `par`; whether the cell took it.
+// Publishes the scheduler of a program that begins with a `par`. Returns whether the cell took it.
 pub fn is_taken<'a, 'p>(
     alloc: Global,
     line: &mut SiteLine<'a, SharedSite<'p>>,
@@ -32,7 +32,7 @@ pub fn is_taken<'a, 'p>(
     }
 }
 
-// How many jobs the scheduler of a `par` has that stands in a cell; 0 where none stands there.
+// The number of jobs of the `par`'s scheduler in a cell; 0 if the cell has none.
 fn jobs_found(line: &mut SiteLine<'_, SharedSite<'_>>) -> usize {
     match line.find() {
         Some(SharedSite::Pool { home: _, pool }) => pool.jobs().len(),
@@ -40,7 +40,7 @@ fn jobs_found(line: &mut SiteLine<'_, SharedSite<'_>>) -> usize {
     }
 }
 
-// Whether the scheduler of site 1 is found there by both harts, and by none before, nor at site 2.
+// Whether both harts find the scheduler of site 1, and neither before it is published, nor at site 2.
 fn is_found<'a, 'p>(
     alloc: Global,
     program: &'p Program,

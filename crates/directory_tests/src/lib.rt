@@ -1,4 +1,4 @@
-//! Tests of the directory, also by harts on threads.
+//! Tests of the directory, by one hart and by harts on threads.
 #![tactic(auto)]
 
 #[cfg(test)]

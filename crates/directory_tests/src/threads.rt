@@ -12,7 +12,7 @@ use std::test::Fail;
 use std::thread;
 use std::thread::Threads;
 
-// A hart, with its line to a cell, and how many jobs it found there.
+// A hart, with its line to a cell, and the number of jobs that it found there.
 #[derive(Drop)]
 struct Finder<'x, 'p> {
     line: SiteLine<'x, SharedSite<'p>>,
@@ -27,7 +27,7 @@ fn look<'x, 'p, R: Wait>(rt: &'x R, finder: &mut Finder<'x, 'p>) {
     };
 }
 
-// Each hart by its own line, on a thread of its own.
+// Each hart, by its own line, on a thread of its own.
 fn look_all<'x, 'p: 'x, R: Threads + Wait + Sync>(rt: &'x R, finders: &mut [Finder<'x, 'p>]) {
     thread::for_each_mut(rt, finders, 2, &|_, finder| look(rt, finder));
 }

@@ -8,7 +8,8 @@ use Rattle.array_meaning.specs.Limits.{pieces_in}
 use Rattle.transfer_table.specs.Plan.{Plan}
 use Rattle.disjoint_check.specs.Shapes.{Shape, shapes_of}
 
--- Contracts see an accepted program as the program, its plan, the number of its pieces, and the shape of each site.
+-- The view that contracts have of an accepted program: the program, its plan, the number of its pieces, and the shape of each
+-- site.
 pub record AcceptedProgram : Type 0 where
   pub program : Program
   pub plan : Plan

@@ -11,19 +11,19 @@ use Rattle.disjoint_check.specs.LimitFault.{limit_fault_of}
 use Rattle.disjoint_check.specs.declared.fault.CheckFault.{CheckFault}
 use Rattle.disjoint_check.specs.declared.fault.CheckFault.TheVariants.{OutOfRange, Overlap, Memory}
 
--- What the walk finds is this fault.
+-- The checker's fault for a fault of the walk.
 abbrev pub of_walk : WalkFault → CheckFault
 of_walk (walk.OutOfRange line index length) = OutOfRange line index length
 of_walk (walk.Overlap line cell) = Overlap line cell
 of_walk walk.Memory = Memory
 
--- A program must meet these conditions to have a meaning, for so many harts: those on names, ranges and size come first, then
--- the indices.
+-- The first condition that a program fails of those for a meaning, with so many harts: conditions on names, ranges and size,
+-- and then on indices.
 abbrev pub meaning_fault_of : ProgramTree → ℕ → Option CheckFault
 meaning_fault_of program harts = first_fault
     (limit_fault_of program harts ∷ option_map of_walk (out_of_range_of program) ∷ [])
 
--- To be accepted it must also have no overlaps, which come last.
+-- The first condition that a program fails of those to be accepted: the same, and then that no two pieces overlap.
 abbrev pub check_fault_of : ProgramTree → ℕ → Option CheckFault
 check_fault_of program harts = first_fault
     (limit_fault_of program harts

@@ -6,7 +6,7 @@ abbrev pub unless : {A : Type 0} → Bool → A → Option A
 unless true fault = None
 unless false fault = Some fault
 
--- The result is the first of several faults, if there is one.
+-- The first of several faults, if there is one.
 abbrev pub first_fault : {A : Type 0} → List (Option A) → Option A
 first_fault [] = None
 first_fault (None ∷ more) = first_fault more

@@ -12,7 +12,7 @@ duplicate_declaration (d ∷ more) before =
     first_fault (unless (not (is_among d.name before)) d.line
     ∷ duplicate_declaration more (d.name ∷ before) ∷ [])
 
--- The first loop whose variable has a taken name: an array's, or that of a loop around it.
+-- The first loop whose variable has a taken name: the name of an array or of a loop around it.
 abbrev mutual
   pub duplicate_in : Sequence → List (List ℕ) → Option ℕ
   duplicate_in ended taken = None
@@ -35,14 +35,14 @@ abbrev mutual
   duplicate_among (beside first rest) taken =
       first_fault (duplicate_in first taken ∷ duplicate_among rest taken ∷ [])
 
--- The result is the line of the first declaration or loop whose name is already an array's, or a loop variable's around it.
+-- The line of the first declaration or loop whose name is already the name of an array, or of a loop around it.
 abbrev pub duplicate_name : ProgramTree → Option ℕ
 duplicate_name program =
     first_fault (duplicate_declaration program.arrays []
     ∷ duplicate_in program.body (names_of program.arrays) ∷ [])
 
--- The first statement that, outside the blocks in it, indexes a name that is no array's, or uses a name without index
--- that is no loop variable's around it.
+-- The line of the first statement with an unknown name, outside the blocks in it: it indexes a name that is no array's, or uses
+-- a name without index that is no variable's of a loop around.
 abbrev mutual
   pub unknown_in : Sequence → List (List ℕ) → List (List ℕ) → Option ℕ
   unknown_in ended arrays vars = None
@@ -67,6 +67,6 @@ abbrev mutual
   unknown_among (beside first rest) arrays vars =
       first_fault (unknown_in first arrays vars ∷ unknown_among rest arrays vars ∷ [])
 
--- The result is the line of the first unknown name of a program.
+-- The line of the first unknown name of a program.
 abbrev pub unknown_name : ProgramTree → Option ℕ
 unknown_name program = unknown_in program.body (names_of program.arrays) []

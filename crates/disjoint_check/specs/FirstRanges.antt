@@ -8,7 +8,7 @@ use Rattle.disjoint_check.specs.declared.fault.CheckFault.{CheckFault}
 use Rattle.disjoint_check.specs.declared.fault.CheckFault.TheVariants.{BadRange}
 use Rattle.disjoint_check.specs.declared.fault.Limit.TheVariants as limit
 
--- A number of parts as it is reported: the greatest number that can be reported, where there are more.
+-- A number of parts as it is reported: at most the greatest number of 63 bits.
 abbrev pub told : ℕ → ℤ
 told count = pos (min count (2 ^ 63 - 1))
 
@@ -22,7 +22,7 @@ declaration_fault d arrays cells = first_fault
     (BadRange d.line limit.Cells (pos (cells + unsigned_abs d.length)))
     ∷ [])
 
--- The result is the first fault of some declarations, behind so many arrays and cells.
+-- The first fault of some declarations, after so many arrays and cells.
 abbrev pub declarations_fault : List Declaration → ℕ → ℕ → Option CheckFault
 declarations_fault [] arrays cells = None
 declarations_fault (d ∷ more) arrays cells =
@@ -37,6 +37,7 @@ team_fault line low high members phases = first_fault
     ∷ unless (is_up_to (pos most_phases) (pos phases)) (BadRange line limit.Phases (told phases))
     ∷ [])
 
+-- The first fault of the ranges of a sequence, a statement, and branches or phases.
 abbrev mutual
   pub range_fault_in : Sequence → Option CheckFault
   range_fault_in ended = None
@@ -64,7 +65,7 @@ abbrev mutual
   range_fault_among (beside first rest) =
       first_fault (range_fault_in first ∷ range_fault_among rest ∷ [])
 
--- The result is the first fault of the ranges of a program: of its declarations, then of its body.
+-- The first fault of the ranges of a program: of its declarations, then of its body.
 abbrev pub range_fault : ProgramTree → Option CheckFault
 range_fault program = first_fault
     (declarations_fault program.arrays 0 0 ∷ range_fault_in program.body ∷ [])

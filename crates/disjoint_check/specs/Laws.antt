@@ -1,4 +1,4 @@
--- What it means that no fault is found.
+-- The meaning of a check that finds no fault.
 use Rattle.std.specs.Prelude.{◌≡◌, ◌↔◌, ℕ, None, IsTrue}
 use Rattle.array_tree.specs.Trees.{ProgramTree}
 use Rattle.array_meaning.specs.Names.{has_single_names, has_only_known_names}
@@ -9,7 +9,7 @@ use Rattle.disjoint_check.specs.LimitFault.{limit_fault_of, MeetsLimits}
 use Rattle.disjoint_check.specs.FaultOf.{meaning_fault_of, check_fault_of}
 use Rattle.disjoint_check.specs.Meaning.{HasMeaningFor, IsAcceptedFor}
 
--- No place is found that fails a condition exactly where the program meets it.
+-- The search for a failed condition finds nothing exactly if the program meets the condition.
 pub record IsTested (program : ProgramTree) : Type 0 where
   pub single_names : (duplicate_name program ≡ None) ↔ IsTrue (has_single_names program)
   pub known_names : (unknown_name program ≡ None) ↔ IsTrue (has_only_known_names program)
@@ -20,7 +20,7 @@ pub record IsTested (program : ProgramTree) : Type 0 where
 abbrev pub AreConditionsTested : Type 0
 AreConditionsTested = (program : ProgramTree) → IsTested program
 
--- A program fails none of the conditions exactly where it has a meaning, or where it is accepted.
+-- A program fails none of the conditions exactly if it has a meaning, or if it is accepted.
 pub record IsChecked (program : ProgramTree) (harts : ℕ) : Type 0 where
   pub meaning : (meaning_fault_of program harts ≡ None) ↔ HasMeaningFor program harts
   pub accepted : (check_fault_of program harts ≡ None) ↔ IsAcceptedFor program harts

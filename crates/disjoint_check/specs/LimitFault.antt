@@ -14,11 +14,11 @@ use Rattle.disjoint_check.specs.FirstRanges.{range_fault}
 use Rattle.disjoint_check.specs.declared.fault.CheckFault.{CheckFault}
 use Rattle.disjoint_check.specs.declared.fault.CheckFault.TheVariants.{DuplicateName, UnknownName, TooDeep, TooMuchWork, TooManySites, TooManyPieces}
 
--- The greatest depth as it is reported: the greatest number of 32 bits, where it is above that.
+-- The greatest depth as it is reported: at most the greatest number of 32 bits.
 abbrev pub told_depth : ℕ → ℕ
 told_depth depth = min depth (2 ^ 32 - 1)
 
--- The number says how many entries the journal of a run with so many sites and harts may have.
+-- The number of entries that the journal of a run with so many sites and harts may have.
 abbrev pub room_for : ℕ → ℕ → ℕ
 room_for sites harts = sites * (3 * harts - 1)
 
@@ -39,7 +39,8 @@ limit_fault_of program harts = first_fault
     (TooManyPieces (capped (pieces_in program.body)))
     ∷ [])
 
--- The conditions on names, ranges and size. Up to four harts have room for the entries wherever the sites are few enough.
+-- The conditions on names, ranges and size. For up to five harts, the limit on sites implies that the journal's entries have
+-- room.
 pub record MeetsLimits (program : ProgramTree) (harts : ℕ) : Type 0 where
   pub single_names : IsTrue (has_single_names program)
   pub known_names : IsTrue (has_only_known_names program)

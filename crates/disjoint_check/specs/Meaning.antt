@@ -1,4 +1,4 @@
--- What a program must be to have a meaning, or to be accepted, for so many harts.
+-- The conditions for a program to have a meaning, or to be accepted, for so many harts.
 use Rattle.std.specs.Prelude.{ℕ, ◌≤◌, IsTrue}
 use Rattle.transfer_table.specs.Plan.{most_entries}
 use Rattle.array_tree.specs.Trees.{ProgramTree}

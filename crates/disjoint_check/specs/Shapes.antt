@@ -35,7 +35,7 @@ abbrev mutual
   branches_shapes no_more = []
   branches_shapes (beside first rest) = sequence_shapes first ++ branches_shapes rest
 
-  -- Each phase has so many iterations.
+  -- The shapes of phases, each with so many iterations.
   pub phases_shapes : Sequences → ℕ → List Shape
   phases_shapes no_more iterations = []
   phases_shapes (beside first rest) iterations =

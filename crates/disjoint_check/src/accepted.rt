@@ -1,7 +1,6 @@
 //! Programs that are accepted.
-ghost use Rattle.std.specs.Prelude.{◌≡◌, ◌≤◌, ◌-◌, IfOk, IfErr, Some, None, slice_get, map};
+ghost use Rattle.std.specs.Prelude.{◌≡◌, ◌≤◌, ◌-◌, IfOk, IfErr, Some, None, slice_get};
 ghost use Rattle.array_tree.specs.Trees.{program_of};
-ghost use Rattle.array_meaning.specs.Plans.{plan_of};
 ghost use Rattle.transfer_table.specs.Plan.{IsSite, plan_fault_of};
 ghost use Rattle.disjoint_check.specs.Meaning.{IsAcceptedFor};
 ghost use Rattle.disjoint_check.specs.Inside.Unrolled.{parents_in};
@@ -54,7 +53,7 @@ impl<'p> Accepted<'p> {
         self.program
     }
 
-    /// The program's sites and their parents, and the number of harts that was asked for.
+    /// The program's sites and their parents, and the number of harts that the check was for.
     pub fn plan(&self) -> &Plan
         ensures same { result.now ≡ self.now.plan }
         ensures kept { IsAcceptedProgram self.now }
@@ -70,8 +69,7 @@ impl<'p> Accepted<'p> {
         self.pieces
     }
 
-    /// The members and phases of a `team` site; the number of branches and 0 of a `par` site. Sites are numbered
-    /// from 1.
+    /// The members and phases of a `team` site; the number of branches and 0 of a `par` site. Sites are numbered from 1.
     pub fn shape(&self, site: u16) -> (u8, u8)
         requires { IsSite self.now.plan site }
         ensures same { slice_get self.now.shapes (site - 1) ≡ Some (result.0, result.1) }
@@ -82,7 +80,7 @@ impl<'p> Accepted<'p> {
     }
 }
 
-/// What is known of a program that meets all conditions, for so many harts.
+/// The accepted program for a program that meets all conditions, for so many harts.
 pub(crate) fn accept<'p>(
     alloc: Global,
     program: &'p Program,
@@ -106,7 +104,7 @@ pub(crate) fn accept<'p>(
     })
 }
 
-// The parents alone, of which the table's plan is made.
+// The parents of the sites, for the table's plan.
 fn parents_of(alloc: Global, sites: &[Site]) -> Result<Vec<u16>, AllocError>
     ensures { IfOk result (λ parents. parents.items ≡ parents_in sites.now) }
 {

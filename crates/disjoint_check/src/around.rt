@@ -1,4 +1,4 @@
-//! The loops around a place in a program, and the arrays.
+//! The loops around a position in a program, and the arrays.
 ghost use Rattle.std.specs.Prelude.{◌≡◌, ◌++◌, map};
 ghost use Rattle.array_tree.specs.Trees.{declaration_of, declarations_of};
 ghost use Rattle.array_meaning.specs.Names.{is_among, names_of};
@@ -6,7 +6,7 @@ ghost use Rattle.disjoint_check.specs.Inside.Around.{vars_around};
 
 use array_tree::{ArrayDecl, Arrays, Name};
 
-/// The loops around a place in a program, the innermost first. Each stands on the stack, and copies no name.
+/// The loops around a position in a program, the innermost first. Each is on the stack, and copies no name.
 #[derive(Drop)]
 pub(crate) enum Loops<'s> {
     Outermost,
@@ -37,7 +37,7 @@ pub(crate) fn is_declared(declarations: &[ArrayDecl], name: &Name) -> bool
     false
 }
 
-/// Whether the name is that of an array or of a loop around.
+/// Whether the name is the name of an array or of a loop around.
 #[tactic(auto, using(crate::proofs::Among::among_append))]
 pub(crate) fn is_taken(arrays: &Arrays, loops: &Loops<'_>, name: &Name) -> bool
     ensures { result ≡ is_among name.now

@@ -11,15 +11,22 @@ use array_tree::Program;
 use site_walk::{walk_indices, walk_program};
 use std::alloc::Global;
 
-/// Whether a program may be run in parallel, by so many harts, one to sixteen. If so, what is known of it; else the first condition
-/// that it fails, or an allocation failure, which may be returned at any time.
+/// Checks whether a program may be run in parallel by `harts` harts, one to sixteen. Returns what is known of an accepted
+/// program.
 ///
-/// Units, sites and pieces are counted from the bounds of loops, in numbers that can't overflow. The plan is unrolled only for a
-/// program inside the limits.
+/// Units, sites and pieces are counted from the bounds of loops, in numbers that can't overflow. The plan is unrolled only for
+/// a program inside the limits.
 ///
-/// Names, ranges and sizes take time in proportion to the text, but for names, each of which is looked for among all
-/// arrays and the loops around. The walk takes time in proportion to the units of work, and comes only where these
-/// are at most 1,048,576.
+/// Names, ranges and sizes take time in proportion to the text; each name is also searched among all arrays and the loops
+/// around. The walk takes time in proportion to the units of work, and starts only if there are at most 1,048,576.
+///
+/// # Errors
+///
+/// The first condition that the program fails, or `CheckFault::Memory` if an allocation fails, at any time.
+///
+/// # Memory
+///
+/// It allocates the plan and the walk's tables.
 #[tactic(auto, using(crate::proofs::Accepting::limit_is_first, crate::proofs::Accepting::walk_is_next))]
 pub fn check<'p>(alloc: Global, program: &'p Program, harts: u8) -> Result<Accepted<'p>, CheckFault>
     requires some_hart { 1 ≤ harts }
@@ -37,10 +44,18 @@ pub fn check<'p>(alloc: Global, program: &'p Program, harts: u8) -> Result<Accep
     accept(alloc, program, harts)
 }
 
-/// Whether a program has a meaning that so many harts could keep a journal of: all conditions but the last, that no two
-/// pieces overlap. Else the first that it fails, or an allocation failure, which may be returned at any time.
+/// Checks all conditions but the last, that no two pieces overlap: whether a program has a meaning that `harts` harts, one to
+/// sixteen, could keep a journal of.
 ///
-/// It takes time as `check` does, and looks for no overlaps.
+/// It takes time as `check` does, and searches for no overlaps.
+///
+/// # Errors
+///
+/// The first condition that the program fails, or `CheckFault::Memory` if an allocation fails, at any time.
+///
+/// # Memory
+///
+/// It allocates the layout of the arrays.
 #[tactic(auto, using(crate::proofs::Accepting::limit_before_meaning, crate::proofs::Accepting::index_is_next))]
 pub fn check_meaning(alloc: Global, program: &Program, harts: u8) -> Result<(), CheckFault>
     requires some_hart { 1 ≤ harts }

@@ -1,4 +1,4 @@
-//! How deep constructs nest.
+//! The depth to which constructs nest.
 ghost use Rattle.std.specs.Prelude.{◌≡◌};
 ghost use Rattle.array_tree.specs.Trees.{statement_of, sequence_of, sequences_of};
 ghost use Rattle.array_meaning.specs.Limits.{depth_of, statement_depth_of, branches_depth_of};
@@ -6,7 +6,7 @@ ghost use Rattle.disjoint_check.specs.LimitFault.{told_depth};
 
 use array_tree::{Block, Blocks, Stmt};
 
-/// How deep constructs nest in a block.
+/// The depth to which constructs nest in a block.
 #[cycle(depth)]
 pub(crate) fn depth_of_block(block: &Block) -> u32
     ensures { result ≡ told_depth (depth_of (sequence_of block.now)) }
@@ -18,7 +18,7 @@ pub(crate) fn depth_of_block(block: &Block) -> u32
     depth
 }
 
-// The same of a statement: a construct is one deeper than what stands inside it.
+// The same for a statement: a construct is one deeper than the constructs inside it.
 #[cycle(depth)]
 fn depth_of_statement(statement: &Stmt) -> u32
     ensures { result ≡ told_depth (statement_depth_of (statement_of statement.now)) }
@@ -36,7 +36,7 @@ fn depth_of_statement(statement: &Stmt) -> u32
     }
 }
 
-// The same of branches or phases: the deepest counts.
+// The same for branches or phases: the deepest counts.
 #[cycle(depth)]
 fn depth_among(blocks: &Blocks) -> u32
     ensures { result ≡ told_depth (branches_depth_of (sequences_of blocks.now)) }

@@ -7,13 +7,13 @@ use std::alloc::AllocError;
 /// A limit of a declaration, a loop or a construct.
 #[derive(Clone, Copy, Debug, PartialEq, Eq)]
 pub enum Limit {
-    /// An array has 1 to 4,096 cells; found is its length.
+    /// An array has 1 to 4,096 cells; `found` is its length.
     Length,
-    /// There are at most 64 arrays; found is 65.
+    /// There are at most 64 arrays; `found` is 65.
     Names,
-    /// All arrays have at most 4,096 cells; found is their sum so far.
+    /// All arrays together have at most 4,096 cells; `found` is their sum so far.
     Cells,
-    /// A loop's low bound is no higher than its high one, which is found.
+    /// A loop's low bound is no higher than its high one, which `found` is.
     Bounds,
     /// A `team` has 1 to 64 members.
     Members,
@@ -23,12 +23,12 @@ pub enum Limit {
     Phases,
 }
 
-/// The first condition, in this order, that a program fails. A line is that of the first place in the text.
+/// The first condition, in this order, that a program fails. A line is that of the first occurrence in the text.
 #[derive(Clone, Copy, Debug, PartialEq, Eq)]
 pub enum CheckFault {
-    /// A declaration or loop takes a name that is already an array's, or a loop variable's around it.
+    /// A declaration or loop has a name that is already the name of an array, or of a loop around it.
     DuplicateName { line: u32 },
-    /// A statement indexes a name that is no array's, or uses one without index that is no loop variable's around it.
+    /// A statement indexes a name that is no array's, or uses a name without index that is no variable's of a loop around it.
     UnknownName { line: u32 },
     /// A declaration, `for`, `par` or `team` is outside a limit.
     BadRange { line: u32, what: Limit, found: i64 },
@@ -40,11 +40,11 @@ pub enum CheckFault {
     TooManySites { sites: u64 },
     /// There are more than 16,384 pieces.
     TooManyPieces { pieces: u64 },
-    /// A static index lies outside its array of this length; the line is that of the assignment or `if`.
+    /// A static index is outside its array of this length; the line is that of the assignment or `if`.
     OutOfRange { line: u32, index: i64, length: u16 },
     /// Two branches, or two members in one phase, overlap on a cell; the line is the construct's.
     Overlap { line: u32, cell: u16 },
-    /// No memory was left.
+    /// An allocation failed.
     Memory,
 }
 

@@ -1,5 +1,5 @@
-//! The checker: which programs may be run in parallel, the first condition that another one fails, and the plan of
-//! those that are accepted.
+//! The checker: which programs may be run in parallel, the first condition that any other program fails, and the plan of
+//! accepted programs.
 //!
 //! A run takes an `Accepted` program, which `check` returns. Begin with `check` in `checker.rt` and the conditions in
 //! `specs/FaultOf.antt`; the tests of `language_tests` check programs that pass and programs that fail each condition.

@@ -1,6 +1,5 @@
 //! The conditions on names, ranges and size.
 ghost use Rattle.std.specs.Prelude.{◌≡◌, ◌≤◌};
-ghost use Rattle.std.specs.Option.{option_map};
 ghost use Rattle.array_tree.specs.Trees.{program_of};
 ghost use Rattle.disjoint_check.specs.LimitFault.{limit_fault_of};
 
@@ -27,8 +26,8 @@ const MOST_ENTRIES: u64 = 65_535;
 /// The greatest number of pieces.
 const MOST_PIECES: u64 = 16_384;
 
-/// The first of the conditions on names, ranges and size that fails, for so many harts. It takes time in proportion to the program's
-/// text, but for names, which are looked up among all arrays and the loops around.
+/// The first of the conditions on names, ranges and size that fails, for so many harts. It takes time in proportion to the
+/// program's text; each name is also searched among all arrays and the loops around.
 pub(crate) fn limit_fault(program: &Program, harts: u8) -> Option<CheckFault>
     requires some_hart { 1 ≤ harts }
     requires few_harts { harts ≤ 16 }

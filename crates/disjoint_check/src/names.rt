@@ -8,7 +8,7 @@ ghost use Rattle.disjoint_check.specs.FirstNames.{duplicate_declaration, duplica
 use crate::around::{Loops, is_declared, is_taken};
 use array_tree::{ArrayDecl, Arrays, Block, Blocks, Expr, Program, Stmt};
 
-/// The line of the first declaration or loop whose name is already an array's, or a loop variable's around it.
+/// The line of the first declaration or loop whose name is already the name of an array, or of a loop around it.
 pub(crate) fn duplicate_name(program: &Program) -> Option<u32>
     ensures { result ≡ duplicate_name (program_of program.now) }
 {
@@ -44,7 +44,7 @@ fn duplicate_in_block<'s>(arrays: &Arrays, block: &'s Block, loops: &'s Loops<'s
     None
 }
 
-// The same of a statement.
+// The same for a statement.
 #[cycle(duplicate)]
 fn duplicate_in_statement<'s>(
     arrays: &Arrays,
@@ -92,7 +92,7 @@ fn duplicate_in_statement<'s>(
     }
 }
 
-// The same of branches or phases.
+// The same for branches or phases.
 #[cycle(duplicate)]
 fn duplicate_among<'s>(arrays: &Arrays, blocks: &'s Blocks, loops: &'s Loops<'s>) -> Option<u32>
     ensures { result ≡ duplicate_among (sequences_of blocks.now)
@@ -106,15 +106,15 @@ fn duplicate_among<'s>(arrays: &Arrays, blocks: &'s Blocks, loops: &'s Loops<'s>
     None
 }
 
-/// The line of the first statement that, outside the blocks in it, indexes a name that is no array's, or uses a name
-/// without index that is no loop variable's around it.
+/// The line of the first statement with an unknown name, outside the blocks in it: it indexes a name that is no array's, or
+/// uses a name without index that is no variable's of a loop around.
 pub(crate) fn unknown_name(program: &Program) -> Option<u32>
     ensures { result ≡ unknown_name (program_of program.now) }
 {
     unknown_in_block(&program.arrays, &program.body, &Loops::Outermost)
 }
 
-// The first statement of a block that uses a name that nothing around it declares.
+// The first statement of a block that uses a name without a declaration around it.
 #[cycle(unknown)]
 fn unknown_in_block<'s>(arrays: &Arrays, block: &'s Block, loops: &'s Loops<'s>) -> Option<u32>
     ensures { result ≡ unknown_in (sequence_of block.now) (names_of (declarations_of arrays.now))
@@ -128,7 +128,7 @@ fn unknown_in_block<'s>(arrays: &Arrays, block: &'s Block, loops: &'s Loops<'s>)
     None
 }
 
-// The same of a statement.
+// The same for a statement.
 #[cycle(unknown)]
 fn unknown_in_statement<'s>(
     arrays: &Arrays,
@@ -178,7 +178,7 @@ fn unknown_in_statement<'s>(
     }
 }
 
-// The same of branches or phases.
+// The same for branches or phases.
 #[cycle(unknown)]
 fn unknown_among<'s>(arrays: &Arrays, blocks: &'s Blocks, loops: &'s Loops<'s>) -> Option<u32>
     ensures { result ≡ unknown_among (sequences_of blocks.now)

@@ -30,7 +30,7 @@ pub(crate) fn range_fault(program: &Program) -> Option<CheckFault>
     range_fault_in_block(&program.body)
 }
 
-// The first declaration outside a limit, with the arrays and the cells before it counted.
+// The first declaration outside a limit. It counts the arrays and the cells before each.
 fn declarations_fault(declarations: &[ArrayDecl]) -> Option<CheckFault>
     ensures { result ≡ declarations_fault (map declaration_of declarations.now) 0 0 }
 {
@@ -64,7 +64,7 @@ fn declaration_fault(array: &ArrayDecl, arrays: usize, cells: u32) -> Option<Che
     None
 }
 
-// The first statement of a block outside a limit. A construct comes before what stands inside it.
+// The first statement of a block outside a limit. A construct comes before the statements inside it.
 #[cycle(ranges)]
 fn range_fault_in_block(block: &Block) -> Option<CheckFault>
     ensures { result ≡ range_fault_in (sequence_of block.now) }
@@ -77,7 +77,7 @@ fn range_fault_in_block(block: &Block) -> Option<CheckFault>
     None
 }
 
-// The same of a statement.
+// The same for a statement.
 #[cycle(ranges)]
 fn range_fault_in_statement(statement: &Stmt) -> Option<CheckFault>
     ensures { result ≡ statement_range_fault (statement_of statement.now) }
@@ -129,7 +129,7 @@ fn range_fault_in_statement(statement: &Stmt) -> Option<CheckFault>
     }
 }
 
-// The same of branches or phases.
+// The same for branches or phases.
 #[cycle(ranges)]
 fn range_fault_among(blocks: &Blocks) -> Option<CheckFault>
     ensures { result ≡ range_fault_among (sequences_of blocks.now) }
@@ -158,7 +158,7 @@ fn team_fault(line: u32, low: i64, high: i64, members: i64, phases: usize) -> Op
     None
 }
 
-// The fault of a number outside its limit, so that each test above is one line.
+// The fault of a number outside its limit. Why: each test above is then one line.
 fn bad_range(line: u32, what: Limit, found: i64) -> CheckFault
     ensures { result ≡ CheckFault.BadRange line what found }
 {

@@ -1,5 +1,5 @@
 //! The units of work of a program.
-ghost use Rattle.std.specs.Prelude.{◌≡◌, ℕ, ◌+◌, ◌*◌, unsigned_abs};
+ghost use Rattle.std.specs.Prelude.{◌≡◌, ℕ, ◌+◌, ◌*◌};
 ghost use Rattle.array_tree.specs.Trees.{expression_of, statement_of, sequence_of, sequences_of};
 ghost use Rattle.array_meaning.specs.Work.{span};
 ghost use Rattle.array_meaning.specs.Limits.{expression_units_of, units_of, statement_units_of, branches_units_of, phases_units_of};
@@ -8,7 +8,7 @@ ghost use Rattle.site_counts.specs.Capped.{capped};
 use array_eval::span;
 use array_tree::{Block, Blocks, Expr, Stmt};
 
-/// The units of a block. Here and below the greatest number of 64 bits stands for all above it.
+/// The units of a block. Here and below, the greatest number of 64 bits also stands for all greater numbers.
 #[cycle(units)]
 pub(crate) fn units_of_block(block: &Block) -> u64
     ensures { result ≡ capped (units_of (sequence_of block.now)) }
@@ -59,7 +59,7 @@ fn units_of_statement(statement: &Stmt) -> u64
     }
 }
 
-// The units of branches, with one for each that is begun.
+// The units of branches, with one for each branch.
 #[cycle(units)]
 fn units_of_branches(branches: &Blocks) -> u64
     ensures { result ≡ capped (branches_units_of (sequences_of branches.now)) }
@@ -71,7 +71,7 @@ fn units_of_branches(branches: &Blocks) -> u64
     units
 }
 
-// The units of phases, with one in each phase for each member that is begun.
+// The units of phases, with one in each phase for each member.
 #[cycle(units)]
 fn units_of_phases(phases: &Blocks, members: u64, iterations: u64) -> u64
     ensures { result ≡ capped (phases_units_of (sequences_of phases.now) members iterations) }

@@ -1,5 +1,5 @@
-//! The sites of a program, by unrolling its loops, whose bounds are literals.
-ghost use Rattle.std.specs.Prelude.{◌≡◌, [], IfOk, length, unsigned_abs};
+//! The sites of a program, found by unrolling its loops, whose bounds are literals.
+ghost use Rattle.std.specs.Prelude.{◌≡◌, [], IfOk};
 ghost use Rattle.array_tree.specs.Trees.{statement_of, sequence_of, sequences_of, program_of};
 ghost use Rattle.disjoint_check.specs.Inside.Unrolled.{with_statement, with_sequence, with_branches, with_phases, repeat, last_site, parts};
 
@@ -26,7 +26,7 @@ pub(crate) fn sites_of(alloc: Global, program: &Program) -> Result<Vec<Site>, Al
     Ok(sites)
 }
 
-// Adds the sites of a block behind those of the walk so far, given the construct around it.
+// Appends the sites of a block to those of the walk so far, given the construct around it.
 #[cycle(unroll)]
 fn unroll_block(block: &Block, around: u16, sites: &mut Vec<Site>) -> Result<(), AllocError>
     ensures { IfOk result (λ _. sites.new.items
@@ -38,7 +38,7 @@ fn unroll_block(block: &Block, around: u16, sites: &mut Vec<Site>) -> Result<(),
     Ok(())
 }
 
-// The same of a statement: a construct comes before those inside it.
+// The same for a statement: a construct comes before those inside it.
 #[cycle(unroll)]
 fn unroll_statement(statement: &Stmt, around: u16, sites: &mut Vec<Site>) -> Result<(), AllocError>
     ensures { IfOk result (λ _. sites.new.items
@@ -85,7 +85,7 @@ fn unroll_statement(statement: &Stmt, around: u16, sites: &mut Vec<Site>) -> Res
     }
 }
 
-// The same of the branches of a `par`.
+// The same for the branches of a `par`.
 #[cycle(unroll)]
 fn unroll_branches(branches: &Blocks, around: u16, sites: &mut Vec<Site>) -> Result<(), AllocError>
     ensures { IfOk result (λ _. sites.new.items
@@ -97,7 +97,7 @@ fn unroll_branches(branches: &Blocks, around: u16, sites: &mut Vec<Site>) -> Res
     Ok(())
 }
 
-// The same of the phases of a `team`, each over all its iterations.
+// The same for the phases of a `team`, each over all its iterations.
 #[cycle(unroll)]
 fn unroll_phases(
     phases: &Blocks,
@@ -114,7 +114,7 @@ fn unroll_phases(
     Ok(())
 }
 
-// The turns of a loop. A body that has no site is passed over, however many turns it has.
+// The turns of a loop. It passes over a body that has no site, for any number of turns.
 #[cycle(unroll)]
 #[tactic(auto, using(crate::proofs::Unrolling::skipped, crate::proofs::Unrolling::repeat_next))]
 fn unroll_turns(
@@ -145,7 +145,7 @@ fn last_site(sites: &Vec<Site>) -> u16
     u16::try_from(sites.len()).unwrap_or(u16::MAX)
 }
 
-// A number of parts.
+// A number of parts, at most 255.
 fn parts(count: u64) -> u8
     ensures { result ≡ parts count }
 {

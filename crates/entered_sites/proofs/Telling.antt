@@ -5,8 +5,8 @@ use Rattle.array_tree.specs.declared.tree.Stmt.{Stmt}
 use Rattle.array_tree.specs.declared.tree.Block.{Block}
 use Rattle.array_tree.specs.Trees.{Sequence, statement_of, sequence_of, sequence, sequences}
 use Rattle.array_meaning.specs.Stores.{Arrays, Vars}
-use Rattle.array_meaning.specs.Steps.{Steps, followed_by, exec, writes_of}
-use Rattle.array_meaning.specs.Work.{turns, span, loop, statement_work, sequence_work, branches_work, phases_work}
+use Rattle.array_meaning.specs.Steps.{followed_by, exec, writes_of}
+use Rattle.array_meaning.specs.Work.{turns, span, loop, sequence_work}
 use Rattle.array_meaning.specs.Plans.{sites_in}
 use Rattle.array_meaning.specs.Entered.{Part, entered_then, turns_entered, sequence_entered, statement_part, sequence_part, branches_part, loop_part, phases_part}
 use Rattle.array_meaning.proofs.StepLemmas.{span_next, span_none}

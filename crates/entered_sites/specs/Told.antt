@@ -1,19 +1,19 @@
--- A run of a program that records of each site whether it is entered.
+-- A run of a program that records for each site whether it is entered.
 use Rattle.std.specs.Prelude.{Bool, List, ◌++◌}
 use Rattle.array_meaning.specs.Stores.{Arrays}
 use Rattle.array_meaning.specs.Entered.{Part}
 use Rattle.array_eval.specs.Traces.{Trace, traced}
 
--- The store so far, and of each site so far whether it was entered.
+-- The store so far, and for each site so far whether it was entered.
 pub record Told : Type 0 where
   pub trace : Trace
   pub sites : List Bool
 
--- These sites are recorded, and nothing is run.
+-- The record with these sites, without a run.
 abbrev pub telling : List Bool → Told → Told
 telling sites t = record { trace = t.trace; sites = t.sites ++ sites }
 
--- A part is run, and what it enters is recorded.
+-- The record after a part has run, with the sites that it enters.
 abbrev pub told : Arrays → Part → Told → Told
 told arrays part t = record {
   trace = traced arrays part.0 t.trace;

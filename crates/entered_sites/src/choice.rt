@@ -1,11 +1,11 @@
-//! Whether a program has a choice of sites: whether a construct stands under an `if`.
+//! Whether a program has a choice of sites: whether a construct is under an `if`.
 ghost use Rattle.std.specs.Prelude.{◌≡◌};
 ghost use Rattle.array_tree.specs.Trees.{statement_of, sequence_of, sequences_of};
 ghost use Rattle.array_meaning.specs.Choices.{has_no_site_under_if, statement_has_no_site_under_if, have_no_site_under_if};
 
 use array_tree::{Block, Blocks, Stmt};
 
-/// Whether no construct of the block stands inside a side of an `if`, given whether the block is such a side or inside one.
+/// Whether no construct of the block is inside a side of an `if`, given whether the block is such a side or inside one.
 #[cycle(choice)]
 pub(crate) fn has_no_choice(block: &Block, inside: bool) -> bool
     ensures { result ≡ has_no_site_under_if (sequence_of block.now) inside }
@@ -18,7 +18,7 @@ pub(crate) fn has_no_choice(block: &Block, inside: bool) -> bool
     true
 }
 
-// The same of a statement.
+// The same for a statement.
 #[cycle(choice)]
 fn statement_has_no_choice(statement: &Stmt, inside: bool) -> bool
     ensures { result ≡ statement_has_no_site_under_if (statement_of statement.now) inside }
@@ -36,7 +36,7 @@ fn statement_has_no_choice(statement: &Stmt, inside: bool) -> bool
     }
 }
 
-// The same of branches or phases.
+// The same for branches or phases.
 #[cycle(choice)]
 fn have_no_choice(blocks: &Blocks, inside: bool) -> bool
     ensures { result ≡ have_no_site_under_if (sequences_of blocks.now) inside }

@@ -1,5 +1,8 @@
-//! Which sites of a program's plan the one-thread meaning enters: both sides of an `if` have their sites in the plan, and
+//! The sites of a program's plan that the one-thread meaning enters. Both sides of an `if` have their sites in the plan, and
 //! the meaning enters those of one side.
+//!
+//! A run's journal is compared with these sites: they are registered, and all others skipped. Begin with `entered` in
+//! `walk.rt`; the tests of `entered_tests` have examples.
 #![tactic(auto)]
 
 mod accepted;

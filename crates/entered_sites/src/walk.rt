@@ -14,10 +14,18 @@ use array_tree::{Block, Blocks, Name, Program, Stmt};
 use site_counts::sites_in_block;
 use std::alloc::{AllocError, Global};
 
-/// Of each site of a program's plan, in the plan's order, whether the one-thread meaning enters it from zero cells.
+/// For each site of a program's plan, in the plan's order: whether the one-thread meaning enters it from zero cells.
 ///
-/// `sites` must be the number of the plan's sites. Each array must have a cell, and all at most 4,096. The error is want
-/// of memory alone. A program without a construct under an `if` enters all its sites, and isn't run for that.
+/// `sites` must be the number of the plan's sites. Each array must have a cell, and all arrays together at most 4,096. A
+/// program without a construct under an `if` enters all its sites, and isn't evaluated.
+///
+/// # Errors
+///
+/// `AllocError` if an allocation fails.
+///
+/// # Memory
+///
+/// It allocates a flag for each site, and a store if a construct is under an `if`.
 pub fn entered(alloc: Global, program: &Program, sites: u16) -> Result<Vec<bool>, AllocError>
     requires sized { AreSized (arrays_of (declarations_of program.now.arrays)) }
     requires sites { sites ≡ sites_in (program_of program.now).body }
@@ -29,7 +37,7 @@ pub fn entered(alloc: Global, program: &Program, sites: u16) -> Result<Vec<bool>
     walked(alloc, program, sites)
 }
 
-// The same by a walk through a run of the program.
+// The same, by a walk through a run of the program.
 fn walked(alloc: Global, program: &Program, sites: u16) -> Result<Vec<bool>, AllocError>
     requires sized { AreSized (arrays_of (declarations_of program.now.arrays)) }
     ensures { IfOk result (λ list. list.items ≡ entered_of (program_of program.now)) }
@@ -41,7 +49,7 @@ fn walked(alloc: Global, program: &Program, sites: u16) -> Result<Vec<bool>, All
     Ok(walker.into_sites())
 }
 
-// Runs a block and tells of its sites. What has none is run as it is.
+// Runs a block and records its sites. A block without sites runs without a record.
 #[cycle(walk)]
 fn walk_block<'s>(
     layout: &Layout,
@@ -58,7 +66,7 @@ fn walk_block<'s>(
     walk_statements(layout, block, scope, walker)
 }
 
-// The same of a block that may have sites.
+// The same for a block that may have sites.
 #[cycle(walk)]
 fn walk_statements<'s>(
     layout: &Layout,
@@ -74,8 +82,8 @@ fn walk_statements<'s>(
     Ok(())
 }
 
-// The same of a statement: a construct comes before the sites inside it, and of an `if` the sites of the side that isn't
-// taken are passed over, those of the then side first.
+// The same for a statement. A construct comes before the sites inside it. The sites of the side of an `if` that isn't taken are
+// passed over, those of the then side first.
 #[cycle(walk)]
 fn walk_statement<'s>(
     layout: &Layout,
@@ -133,7 +141,7 @@ fn walk_statement<'s>(
     }
 }
 
-// The same of a block for each number from `low` to before `high`, with that number as the variable.
+// The same for a block for each number from `low` to before `high`, with that number as the variable.
 #[cycle(walk)]
 fn walk_loop<'s>(
     layout: &Layout,
@@ -146,7 +154,7 @@ fn walk_loop<'s>(
 ) -> Result<(), AllocError>
     ensures { IfOk result (λ _. walker.new ≡ told layout.now (loop_part layout.now var.now low high (sequence_part layout.now (sequence_of body.now)) (vars_of scope.now)) walker.old) }
 {
-    // The sites of a body that isn't run needn't be counted.
+    // Why `low < high` comes first: the sites of a body that doesn't run needn't be counted.
     if low < high && sites_in_block(body) == 0 {
         walker.run_loop(layout, body, var, low, high, scope);
         return Ok(());
@@ -162,7 +170,7 @@ fn walk_loop<'s>(
     Ok(())
 }
 
-// The same of the branches of a `par`, one after another.
+// The same for the branches of a `par`, one after another.
 #[cycle(walk)]
 fn walk_branches<'s>(
     layout: &Layout,
@@ -178,7 +186,7 @@ fn walk_branches<'s>(
     Ok(())
 }
 
-// The same of the phases of a `team`, one after another.
+// The same for the phases of a `team`, one after another.
 #[cycle(walk)]
 fn walk_phases<'s>(
     layout: &Layout,

@@ -1,4 +1,4 @@
-//! What a walk through a program keeps.
+//! The state of a walk through a program.
 ghost use Rattle.std.specs.Prelude.{◌≡◌, ◌<◌, ◌^◌, [], ◌∷◌, ◌++◌, false, true, IfOk, replicate};
 ghost use Rattle.array_tree.specs.Trees.{expression_of, sequence_of};
 ghost use Rattle.array_meaning.specs.Stores.{cell_of, is_dynamic, value_of};
@@ -14,7 +14,7 @@ use site_counts::sites_in_block;
 use std::alloc::{AllocError, Global};
 use std::marker::Model;
 
-/// The store of a program that is run, and of each site that the walk has passed whether it was entered.
+/// The store of a running program, and for each site that the walk has passed whether it was entered.
 #[derive(Drop)]
 pub(crate) struct Walker {
     store: MarkedStore,
@@ -102,7 +102,7 @@ impl Walker {
         Ok(())
     }
 
-    /// Passes over the sites of a block that isn't run.
+    /// Passes over the sites of a block that doesn't run.
     pub(crate) fn pass(&mut self, block: &Block) -> Result<(), AllocError>
         ensures { IfOk result (λ _. self.new
             ≡ telling (replicate (sites_in (sequence_of block.now)) false) self.old) }
@@ -111,7 +111,7 @@ impl Walker {
         Ok(())
     }
 
-    /// Of each site that the walk has passed whether it was entered.
+    /// For each site that the walk has passed, whether it was entered.
     pub(crate) fn into_sites(self) -> Vec<bool>
         ensures { result.items ≡ self.sites }
     {
@@ -119,8 +119,8 @@ impl Walker {
     }
 }
 
-// Tells of so many sites that they aren't entered. No list has 2^63 places, so this fails for a count that stands for all
-// above it.
+// Records so many sites as not entered. Why it fails for a capped count (the greatest number of 64 bits also stands for all
+// greater ones): no list has 2^63 elements.
 fn pass_over(count: u64, sites: &mut Vec<bool>) -> Result<(), AllocError>
     ensures told { IfOk result
         (λ _. sites.new.items ≡ sites.old.items ++ replicate count false) }

@@ -1,4 +1,4 @@
-//! Of each site whether it is entered.
+//! For each site, whether it is entered.
 
 use disjoint_check::check;
 use entered_sites::{entered, entered_by};
@@ -48,7 +48,7 @@ fn a_loop_takes_a_side_in_each_turn(rt: HostRuntime) -> Result<(), Fail> {
     let by_number = "for i in 0..4 { if i % 2 { par { { } } } else { team j in 0..2 by 2 { } } }";
     let expected = [false, true, true, false, false, true, true, false];
     assert!(rt; enters(alloc, by_number, expected.as_slice())?);
-    // Each turn writes what the next one asks for.
+    // Each turn writes the cell that the next turn's condition reads.
     let by_cell = "array a[1]; for i in 0..3 {
         if a[0] { par { { a[0] = 0; } } } else { par { { } { a[0] = 1; } } } }";
     let expected = [false, true, true, false, false, true];

@@ -1,4 +1,4 @@
--- What is told of a program that isn't accepted.
+-- The line for a program that isn't accepted.
 use Rattle.std.specs.Prelude.{ℕ, ◌-◌, List, [], ◌∷◌, ◌++◌, codes, nat_lt, if◌then◌else◌}
 use Rattle.std.specs.Fmt.{decimal, signed_decimal}
 use Rattle.array_tree.specs.Trees.{ProgramTree}
@@ -8,13 +8,14 @@ use Rattle.disjoint_check.specs.declared.fault.Limit.TheVariants as limit
 use Rattle.disjoint_check.specs.declared.fault.CheckFault.{CheckFault}
 use Rattle.disjoint_check.specs.declared.fault.CheckFault.TheVariants.{DuplicateName, UnknownName, BadRange, TooDeep, TooMuchWork, TooManySites, TooManyPieces, OutOfRange, Overlap, Memory}
 
--- a cell as `name[index]`, where the arrays' cells are numbered one array after another
+-- A cell as `name[index]`; the arrays' cells are numbered one array after another.
 abbrev pub cell_text : Arrays → ℕ → List ℕ
 cell_text [] cell = []
 cell_text (array ∷ more) cell =
     if nat_lt cell array.1 then array.0 ++ codes "[" ++ decimal cell ++ codes "]"
     else cell_text more (cell - array.1)
 
+-- The word of a limit.
 abbrev pub limit_text : Limit → List ℕ
 limit_text limit.Length = codes "length"
 limit_text limit.Names = codes "names"
@@ -24,15 +25,15 @@ limit_text limit.Members = codes "members"
 limit_text limit.Branches = codes "branches"
 limit_text limit.Phases = codes "phases"
 
--- ` at line ` and the line, at the end of the text
+-- ` at line ` and the line, at the end of the text.
 abbrev pub line_text : ℕ → List ℕ
 line_text line = codes " at line " ++ decimal line ++ 10 ∷ []
 
--- the end of the text
+-- The text with a newline at its end.
 abbrev pub ended : List ℕ → List ℕ
 ended text = text ++ 10 ∷ []
 
--- what is told after `refused: `; want of memory has nothing
+-- The text after `refused: `; none for an allocation failure.
 abbrev pub fault_text : ProgramTree → CheckFault → List ℕ
 fault_text program (DuplicateName line) = codes "name used twice" ++ line_text line
 fault_text program (UnknownName line) = codes "unknown name" ++ line_text line
@@ -49,5 +50,6 @@ fault_text program (Overlap line cell) =
     codes "overlap on " ++ cell_text (arrays_of program.arrays) cell ++ line_text line
 fault_text program Memory = []
 
+-- The whole line of a fault.
 abbrev pub refusal_text : ProgramTree → CheckFault → List ℕ
 refusal_text program fault = codes "refused: " ++ fault_text program fault

@@ -1,4 +1,4 @@
-//! The line that tells why the members of a program can't overtake.
+//! The line that reports why the members of a program can't overtake.
 ghost use Rattle.std.specs.Prelude.{◌≢◌, ◌≡◌, IfOk};
 ghost use Rattle.array_tree.specs.Trees.{program_of};
 ghost use Rattle.error_text.specs.CrossingText.{crossing_text};
@@ -8,7 +8,16 @@ use array_tree::Program;
 use pipe_walk::PipeFault;
 use std::alloc::{AllocError, Global};
 
-/// The line that tells on which cell two pieces of a program cross, and of which construct; the fault isn't want of memory.
+/// The line of a crossing: the cell on which two pieces of a program cross, and their construct. The fault must not be
+/// `Memory`.
+///
+/// # Errors
+///
+/// `AllocError` if an allocation fails.
+///
+/// # Memory
+///
+/// It allocates the line.
 pub fn crossing_line(
     alloc: Global,
     program: &Program,

@@ -1,5 +1,8 @@
-//! What is told of a text that spells no program, of a program that isn't accepted, of one that isn't spread, and of one whose
-//! pieces cross.
+//! The error lines of `lithe`: for a text that spells no program, a program that isn't accepted, a program that can't be
+//! spread, and a program whose pieces cross.
+//!
+//! Each function returns the one line that the command prints. Begin with `refusal_line` in `refusal.rt`; `src/tests.rt` has an
+//! example of each line.
 #![tactic(auto)]
 
 mod crossing;

@@ -1,4 +1,4 @@
-//! The line that tells why a program isn't accepted.
+//! The line that reports why a program isn't accepted.
 ghost use Rattle.std.specs.Prelude.{◌≡◌, ◌≢◌, ◌++◌, IfOk, OnOk, codes};
 ghost use Rattle.std.specs.Fmt.{decimal, signed_decimal};
 ghost use Rattle.array_tree.specs.Trees.{program_of, declarations_of};
@@ -9,7 +9,15 @@ use array_tree::{Arrays, Name, Program};
 use disjoint_check::{CheckFault, Limit};
 use std::alloc::{AllocError, Global};
 
-/// The line that tells why the program isn't accepted; the fault isn't want of memory.
+/// The line of the condition that the program fails. The fault must not be `Memory`.
+///
+/// # Errors
+///
+/// `AllocError` if an allocation fails.
+///
+/// # Memory
+///
+/// It allocates the line.
 pub fn refusal_line(
     alloc: Global,
     program: &Program,
@@ -24,7 +32,7 @@ pub fn refusal_line(
     Ok(text)
 }
 
-// Adds what is told of the fault.
+// Adds the text of the fault.
 fn add_fault(
     alloc: Global,
     text: &mut Vec<u8>,
@@ -62,7 +70,7 @@ fn add_line(alloc: Global, text: &mut Vec<u8>, line: u32) -> Result<(), AllocErr
     text.extend_from_slice(line.as_bytes())
 }
 
-// Adds what is wrong, and at which line.
+// Adds a cause, and its line in the program.
 pub(crate) fn add_at_line(
     alloc: Global,
     text: &mut Vec<u8>,
@@ -144,7 +152,7 @@ fn add_index(
     add_line(alloc, text, line)
 }
 
-// Adds what is wrong on a cell, and at which line.
+// Adds a cause on a cell, and its line in the program.
 pub(crate) fn add_on_cell(
     alloc: Global,
     text: &mut Vec<u8>,
@@ -178,7 +186,7 @@ fn add_cell(alloc: Global, text: &mut Vec<u8>, arrays: &Arrays, cell: u16) -> Re
     Ok(())
 }
 
-// Adds the place of an array at an index.
+// Adds an array's name with an index.
 fn add_place(alloc: Global, text: &mut Vec<u8>, array: &Name, index: u64) -> Result<(), AllocError>
     ensures { OnOk result (text.new.items
         ≡ text.old.items ++ (array.now ++ codes "[" ++ decimal index ++ codes "]")) }

@@ -1,11 +1,19 @@
-//! The line that tells a fault of the text.
+//! The line that reports an error of the text.
 ghost use Rattle.std.specs.Prelude.{◌≡◌, ◌≢◌, IfOk};
 ghost use Rattle.error_text.specs.SyntaxText.{syntax_text, text_at};
 
 use array_lang::SyntaxFault;
 use std::alloc::{AllocError, Global};
 
-/// The line that tells the fault, which isn't want of memory.
+/// The line of a syntax error. The fault must not be `Memory`.
+///
+/// # Errors
+///
+/// `AllocError` if an allocation fails.
+///
+/// # Memory
+///
+/// It allocates the line.
 pub fn syntax_line(alloc: Global, fault: SyntaxFault) -> Result<Vec<u8>, AllocError>
     requires { fault ≢ SyntaxFault.Memory }
     ensures { IfOk result (λ line. line.items ≡ syntax_text fault) }

@@ -1,4 +1,4 @@
-//! The line that tells why a program isn't spread.
+//! The line that reports why a program can't be spread.
 ghost use Rattle.std.specs.Prelude.{◌≢◌, ◌≡◌, IfOk};
 ghost use Rattle.error_text.specs.TallyText.{tally_text};
 
@@ -6,8 +6,16 @@ use crate::refusal::add_at_line;
 use std::alloc::{AllocError, Global};
 use tally_cells::TallyFault;
 
-/// The line that tells why the branches and members of a program can't have rows of their own; the fault isn't want of
-/// memory.
+/// The line that gives the reason why the branches and members of a program can't have rows of their own. The fault must not be
+/// `Memory`.
+///
+/// # Errors
+///
+/// `AllocError` if an allocation fails.
+///
+/// # Memory
+///
+/// It allocates the line.
 pub fn tally_line(alloc: Global, fault: TallyFault) -> Result<Vec<u8>, AllocError>
     requires { fault ≢ TallyFault.Memory }
     ensures { IfOk result (λ line. line.items ≡ tally_text fault) }

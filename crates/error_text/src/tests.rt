@@ -1,4 +1,4 @@
-//! The lines by the faults that they tell.
+//! The lines of faults.
 use crate::{crossing_line, refusal_line, syntax_line, tally_line};
 use array_lang::{SyntaxFault, parse};
 use disjoint_check::{CheckFault, Limit};

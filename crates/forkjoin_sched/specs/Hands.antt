@@ -1,4 +1,4 @@
--- What a hart's hand on a shared pool does.
+-- The calls of a hart's hand on a shared pool. A look is one read of the pool under its lock.
 use Rattle.std.specs.Prelude.{◌≡◌, ◌⊎◌, ℕ, ◌+◌, ◌-◌, ◌*◌, ◌<◌, ◌≤◌, List, [], ◌∷◌, ◌++◌, length, map, slice_set, slice_index, Option, Some, None}
 use Rattle.array_jobs.specs.Jobs.{JobParts}
 use Rattle.sched_api.specs.declared.scheduler.Next.{Next}
@@ -15,62 +15,63 @@ use Rattle.forkjoin_sched.specs.declared.looks.Found.{Found}
 use Rattle.forkjoin_sched.specs.declared.looks.Found.TheVariants.{HandedOut, NoneLeft, Work}
 use Rattle.forkjoin_sched.specs.declared.looks.Looks.{Looks}
 
--- A job has this code, by its site and its place.
+-- The job index of a site's piece, which deques hold.
 abbrev pub code_at : ℕ → ℕ → ℕ
 code_at site place = 64 * site + place
 
--- The code of a job is made of its site and its place.
+-- The job index of a job, made of its site and its index in the phase.
 abbrev pub code_of : JobParts → ℕ
 code_of job = code_at job.site job.place
 
 -- Under the lock --
 
--- A further look, which found this.
+-- One more look, with this result.
 abbrev pub Sees : Looks → Found → Looks → Type 0
 Sees before found after = Rose before.count after.count × (after.last ≡ Some found)
 
--- A look of a hart that asks for work finds this.
+-- The result of a look for work.
 abbrev pub found_by : Option PoolParts → Next PoolWork → Found
 found_by None next = HandedOut
 found_by (Some pool) Nothing = NoneLeft
 found_by (Some pool) (Run work) = Work
 found_by (Some pool) (Lend site) = Work
 
--- The pool gives what `enter` of it does, and a pool that was handed out gives nothing.
+-- The pool returns what its `enter` does, and a pool that was handed out returns `Nothing`.
 abbrev pub AnswersUnder : Option PoolParts → Next PoolWork → Option PoolParts → Type 0
 AnswersUnder None next after = (next ≡ Nothing) × (after ≡ None)
 AnswersUnder (Some pool) next None = ⊥
 AnswersUnder (Some pool) next (Some after) = Answers pool next after
 
--- The first context that is ready is taken.
+-- The first ready context is taken.
 abbrev pub GivesReadyUnder : Option PoolParts → Option PoolWork → Option PoolParts → Type 0
 GivesReadyUnder None ready after = (ready ≡ None) × (after ≡ None)
 GivesReadyUnder (Some pool) ready None = ⊥
 GivesReadyUnder (Some pool) ready (Some after) =
     GivesReady pool.agenda ready after.agenda × (after ≡ with_agenda pool after.agenda)
 
--- The rows --
+-- The deques --
 
--- The rows are the same, to which nothing was pushed; no count of moments at which one was found bare fell.
+-- The deques are the same, nothing was pushed onto them, and no counter of empty looks fell.
 pub record Keeps (before after : HartRows) : Type 0 where
   pub kin : kin after ≡ kin before
   pub pushed : map (λ (v : Log). v.pushed) (home_logs after)
       ≡ map (λ (v : Log). v.pushed) (home_logs before)
   pub bares : (r : ℕ) → slice_index (bares before) r ≤ slice_index (bares after) r
 
--- The row was found bare: its count of such moments rose, and what is known of it fits a moment at which it held at most one code.
+-- The deque was found bare: its counter of empty looks rose, and what is known of it fits a moment at which it held at most one
+-- job index.
 abbrev pub IsFoundBare : ℕ → ℕ → HartRows → HartRows → Type 0
 IsFoundBare home level before after =
     Rose (bare before home level) (bare after home level) × HeldAtMost 1 (pass_log after home level)
 
--- What the hart popped and stole from the row before, it has still popped and stolen, and perhaps more since.
+-- The job indices that the hart had popped and stolen from the deque are still popped and stolen, and perhaps more since.
 pub record TakesMore (home level : ℕ) (before after : HartRows) : Type 0 where
   pub popped : List ℕ
   pub stolen : List ℕ
   pub pops : (home_log after level).popped ≡ (home_log before level).popped ++ popped
   pub steals : (pass_log after home level).stolen ≡ (pass_log before home level).stolen ++ stolen
 
--- The last code that was taken from the home's row since is this one: popped, where the hart is the home, or stolen.
+-- The last job index that was taken from the home's deque since is this one: popped, if the hart is the home, or stolen.
 abbrev pub HasTaken : ℕ → ℕ → ℕ → HartRows → HartRows → Type 0
 HasTaken home level code before after =
     ((home ≡ before.hart) × (earlier : List ℕ) × ((home_log after level).popped
@@ -78,23 +79,23 @@ HasTaken home level code before after =
     ⊎ ((earlier : List ℕ) × ((pass_log after home level).stolen
     ≡ ((pass_log before home level).stolen ++ earlier) ++ code ∷ []))
 
--- A code of the row, or none, and it was found bare.
+-- A job index of the deque, or none, and the deque was found bare.
 abbrev pub TakesCode : ℕ → ℕ → HartRows → Option ℕ → HartRows → Type 0
 TakesCode home level before (Some code) after = HasTaken home level code before after
 TakesCode home level before None after = IsFoundBare home level before after
 
--- A job of the site is taken whose code was taken, or none, and the row was found bare.
+-- A job of the site whose job index was taken, or none, and the deque was found bare.
 abbrev pub TakesPiece : ℕ → ℕ → ℕ → HartRows → Option JobParts → HartRows → Type 0
 TakesPiece site home level before (Some job) after =
     (job.site ≡ site) × HasTaken home level (code_of job) before after
 TakesPiece site home level before None after = IsFoundBare home level before after
 
--- The places fall, each of them below n and none below `least`.
+-- The indices fall, each of them below n and none below `least`.
 abbrev pub IsFalling : ℕ → ℕ → List ℕ → Type 0
 IsFalling n least [] = least ≤ n
 IsFalling n least (place ∷ places) = (place < n) × IsFalling place least places
 
--- The codes of these places of the site are pushed, in this order, and nothing else is done.
+-- The job indices of these pieces of the site are pushed, in this order, and nothing else is done.
 pub record PushesCodes (site level : ℕ) (places : List ℕ) (before after : HartRows) : Type 0 where
   pub kin : kin after ≡ kin before
   pub own : home_logs after ≡ slice_set (home_logs before) (level - 1)
@@ -102,14 +103,14 @@ pub record PushesCodes (site level : ℕ) (places : List ℕ) (before after : Ha
   pub passes : pass_logs after ≡ pass_logs before
   pub bares : bares after ≡ bares before
 
--- The jobs are those from some place on to the one before n, in order.
+-- The jobs are those from some index on to the one before n, in order.
 abbrev pub RunsTo : ℕ → List PoolWork → Type 0
 RunsTo n [] = Unit {0}
 RunsTo n (Begin job ∷ works) = (job.place + length works + 1 ≡ n) × RunsTo n works
 RunsTo n (Ready context ∷ works) = ⊥
 
--- Jobs leave a pool that are not begun, and the code of each is pushed, the last place first. Where they are the last of n jobs,
--- all leave it.
+-- Jobs that are not begun leave a pool, and the job index of each is pushed, the last piece first. If they are the last of n
+-- jobs, all leave it.
 pub record OffersJobs (site level n : ℕ) (pool : PoolParts) (rows : HartRows) (places : List ℕ)
     (pool' : PoolParts) (rows' : HartRows) : Type 0 where
   pub falling : IsFalling n 0 places
@@ -118,7 +119,7 @@ pub record OffersJobs (site level n : ℕ) (pool : PoolParts) (rows : HartRows) 
   pub each : length pool.agenda.unbegun ≡ length pool'.agenda.unbegun + length places
   pub all : RunsTo n pool.agenda.unbegun → pool'.agenda.unbegun ≡ []
 
--- A further look, and the jobs of a pool that wasn't handed out are offered.
+-- One more look, in which the jobs of a pool that wasn't handed out are offered.
 abbrev pub OffersUnder : ℕ → ℕ → ℕ → Looks × Option PoolParts × HartRows
     → Looks × Option PoolParts × HartRows → Type 0
 OffersUnder site level n (looks, None, rows) (looks', kept', rows') =

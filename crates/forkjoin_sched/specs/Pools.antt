@@ -11,18 +11,18 @@ use Rattle.join_book.specs.Books.{BookParts, open_book}
 use Rattle.forkjoin_sched.specs.declared.work.PoolWork.{PoolWork}
 use Rattle.forkjoin_sched.specs.declared.work.PoolWork.TheVariants.{Begin, Ready}
 
--- Contracts see these parts of a pool: its site, what it has for harts, and the book of its pieces.
+-- The parts of a pool that contracts see: its site, its lists for harts, and the book of its pieces.
 pub record PoolParts : Type 0 where
   pub site : ℕ
   pub agenda : AgendaParts PoolWork
   pub book : BookParts
 
--- The jobs have this site.
+-- The site of the jobs.
 abbrev pub site_of_jobs : List JobParts → ℕ
 site_of_jobs [] = 0
 site_of_jobs (job ∷ jobs) = job.site
 
--- The pool of jobs none of which is begun, in the order of their places, with room for so many wishes.
+-- The pool of jobs none of which is begun, in the order of their indices, with room for so many wishes.
 abbrev pub roomy_pool : List JobParts → ℕ → PoolParts
 roomy_pool jobs wishes = record {
   site = site_of_jobs jobs;
@@ -39,12 +39,12 @@ roomy_pool jobs wishes = record {
 abbrev pub new_pool : List JobParts → PoolParts
 new_pool jobs = roomy_pool jobs MOST_WISHES
 
--- The book that nobody has taken.
+-- The book of a mutex that is free.
 abbrev pub free_book : {C : Type 0} → Possession BookParts C → BookParts
 free_book (Free book) = book
 free_book (Held waiting) = record { jobs = []; places = [] }
 
--- The call `enter` of a pool gives what its agenda has, and changes its agenda alone.
+-- The call `enter` of a pool returns the next action of its agenda, and changes only its agenda.
 pub record Answers (before : PoolParts) (next : Next PoolWork) (after : PoolParts) : Type 0 where
   pub handed : TakesNext before.agenda next after.agenda
   pub site : after.site ≡ before.site
@@ -74,12 +74,12 @@ with_book pool book = record pool { book = book }
 abbrev pub with_agenda : PoolParts → AgendaParts PoolWork → PoolParts
 with_agenda pool agenda = record pool { agenda = agenda }
 
--- The work is a piece of this place that isn't begun.
+-- The work is a piece at this index that isn't begun.
 abbrev pub IsPieceAt : ℕ → PoolWork → Type 0
 IsPieceAt place (Begin job) = job.place ≡ place
 IsPieceAt place (Ready context) = ⊥
 
--- The last of the jobs that aren't begun is taken, where it is of this place. Else nothing changes.
+-- The last of the jobs that aren't begun is taken, if it has this index. Otherwise nothing changes.
 abbrev pub GivesJob : PoolParts → ℕ → Option JobParts → PoolParts → Type 0
 GivesJob before place (Some job) after =
     (before.agenda.unbegun ≡ after.agenda.unbegun ++ Begin job ∷ []) × (job.place ≡ place)

@@ -1,22 +1,22 @@
--- A pool behind a lock, as far as it is known without what the lock holds.
+-- A pool under a lock, without its lock-protected state.
 use Rattle.std.specs.Prelude.{◌≡◌, ℕ, List, slice_get, Some}
 use Rattle.array_jobs.specs.Jobs.{JobParts, job_of}
 use Rattle.array_jobs.specs.PieceParts.{PieceParts}
 use Rattle.join_book.specs.declared.book.Deposit.{Deposit}
 use Rattle.join_book.specs.declared.book.Deposit.TheVariants.{Kept, Double, Stranger}
 
--- Contracts see of a shared pool the site and the jobs of the pool that it was made of.
+-- The parts of a shared pool that contracts see: the site and the jobs of the pool of which it was made.
 pub record SharedParts : Type 0 where
   pub site : ℕ
   pub jobs : List JobParts
 
--- The job is that of the place that it names.
+-- The job is the job of the index that it names.
 abbrev pub HasJob : SharedParts → JobParts → Type 0
 HasJob shared job = (own : JobParts) × (slice_get shared.jobs job.place ≡ Some own)
     × (job_of own ≡ job_of job)
 
--- A deposit has these results whatever the lock holds: a piece is kept, or is a Double, only where its job is that of its
--- place, and what isn't kept is given back.
+-- The results of a deposit for any lock-protected state: a piece is kept, or is a `Double`, only if its job is the job of its
+-- index. A piece that isn't kept is returned.
 abbrev pub Receives : SharedParts → PieceParts → Deposit → Type 0
 Receives shared piece Kept = HasJob shared piece.job
 Receives shared piece (Double back) = HasJob shared piece.job × (back ≡ piece)

@@ -1,4 +1,4 @@
-//! What a hart does with its hand on a pool.
+//! The calls of a hart's hand on a pool.
 ghost use Rattle.std.specs.Prelude.{◌≡◌, ◌≤◌, ◌+◌, length, IfSome, IfErr};
 ghost use Rattle.deque_rows.specs.Rows.{home_log, row_room};
 ghost use Rattle.join_book.specs.Books.{IsFull};
@@ -15,8 +15,8 @@ use sched_api::{Call, Next, Scheduler};
 use std::sync::{Mutex, Wait};
 
 impl<'a, 'r, 'p, R: Wait + 'a> PoolHand<'a, 'r, 'p, R> {
-    /// Puts the jobs that aren't begun up for all harts: their codes go to the home's row, the last place first. The hart must
-    /// be the home, and its row must have room for a code of each job. It does not allocate.
+    /// Offers the jobs that aren't begun to all harts: pushes their job indices onto the home's deque, the last piece first.
+    /// The hart must be the home, and its deque must have room for each job. Does not allocate.
     pub fn offer(&mut self, rt: &R)
         requires home { self.old.rows.now.hart ≡ self.old.home }
         requires room { length self.old.shared.now.jobs
@@ -31,11 +31,11 @@ impl<'a, 'r, 'p, R: Wait + 'a> PoolHand<'a, 'r, 'p, R> {
             .offer(rt, &mut kept, slots, self.rows, site, self.level);
     }
 
-    /// What `deposit` of the pool does. Where the pool was handed out, each piece is a Stranger.
+    /// What `deposit` of the pool does. If the pool was handed out, each piece is a `Stranger`.
     ///
-    /// The piece's job is compared before the lock is taken, with the copy that stands beside it. The type of a lock says nothing
-    /// of what stands beside it, so behind the lock the piece lies with its own job: the home compares all jobs of a pool that it
-    /// takes out.
+    /// It compares the piece's job with the copy beside the lock, before it takes the lock. Why the pool then keeps the piece
+    /// with the piece's own job: a lock's type states nothing about what is beside the lock. So the home compares all jobs of a
+    /// pool that it takes out.
     pub fn deposit(&self, rt: &R, piece: Piece<'p>) -> Deposit<'p>
         ensures { Receives self.now.shared.now piece.entry result }
     {
@@ -52,7 +52,7 @@ impl<'a, 'r, 'p, R: Wait + 'a> PoolHand<'a, 'r, 'p, R> {
         }
     }
 
-    /// What `fail` of the pool does. Where the place isn't there, or is filled or failed, it does nothing.
+    /// What `fail` of the pool does. It does nothing if the slot doesn't exist, or is filled or failed.
     pub fn fail(&self, rt: &R, place: u8) {
         if let Some(pool) = self.shared.kept().lock(rt).as_mut() {
             if pool.is_open(place) {
@@ -62,8 +62,8 @@ impl<'a, 'r, 'p, R: Wait + 'a> PoolHand<'a, 'r, 'p, R> {
         }
     }
 
-    /// Whether every place of the pool is filled or failed. One that was handed out is full. The lock isn't taken as long as
-    /// it isn't shown beside it.
+    /// Whether every slot of the pool is filled or failed. A pool that was handed out counts as full. It takes the lock only if
+    /// the flag beside the lock shows a full pool.
     pub fn is_full(&self, rt: &R) -> bool {
         if !self.shared.shows_full() {
             return false;
@@ -74,7 +74,7 @@ impl<'a, 'r, 'p, R: Wait + 'a> PoolHand<'a, 'r, 'p, R> {
         }
     }
 
-    /// Whether some place is failed. It is false where the pool was handed out.
+    /// Whether some slot is failed; false if the pool was handed out.
     pub fn has_failed(&self, rt: &R) -> bool {
         match self.shared.kept().lock(rt).as_ref() {
             Some(pool) => pool.has_failed(),
@@ -82,7 +82,7 @@ impl<'a, 'r, 'p, R: Wait + 'a> PoolHand<'a, 'r, 'p, R> {
         }
     }
 
-    /// Hands the pool out, once. None exactly where it was handed out before, or isn't full. A None changes nothing.
+    /// Hands the pool out, once. `None` exactly if it was handed out before, or isn't full; nothing changes then.
     pub fn take_out(&self, rt: &R) -> Option<Pool<'p>>
         ensures { IfSome result (λ pool. IsFull pool.book) }
     {
@@ -107,7 +107,7 @@ impl<'a, 'r, 'p, R: Wait + 'a> Scheduler for PoolHand<'a, 'r, 'p, R> {
 
     ghost site_of = { λ hand. hand.shared.now.site };
 
-    // Of what the lock holds nothing is known but what a look found.
+    // Why: contracts know of the lock-protected pool only what a look found.
     ghost answers = { λ before next after. AnswersHand before next after };
 
     ghost hears = { λ before _ after. IsStill before after };
@@ -167,7 +167,7 @@ impl<'a, 'r, 'p, R: Wait + 'a> Scheduler for PoolHand<'a, 'r, 'p, R> {
 }
 
 impl<'a, 'r, 'p, R: Wait + 'a> PoolHand<'a, 'r, 'p, R> {
-    // A context that is ready, where the pool shows one without its lock.
+    // A ready context, if the pool shows one beside its lock.
     fn take_ready(&mut self, rt: &R) -> Option<PoolWork<'p>>
         ensures { TakesReadyBy self.old result self.new }
     {
@@ -182,7 +182,7 @@ impl<'a, 'r, 'p, R: Wait + 'a> PoolHand<'a, 'r, 'p, R> {
         ready
     }
 
-    // What the pool has behind its lock. A pool that no home offered hands its jobs out here.
+    // The pool's action for the hart, under the lock. A pool that no home offered hands out its jobs here.
     fn look(&mut self, rt: &R) -> Next<PoolWork<'p>>
         ensures { LooksBy self.old result self.new }
     {
@@ -195,7 +195,7 @@ impl<'a, 'r, 'p, R: Wait + 'a> PoolHand<'a, 'r, 'p, R> {
     }
 }
 
-// Lets go what lies in the slots.
+// Drops the contents of the slots.
 fn clear<R: Wait>(rt: &R, slots: &[Mutex<Option<Job>>]) {
     for slot in slots {
         let _ = slot.lock(rt).take();

@@ -7,22 +7,21 @@ use crate::shared::SharedPool;
 use deque_rows::HartRows;
 use std::marker::PhantomData;
 
-/// One hart's hand on a shared pool, and on the row of the pool's home. Its calls do what those of `Pool` do, under the lock,
-/// for which each may wait but `site` and the callbacks that change no list. Jobs that were offered come by their codes,
-/// without the lock.
-/// Once the pool is handed out, `enter` returns Nothing and `unblock` gives its context back.
+/// One hart's hand on a shared pool, and on the deque of the pool's home. Its calls do what those of `Pool` do, under the lock.
+/// Each may block, except `site` and the callbacks that change no list. Jobs that were offered come by their job indices,
+/// without the lock. Once the pool is handed out, `enter` returns `Nothing` and `unblock` returns its context.
 pub struct PoolHand<'a, 'r, 'p, R> {
-    /// The rows as this hart has them.
+    /// This hart's access to the deques.
     pub rows: &'r mut HartRows,
     /// The pool.
     pub shared: &'a SharedPool<'p>,
-    /// The hart that published the pool, in whose row its codes stand.
+    /// The hart that published the pool. Its deque has the job indices of the pool.
     pub home: u8,
-    /// The level of that row.
+    /// The level of that deque.
     pub level: u8,
-    /// What this hand found under the lock.
+    /// The looks of this hand under the lock.
     pub looks: Looks,
-    /// The runtime by which it waits.
+    /// The runtime on which it blocks.
     pub of: PhantomData<R>,
     pub ghost is_level: { IsLevel level },
     pub ghost reaches: { home < rows.now.harts },
@@ -44,7 +43,7 @@ impl<'a, 'r, 'p, R> Drop for PoolHand<'a, 'r, 'p, R> {
 }
 
 impl<'a, 'r, 'p, R> PoolHand<'a, 'r, 'p, R> {
-    /// A hand on the pool whose codes stand in the row of this home and level. It doesn't wait.
+    /// A hand on the pool whose job indices are in the deque of this home and level. Does not block.
     pub fn new(
         shared: &'a SharedPool<'p>,
         rows: &'r mut HartRows,

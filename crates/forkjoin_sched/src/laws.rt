@@ -1,12 +1,12 @@
-//! Laws of what a pool gives: each function's contract is a law, and its body is empty.
+//! Laws of the writes of a pool: each function's contract is a law, and its body is empty.
 ghost use Rattle.forkjoin_sched.specs.Laws.{BooksGivePhases, PoolsGiveConstructs};
 
-/// A book of the jobs of one phase gives what the phase writes.
+/// The writes of a book of the jobs of one phase are those of the phase.
 pub fn books_give_phases()
     ensures { BooksGivePhases }
 {}
 
-/// A pool of the jobs of a `par` gives what the `par` writes.
+/// The writes of a pool of the jobs of a `par` are those of the `par`.
 pub fn pools_give_constructs()
     ensures { PoolsGiveConstructs }
 {}

@@ -1,9 +1,10 @@
 //! The fork-join pool: the scheduler of one `par`.
 //!
-//! A `Pool` is for one hart. Harts share a `SharedPool`, each by hands of its own. The home of the site offers the pool's jobs:
-//! their codes go to its row, from which the home pops and guests steal, without the lock of the pool.
+//! A `Pool` is for one hart. Harts share a `SharedPool`, each by a hand of its own. The home of the site offers the pool's
+//! jobs: it pushes their job indices onto its deque, from which it pops and guests steal, without the lock of the pool.
 //!
-//! Begin with `Pool` in `pool.rt`, then `PoolHand` in `calls.rt`; the tests of `pool_tests` run pools by one hart and by threads.
+//! Begin with `Pool` in `pool.rt`, then `PoolHand` in `calls.rt`; the tests of `pool_tests` run pools with one hart and with
+//! threads.
 #![tactic(auto)]
 
 mod calls;

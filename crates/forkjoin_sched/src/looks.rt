@@ -1,6 +1,5 @@
-//! What a hand does under the lock of its pool.
+//! The looks of a hand under the lock of its pool.
 ghost use Rattle.std.specs.Prelude.{◌≡◌, ◌+◌, ◌≤◌, ℕ, List, length, MatchOption};
-ghost use Rattle.work_agenda.specs.Agenda.{GivesReady};
 ghost use Rattle.deque_rows.specs.Rows.{IsLevel, home_log, row_room};
 ghost use Rattle.forkjoin_sched.specs.declared.looks.Found.TheVariants.{HandedOut, Work};
 ghost use Rattle.forkjoin_sched.specs.Hands.{Sees, found_by, AnswersUnder, GivesReadyUnder, OffersUnder};
@@ -13,19 +12,18 @@ use deque_rows::HartRows;
 use sched_api::{Next, Scheduler};
 use std::sync::{Mutex, Wait};
 
-/// What a look under the lock of a pool found.
+/// The result of a look under the lock of a pool.
 #[derive(Clone, Copy, Debug, PartialEq, Drop)]
 pub enum Found {
     /// The pool was handed out before.
     HandedOut,
-    /// No context was ready, no job lay there to be begun, and no child wished for a hart.
+    /// No ready context, no job to begin, and no wish of a child.
     NoneLeft,
-    /// The pool, which had work for the hart, or took what the hart did.
+    /// The pool had work for the hart, or accepted the hart's action.
     Work,
 }
 
-/// How often a hand looked under the lock of its pool, up to the last number, and what it found there last. Only a look
-/// changes it.
+/// The number of looks of a hand under the lock of its pool, and the result of the last one. Only a look changes it.
 #[derive(Drop)]
 pub struct Looks {
     count: u64,
@@ -41,7 +39,7 @@ impl Looks {
         }
     }
 
-    // A further look, which found this.
+    // One more look, with this result.
     fn note(&mut self, found: Found)
         ensures { Sees self.old found self.new }
     {
@@ -49,7 +47,7 @@ impl Looks {
         self.last = Some(found);
     }
 
-    /// What the pool has for a hart.
+    /// The pool's action for a hart.
     pub(crate) fn enter<'p>(&mut self, kept: &mut Option<Pool<'p>>) -> Next<PoolWork<'p>>
         ensures sees { Sees self.old (found_by kept.old result) self.new }
         ensures answers { AnswersUnder kept.old result kept.new }
@@ -66,7 +64,7 @@ impl Looks {
         next
     }
 
-    /// The first context that is ready to go on, if there is one.
+    /// The first ready context, if there is one.
     pub(crate) fn take_ready<'p>(&mut self, kept: &mut Option<Pool<'p>>) -> Option<PoolWork<'p>>
         ensures sees { MatchOption result (self.new ≡ self.old)
             (λ work. Sees self.old Work self.new) }
@@ -80,7 +78,7 @@ impl Looks {
         ready
     }
 
-    /// Moves the jobs that aren't begun into the slots of their places, and pushes the code of each, the last place first.
+    /// Moves the jobs that aren't begun into their slots, and pushes the job index of each, the last piece first.
     pub(crate) fn offer<'p, R: Wait>(
         &mut self,
         rt: &R,

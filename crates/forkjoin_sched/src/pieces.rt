@@ -1,4 +1,4 @@
-//! How pieces that are not begun come to harts, by the codes of a row.
+//! How harts get the pieces that are not begun, by the job indices of a deque.
 ghost use Rattle.std.specs.Prelude.{◌≡◌, ◌<◌, ℕ, IfSome};
 ghost use Rattle.deque_rows.specs.Rows.{IsLevel};
 ghost use Rattle.forkjoin_sched.specs.Hands.{Keeps, HasTaken, TakesCode, TakesMore, TakesPiece, code_of};
@@ -9,8 +9,8 @@ use array_jobs::Job;
 use deque_rows::{HartRows, Stolen};
 use std::sync::Wait;
 
-/// A piece of the pool that isn't begun, and whose code stood in the row of this home. A code of another site, or one whose
-/// job isn't there any more, is dropped. None comes only where the row was found bare.
+/// A piece of the pool that isn't begun, and whose job index was in the deque of this home. Drops an index of another site, and
+/// one whose job is gone from its slot. Returns `None` only if the deque was found bare.
 pub(crate) fn take_piece<'p, R: Wait>(
     rt: &R,
     shared: &SharedPool<'p>,
@@ -31,7 +31,7 @@ pub(crate) fn take_piece<'p, R: Wait>(
     unreachable!()
 }
 
-// A code of the row: the home pops, and steals where that gives none; a guest steals.
+// A job index of the deque: the home pops, and steals if the pop finds none; a guest steals.
 fn take_code<R: Wait>(rt: &R, rows: &mut HartRows, home: u8, level: u8) -> Option<u32>
     requires row { IsLevel level × (home < rows.old.harts) }
     ensures keeps { Keeps rows.old rows.new }
@@ -46,7 +46,7 @@ fn take_code<R: Wait>(rt: &R, rows: &mut HartRows, home: u8, level: u8) -> Optio
     steal_code(rt, rows, home, level)
 }
 
-// The last code of one's own row.
+// The last job index of the hart's own deque.
 fn pop_code(rows: &mut HartRows, level: u8) -> Option<u32>
     requires { IsLevel level }
     ensures keeps { Keeps rows.old rows.new }
@@ -59,7 +59,7 @@ fn pop_code(rows: &mut HartRows, level: u8) -> Option<u32>
     rows.pop(level)
 }
 
-// The first code of the row.
+// The first job index of the deque.
 fn steal_code<R: Wait>(rt: &R, rows: &mut HartRows, home: u8, level: u8) -> Option<u32>
     requires row { IsLevel level × (home < rows.old.harts) }
     ensures keeps { Keeps rows.old rows.new }
@@ -72,7 +72,7 @@ fn steal_code<R: Wait>(rt: &R, rows: &mut HartRows, home: u8, level: u8) -> Opti
     }
 }
 
-// The job of this code, where it is one of this pool's and lies in its slot, from which it is taken.
+// The job of this job index, if it is one of this pool's and in its slot, from which it is taken.
 fn job_of<'p, R: Wait>(rt: &R, shared: &SharedPool<'p>, code: u32) -> Option<Job<'p>>
     ensures { IfSome result (λ job. (job.site ≡ shared.now.site) × (code_of job ≡ code)) }
 {

@@ -1,8 +1,7 @@
 //! Pools.
 ghost use Rattle.std.specs.Prelude.{◌≡◌, ◌↔◌, ◌<◌, IsTrue, IfOk, IsErr, map, length};
 ghost use Rattle.sched_api.specs.declared.hearing.Told.{Told};
-ghost use Rattle.sched_api.specs.Calls.{registered_told, unregistered_told, requested_told, yielded_told, blocked_told};
-ghost use Rattle.sched_api.specs.Wishes.{with_wishes, without_child};
+ghost use Rattle.sched_api.specs.Wishes.{with_wishes};
 ghost use Rattle.array_jobs.specs.Jobs.{job_of};
 ghost use Rattle.array_jobs.specs.Groups.{IsGroup};
 ghost use Rattle.work_agenda.specs.Agenda.{GivesReady};
@@ -21,7 +20,7 @@ use std::collections::VecDeque;
 use std::marker::Model;
 use work_agenda::{Agenda, MOST_WISHES};
 
-/// What a callback of a pool gives.
+/// The receipt of a callback of a pool.
 #[derive(Drop)]
 pub struct PoolHeard {
     told: Told,
@@ -43,7 +42,7 @@ impl Hearing for PoolHeard {
     }
 }
 
-// Only callbacks call it.
+// Only callbacks call this function.
 pub(crate) fn heard(call: Call, child: u16, count: u8) -> PoolHeard
     ensures { result ≡ record { call = call; child = child; count = count } }
 {
@@ -52,8 +51,8 @@ pub(crate) fn heard(call: Call, child: u16, count: u8) -> PoolHeard
     }
 }
 
-/// The scheduler of one `par`. It has the pieces that are not begun, the contexts that are ready to go on, the wishes of
-/// its children, and the book of its pieces behind a mutex, which each call holds to its end.
+/// The scheduler of one `par`. It has the pieces that are not begun, the contexts that are ready to go on, and the wishes of
+/// its children. The book of its pieces is under a mutex, which each call holds to its end.
 #[derive(Drop)]
 pub struct Pool<'p> {
     site: u16,
@@ -81,8 +80,16 @@ impl<'p> Model for Pool<'p> {
 }
 
 impl<'p> Pool<'p> {
-    /// A pool of these jobs, none of which is begun. They are one to 64 jobs of one site and one phase, each at the place
-    /// that it names. No other call but `take_all` allocates.
+    /// A pool of these jobs, none of which is begun. They are one to 64 jobs of one site and one phase, each at the index that
+    /// it names.
+    ///
+    /// # Errors
+    ///
+    /// `AllocError` if an allocation fails.
+    ///
+    /// # Memory
+    ///
+    /// It allocates the book, the room for wishes and for ready contexts. Of the other calls only `take_all` allocates.
     pub fn new(alloc: Global, jobs: Vec<Job<'p>>) -> Result<Pool<'p>, AllocError>
         requires { IsGroup (map job_of jobs.items) }
         ensures { IfOk result (λ pool. pool ≡ new_pool jobs.entry.items) }
@@ -91,6 +98,14 @@ impl<'p> Pool<'p> {
     }
 
     /// The pool that `new` makes, with room for `wishes` wishes. A wish beyond the room is dropped.
+    ///
+    /// # Errors
+    ///
+    /// `AllocError` if an allocation fails.
+    ///
+    /// # Memory
+    ///
+    /// It allocates as `new` does.
     pub fn with_wishes(
         alloc: Global,
         jobs: Vec<Job<'p>>,
@@ -107,14 +122,14 @@ impl<'p> Pool<'p> {
         Ok(Pool { site, agenda, book })
     }
 
-    /// How many contexts are ready to go on.
+    /// The number of ready contexts.
     pub fn ready_count(&self) -> usize
         ensures { result ≡ length self.now.agenda.ready }
     {
         self.agenda.ready_count()
     }
 
-    /// Takes the first context that is ready to go on, if there is one.
+    /// Takes the first ready context, if there is one.
     pub fn take_ready(&mut self) -> Option<PoolWork<'p>>
         ensures agenda { GivesReady self.old.agenda result self.new.agenda }
         ensures rest { self.new ≡ with_agenda self.old self.new.agenda }
@@ -122,7 +137,7 @@ impl<'p> Pool<'p> {
         self.agenda.take_ready()
     }
 
-    /// Takes the last of the jobs that aren't begun, where it is that of this place.
+    /// Takes the last of the jobs that aren't begun, if it has this index.
     pub fn take_last(&mut self, place: usize) -> Option<Job<'p>>
         ensures { GivesJob self.old place result self.new }
     {
@@ -138,7 +153,7 @@ impl<'p> Pool<'p> {
         }
     }
 
-    /// Keeps a piece at the place of its job.
+    /// Puts a piece into the slot of its job.
     pub fn deposit(&mut self, piece: Piece<'p>) -> Deposit<'p>
         ensures book { Deposits self.old.book piece.entry result self.new.book }
         ensures rest { self.new ≡ with_book self.old self.new.book }
@@ -153,8 +168,7 @@ impl<'p> Pool<'p> {
         }
     }
 
-    /// Keeps a piece at the place that its job names, with that job in place of the place's own. It does what `put` of the book
-    /// does.
+    /// Puts a piece into the slot that its job names, with that job instead of the slot's own, as `put` of the book does.
     pub fn put(&mut self, piece: Piece<'p>) -> Deposit<'p>
         ensures book { Puts self.old.book piece.entry result self.new.book }
         ensures rest { self.new ≡ with_book self.old self.new.book }
@@ -169,8 +183,7 @@ impl<'p> Pool<'p> {
         }
     }
 
-    /// Keeps a piece at the place of its job, which must be open. The caller knows that it is that place, so no jobs are
-    /// compared.
+    /// Puts a piece into the slot of its job, which must be open. The caller knows the slot, so no jobs are compared.
     pub fn keep(&mut self, piece: Piece<'p>)
         requires own { IsPlaceOf self.old.book piece.job.place piece.job }
         requires open { IsMarked self.old.book piece.job.place Open }
@@ -186,7 +199,7 @@ impl<'p> Pool<'p> {
         }
     }
 
-    /// Whether the place is there and its piece is still to come.
+    /// Whether the slot at this index exists and is open.
     pub fn is_open(&self, place: u8) -> bool
         ensures { IsTrue result ↔ IsMarked self.now.book place Open }
     {
@@ -196,8 +209,8 @@ impl<'p> Pool<'p> {
         }
     }
 
-    /// Marks a place as failed: an allocation failed for its piece. The place must be open, which a caller tests by `is_open`;
-    /// a hand does so under the lock.
+    /// Marks a slot as failed: an allocation failed for its piece. The slot must be open, which a caller tests by `is_open`; a
+    /// hand does so under the lock.
     pub fn fail(&mut self, place: u8)
         requires { IsMarked self.old.book place Open }
         ensures { self.new ≡ with_book self.old (marked_book self.old.book place Failed) }
@@ -211,7 +224,7 @@ impl<'p> Pool<'p> {
         }
     }
 
-    /// Whether every place is filled or failed.
+    /// Whether every slot is filled or failed.
     pub fn is_full(&self) -> bool
         ensures { IsTrue result ↔ IsFull self.now.book }
     {
@@ -221,7 +234,7 @@ impl<'p> Pool<'p> {
         }
     }
 
-    /// Whether some place is failed.
+    /// Whether some slot is failed.
     pub fn has_failed(&self) -> bool
         ensures { IsTrue result ↔ HasFailed self.now.book }
     {
@@ -231,7 +244,7 @@ impl<'p> Pool<'p> {
         }
     }
 
-    /// The jobs, in the order of their places: those of the pool, and of pieces that were put in.
+    /// The jobs, in the order of their indices: those of the pool, and of pieces that were put in.
     pub fn jobs(&self) -> &[Job<'p>]
         ensures { result.now ≡ self.now.book.jobs }
     {
@@ -241,8 +254,15 @@ impl<'p> Pool<'p> {
         }
     }
 
-    /// The writes of all pieces, merged in the order of their places. Every place must be filled or failed; where one has
-    /// failed, the result is an allocation failure.
+    /// The writes of all pieces, merged in the order of their indices. Every piece must be filled or failed.
+    ///
+    /// # Errors
+    ///
+    /// `AllocError` if a piece has failed, or an allocation fails.
+    ///
+    /// # Memory
+    ///
+    /// It allocates a store and the overlay.
     pub fn take_all(self) -> Result<Overlay, AllocError>
         requires { IsFull self.book }
         ensures failed { HasFailed self.entry.book → IsErr result }

@@ -10,9 +10,9 @@ use std::marker::Model;
 use std::sync::Mutex;
 use std::sync::atomic::{AtomicBool, AtomicU64, Ordering};
 
-/// A pool that harts share until it is handed out. Beside the lock stand its site and its jobs, which never change, how many
-/// contexts are ready behind the lock, whether the pool is full, and a slot for each place, from which a hart takes the job
-/// whose code it has.
+/// A pool that harts share until it is handed out. Beside the lock are its site and its jobs, which never change, the number of
+/// ready contexts, and a flag whether the pool is full. A slot for each job has the job until a hart with the job's index takes
+/// it.
 #[derive(Drop)]
 pub struct SharedPool<'p> {
     site: u16,
@@ -40,7 +40,15 @@ impl<'p> Model for SharedPool<'p> {
 }
 
 impl<'p> SharedPool<'p> {
-    /// Puts the pool behind a lock, and beside it a copy of its jobs and an empty slot for each. No other call allocates.
+    /// A pool under a lock, beside a copy of its jobs and an empty slot for each job.
+    ///
+    /// # Errors
+    ///
+    /// `AllocError` if an allocation fails.
+    ///
+    /// # Memory
+    ///
+    /// It allocates the copy and the slots. No other call allocates.
     pub fn new(alloc: Global, pool: Pool<'p>) -> Result<SharedPool<'p>, AllocError>
         ensures { IfOk result (λ shared. shared ≡ record {
           site = pool.entry.site;
@@ -62,14 +70,14 @@ impl<'p> SharedPool<'p> {
         })
     }
 
-    /// The copy of the pool's jobs, in the order of their places. It doesn't wait.
+    /// The copy of the pool's jobs, in the order of their indices. Does not block.
     pub fn jobs(&self) -> &[Job<'p>]
         ensures { result.now ≡ self.now.jobs }
     {
         &self.jobs
     }
 
-    // Whether the job is that of the place that it names.
+    // Whether the job is the job of the index that it names.
     pub(crate) fn has_job(&self, job: &Job) -> bool
         ensures { IsTrue result ↔ HasJob self.now job.now }
     {
@@ -79,7 +87,7 @@ impl<'p> SharedPool<'p> {
         }
     }
 
-    /// The site of the jobs. It doesn't wait.
+    /// The site of the jobs. Does not block.
     pub fn site(&self) -> u16
         ensures { result ≡ self.now.site }
     {
@@ -93,34 +101,34 @@ impl<'p> SharedPool<'p> {
         &self.slots
     }
 
-    // The lock, with the pool behind it until that is handed out.
+    // The lock, with the pool under it until that is handed out.
     pub(crate) fn kept(&self) -> &Mutex<Option<Pool<'p>>> {
         &self.lock
     }
 
-    // Whether a context is ready behind the lock.
+    // Whether the lock-protected pool has a ready context.
     pub(crate) fn has_ready(&self) -> bool {
         0 < self.ready.load(Ordering::SeqCst)
     }
 
-    // Shows beside the lock how many contexts are ready behind it. Who has the lock calls it.
+    // Shows beside the lock the number of ready contexts. The caller holds the lock.
     pub(crate) fn show_ready(&self, pool: &Pool<'p>) {
         self.ready
             .store(pool.ready_count() as u64, Ordering::SeqCst);
     }
 
-    // Whether every place of the pool was filled or failed when its lock was held last.
+    // Whether every slot of the pool was filled or failed at the end of the last call under the lock.
     pub(crate) fn shows_full(&self) -> bool {
         self.full.load(Ordering::SeqCst)
     }
 
-    // Shows beside the lock whether the pool behind it is full. Who has the lock calls it.
+    // Shows beside the lock whether the pool is full. The caller holds the lock.
     pub(crate) fn show_full(&self, pool: &Pool<'p>) {
         self.full.store(pool.is_full(), Ordering::SeqCst);
     }
 }
 
-// So many empty slots.
+// `count` empty slots.
 fn empty_slots<'p>(alloc: Global, count: usize) -> Result<Vec<Mutex<Option<Job<'p>>>>, AllocError>
     ensures { IfOk result (λ slots. vec_len slots ≡ count) }
 {

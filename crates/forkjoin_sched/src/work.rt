@@ -1,9 +1,9 @@
-//! What a pool has its harts run.
+//! The work of a pool for its harts.
 use array_jobs::Job;
 use contexts::Paused;
 use step_eval::StepMachine;
 
-/// A piece of a pool, as a hart takes it up.
+/// What a hart takes from a pool.
 #[derive(Drop)]
 pub enum PoolWork<'p> {
     /// A piece that isn't begun.

@@ -1,9 +1,7 @@
--- Harts that share the table keep no account of what each of them did with sites.
+-- Harts that share the table keep no account of their entries for sites.
 use Rattle.std.specs.Prelude.{ℕ, List}
-use Rattle.transfer_table.specs.declared.entry.Entry.{Entry}
-use Rattle.transfer_table.specs.Plan.{Plan}
 use Rattle.hart_work.specs.Accounts.{Account}
 
--- No account of several harts is ever in order.
+-- The account of several harts, which is never right.
 abbrev pub no_account : Account
 no_account p around start es = ⊥

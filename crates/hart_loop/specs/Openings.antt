@@ -17,14 +17,14 @@ pub record IsSharedPoolOf (nested : NestedParts) (shared : SharedParts) : Type 0
   pub one_phase : phases_of (statement_of nested.construct) ≡ 1
   pub jobs : map job_of shared.jobs ≡ jobs_in (nested_of nested) 0 nested.store
 
--- A scheduler was made for the construct, a pipe only where no two of its pieces cross.
+-- A scheduler was made for the construct, and a pipe only if no two of its pieces cross.
 abbrev pub IsMadeOf : NestedParts → SharedSite → Type 0
 IsMadeOf nested (Pool home shared) = IsSharedPoolOf nested shared
 IsMadeOf nested (Team shared) = shared ≡ nested
 IsMadeOf nested (Pipe shared) = (shared ≡ nested) × IsUncrossed (nested_of nested)
 IsMadeOf nested Alone = Unit {0}
 
--- A keeper has this of a site that isn't the base.
+-- The scheduler of a keeper's site; none for the base.
 abbrev pub kept_in : {S : Type 0} → Keeper S → Option S
 kept_in (Base base) = None
 kept_in (Published shared) = Some shared.now

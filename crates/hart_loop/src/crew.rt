@@ -1,4 +1,4 @@
-//! A crew: harts that each run on a thread, by any port that waits and may go to one.
+//! A crew: harts that each run on a thread, by any port that can wait and is `Send`.
 ghost use Rattle.std.specs.Prelude.{◌≡◌, ◌<◌, IfOk, IfSome, length, map, vec_len};
 ghost use Rattle.array_tree.specs.Trees.{program_of};
 ghost use Rattle.array_jobs.specs.Jobs.{job_of};
@@ -27,11 +27,19 @@ use std::sync::Wait;
 use std::thread;
 use std::thread::Threads;
 
-/// Runs an accepted program on harts that move by these ports, of which there is one for each hart of the plan, and settles the
-/// accounts of what the harts were lent. It waits until all of them are back.
+/// Runs an accepted program on harts that move by these ports, one for each hart of the plan, and settles the accounts of what
+/// the harts were lent. Blocks until all harts are back.
 ///
-/// The members of each `team` go on as is said. The piece is that of the program's body, and each port comes back as the same
-/// hart's.
+/// `members` chooses whether the members of each `team` wait for one another. The result is the piece of the program's body,
+/// and each port comes back as the same hart's.
+///
+/// # Errors
+///
+/// `AllocError` if any allocation fails.
+///
+/// # Memory
+///
+/// It allocates the schedulers of each site, the machines and the overlays.
 pub fn run_ports<
     'p,
     R: Threads + Wait + Sync,
@@ -67,19 +75,19 @@ pub fn run_ports<
     }
 }
 
-/// What a run has for its harts, for each of them in their order.
+/// The tools of a run for its harts, for each of them in their order.
 #[derive(Drop)]
 struct Stock<P> {
     /// Their ports.
     ports: Vec<P>,
-    /// Their sights of the rows of codes.
+    /// Their access to the deques.
     rows: Vec<HartRows>,
-    /// Their seats of the claim words.
+    /// Their seats of the claim table.
     claims: Vec<ClaimSeat>,
 }
 
-// What a run has for the harts of these ports, and the words of its claims. A row has room for the codes of all pieces of the
-// program, of which each is pushed once at most, so that no more memory is made ready for it than may be of use.
+// The tools of a run for the harts of these ports, and the claim table. Why this room: a deque has room for the job indices of
+// all pieces of the program, each of which is pushed at most once, so it allocates no more than it may use.
 fn lend<P: Drop>(
     alloc: Global,
     accepted: &Accepted<'_>,
@@ -102,7 +110,7 @@ fn lend<P: Drop>(
     Ok((words, stock))
 }
 
-// Settles the accounts of rows and claims.
+// Settles the accounts of deques and claims.
 fn settle_all(words: Claims, rows: Vec<HartRows>, claims: Vec<ClaimSeat>)
     requires { AreTools words.table rows.items claims.items }
 {
@@ -110,8 +118,8 @@ fn settle_all(words: Claims, rows: Vec<HartRows>, claims: Vec<ClaimSeat>)
     claimed(words.into_table(), claims);
 }
 
-// Runs all harts with what they are lent, the first of them with the program's body. Its piece, unless an allocation failed
-// there, and what the harts gave back.
+// Runs all harts with their tools, the first of them with the program's body. Returns the body's piece, unless an allocation
+// failed there, and what the harts gave back.
 fn run_lent<
     'p,
     R: Threads + Wait + Sync,
@@ -149,8 +157,8 @@ fn run_lent<
     )
 }
 
-// Runs all harts on these cells, the first of them with this job. Its piece, unless an allocation failed there, and what the
-// harts gave back.
+// Runs all harts on these cells, the first of them with this job. Returns the job's piece, unless an allocation failed there,
+// and what the harts gave back.
 fn run_on<
     'x,
     'p: 'x,
@@ -186,7 +194,7 @@ fn run_on<
     Ok((piece, stock_of(alloc, harts)?))
 }
 
-// Runs each hart, the first of them with this job. Its piece, unless an allocation failed.
+// Runs each hart, the first of them with this job. Returns the job's piece, unless an allocation failed.
 fn run_crew<
     'x,
     'p: 'x,
@@ -255,8 +263,8 @@ fn crew<'x, 'p: 'x, P: Drop>(
     Ok(harts)
 }
 
-// Runs each hart, until all are back. The first is on this thread, since it stands last in the list that is run: where no thread
-// can be made the others run after it, and end at once, since it has shut the base.
+// Runs each hart, and blocks until all are back. Why the first is last in the list: it runs on the current thread. If no thread
+// can be made, the others run after it, and end immediately, since it has shut the base.
 fn run_all<
     'x,
     'p: 'x,
@@ -279,7 +287,7 @@ fn run_all<
     harts.reverse();
 }
 
-// Runs each hart on a thread, the last of them on this one.
+// Runs each hart on a thread, the last of them on the current one.
 fn run_each<
     'x,
     'p: 'x,
@@ -297,7 +305,7 @@ fn run_each<
     requires starts { AllStart (λ hart. P.seen hart.port) tree.now harts.old }
     ensures { HaveRun P.seen harts.old harts.new }
 {
-    // As many parts as harts: the harts of one part run one after another, and each waits for all others.
+    // Why as many parts as harts: the harts of one part run one after another, and each waits for all others.
     let parts = harts.len().max(1);
     thread::for_each_mut(
         rt,

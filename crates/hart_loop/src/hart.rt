@@ -1,4 +1,4 @@
-//! What one hart of several does from the start to the end of a run.
+//! One hart of several, from the start to the end of a run.
 ghost use Rattle.std.specs.Prelude.{◌≡◌, IfOk};
 ghost use Rattle.hart_loop.specs.Harts.{StartsIn, IsSameHart, TopSitesSeenGone, HasRun};
 
@@ -13,8 +13,8 @@ use site_steps::{PatientPort, SiteTree, finish_base, sweep_if};
 use std::alloc::{AllocError, Global};
 use std::sync::Wait;
 
-/// What one hart has to itself. One of them has the program's body as its job, and its piece in the end, unless an
-/// allocation failed.
+/// The state of one hart. One of the harts has the program's body as its job, and in the end its piece, unless an allocation
+/// failed.
 #[derive(Drop)]
 pub struct Hart<'a, 'p, P, S> {
     pub port: P,
@@ -25,7 +25,7 @@ pub struct Hart<'a, 'p, P, S> {
 }
 
 impl<'a, 'p, P, S: Drop> Hart<'a, 'p, P, S> {
-    /// The port that it moved by, and the tools that it was lent.
+    /// The hart's port, and the tools that it was lent.
     pub fn into_parts(self) -> (P, Tools<'a>)
         ensures port { result.0 ≡ self.entry.port }
         ensures tools { result.1 ≡ self.entry.schedulers.tools }
@@ -41,7 +41,7 @@ impl<'a, 'p, P, S: Drop> Hart<'a, 'p, P, S> {
     }
 }
 
-/// Runs the hart's job, or serves the base as a guest until it is shut.
+/// Runs the hart's job, or serves the base as a guest until the base is shut.
 ///
 /// The hart with the job shuts the base in the end, and has then seen each top site gone.
 pub fn work<'a, 'p, P: PatientPort, R: Wait, S: InDirectory<'p>, F: Fn(u8, u16, u8, u8)>(
@@ -79,7 +79,7 @@ pub fn work<'a, 'p, P: PatientPort, R: Wait, S: InDirectory<'p>, F: Fn(u8, u16, 
     }
 }
 
-// Runs the body, sends the harts home, and looks at each top site until it is gone.
+// Runs the body, shuts the base, and waits until each top site is gone.
 fn run_body<'a, 'p, P: PatientPort, R: Wait, S: InDirectory<'p>, F: Fn(u8, u16, u8, u8)>(
     rt: &'a R,
     alloc: Global,

@@ -16,25 +16,25 @@ use std::alloc::{AllocError, Global};
 use std::sync::Wait;
 use step_eval::Nested;
 
-/// Where a hart has the scheduler of a site.
+/// The holder of a site's scheduler, for a hart.
 #[derive(Drop)]
 pub enum Keeper<'a, S> {
-    /// It is the base.
+    /// The base.
     Base(&'a SharedBase),
-    /// In the directory, for all harts.
+    /// The directory has it, for all harts.
     Published(&'a S),
-    /// By itself, since the directory didn't take it, or the hart's row has too little room.
+    /// The hart has it by itself, since the directory didn't take it, or the hart's deque has too little room.
     Kept(Box<S>),
 }
 
 /// One site, as a hart has it.
 pub struct HartSite<'a, 'p, S> {
     pub(crate) keeper: Keeper<'a, S>,
-    // The construct, where this hart opened the site.
+    // The construct, if this hart opened the site.
     pub(crate) opened: Option<Nested<'p>>,
-    // How deep in other sites it is.
+    // The site's depth.
     pub(crate) level: u8,
-    // How many tasks the hart may still be given here. No run comes near its end.
+    // The greatest number of tasks that the hart may still get here. No run comes near its end.
     pub(crate) turns: u64,
 }
 
@@ -50,7 +50,7 @@ impl<'a, 'p, S: Drop> Drop for HartSite<'a, 'p, S> {
 }
 
 impl<'a, 'p, S: InDirectory<'p>> HartSite<'a, 'p, S> {
-    // A site of which the hart was given no task yet.
+    // A site from which the hart has got no task.
     fn new(keeper: Keeper<'a, S>, opened: Option<Nested<'p>>, level: u8) -> HartSite<'a, 'p, S>
         ensures keeper { result.keeper ≡ keeper.entry }
         ensures opened { result.opened ≡ opened.entry }
@@ -77,7 +77,7 @@ impl<'a, 'p, S: InDirectory<'p>> HartSite<'a, 'p, S> {
         HartSite::new(Keeper::Published(shared), None, level)
     }
 
-    /// Makes a scheduler for the construct, and publishes it for all harts, unless its pieces have no room.
+    /// Makes a scheduler for the construct, and publishes it for all harts, unless there is no room for its pieces.
     pub(crate) fn open(
         alloc: Global,
         lines: &mut [SiteLine<'a, S>],
@@ -112,7 +112,7 @@ impl<'a, 'p, S: InDirectory<'p>> HartSite<'a, 'p, S> {
         }
     }
 
-    /// What to make a hand on.
+    /// The grip on the site's scheduler.
     pub(crate) fn grip<'x, 't>(&'x self, tools: &Tools<'t>) -> Grip<'x, 'p>
     where
         't: 'x,
@@ -125,7 +125,7 @@ impl<'a, 'p, S: InDirectory<'p>> HartSite<'a, 'p, S> {
         }
     }
 
-    /// How many harts more than its home the site has work for: none where no other hart finds it, or has a hand on it.
+    /// The number of harts, besides its home, for which the site has work: 0 if no other hart finds it, or has a hand on it.
     pub(crate) fn wishes(&self, tools: &Tools<'_>) -> u8 {
         match (&self.keeper, &self.opened, self.grip(tools)) {
             (_, _, Grip::Nobody) => 0,
@@ -134,9 +134,9 @@ impl<'a, 'p, S: InDirectory<'p>> HartSite<'a, 'p, S> {
         }
     }
 
-    /// What the construct writes of a site that this hart opened: what all pieces wrote, where the scheduler is handed out and
-    /// has the jobs that it was made with, and else what this hart computes by itself. If an allocation failed for a piece,
-    /// the result is that failure.
+    /// The writes of the construct of a site that this hart opened. They are the writes of all pieces, if the scheduler is
+    /// handed out and has the jobs with which it was made; otherwise this hart computes them by itself. If an allocation failed
+    /// for a piece, the result is that failure.
     pub(crate) fn take<R: Wait>(
         &self,
         rt: &R,
@@ -157,8 +157,8 @@ impl<'a, 'p, S: InDirectory<'p>> HartSite<'a, 'p, S> {
         }
     }
 
-    // The scheduler, where it is handed out. If an allocation failed for a piece of the site, the result is that failure; where
-    // the hart has no hand, there was no piece.
+    // The scheduler, if it is handed out. If an allocation failed for a piece of the site, the result is that failure; if the
+    // hart has no hand, there was no piece.
     fn take_out<R: Wait>(
         &self,
         rt: &R,

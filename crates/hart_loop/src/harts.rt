@@ -25,8 +25,8 @@ use std::marker::PhantomData;
 use std::sync::Wait;
 use step_eval::Nested;
 
-/// The schedulers of the sites, as one of several harts has them. They stand behind locks, so nothing is known of what
-/// they give but its type.
+/// The schedulers of the sites, as one of several harts has them. They are lock-protected, so contracts know only the type of
+/// their results.
 #[derive(Drop)]
 pub struct HartSchedulers<'a, 'p, S> {
     lines: Vec<SiteLine<'a, S>>,
@@ -36,7 +36,7 @@ pub struct HartSchedulers<'a, 'p, S> {
 }
 
 impl<'a, 'p, S> HartSchedulers<'a, 'p, S> {
-    /// What a hart has to work with, by its lines to the cells of all sites, its tools, and how members go on.
+    /// The schedulers of a hart, by its lines to the cells of all sites, its tools, and the way in which members go on.
     pub fn new(
         lines: Vec<SiteLine<'a, S>>,
         tools: Tools<'a>,
@@ -52,7 +52,7 @@ impl<'a, 'p, S> HartSchedulers<'a, 'p, S> {
         }
     }
 
-    /// Its tools.
+    /// The hart's tools.
     pub fn into_tools(self) -> Tools<'a>
         ensures { result ≡ self.entry.tools }
     {
@@ -66,7 +66,7 @@ impl<'a, 'p, S> HartSchedulers<'a, 'p, S> {
     }
 }
 
-// The task in what a hart got.
+// The task of an action.
 fn task_of<'p>(next: Next<Job<'p>>) -> Task<Job<'p>>
     ensures { result ≡ task_told next.entry }
 {
@@ -84,17 +84,17 @@ impl<'a, 'p, S: InDirectory<'p>, R: Wait> Schedulers<R, JobMachines<'p>>
 
     type Site = HartSite<'a, 'p, S>;
 
-    // For contracts alone, which see no lifetime of it.
+    // Only contracts use this type. They don't depend on its lifetime.
     type Tools = Tools<'static>;
 
     ghost tools = { λ s. s.tools };
 
-    // Others share the table, so no account is kept of what this hart did with sites.
+    // Why: others share the table, so the hart keeps no account of its entries for sites.
     ghost keeps = { ⊥ };
 
     ghost construct = { λ site. site.opened };
 
-    // Lock-protected state may have changed with every look. So a site owes nothing, and is settled as soon as the
+    // Why: lock-protected state may have changed at every look. So a site owes nothing, and counts as settled as soon as the
     // scheduler was made for its construct.
     ghost settled = { λ site. IsOpened S.held site };
 
@@ -130,7 +130,7 @@ impl<'a, 'p, S: InDirectory<'p>, R: Wait> Schedulers<R, JobMachines<'p>>
         site.wishes(&self.tools)
     }
 
-    /// It waits until the site stands in the directory.
+    /// Blocks until the site is in the directory.
     fn find(&mut self, rt: &R, site: u16) -> Option<HartSite<'a, 'p, S>> {
         let line = self.lines.get_mut(usize::from(site))?;
         let shared = line.until_found(rt);
@@ -202,7 +202,7 @@ impl<'a, 'p, S: InDirectory<'p>, R: Wait> Schedulers<R, JobMachines<'p>>
         self.tools.give_back(rt, grip, port, hold);
     }
 
-    /// It waits where there is nothing to do yet and the hart stays.
+    /// Blocks if there is nothing to do and the hart stays.
     fn next(&mut self, rt: &R, site: &mut HartSite<'a, 'p, S>, is_home: bool) -> Task<Job<'p>> {
         take_turn(rt, &mut site.turns);
         let grip = site.grip(&self.tools);

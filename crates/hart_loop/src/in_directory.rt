@@ -1,4 +1,4 @@
-//! What the directory's cells hold, by one letter.
+//! The contents of the directory's cells, as a type parameter.
 ghost use Rattle.std.specs.Prelude.{◌≡◌};
 ghost use Rattle.site_directory.specs.declared.shared_site.SharedSite.{SharedSite};
 
@@ -6,8 +6,8 @@ use site_directory::SharedSite;
 
 /// A type that holds a `SharedSite`, as the directory's cells do.
 ///
-/// `SharedSite` is the one type that does. What harts have is written over any such type, since the types of all calls of
-/// `Schedulers` are compared part by part where they are served, and a pool and a team have many parts.
+/// Why a trait, although `SharedSite` is the only such type: the prover compares the types of all calls of `Schedulers` part by
+/// part where they are served, and a pool and a team have many parts.
 pub trait InDirectory<'p>: Drop {
     /// The site's scheduler.
     ghost held: { Self → SharedSite };

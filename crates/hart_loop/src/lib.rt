@@ -1,9 +1,9 @@
 //! Runs of accepted programs.
 //!
-//! `run_alone` runs a program on one hart, and `run_harts` on the harts of its plan, each on a thread; `run_piped` does so with
-//! members that overtake. `HartSchedulers` is what
-//! one of several harts has to work with: the schedulers stand behind locks, and a directory has where each is. `work` is what
-//! one of them does from start to end, and `run_ports` runs a crew of them, for any port that waits.
+//! `run_alone` runs a program on one hart, and `run_harts` on the harts of its plan, each on a thread. `run_piped` does the
+//! same with members that overtake. `HartSchedulers` is the access of one of several harts to the schedulers, which are
+//! lock-protected and in a directory. `work` is the part of one hart from start to end, and `run_ports` runs a crew of harts,
+//! for any port that can wait.
 //!
 //! Begin with `run_harts` in `several.rt`, then `run_ports` in `crew.rt`; the tests of `harts_tests` run programs on threads.
 #![tactic(auto)]

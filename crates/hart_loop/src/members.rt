@@ -3,8 +3,8 @@
 /// How the members of each `team` of a run go from phase to phase.
 #[derive(Clone, Copy, Debug, PartialEq, Eq, Drop)]
 pub enum Members {
-    /// They wait for one another behind each phase.
+    /// The members wait for one another after each phase.
     Wait,
-    /// They overtake: each goes on as soon as the members below it have done its next phase.
+    /// The members overtake: each goes on as soon as the members below it have done its next phase.
     Overtake,
 }

@@ -18,12 +18,16 @@ use std::alloc::{AllocError, Global};
 use std::sync::Wait;
 use std::thread::Threads;
 
-/// Runs an accepted program once on the harts of its plan, which move on a board of their own. Returns the store at
-/// the end and the journal of the board.
+/// Runs an accepted program once on the harts of its plan, which move on a board of their own. Returns the final store and the
+/// journal of the board.
 ///
 /// # Errors
 ///
 /// `AllocError` if an allocation fails.
+///
+/// # Memory
+///
+/// It allocates the board, its journal, and as `run_ports` does.
 pub fn on_board<L: Laid + Sync, R: Threads + Wait + Sync, F: Fn(u8, u16, u8, u8) + Sync>(
     rt: &R,
     alloc: Global,

@@ -15,12 +15,16 @@ use std::alloc::{AllocError, Global};
 use std::sync::Wait;
 use std::thread::Threads;
 
-/// Runs an accepted program once on the one hart of its plan, by shared schedulers. It is a crew of one, so no clause says that
-/// it returns.
+/// Runs an accepted program once on the one hart of its plan, with shared schedulers. No clause states that it returns, since
+/// it is a crew of one.
 ///
 /// # Errors
 ///
 /// `AllocError` if an allocation fails.
+///
+/// # Memory
+///
+/// It allocates the port and its journal, and as `run_ports` does.
 pub fn on_plain_port<R: Threads + Wait + Sync, F: Fn(u8, u16, u8, u8) + Sync>(
     rt: &R,
     alloc: Global,

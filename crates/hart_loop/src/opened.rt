@@ -48,7 +48,8 @@ pub(crate) fn shared_site<'p>(
     }
 }
 
-// The pipe of a `team` whose pieces don't cross. Else there is none, and what the members write is known to the home alone.
+// The pipe of a `team` whose pieces don't cross. If two cross there is no pipe, and the home alone computes the writes of the
+// members.
 fn shared_pipe<'p>(alloc: Global, nested: &Nested<'p>) -> Result<SharedSite<'p>, AllocError>
     requires { kind_of (statement_of nested.now.construct) ≡ Some kind.Team }
     ensures { IfOk result (λ shared. IsMadeOf nested.now shared) }
@@ -80,8 +81,8 @@ pub(crate) fn publish<'a, S: Drop>(
     }
 }
 
-/// What a construct writes whose scheduler is this, and was handed out: what all pieces wrote, where it has the jobs that it was
-/// made with, and else, or where it wasn't handed out, what this hart computes by itself.
+/// The writes of the construct of this scheduler, if it was handed out: the writes of all pieces, if it has the jobs with which
+/// it was made. Otherwise this hart computes them by itself.
 pub(crate) fn written_by<'p>(
     alloc: Global,
     nested: &Nested<'p>,
@@ -102,7 +103,7 @@ pub(crate) fn written_by<'p>(
     }
 }
 
-// What a `par` writes whose pool was handed out.
+// The writes of a `par` whose pool was handed out.
 fn written_by_pool<'p>(
     alloc: Global,
     nested: &Nested<'p>,
@@ -120,7 +121,7 @@ fn written_by_pool<'p>(
     }
 }
 
-// What a `team` writes that was handed out.
+// The writes of a `team` that was handed out.
 fn written_by_team<'p>(
     alloc: Global,
     nested: &Nested<'p>,
@@ -136,7 +137,7 @@ fn written_by_team<'p>(
     }
 }
 
-// What a `team` writes whose pipe was handed out.
+// The writes of a `team` whose pipe was handed out.
 fn written_by_pipe<'p>(
     alloc: Global,
     nested: &Nested<'p>,

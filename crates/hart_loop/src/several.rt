@@ -21,16 +21,25 @@ use std::sync::Wait;
 use std::thread::Threads;
 use transfer_table::{Entry, first_fault};
 
-/// For so many harts the board word has a field.
+/// The number of harts for which the board word has a field.
 const MOST_ON_WORDS: u8 = 4;
 
-/// Runs an accepted program on the harts of its plan, at least two, each on a thread. It waits until all of them are back.
+/// Runs an accepted program on the harts of its plan, at least two, each on a thread. Blocks until all of them are back.
 ///
-/// The store is that of the one-thread meaning, and the journal, which is that of a closed board, is complete for the plan and
-/// the sites that this meaning enters: every transfer is legal, every site is gone, and exactly the entered ones came and went.
-/// The caller's thread checks that, and runs the program anew if a journal isn't so. Up to four harts move on a word board, and
-/// more on a wide one. If an allocation fails anywhere, the whole run returns that. A hart that has taken a piece passes the
-/// gate before its first step.
+/// The store is the store of the one-thread meaning. The journal is that of a closed board, and complete for the plan and the
+/// sites that this meaning enters: every transfer is legal, every site is gone, and exactly the entered ones came and went. The
+/// caller's thread checks that, and runs the program again if a journal fails the check.
+///
+/// Up to four harts move on a word board, more on a wide board. A hart that has taken a piece passes the gate before its first
+/// step.
+///
+/// # Errors
+///
+/// `AllocError` if any allocation fails.
+///
+/// # Memory
+///
+/// It allocates the board, the schedulers of each site, the machines, the overlays and the store.
 pub fn run_harts<R: Threads + Wait + Sync, G: Gate>(
     rt: &R,
     alloc: Global,
@@ -52,13 +61,17 @@ pub fn run_harts<R: Threads + Wait + Sync, G: Gate>(
 }
 
 /// Runs an accepted program, no two pieces of which cross, on the harts of its plan, each on a thread, with members that
-/// overtake: each goes on to its next phase as soon as those below it have done that phase. It waits until all harts are back.
+/// overtake: each goes on to its next phase as soon as those below it have done that phase. Blocks until all harts are back.
 ///
-/// The store and the journal are as those of `run_harts`, but for one hart the journal is the list that its port kept.
+/// The store and the journal are as those of `run_harts`, but for one hart the journal is the list of its port.
 ///
 /// # Errors
 ///
 /// `AllocError` if an allocation fails.
+///
+/// # Memory
+///
+/// It allocates as `run_harts` does.
 pub fn run_piped<R: Threads + Wait + Sync, G: Gate>(
     rt: &R,
     alloc: Global,
@@ -147,8 +160,8 @@ fn run_once<R: Threads + Wait + Sync, F: Fn(u8, u16, u8, u8) + Sync>(
     }
 }
 
-// Whether a run's journal is complete for the sites that the program enters. Lock-protected state doesn't show which sites
-// these are, so that no proof about the harts has it.
+// Whether a run's journal is complete for the sites that the program enters. Why a check at run time: lock-protected state
+// doesn't show which sites these are, so no proof about the harts has it.
 fn is_complete(
     alloc: Global,
     accepted: &Accepted<'_>,

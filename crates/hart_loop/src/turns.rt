@@ -1,9 +1,9 @@
-//! How many tasks a hart may still be given where nothing else counts them.
+//! The number of tasks that a hart may still get, if nothing else counts them.
 ghost use Rattle.std.specs.Prelude.{◌<◌};
 
 use std::sync::Wait;
 
-/// Takes one turn. Where none is left, to which no run comes, it waits for ever.
+/// Takes one turn. Spins forever if none is left, which no run reaches.
 pub fn take_turn<R: Wait>(rt: &R, turns: &mut u64)
     ensures { turns.new < turns.old }
 {
@@ -13,7 +13,7 @@ pub fn take_turn<R: Wait>(rt: &R, turns: &mut u64)
     *turns -= 1;
 }
 
-// Doesn't return.
+// Spins forever.
 fn wait_for_ever<R: Wait>(rt: &R)
     ensures { ⊥ }
 {

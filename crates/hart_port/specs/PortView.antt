@@ -14,8 +14,8 @@ use Rattle.hart_port.specs.declared.port.Entered.TheVariants.{Inside, NotWanted,
 use Rattle.hart_port.specs.declared.port.Seen.{Seen}
 use Rattle.hart_port.specs.declared.port.Seen.TheVariants.{Empty, Flying, Held}
 
--- What contracts see of one hart's right to make transfers. A set of sites is a list with a flag for the base and for each site, that of site s
--- at place s.
+-- What contracts see of one hart's right to make transfers. A set of sites is a list with a flag for the base and for each
+-- site, that of site s at index s.
 pub record PortView : Type 0 where
   pub plan : Plan
   pub hart : ℕ

@@ -40,6 +40,7 @@ stage_bits New = 0
 stage_bits Live = 1
 stage_bits Gone = 1 + 4
 
+-- the closing bit of a word
 abbrev pub closing_bit : Bool → ℕ
 closing_bit true = 2
 closing_bit false = 0

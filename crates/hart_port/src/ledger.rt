@@ -74,8 +74,8 @@ impl Ledger {
         Ok(())
     }
 
-    /// Marks the site as closing. A site that isn't in the plan isn't marked. Why: a mark is never cleared, so the word of a gone
-    /// site shows that it was closed.
+    /// Marks the site as closing. A site that isn't in the plan isn't marked. Why: a mark is never cleared, so the word of a
+    /// gone site shows that it was closed.
     pub fn mark(&mut self, site: u16)
         ensures marked { IsSite self.old.plan site → self.new ≡ record self.old {
           closing = with_site self.old.closing site;

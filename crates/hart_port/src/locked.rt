@@ -73,8 +73,8 @@ impl<'a, R> Drop for LockedPort<'a, R> {
 }
 
 impl<'a, R> LockedPort<'a, R> {
-    /// The port of a hart of the plan that made no transfer yet, with room for all entries that the plan allows. The plan is the
-    /// ledger's, with at most four harts, since the board word shows no more. Does not block.
+    /// The port of a hart of the plan that made no transfer yet, with room for all entries that the plan allows. The plan is
+    /// the ledger's, with at most four harts, since the board word shows no more. Does not block.
     ///
     /// # Errors
     ///

@@ -35,7 +35,8 @@ pub enum Seen {
     Held { shown: u64 },
 }
 
-/// One hart's right to make transfers. No call allocates. The clause `kept` of each call says that the hart still fits its plan.
+/// One hart's right to make transfers. No call allocates. The clause `kept` of each call says that the hart still fits its
+/// plan.
 pub trait Port {
     /// What a call needs of the runtime.
     type Hold: Copy;
@@ -43,13 +44,13 @@ pub trait Port {
     /// The plan, the hart and its owner, the entries that it made, its sets of sites, and whether it is alone at the table.
     ghost seen: { Self → PortView };
 
-    /// The number of refused calls, up to the last value of `u64`. Why: it isn't part of the view, since a refusal raises the count
-    /// and leaves the view unchanged.
+    /// The number of refused calls, up to the last value of `u64`. Why: it isn't part of the view, since a refusal raises the
+    /// count and leaves the view unchanged.
     ghost refused: { Self → ℕ };
 
     /// Relates the port, the site of a register, its result, and the port afterwards by the words that the port read. So a call
-    /// over the port notes the words that the port read, and no others. This member and the next four are exact for a port with one
-    /// owner; for lock-protected state they state nothing.
+    /// over the port notes the words that the port read, and no others. This member and the next four are exact for a port with
+    /// one owner; for lock-protected state they state nothing.
     ghost register_gives: { Self → ℕ → Result (Unit {0}) Taken → Self → Type 0 };
 
     /// The same of a skip.
@@ -133,8 +134,8 @@ pub trait Port {
         ensures count { refused self.new ≡ refused self.old }
         ensures kept { IsPortView (seen self.new) };
 
-    /// Returns true exactly if the site word that the call read is closed, so that the site is gone. A hart that is alone at the
-    /// table sees each site gone that it unregistered or skipped.
+    /// Returns true exactly if the site word that the call read is closed, so that the site is gone. A hart that is alone at
+    /// the table sees each site gone that it unregistered or skipped.
     fn see_gone(&mut self, hold: Self::Hold, site: u16) -> bool
         requires { IsSite (seen self.old).plan site }
         ensures gone { result ≡ true → seen self.new ≡ sees_gone (seen self.old) site }

@@ -1,11 +1,11 @@
--- That a hand fits is a fact, of which there is one proof at most.
+-- The law that fitting tools is a proposition.
 use denote.Struct.Props.{props}
 use Rattle.hart_tools.specs.declared.grip.Grip.{Grip}
 use Rattle.hart_tools.specs.declared.grip.Grip.TheVariants.{Base, Pool, Team, Pipe, Nobody}
 use Rattle.hart_tools.specs.Kins.{ToolKins}
 use Rattle.hart_tools.specs.Places.{Fits}
 
--- That a grip fits the tools is a plain fact.
+-- Whether a grip fits the tools is a proposition: it has at most one proof.
 pub fits_is_fact : (k : ToolKins) (grip : Grip) → IsProp (Fits k grip)
 fits_is_fact k (Base base) = hlevel props
 fits_is_fact k (Pool place) = hlevel props

@@ -1,4 +1,4 @@
--- What the calls of a hand leave, what becomes of a try to enter, and what is handed out.
+-- The effects of a hand's calls, the result of a try to enter, and the handed-out schedulers.
 use Rattle.std.specs.Prelude.{◌≡◌, ℕ, Option, Some, None}
 use Rattle.hart_port.specs.PortView.{PortView, entered}
 use Rattle.join_book.specs.Books.{IsFull}
@@ -9,19 +9,19 @@ use Rattle.hart_tools.specs.declared.hand.Hand.{Hand}
 use Rattle.hart_tools.specs.declared.whole.Whole.{Whole}
 use Rattle.hart_tools.specs.declared.whole.Whole.TheVariants.{Pool, Team, Pipe}
 
--- The hand is on the same scheduler, with the rows and the seat of the same hart.
+-- The hand is on the same scheduler, with the deques and the seat of the same hart.
 pub record IsSameHand {R : Type 0} (before after : Hand R) : Type 0 where
   pub rows : after.rows.ghost_name ≡ before.rows.ghost_name
   pub seat : after.seat.ghost_name ≡ before.seat.ghost_name
   pub kins : kins_of after.rows.now after.seat.now ≡ kins_of before.rows.now before.seat.now
   pub grip : after.grip ≡ before.grip
 
--- The hart is inside if it got something to do, and otherwise where it was.
+-- The hart is inside if it got a task, and otherwise its owner is unchanged.
 abbrev pub HasTried : {X : Type 0} → PortView → ℕ → Option X → PortView → Type 0
 HasTried v s (Some told) after = after ≡ entered v s
 HasTried v s None after = after ≡ v
 
--- Every place or piece is filled or failed, or the team is over.
+-- Every slot or piece is filled or failed, or the team is done.
 abbrev pub IsWhole : Whole → Type 0
 IsWhole (Pool pool) = IsFull pool.book
 IsWhole (Team team) = IsOver team

@@ -1,4 +1,4 @@
--- The schedulers for which a hart has rows.
+-- The schedulers for which a hart has a deque or claim counters.
 use Rattle.std.specs.Prelude.{◌<◌, ℕ}
 use Rattle.deque_rows.specs.Rows.{Kin, IsLevel}
 use Rattle.claim_words.specs.Seats.{SeatKin, IsOf}
@@ -9,11 +9,11 @@ use Rattle.hart_tools.specs.declared.grip.Grip.{Grip}
 use Rattle.hart_tools.specs.declared.grip.Grip.TheVariants.{Base, Pool, Team, Pipe, Nobody}
 use Rattle.hart_tools.specs.Kins.{ToolKins}
 
--- There is a row of this home and level.
+-- There is a deque of this home and level.
 abbrev pub PoolFits : Kin → PoolPlace → Type 0
 PoolFits k place = IsLevel place.level × (place.home < k.harts)
 
--- The seat is of the place's claim words, of which there is a row for each phase.
+-- The seat is of the team's claim table, which has a counter for each phase.
 abbrev pub TeamFits : SeatKin → TeamPlace → Type 0
 TeamFits k place = IsOf place.claims.now k
     × RowsFit place.claims.now.counts.items place.row place.team.now
@@ -26,7 +26,7 @@ Fits k (Team place) = TeamFits k.seat place
 Fits k (Pipe pipe) = Unit {0}
 Fits k Nobody = Unit {0}
 
--- The grip has its scheduler's site; that of `Nobody` is the base's.
+-- The site of the grip's scheduler; the base for `Nobody`.
 abbrev pub site_at : Grip → ℕ
 site_at (Base base) = 0
 site_at (Pool place) = place.pool.now.site

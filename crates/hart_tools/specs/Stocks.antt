@@ -1,4 +1,4 @@
--- What a run has for its harts.
+-- The tools of a run for its harts.
 use Rattle.std.specs.Prelude.{List, map}
 use Rattle.deque_rows.specs.declared.hart.HartRows.{HartRows}
 use Rattle.deque_rows.specs.Rows as rows
@@ -6,7 +6,7 @@ use Rattle.claim_words.specs.declared.seat.ClaimSeat.{ClaimSeat}
 use Rattle.claim_words.specs.declared.table.ClaimTable.{ClaimTable}
 use Rattle.claim_words.specs.Seats as seats
 
--- The rows are all rows of one call, and the seats all seats of the table, in the order of the harts.
+-- The deques are all deques of one call, and the seats all seats of the table, in the order of the harts.
 pub record AreTools (t : ClaimTable) (rs : List HartRows) (ss : List ClaimSeat) : Type 0 where
   pub rows : rows.AreAll (map rows.kin rs)
   pub seats : seats.AreAll t (map seats.kin ss)

@@ -1,4 +1,4 @@
--- What a scheduler receives, and what it gives a hart to do, whichever scheduler it is.
+-- The callbacks of schedulers, and the tasks that they return, for any scheduler.
 use Rattle.std.specs.Prelude.{ℕ, Option, Some, None}
 use Rattle.array_jobs.specs.Jobs.{JobParts}
 use Rattle.sched_api.specs.declared.hearing.Call.{Call}
@@ -31,13 +31,13 @@ abbrev pub pipe_job : PipeWork → Option JobParts
 pipe_job (pipe.Begin job) = Some job
 pipe_job (pipe.Ready context) = None
 
--- The task is the same, with the job in place of the context.
+-- The same action, with the job instead of the context.
 abbrev pub with_job : {C : Type 0} → (C → Option JobParts) → Next C → Next (Option JobParts)
 with_job job_of (Run work) = Run (job_of work)
 with_job job_of (Lend child) = Lend child
 with_job job_of Nothing = Nothing
 
--- A scheduler receives this by a callback.
+-- The callback with these arguments.
 abbrev pub told_by : Call → ℕ → ℕ → Told
 told_by Registered child count = registered_told child
 told_by Unregistered child count = unregistered_told child
@@ -45,7 +45,7 @@ told_by Requested child count = requested_told child count
 told_by Yielded child count = yielded_told child
 told_by Blocked child count = blocked_told
 
--- A hart that is inside gets this to do; one that isn't gets nothing.
+-- The action of a hart that is inside; none for a hart that isn't.
 abbrev pub inside : {C : Type 0} → Lent C → Option (Next C)
 inside (Inside next) = Some next
 inside (NotWanted shown) = None

@@ -14,8 +14,8 @@ use sched_api::{Call, Hearing, Next, Scheduler, Told};
 use std::marker::Model;
 use std::sync::Wait;
 
-/// What a callback of a hand gives. Why a type of its own: a pool, a team and a pipe each have their own contexts and receipts,
-/// so that each stands by itself, and a hand on any of them is a scheduler too.
+/// The receipt of a hand's callback. Why a type of its own: a pool, a team and a pipe each have their own contexts and
+/// receipts, so that each is independent of the others, and a hand on any of them is a scheduler too.
 #[derive(Drop)]
 pub struct HandHeard {
     told: Told,
@@ -42,7 +42,7 @@ impl<'r, 's, 'b, 'p, R: Wait + 'b> Scheduler for Hand<'r, 's, 'b, 'p, R> {
 
     type Heard = HandHeard;
 
-    // The job that is to begin, or none where a context was dropped.
+    // The job that is to begin, or none if a context was dropped.
     type Ctx = Option<Job<'p>>;
 
     ghost use Rattle.hart_tools.specs.Places.{site_at};
@@ -50,7 +50,7 @@ impl<'r, 's, 'b, 'p, R: Wait + 'b> Scheduler for Hand<'r, 's, 'b, 'p, R> {
 
     ghost site_of = { λ hand. site_at hand.grip };
 
-    // Why no more: nothing is known of lock-protected state.
+    // Why no more: contracts know only the type of lock-protected state.
     ghost answers = { λ before _ after. IsSameHand before after };
 
     ghost hears = { λ before _ after. IsSameHand before after };
@@ -98,7 +98,7 @@ impl<'r, 's, 'b, 'p, R: Wait + 'b> Scheduler for Hand<'r, 's, 'b, 'p, R> {
 }
 
 impl<'r, 's, 'b, 'p, R: Wait + 'b> Hand<'r, 's, 'b, 'p, R> {
-    // Makes the callback of the scheduler, where there is one.
+    // Makes the callback of the scheduler, if there is one.
     fn hear(&mut self, hold: &'b R, call: Call, child: u16, count: u8) -> HandHeard
         ensures same { IsSameHand self.old self.new }
         ensures told { result ≡ told_by call child count }
@@ -115,7 +115,7 @@ impl<'r, 's, 'b, 'p, R: Wait + 'b> Hand<'r, 's, 'b, 'p, R> {
     }
 }
 
-// Makes the callback, and returns what the scheduler received by it.
+// Makes the callback, and returns what its receipt has.
 fn tell<S: Scheduler>(scheduler: &mut S, hold: S::Hold, call: Call, child: u16, count: u8) -> Told
     ensures told { result ≡ told_by call child count }
     ensures hears { S.hears scheduler.old result scheduler.new }
@@ -130,7 +130,7 @@ fn tell<S: Scheduler>(scheduler: &mut S, hold: S::Hold, call: Call, child: u16, 
     heard.told()
 }
 
-// What a scheduler receives by a callback.
+// The callback with these arguments.
 fn told_by(call: Call, child: u16, count: u8) -> Told
     ensures { result ≡ told_by call child count }
 {

@@ -1,4 +1,4 @@
-//! The claim words of a run, and where a site's rows are.
+//! The claim counters of a run, and the counters of each site.
 ghost use Rattle.std.specs.Prelude.{◌≡◌, ◌≤◌, ℕ, IfOk, OnOk, None, ◌++◌, length, map, replicate, take, vec_len};
 ghost use Rattle.std.specs.Option.{ForSome};
 ghost use Rattle.claim_words.specs.Seats.{AreAll, kin};
@@ -12,20 +12,20 @@ use loop_team::{ClaimSeat, ClaimTable, rows_fit};
 use std::alloc::{AllocError, Global};
 use step_eval::Nested;
 
-// Where the rows of a site are.
+// The counters of a site.
 #[derive(Clone, Copy)]
 pub(crate) struct SiteRows {
-    // How deep the site is: 1 if no site is around it. Only levels up to 3 have rows of codes.
+    // The site's depth: 1 if no site is around it. Only levels up to 3 have deques.
     level: u8,
-    // The claim row of a `team`'s first phase.
+    // The claim counter of a `team`'s first phase.
     first: u16,
     // The members of a `team`, the branches of a `par`.
     members: u8,
-    // How many phases the `team` has; none of a `par`.
+    // The number of phases of a `team`; 0 for a `par`.
     phases: u8,
 }
 
-/// The claim words of a run: one row for each phase of each `team`, in the order of the sites and then of the phases.
+/// The claim counters of a run: one for each phase of each `team`, in the order of the sites and then of the phases.
 #[derive(Drop)]
 pub struct Claims {
     pub(crate) table: ClaimTable,
@@ -35,14 +35,18 @@ pub struct Claims {
 }
 
 impl Claims {
-    /// The claim words of a program, and a seat for each of so many harts. A site has its members, once for each phase; sites
-    /// for which a table has no further row have none, and the home of such a site computes its construct.
+    /// The claim counters of a program, and a seat for each of `harts` harts. Sites for which the table has no further counter
+    /// have none, and the home of such a site computes its construct.
     ///
     /// The sites' shapes are those that the check found.
     ///
     /// # Errors
     ///
     /// `AllocError` if an allocation fails.
+    ///
+    /// # Memory
+    ///
+    /// It allocates the table, the seats and an entry for each site.
     pub fn new(
         alloc: Global,
         accepted: &Accepted<'_>,
@@ -59,13 +63,13 @@ impl Claims {
         Ok((Claims { table, sites }, seats))
     }
 
-    /// The level of a site. A site that isn't one of the program's has level 0, at which there are no rows.
+    /// The level of a site. A site that isn't one of the program's has level 0, which has no deques.
     pub(crate) fn level(&self, site: u16) -> u8 {
         level_in(&self.sites, site)
     }
 
-    /// The claim row of the first phase of a `team`. None exactly where its site hasn't rows for just so many phases and
-    /// members.
+    /// The claim counter of the first phase of a `team`. `None` exactly if its site hasn't counters for exactly so many phases
+    /// and members.
     pub(crate) fn row_of(&self, nested: &Nested<'_>) -> Option<u16>
         ensures fits { ForSome result (λ row. RowsFit self.now.table.counts.items row nested.now) }
         ensures first { ForSome result
@@ -85,7 +89,7 @@ impl Claims {
         }
     }
 
-    /// The words alone.
+    /// The table of the counters.
     pub fn into_table(self) -> ClaimTable
         ensures { result ≡ self.table }
     {
@@ -94,7 +98,7 @@ impl Claims {
     }
 }
 
-// The rows of a site, which are at the place before its number.
+// The counters of a site, at the index before its number.
 fn rows_of(sites: &[SiteRows], site: u16) -> Option<SiteRows>
     ensures { result ≡ at_site sites.now site }
 {
@@ -104,7 +108,7 @@ fn rows_of(sites: &[SiteRows], site: u16) -> Option<SiteRows>
     sites.get(usize::from(site) - 1).copied()
 }
 
-// The level of a site, by the rows of all sites up to it.
+// The level of a site, by the entries of all sites up to it.
 fn level_in(sites: &[SiteRows], site: u16) -> u8 {
     match rows_of(sites, site) {
         Some(rows) => rows.level,
@@ -112,7 +116,7 @@ fn level_in(sites: &[SiteRows], site: u16) -> u8 {
     }
 }
 
-// The rows of each site, and the members of each claim row.
+// The counters of each site, and the members of each counter.
 fn site_rows(alloc: Global, accepted: &Accepted<'_>) -> Result<(Vec<SiteRows>, Vec<u8>), AllocError>
     ensures sites { IfOk result (λ t. map shape_of t.0.items ≡ accepted.now.shapes) }
     ensures rows { IfOk result (λ t. t.1.items ≡ claim_rows (map shape_of t.0.items)) }
@@ -137,7 +141,7 @@ fn site_rows(alloc: Global, accepted: &Accepted<'_>) -> Result<(Vec<SiteRows>, V
     Ok((sites, counts))
 }
 
-// Adds a claim row for each phase, as long as there is room.
+// Adds a claim counter for each phase, as long as there is room.
 fn add_rows(counts: &mut Vec<u8>, members: u8, phases: u8) -> Result<(), AllocError>
     requires { length counts.old.items ≤ MOST_ROWS }
     ensures { OnOk result

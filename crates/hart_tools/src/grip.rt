@@ -1,4 +1,4 @@
-//! What a hart makes its hand on.
+//! The schedulers on which a hart makes its hand.
 ghost use Rattle.std.specs.Prelude.{◌≡◌};
 ghost use Rattle.deque_rows.specs.Rows.{kin as rows_kin};
 ghost use Rattle.claim_words.specs.Seats.{kin as seat_kin};
@@ -10,24 +10,23 @@ use forkjoin_sched::{PoolHand, SharedPool};
 use loop_team::{ClaimSeat, ClaimTable, SharedTeam, TeamHand};
 use pipe_sched::SharedPipe;
 
-/// What a hart makes its hand on: the scheduler of a site, and where it finds the site's rows.
+/// The scheduler on which a hart makes its hand, with the position of the site's deque or counters.
 #[derive(Clone, Copy)]
 pub enum Grip<'b, 'p> {
     /// The base.
     Base(&'b SharedBase),
-    /// A pool, with its row.
+    /// A pool, with its deque.
     Pool(PoolPlace<'b, 'p>),
-    /// A team, with its claim rows.
+    /// A team, with its claim counters.
     Team(TeamPlace<'b, 'p>),
-    /// A pipe, behind its lock.
+    /// A pipe, under its lock.
     Pipe(&'b SharedPipe<'p>),
-    /// No scheduler, or one for which the hart has no rows; no run comes to such a one. Calls of its
-    /// hand do nothing.
+    /// No scheduler, or one for which the hart has no deque or counters; no run gets such a grip. Calls of its hand do nothing.
     Nobody,
 }
 
 impl Grip<'_, '_> {
-    /// The scheduler's site; that of `Nobody` is the base's.
+    /// The site of the scheduler; the base for `Nobody`.
     pub(crate) fn site(&self) -> u16
         ensures { result ≡ site_at self.now }
     {
@@ -40,7 +39,7 @@ impl Grip<'_, '_> {
     }
 }
 
-/// A pool, with the hart in whose row the codes of its pieces stand, and the level of that row.
+/// A pool, with the hart whose deque has the job indices of its pieces, and the level of that deque.
 #[derive(Clone, Copy)]
 pub struct PoolPlace<'b, 'p> {
     pub(crate) pool: &'b SharedPool<'p>,
@@ -49,7 +48,7 @@ pub struct PoolPlace<'b, 'p> {
 }
 
 impl<'b, 'p> PoolPlace<'b, 'p> {
-    /// A hand on the pool, with the rows of the hart.
+    /// A hand on the pool, with the deques of the hart.
     pub(crate) fn hand<'r, R>(self, rows: &'r mut HartRows) -> PoolHand<'b, 'r, 'p, R>
         requires fits { PoolFits (rows_kin rows.old) self }
         ensures pool { result.shared.now ≡ self.entry.pool.now }
@@ -61,7 +60,7 @@ impl<'b, 'p> PoolPlace<'b, 'p> {
     }
 }
 
-/// A team, with the words by which its members are claimed, and the row of its first phase.
+/// A team, with the table by which its members are claimed, and the counter of its first phase.
 #[derive(Clone, Copy)]
 pub struct TeamPlace<'b, 'p> {
     pub(crate) team: &'b SharedTeam<'p>,

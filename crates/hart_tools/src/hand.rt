@@ -9,11 +9,11 @@ use deque_rows::HartRows;
 use loop_team::ClaimSeat;
 use std::marker::PhantomData;
 
-/// One hart's hand on the scheduler of a site: on the base, a pool, a team or a pipe, with the hart's rows and its seat. Its calls
-/// are those of the scheduler's own hand, and each may wait for a lock.
+/// One hart's hand on the scheduler of a site (the base, a pool, a team or a pipe), with the hart's deques and its seat. Its
+/// calls are those of the scheduler's own hand, and each may block.
 ///
-/// The contexts that it gets to run are jobs, and None is a context that was dropped; no run puts one there, since no piece
-/// waits at a mutex.
+/// The contexts that it gets to run are jobs. `None` is a context that was dropped; no run has one, since no piece waits at a
+/// mutex.
 pub struct Hand<'r, 's, 'b, 'p, R> {
     pub rows: &'r mut HartRows,
     pub seat: &'s mut ClaimSeat,
@@ -37,7 +37,7 @@ impl<'r, 's, 'b, 'p, R> Drop for Hand<'r, 's, 'b, 'p, R> {
 }
 
 impl<'r, 's, 'b, 'p, R> Hand<'r, 's, 'b, 'p, R> {
-    /// A hand on what is gripped. It doesn't wait.
+    /// A hand on this grip. Does not block.
     pub fn new(
         rows: &'r mut HartRows,
         seat: &'s mut ClaimSeat,

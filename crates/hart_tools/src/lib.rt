@@ -1,11 +1,11 @@
-//! What one of several harts has to deal with the schedulers that all harts share.
+//! The access of one of several harts to the schedulers that all harts share.
 //!
-//! A hart brings its own sight of the rows of codes and its own seat of the claim words (`Claims`) to each shared scheduler;
-//! these are its `Tools`. With them it makes its `Hand` on the scheduler of a site, on what it grips (`Grip`). A
-//! scheduler for which it has no rows it leaves alone.
+//! A hart brings its own access to the deques and its own seat of the claim table (`Claims`) to each shared scheduler; these
+//! are its `Tools`. With them it makes its `Hand` on the scheduler of a site, which its `Grip` names. It doesn't use a
+//! scheduler for which it has no deque or counters.
 //!
-//! `hart_loop` deals with shared schedulers by it alone. Begin with `Tools` in `tools.rt` and `Grip` in `grip.rt`; the tests of
-//! `harts_tests` run whole programs by it.
+//! `hart_loop` accesses shared schedulers only by this crate. Begin with `Tools` in `tools.rt` and `Grip` in `grip.rt`; the
+//! tests of `harts_tests` run whole programs with it.
 #![tactic(auto)]
 
 mod calls;

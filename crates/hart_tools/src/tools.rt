@@ -1,4 +1,4 @@
-//! What a hart has for all sites: its rows, its right to claim, and where each site's rows are.
+//! The tools of a hart for all sites: its deques, its seat, and the counters of each site.
 ghost use Rattle.std.specs.Prelude.{◌≡◌, ◌≢◌, ◌<◌, ◌≤◌, ◌+◌, ◌↔◌, ◌⊎◌, false, None, IsTrue, IfOk, IfSome, length, map, reverse, vec_len};
 ghost use Rattle.std.specs.Option.{ForSome};
 ghost use Rattle.deque_rows.specs.Rows.{IsLevel, home_log, row_room, kin as rows_kin};
@@ -33,9 +33,9 @@ use std::marker::Model;
 use std::sync::Wait;
 use step_eval::{Kind, Nested};
 
-/// What a hart has for all sites: its sight of the rows of codes, its seat of the claim words, and where each site's rows are.
+/// The tools of a hart for all sites: its access to the deques, its seat of the claim table, and the counters of each site.
 ///
-/// Contracts see of it what no call changes.
+/// Contracts see the tools' identities, which no call changes.
 #[derive(Drop)]
 pub struct Tools<'t> {
     rows: HartRows,
@@ -59,7 +59,7 @@ impl<'t> Model for Tools<'t> {
 }
 
 impl<'t> Tools<'t> {
-    /// What a hart is lent for a run of so many harts.
+    /// The tools that a hart is lent for a run of so many harts.
     fn new(rows: HartRows, seat: ClaimSeat, claims: &'t Claims, harts: u8) -> Tools<'t>
         requires harts { (rows_kin rows).harts ≡ harts }
         requires of { IsOf claims.now.table (seat_kin seat) }
@@ -74,7 +74,7 @@ impl<'t> Tools<'t> {
         }
     }
 
-    /// The rows and the seat.
+    /// The deques and the seat.
     pub fn into_parts(self) -> (HartRows, ClaimSeat)
         ensures rows { rows_kin result.0 ≡ self.entry.rows }
         ensures seat { seat_kin result.1 ≡ self.entry.seat }
@@ -98,7 +98,7 @@ impl<'t> Tools<'t> {
         self.claims.level(site)
     }
 
-    /// Whether all jobs of the construct have room in this hart's row of this level. A `team` needs none.
+    /// Whether all jobs of the construct have room in this hart's deque of this level. A `team` needs no room.
     pub fn has_room(&self, level: u8, nested: &Nested<'_>) -> bool {
         match nested.kind() {
             Kind::Par => is_level(level) && has_room(&self.rows, level, nested.members() as usize),
@@ -106,7 +106,7 @@ impl<'t> Tools<'t> {
         }
     }
 
-    /// A pool with its row, where there is that row.
+    /// A pool with its deque, if there is that deque.
     fn pool_place<'b, 'p>(
         &self,
         pool: &'b SharedPool<'p>,
@@ -123,7 +123,7 @@ impl<'t> Tools<'t> {
         }
     }
 
-    /// A team with its claim rows, where there are just those that it needs.
+    /// A team with its claim counters, if the table has exactly those that it needs.
     fn team_place<'b, 'p>(&self, team: &'b SharedTeam<'p>) -> Option<TeamPlace<'b, 'p>>
     where
         't: 'b,
@@ -139,7 +139,7 @@ impl<'t> Tools<'t> {
         })
     }
 
-    /// What to make a hand on of a scheduler that harts share, at a site of this level.
+    /// The grip on a scheduler that harts share, at a site of this level.
     pub fn grip<'b, 'p>(&self, shared: &'b SharedSite<'p>, level: u8) -> Grip<'b, 'p>
     where
         't: 'b,
@@ -242,8 +242,8 @@ impl<'t> Tools<'t> {
         sched_yield(port, hold, &mut hand, rt);
     }
 
-    /// Tries to enter the child until the hart is inside, where it gets what to do, or isn't wanted: if another hart moved at the
-    /// same time, it looks again. A hart that isn't inside was refused by the port, or the scheduler is of another site.
+    /// Tries to enter the child until the hart is inside and gets its action, or the child wants no hart. If another hart moved
+    /// at the same time, it tries again. If the hart isn't inside, the port refused it, or the scheduler is of another site.
     pub fn enter<'b, 'p, P: Port, R: Wait + 'b>(
         &mut self,
         rt: &'b R,
@@ -262,7 +262,7 @@ impl<'t> Tools<'t> {
         ensures kept { IsPortView (P.seen port.new) }
         ensures tools { self.new ≡ self.old }
     {
-        // Reading the owner makes the invariant of a port known.
+        // Why: reading the owner makes the port's invariant known.
         let _ = port.owner();
         if grip.site() != child {
             return None;
@@ -303,8 +303,8 @@ impl<'t> Tools<'t> {
         sched_enter(port, hold, &mut hand, rt)
     }
 
-    /// Waits for what the hart does next that is inside. A guest leaves where there is nothing to do, and the base and the home
-    /// wait until their work is over.
+    /// The next action of a hart that is inside. A guest gets `Nothing` if there is nothing to do. The hart at the base and the
+    /// home back off until there is something to do, or their work is done.
     pub fn next<'b, 'p, R: Wait + 'b>(
         &mut self,
         rt: &'b R,
@@ -331,7 +331,7 @@ impl<'t> Tools<'t> {
         unreachable!()
     }
 
-    // What a hart gets that is inside.
+    // The action that the scheduler returns for a hart inside.
     fn look<'b, 'p, R: Wait + 'b>(&mut self, rt: &'b R, grip: Grip<'b, 'p>) -> Next<Option<Job<'p>>>
         requires { Fits self.old grip }
         ensures { self.new ≡ self.old }
@@ -340,7 +340,7 @@ impl<'t> Tools<'t> {
         sched_reenter(&mut hand, rt)
     }
 
-    // Whether a hart has to leave though it might get more: the base where it is shut, and the home where the work of its site is
+    // Whether a hart has to leave although it might get more: the base if it is shut, and the home if the work of its site is
     // done. It is checked before each task.
     fn is_over<'b, R: Wait + 'b>(&mut self, rt: &'b R, grip: Grip<'b, '_>, is_home: bool) -> bool
         requires { Fits self.old grip }
@@ -355,7 +355,7 @@ impl<'t> Tools<'t> {
         }
     }
 
-    /// Lays the pieces of the site out for all harts. Those of a team and of a pipe are so always.
+    /// Offers the pieces of the site to all harts. Those of a team and of a pipe are always offered.
     pub fn offer<'b, R: Wait + 'b>(&mut self, rt: &'b R, grip: Grip<'b, '_>)
         requires { Fits self.old grip }
         ensures { self.new ≡ self.old }
@@ -365,7 +365,7 @@ impl<'t> Tools<'t> {
         }
     }
 
-    /// A piece is done. A piece that is a stranger to the scheduler is dropped.
+    /// Gives the scheduler a piece that is done. A piece that is a stranger to the scheduler is dropped.
     pub fn deposit<'b, 'p, R: Wait + 'b>(&mut self, rt: &'b R, grip: Grip<'b, 'p>, piece: Piece<'p>)
         requires { Fits self.old grip }
         ensures { self.new ≡ self.old }
@@ -384,8 +384,8 @@ impl<'t> Tools<'t> {
         }
     }
 
-    /// Reports that an allocation failed for the piece of this phase at this place. A pool has one phase, and of a team it is the
-    /// one that runs.
+    /// Reports that an allocation failed for the piece of this phase at this index. A pool has one phase, and a team takes its
+    /// current phase.
     pub fn fail<'b, R: Wait + 'b>(&mut self, rt: &'b R, grip: Grip<'b, '_>, phase: u8, place: u8)
         requires { Fits self.old grip }
         ensures { self.new ≡ self.old }
@@ -398,8 +398,8 @@ impl<'t> Tools<'t> {
         }
     }
 
-    /// Whether a piece failed, so that the sites inside don't come. They don't come either where the hart computes the
-    /// construct by itself.
+    /// Whether a piece failed, so that sites inside may be missing. They may also be missing if the hart computes the construct
+    /// by itself: true for `Nobody`.
     pub fn has_failed<'b, R: Wait + 'b>(&mut self, rt: &'b R, grip: Grip<'b, '_>) -> bool
         requires { Fits self.old grip }
         ensures { self.new ≡ self.old }
@@ -413,7 +413,7 @@ impl<'t> Tools<'t> {
         }
     }
 
-    /// Hands the scheduler out, once, where its work is over.
+    /// Hands the scheduler out, once, if its work is done.
     pub fn take_out<'b, 'p, R: Wait + 'b>(
         &mut self,
         rt: &'b R,
@@ -438,19 +438,23 @@ impl<'t> Tools<'t> {
     }
 }
 
-// Whether it is a level at which there are rows.
+// Whether the level has deques.
 fn is_level(level: u8) -> bool
     ensures { IsTrue result ↔ IsLevel level }
 {
     1 <= level && level <= 3
 }
 
-/// The tools of all harts of a run, by their rows and their seats of the claim words, in the opposite order: who pops them
-/// gets those of the first hart first.
+/// The tools of all harts of a run, by their deques and their seats of the claim table. They are in reverse order: popping
+/// returns those of the first hart first.
 ///
 /// # Errors
 ///
 /// `AllocError` if an allocation fails.
+///
+/// # Memory
+///
+/// It allocates the list.
 pub fn tools_of<'x>(
     alloc: Global,
     words: &'x Claims,
@@ -475,7 +479,7 @@ pub fn tools_of<'x>(
     Ok(tools)
 }
 
-/// Lays the jobs of the pool out in the row of this hart, where it is the home and the row has room for all of them.
+/// Pushes the job indices of the pool onto the deque of this hart, if it is the home and the deque has room for all of them.
 pub(crate) fn offer_in<'b, 'p, R: Wait + 'b>(
     rt: &'b R,
     place: PoolPlace<'b, 'p>,
@@ -489,7 +493,7 @@ pub(crate) fn offer_in<'b, 'p, R: Wait + 'b>(
     }
 }
 
-// Whether the hart's row of this level has room for so many codes.
+// Whether the hart's deque of this level has room for so many job indices.
 fn has_room(rows: &HartRows, level: u8, count: usize) -> bool
     requires { IsLevel level }
     ensures { IsTrue result

@@ -1,14 +1,14 @@
-//! Schedulers as they are handed out.
+//! Handed-out schedulers.
 use forkjoin_sched::Pool;
 use loop_team::Team;
 use pipe_sched::Pipe;
 
-/// A scheduler whose work is over, as it is handed out.
+/// A handed-out scheduler, whose work is done.
 #[derive(Drop)]
 pub enum Whole<'p> {
-    /// A pool, every place of which is filled or failed.
+    /// A pool, every slot of which is filled or failed.
     Pool(Pool<'p>),
-    /// A team that is over.
+    /// A team that is done.
     Team(Team<'p>),
     /// A pipe, every piece of which is filled or failed.
     Pipe(Pipe<'p>),

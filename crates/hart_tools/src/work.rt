@@ -1,4 +1,4 @@
-//! What a scheduler gives a hart to do.
+//! The work that a scheduler gives a hart.
 ghost use Rattle.std.specs.Prelude.{◌≡◌, Option, None};
 ghost use Rattle.array_jobs.specs.Jobs.{JobParts};
 ghost use Rattle.hart_tools.specs.Told.{pool_job, team_job, pipe_job, with_job};
@@ -11,7 +11,7 @@ use sched_api::Next;
 
 /// A context of some scheduler.
 pub trait Work<'p> {
-    /// The job that it is to begin. One that waits to go on has none.
+    /// The job that the context begins. A context that waits to go on has none.
     ghost job: { Self → Option JobParts };
 
     /// The job. A context that waits to go on is dropped.
@@ -68,7 +68,7 @@ impl<'p> Work<'p> for PipeWork<'p> {
     }
 }
 
-/// What a scheduler gives, with the job in place of the context.
+/// The action that a scheduler returns, with the job instead of the context.
 pub(crate) fn with_job<'p, C: Work<'p>>(next: Next<C>) -> Next<Option<Job<'p>>>
     ensures { result ≡ with_job C.job next }
 {

@@ -1,4 +1,5 @@
--- The account of sites of a hart that shares the table with no other. So its entries are the whole journal. An account is about
+-- The accounts of sites of a hart that shares the table with no other. Its entries are the whole journal. An account is about
+-- the plan, the site that the hart is in, and entries.
 -- the plan, the site that the hart is in, and entries.
 use Rattle.std.specs.Prelude.{◌≡◌, ℕ, ◌+◌, ◌-◌, ◌≤◌, true, List}
 use Rattle.transfer_table.specs.Plan.{Plan, IsSite, parent}
@@ -14,24 +15,24 @@ use Rattle.hart_work.specs.declared.found.Found.TheVariants as found
 use Rattle.hart_work.specs.declared.schedulers.Task.{Task}
 use Rattle.hart_work.specs.declared.schedulers.Task.TheVariants.{Piece, Visit, Nothing}
 
--- An account is about a machine in a site, between the entries with which it began its job and those of now.
+-- An account of a machine in a site, between the entries with which it began its job and the current ones.
 abbrev pub Account : Type 1
 Account = Plan → ℕ → List Entry → List Entry → Type 0
 
--- If the account before was in order, the one after is too.
+-- If the account before is right, the account after is too.
 abbrev pub Follows : Account → Account → Type 0
 Follows before after = (p : Plan) (around : ℕ) (start es : List Entry) → before p around start es
     → after p around start es
 
--- The hart skips whole subtrees in which nothing was done. Once they are skipped the account goes on.
+-- The hart skips whole subtrees of fresh sites. Once they are skipped, the account goes on.
 abbrev pub FollowsSkips : ℕ → ℕ → Account → Account → Type 0
 FollowsSkips first end before after =
     (p : Plan) (around : ℕ) (start es : List Entry) → before p around start es
     → IsSpan p around first (end - first) × AreFresh p es first (end - first)
     × ((es' : List Entry) → IsSkippedSpan p es es' first (end - first) → after p around start es')
 
--- A machine's account goes on with each step. A construct that it hands out is fresh, and the account waits for it; where it is
--- finished, its job was run.
+-- A machine's account goes on with each step. A construct that it hands out is fresh, and the account waits for it. If the
+-- machine is finished, its job has run.
 abbrev pub Accounts : {N : Type 0} → (Plan → ℕ → List Entry → N → Type 0)
     → (Plan → List Entry → List Entry → Type 0) → Account → Account → (N → Account)
     → Step (Found N) → Type 0
@@ -45,7 +46,7 @@ Accounts fresh ran before after awaiting Finished =
     Follows before (λ p around start es. ran p start es)
 Accounts fresh ran before after awaiting NoMemory = Unit {0}
 
--- The site is a child of the one around, and no hart registered or skipped it.
+-- The site is a child of the site around, and no hart registered or skipped it.
 pub record IsFreshChild (p : Plan) (around : ℕ) (es : List Entry) (s : ℕ) : Type 0 where
   pub site : IsSite p s
   pub parent : parent p s ≡ around
@@ -57,7 +58,7 @@ HasServing serving lent (Piece job) = lent job
 HasServing serving lent (Visit child) = ⊥
 HasServing serving lent Nothing = serving
 
--- A site's account stays, and so do those that wait for a job.
+-- A site's account is unchanged, and so are the accounts that wait for a job.
 abbrev pub StaysServed : {J : Type 0} → Account → (J → Account) → Account → (J → Account) → Type 0
 StaysServed {J} serving lent serving' lent' =
     Follows serving serving' × ((job : J) → Follows (lent job) (lent' job))
@@ -67,6 +68,6 @@ abbrev pub HaveEnded : Plan → ℕ → List Entry → Type 0
 HaveEnded p around es = (c : ℕ) → IsSite p c → parent p c ≡ around
     → 1 ≤ unregisters c es + skips_over p c es
 
--- If the hart is alone, this holds of its plan, its site and its entries.
+-- If the hart is alone, `told` holds of its plan, its site and its entries.
 abbrev pub WhereAlone : PortView → (Plan → ℕ → List Entry → Type 0) → Type 0
 WhereAlone v told = v.alone ≡ true → told v.plan v.owner v.mine

@@ -1,10 +1,10 @@
-//! What a machine finds on its way.
+//! The events of a machine for its hart.
 
-/// What a machine comes to that its hart has to see to. `N` is a construct.
+/// An event of a machine for its hart. `N` is a construct.
 #[derive(Debug, Drop)]
 pub enum Found<N> {
-    /// A construct. The machine awaits what it writes.
+    /// A construct. The machine awaits its writes.
     Nest(N),
-    /// Sites that no hart is to enter, from `first` to before `end`. The hart skips them. Nothing is awaited.
+    /// Sites that no hart shall enter, from `first` to before `end`. The hart skips them. The machine awaits nothing.
     Pass { first: u16, end: u16 },
 }

@@ -1,12 +1,11 @@
-//! What a hart does at the sites of a program: one procedure for every port and for all who keep schedulers.
+//! What a hart does at the sites of a program: one procedure for every port and every kind of schedulers.
 //!
-//! `Machines` is what runs jobs, and `Schedulers` how a hart deals with the schedulers of sites. The procedure runs
-//! a job's steps, runs each construct that they hand out as a site of its own, skips the sites that they pass, and
-//! brings the hart back to where it was.
-//! Over a port and schedulers that wait for nothing it returns.
+//! The trait `Machines` runs jobs, and the trait `Schedulers` is a hart's access to the schedulers of sites. The procedure runs
+//! a job's steps, runs each construct that they hand out as a site of its own, skips the sites that they pass, and returns the
+//! hart to its site. Over a port and schedulers that never block it returns.
 //!
-//! `lone_hart` runs it by the schedulers of a single hart, and `hart_loop` by shared ones. Begin with `serve` and `run_construct`
-//! in `serving.rt`; the tests of `harts_tests` run whole programs by it.
+//! `lone_hart` runs it with the schedulers of a single hart, and `hart_loop` with shared ones. Begin with `serve` and
+//! `run_construct` in `serving.rt`; the tests of `harts_tests` run whole programs with it.
 #![tactic(auto)]
 
 mod found;

@@ -1,4 +1,4 @@
-//! What runs jobs.
+//! Machines that run jobs.
 ghost use Rattle.std.specs.Prelude.{◌≡◌, ℕ, ℤ, List, IfOk, OnOk};
 ghost use Rattle.contexts.specs.declared.machine.Step.TheVariants.{Finished};
 ghost use Rattle.transfer_table.specs.Plan.{Plan};
@@ -12,22 +12,22 @@ use std::alloc::{AllocError, Global};
 
 /// Machines that run jobs, each a step at a time.
 ///
-/// Some ghost members say what a hart did with the sites of a job. They are of use to a hart that keeps an account of it.
+/// Some ghost members are about the sites of a job. A hart that keeps an account of its sites uses them.
 pub trait Machines {
-    /// The work of a piece, and what it comes to.
+    /// The work of a piece. A `Piece` is a job with its writes.
     type Job;
 
     type Piece: Drop;
 
-    /// A construct that a piece hands out, and what it writes.
+    /// A construct that a piece hands out. `Written` is its writes.
     type Nested: Drop;
 
     type Written: Drop;
 
-    /// What runs a job.
+    /// The machine of a job.
     type Machine: Drop;
 
-    /// The job of a machine and of a piece, and the phase and the place of a job.
+    /// The job of a machine and of a piece, and the phase and the index of a job.
     ghost job_of: { Self.Machine → Self.Job };
 
     ghost job_in: { Self.Piece → Self.Job };
@@ -36,15 +36,15 @@ pub trait Machines {
 
     ghost place_of: { Self.Job → ℕ };
 
-    /// The site of a construct, what it writes, and what was written.
+    /// The site of a construct, its writes, and the cells that a value of `Written` has.
     ghost number_of: { Self.Nested → ℕ };
 
     ghost writes_of: { Self.Nested → List (ℕ × ℤ) };
 
     ghost written_in: { Self.Written → List (ℕ × ℤ) };
 
-    /// Whether a machine may be stepped, which writes it awaits, how many steps are left at most, and whether its job is
-    /// done.
+    /// Whether a machine may be stepped, the writes that it awaits, the greatest number of its remaining steps, and whether its
+    /// job is done.
     ghost ready: { Self.Machine → Type 0 };
 
     ghost awaits: { Self.Machine → List (ℕ × ℤ) → Type 0 };
@@ -53,23 +53,27 @@ pub trait Machines {
 
     ghost finished: { Self.Machine → Type 0 };
 
-    /// Nothing was done yet with the sites of a job, and of a construct, which are inside this site.
+    /// The sites of a job, and of a construct, are fresh and inside this site.
     ghost fresh_job: { Plan → ℕ → List Entry → Self.Job → Type 0 };
 
     ghost fresh: { Plan → ℕ → List Entry → Self.Nested → Type 0 };
 
-    /// Between these entries a job was run, and a construct: its sites came and went, or were skipped, as it enters them, and
-    /// nothing was done with any other.
+    /// Between these entries a job has run, and a construct: its sites came and went, or were skipped, as it enters them, and
+    /// no other site was touched.
     ghost ran_job: { Plan → List Entry → List Entry → Self.Job → Type 0 };
 
     ghost ran: { Plan → List Entry → List Entry → Self.Nested → Type 0 };
 
-    /// Between these entries a machine ran its job up to here, and up to a construct that it awaits.
+    /// Between these entries a machine has run its job up to its current state, and up to a construct that it awaits.
     ghost going: { Self.Machine → Account };
 
     ghost awaiting: { Self.Nested → Self.Machine → Account };
 
     /// A machine for a job.
+    ///
+    /// # Errors
+    ///
+    /// `AllocError` if an allocation fails.
     fn start(alloc: Global, job: Self::Job) -> Result<Running<Self::Machine>, AllocError>
         ensures job { IfOk result (λ machine. job_of machine ≡ job) }
         ensures ready { IfOk result (λ machine. ready machine) }
@@ -85,7 +89,11 @@ pub trait Machines {
             (going running.old) (going running.new) (λ nested. awaiting nested running.new) result }
         ensures finished { result ≡ Finished → finished running.new };
 
-    /// Hands a machine what the construct wrote that it awaits.
+    /// Gives a machine the writes of the construct that it awaits.
+    ///
+    /// # Errors
+    ///
+    /// `AllocError` if an allocation fails.
     fn supply(
         running: &mut Running<Self::Machine>,
         written: Self::Written,
@@ -98,7 +106,7 @@ pub trait Machines {
             (start es es' : List Entry) → awaiting nested running.old p around start es
             → ran p es es' nested → going running.new p around start es') };
 
-    /// The piece of a machine whose job is done. Why a bare machine: the procedure ends the context, so that no method of a trait
+    /// The piece of a machine whose job is done. Why a bare machine: the procedure ends the context, so no method of a trait
     /// takes a context by value.
     fn end(machine: Self::Machine) -> Self::Piece
         requires { finished machine }
@@ -114,11 +122,15 @@ pub trait Machines {
     fn phase(job: &Self::Job) -> u8
         ensures { result ≡ phase_of job.now };
 
-    /// The place of a job.
+    /// The index of a job in its phase.
     fn place(job: &Self::Job) -> u8
         ensures { result ≡ place_of job.now };
 
-    /// What the construct writes, computed by this hart alone.
+    /// The writes of the construct, computed by this hart alone.
+    ///
+    /// # Errors
+    ///
+    /// `AllocError` if an allocation fails.
     fn compute(alloc: Global, nested: Self::Nested) -> Result<Self::Written, AllocError>
         ensures { IfOk result (λ written. written_in written ≡ writes_of nested) };
 }

@@ -1,4 +1,4 @@
-//! How a hart deals with the schedulers of sites.
+//! A hart's access to the schedulers of sites.
 ghost use Rattle.std.specs.Prelude.{◌≡◌, ◌≤◌, ◌<◌, ℕ, List, [], ◌∷◌, ◌++◌, Option, Some, IsSome, IsErr, IfOk, OnOk, true, false};
 ghost use Rattle.std.specs.Option.{ForSome};
 ghost use Rattle.transfer_table.specs.Plan.{Plan, IsPlan, IsSite, parent as parent_of};
@@ -14,32 +14,33 @@ use crate::machines::Machines;
 use hart_port::{Port, Taken};
 use std::alloc::{AllocError, Global};
 
-/// What a hart does next at a site.
+/// The next task of a hart at a site.
 #[derive(Drop)]
 pub enum Task<J> {
-    /// It runs this job.
+    /// The hart runs this job.
     Piece(J),
-    /// It tries to enter this child.
+    /// The hart tries to enter this child.
     Visit(u16),
-    /// There is nothing for it to do. For the site's home, the site's work is over.
+    /// There is nothing to do for the hart. For the site's home, the site's work is done.
     Nothing,
 }
 
-/// How a hart that moves by a port deals with the schedulers of sites. Calls may wait where other harts share the schedulers.
+/// The access of a hart that moves by a port to the schedulers of sites. Calls may block if other harts share the schedulers.
 ///
-/// A site is owed a job where each other job that it gave this hart came back as a piece or as a failure. What is shared with
+/// A site is owed a job if each other job that it gave this hart came back as a piece or as a failure. Sites shared with other
+/// harts may always count as settled, and then as done.
 /// other harts may be settled always, and is then over always.
 pub trait Schedulers<R, M: Machines> {
-    /// One site's scheduler; the base's is one too.
+    /// One site's scheduler, or the base's.
     type Site: Drop;
 
-    /// What is known of the tools that the hart was lent for all sites.
+    /// The identity of the tools that the hart was lent for all sites.
     type Tools;
 
     /// Its tools. No call changes them.
     ghost tools: { Self → Self.Tools };
 
-    /// Whether an account is kept of what the hart did with each site. A hart that shares the table keeps none.
+    /// Whether the hart keeps an account of its entries for each site. A hart that shares the table keeps none.
     ghost keeps: { Type 0 };
 
     /// The construct that the site runs; the base runs none.
@@ -48,27 +49,31 @@ pub trait Schedulers<R, M: Machines> {
     /// Whether each job that the site gave this hart came back to it, as a piece or as a failure.
     ghost settled: { Self.Site → Type 0 };
 
-    /// Between these entries the jobs of the site that came back were run; nothing is said where one of them failed.
+    /// Between these entries the jobs of the site that came back have run; nothing is stated if one of them failed.
     ghost serving: { Self.Site → Account };
 
-    /// How many tasks it gives at most.
+    /// An upper bound of the number of tasks that it gives.
     ghost left: { Self.Site → ℕ };
 
-    /// Whether it is owed a job, and whether its work is over.
+    /// Whether the site is owed a job, and whether its work is done.
     ghost owed: { Self.Site → M.Job → Type 0 };
 
     ghost over: { Self.Site → Type 0 };
 
-    /// Between these entries the jobs of the site that came back were run, and this one is out.
+    /// Between these entries the jobs of the site that came back have run, and this one is out.
     ghost lent: { Self.Site → M.Job → Account };
 
     /// Whether a job of the site came back as a failure.
     ghost failed: { Self.Site → Type 0 };
 
-    /// What a callback of the site's scheduler did, by what it received.
+    /// A relation of the site, the callback that its scheduler gets, and the site afterwards.
     ghost hears: { Self.Site → Told → Self.Site → Type 0 };
 
-    /// A scheduler for a construct, for all who enter its site.
+    /// A scheduler for a construct, for all harts that enter its site.
+    ///
+    /// # Errors
+    ///
+    /// `AllocError` if an allocation fails.
     fn open(&mut self, alloc: Global, nested: &M::Nested) -> Result<Self::Site, AllocError>
         ensures construct { IfOk result (λ site. construct site ≡ Some nested.now) }
         ensures settled { IfOk result (λ site. settled site) }
@@ -78,7 +83,7 @@ pub trait Schedulers<R, M: Machines> {
             (es ++ Register hart (M.number_of nested.now) ∷ [])) }
         ensures tools { tools self.new ≡ tools self.old };
 
-    /// How many harts more than its home the site has work for.
+    /// The number of harts, besides its home, for which the site has work.
     fn wishes(&self, site: &Self::Site) -> u8;
 
     /// The scheduler of a site that another hart opened.
@@ -87,6 +92,10 @@ pub trait Schedulers<R, M: Machines> {
         ensures tools { tools self.new ≡ tools self.old };
 
     /// Registers the child, and makes the callback of the scheduler around it.
+    ///
+    /// # Errors
+    ///
+    /// `Taken` if the child was claimed.
     fn register<P: Port>(
         &mut self,
         rt: &R,
@@ -108,7 +117,7 @@ pub trait Schedulers<R, M: Machines> {
         ensures left { left around.new ≤ left around.old }
         ensures tools { tools self.new ≡ tools self.old };
 
-    /// Lays the pieces of a site that the hart opened and has registered out for the harts that it is going to ask for.
+    /// Offers the pieces of a site that the hart opened and has registered to the harts that it requests next.
     fn offer(&mut self, rt: &R, site: &Self::Site)
         ensures { tools self.new ≡ tools self.old };
 
@@ -149,7 +158,7 @@ pub trait Schedulers<R, M: Machines> {
         ensures left { left around.new ≤ left around.old }
         ensures tools { tools self.new ≡ tools self.old };
 
-    /// Tries to enter the child. Inside, the child's scheduler says what to do.
+    /// Tries to enter the child. Inside, returns the task of the child's scheduler.
     fn enter<P: Port>(
         &mut self,
         rt: &R,
@@ -181,7 +190,7 @@ pub trait Schedulers<R, M: Machines> {
         ensures left { left around.new ≤ left around.old }
         ensures tools { tools self.new ≡ tools self.old };
 
-    /// What the hart does next. A home gets Nothing only if the site's work is done.
+    /// The next task of the hart. A home gets `Nothing` only if the site's work is done.
     fn next(&mut self, rt: &R, site: &mut Self::Site, is_home: bool) -> Task<M::Job>
         requires { settled site.old }
         ensures left { HasNext (left site.old) result (left site.new) }
@@ -193,7 +202,7 @@ pub trait Schedulers<R, M: Machines> {
             lent site.new job p around start es × M.fresh_job p around es job) result) }
         ensures tools { tools self.new ≡ tools self.old };
 
-    /// A piece is done.
+    /// Gives the site a piece that is done.
     fn deposit(&mut self, rt: &R, alloc: Global, site: &mut Self::Site, piece: M::Piece)
         requires { owed site.old (M.job_in piece) }
         ensures construct { construct site.new ≡ construct site.old }
@@ -205,7 +214,7 @@ pub trait Schedulers<R, M: Machines> {
         ensures left { left site.new ≤ left site.old }
         ensures tools { tools self.new ≡ tools self.old };
 
-    /// Reports that an allocation failed for the piece of this phase at this place.
+    /// Reports that an allocation failed for the piece of this phase at this index.
     fn fail(&mut self, rt: &R, site: &mut Self::Site, phase: u8, place: u8)
         requires { (job : M.Job) × owed site.old job
             × (M.phase_of job ≡ phase) × (M.place_of job ≡ place) }
@@ -225,8 +234,12 @@ pub trait Schedulers<R, M: Machines> {
             → serving site.now p around start es → failed site.now }
         ensures tools { tools self.new ≡ tools self.old };
 
-    /// What all pieces of a site wrote whose work is over. If the scheduler isn't handed out, the hart computes the construct
-    /// itself.
+    /// The writes of all pieces of a site whose work is done. If the scheduler isn't handed out, the hart computes the
+    /// construct itself.
+    ///
+    /// # Errors
+    ///
+    /// `AllocError` if a piece has failed, or an allocation fails.
     fn take(&mut self, rt: &R, alloc: Global, site: Self::Site) -> Result<M::Written, AllocError>
         requires construct { IsSome (construct site) }
         requires over { over site }

@@ -1,6 +1,6 @@
 //! The procedure of a hart at a site.
 ghost use Rattle.std.specs.Prelude.{◌≡◌, ◌≤◌, ◌<◌, ◌+◌, ◌-◌, ℕ, List, IfOk, OnOk, true, false};
-ghost use Rattle.transfer_table.specs.Plan.{Plan, IsSite, parent};
+ghost use Rattle.transfer_table.specs.Plan.{Plan, IsSite};
 ghost use Rattle.transfer_table.specs.Entry.{requested};
 ghost use Rattle.transfer_table.specs.declared.entry.Entry.{Entry};
 ghost use Rattle.hart_port.specs.PortView.{IsPortView, is_in};
@@ -19,11 +19,15 @@ use hart_port::Port;
 use site_steps::{PatientPort, SiteTree, finish_site, skip_sites, sweep_if};
 use std::alloc::{AllocError, Global};
 
-/// Runs a job of the site that the hart is in, and brings the hart back to it.
+/// Runs a job of the site that the hart is in, and returns the hart to it.
 ///
 /// # Errors
 ///
 /// `AllocError` if an allocation fails.
+///
+/// # Memory
+///
+/// It allocates the machine and its overlay.
 #[cycle(serve)]
 pub fn run_piece<P: PatientPort, R, M: Machines, H: Schedulers<R, M>, F: Fn(u8, &M::Job)>(
     rt: &R,
@@ -77,14 +81,18 @@ pub fn run_piece<P: PatientPort, R, M: Machines, H: Schedulers<R, M>, F: Fn(u8, 
     }
 }
 
-/// Runs a construct as a site inside the one that the hart is in, and brings the hart back.
+/// Runs a construct as a site inside the hart's owner, and returns the hart to its owner.
 ///
-/// It checks that the construct's site is a child of the hart's, as `register` requires; by the laws of `planned_sites` it always
-/// is. Sites have higher numbers than the site around them, so the recursion ends.
+/// It checks that the construct's site is a child of the owner, as `register` requires; by the laws of `planned_sites` it
+/// always is. Sites have higher numbers than the site around them, so the recursion ends.
 ///
 /// # Errors
 ///
 /// `AllocError` if an allocation fails.
+///
+/// # Memory
+///
+/// It allocates the scheduler of the site, and what its pieces allocate.
 #[cycle(serve)]
 pub fn run_construct<P: PatientPort, R, M: Machines, H: Schedulers<R, M>, F: Fn(u8, &M::Job)>(
     rt: &R,
@@ -146,8 +154,7 @@ pub fn run_construct<P: PatientPort, R, M: Machines, H: Schedulers<R, M>, F: Fn(
     }
 }
 
-/// Does what the site that the hart is in has to do, as its home until its work is over, as a guest until there is
-/// nothing to do.
+/// Runs the tasks of the hart's owner: as its home until the site's work is done, as a guest until there is nothing to do.
 #[cycle(serve)]
 pub fn serve<P: PatientPort, R, M: Machines, H: Schedulers<R, M>, F: Fn(u8, &M::Job)>(
     rt: &R,
@@ -220,7 +227,7 @@ fn run_job<P: PatientPort, R, M: Machines, H: Schedulers<R, M>, F: Fn(u8, &M::Jo
     }
 }
 
-// Enters a child that wants a hart and that another hart opened, does what it has to do, and comes back.
+// Enters a child that wants a hart and that another hart opened, runs its tasks, and returns.
 #[cycle(serve)]
 fn visit<P: PatientPort, R, M: Machines, H: Schedulers<R, M>, F: Fn(u8, &M::Job)>(
     rt: &R,
@@ -263,7 +270,7 @@ fn visit<P: PatientPort, R, M: Machines, H: Schedulers<R, M>, F: Fn(u8, &M::Job)
     }
 }
 
-// Does the task that the site gave to the hart as it entered, and then what else the site has to do.
+// Runs the task that the site gave to the hart as it entered, and then the other tasks of the site.
 #[cycle(serve)]
 fn be_guest<P: PatientPort, R, M: Machines, H: Schedulers<R, M>, F: Fn(u8, &M::Job)>(
     rt: &R,
@@ -292,8 +299,8 @@ fn be_guest<P: PatientPort, R, M: Machines, H: Schedulers<R, M>, F: Fn(u8, &M::J
     serve(rt, alloc, tree, pass, port, hold, schedulers, site, false);
 }
 
-// Skips the sites that a step passes: each child of the owner among them, unless its skip is refused. If the hart is alone and
-// these are whole subtrees in which nothing was done, they are gone then as sites that no hart is to enter.
+// Skips the sites that a step passes: each child of the owner among them, unless the port refuses its skip. If the hart is
+// alone and these are whole subtrees of fresh sites, they are then gone as skipped sites.
 fn skip_span<P: PatientPort>(tree: &SiteTree, port: &mut P, hold: P::Hold, first: u16, end: u16)
     requires plan { (P.seen port.old).plan ≡ tree.now }
     requires inner { IsSettled (P.seen port.old) }
@@ -304,12 +311,12 @@ fn skip_span<P: PatientPort>(tree: &SiteTree, port: &mut P, hold: P::Hold, first
         IsSpan p around first (end - first) → AreFresh p es first (end - first)
         → IsSkippedSpan p es (P.seen port.new).mine first (end - first)) }
 {
-    // What the tree keeps of its plan.
+    // Why: reading the plan makes the tree's invariant known.
     let _plan = tree.plan();
     skip_sites(tree, port, hold, first, end);
 }
 
-// Asks for as many harts as the site has work for and the plan has besides this one.
+// Requests as many harts as the site has work for and the plan has besides this one.
 fn ask<P: PatientPort, R, M: Machines, H: Schedulers<R, M>>(
     rt: &R,
     tree: &SiteTree,
@@ -344,7 +351,7 @@ fn ask<P: PatientPort, R, M: Machines, H: Schedulers<R, M>>(
     }
 }
 
-// Hands a machine what its construct wrote.
+// Gives a machine the writes of its construct.
 fn supply<M: Machines>(
     running: &mut Running<M::Machine>,
     written: Result<M::Written, AllocError>,

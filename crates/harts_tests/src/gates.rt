@@ -1,11 +1,11 @@
-//! Gates that note who came, and that hold the first.
+//! Gates that note reports of pieces, and that hold harts.
 use crossbeam_utils::Backoff;
 use outside_io::Gate;
 use std::alloc::{AllocError, Global};
 use std::sync::{Mutex, Wait};
 use std::thread::Threads;
 
-/// A hart has taken the piece at this place of this phase of the site.
+/// A hart has taken the piece at this index of this phase of the site.
 #[derive(Clone, Copy, Debug, PartialEq, Eq)]
 pub struct Report {
     pub hart: u8,
@@ -14,7 +14,7 @@ pub struct Report {
     pub place: u8,
 }
 
-/// What was reported, in its order, and whether some report was lost for want of memory.
+/// The reports, in their order, and whether some report was lost because an allocation failed.
 #[derive(Drop)]
 struct Notes {
     reports: Vec<Report>,
@@ -28,7 +28,11 @@ pub struct NotingGate {
 }
 
 impl NotingGate {
-    /// A gate that has noted nothing, with room for a few reports.
+    /// A gate without reports, and with room for a few.
+    ///
+    /// # Errors
+    ///
+    /// An error if an allocation fails.
     pub fn new(alloc: Global) -> Result<NotingGate, AllocError> {
         let reports = Vec::with_capacity(alloc, 16)?;
         Ok(NotingGate {
@@ -39,7 +43,7 @@ impl NotingGate {
         })
     }
 
-    /// Notes a report. How many there are with it.
+    /// Notes a report. Returns the number of reports.
     fn note<R: Wait>(&self, rt: &R, report: Report) -> usize {
         let mut notes = self.notes.lock(rt);
         if notes.reports.push(report).is_err() {
@@ -48,12 +52,12 @@ impl NotingGate {
         notes.reports.len()
     }
 
-    /// How many reports came.
+    /// The number of reports.
     pub fn count<R: Wait>(&self, rt: &R) -> usize {
         self.notes.lock(rt).reports.len()
     }
 
-    /// How many different harts reported a piece.
+    /// The number of different harts that reported a piece.
     pub fn harts<R: Wait>(&self, rt: &R) -> usize {
         let notes = self.notes.lock(rt);
         let mut came = [false; 16];
@@ -65,7 +69,7 @@ impl NotingGate {
         came.iter().filter(|has_come| **has_come).count()
     }
 
-    /// Whether the piece at this place of this phase was reported.
+    /// Whether the piece at this index of this phase was reported.
     pub fn has<R: Wait>(&self, rt: &R, phase: u8, place: u8) -> bool {
         let notes = self.notes.lock(rt);
         notes
@@ -74,7 +78,11 @@ impl NotingGate {
             .any(|report| report.phase == phase && report.place == place)
     }
 
-    /// All reports, in their order, where none was lost.
+    /// All reports, in their order.
+    ///
+    /// # Errors
+    ///
+    /// An error if one was lost, or an allocation fails.
     pub fn reports<R: Wait>(&self, rt: &R, alloc: Global) -> Result<Vec<Report>, AllocError> {
         let notes = self.notes.lock(rt);
         if notes.is_short {
@@ -98,19 +106,23 @@ impl Gate for NotingGate {
     }
 }
 
-/// A gate that holds the hart that reports the first piece until a second piece is reported. It holds it for so many looks at
-/// most, and notes that they ran out.
+/// A gate that holds the hart that reports the first piece until a second piece is reported. It holds the hart for a bounded
+/// number of looks, and notes that they ran out.
 #[derive(Drop)]
 pub struct MeetingGate {
     noted: NotingGate,
     ran_out: Mutex<bool>,
 }
 
-/// How often a gate looks at most.
+/// The greatest number of looks of a gate.
 pub const LOOKS: u32 = 400_000_000;
 
 impl MeetingGate {
-    /// A gate that nobody has passed.
+    /// A gate that no hart has passed.
+    ///
+    /// # Errors
+    ///
+    /// An error if an allocation fails.
     pub fn new(alloc: Global) -> Result<MeetingGate, AllocError> {
         Ok(MeetingGate {
             noted: NotingGate::new(alloc)?,
@@ -118,7 +130,7 @@ impl MeetingGate {
         })
     }
 
-    /// What was noted.
+    /// The reports.
     pub fn noted(&self) -> &NotingGate {
         &self.noted
     }
@@ -155,7 +167,8 @@ impl Gate for MeetingGate {
     }
 }
 
-/// A gate that holds each hart that reports a piece until so many different harts have reported one, for so many looks at most.
+/// A gate that holds each hart that reports a piece until so many different harts have reported one, for a bounded number of
+/// looks.
 #[derive(Drop)]
 pub struct CrowdGate {
     noted: NotingGate,
@@ -165,6 +178,10 @@ pub struct CrowdGate {
 
 impl CrowdGate {
     /// A gate for so many harts that no hart has passed.
+    ///
+    /// # Errors
+    ///
+    /// An error if an allocation fails.
     pub fn new(alloc: Global, harts: usize) -> Result<CrowdGate, AllocError> {
         Ok(CrowdGate {
             noted: NotingGate::new(alloc)?,
@@ -173,7 +190,7 @@ impl CrowdGate {
         })
     }
 
-    /// What was noted.
+    /// The reports.
     pub fn noted(&self) -> &NotingGate {
         &self.noted
     }
@@ -216,7 +233,7 @@ pub struct Spot {
     pub place: u8,
 }
 
-/// A gate that holds the hart that reports one piece until another piece is reported, for so many looks at most.
+/// A gate that holds the hart that reports one piece until another piece is reported, for a bounded number of looks.
 #[derive(Drop)]
 pub struct OvertakingGate {
     noted: NotingGate,
@@ -227,8 +244,8 @@ pub struct OvertakingGate {
 }
 
 impl OvertakingGate {
-    /// A gate that no hart has passed, which holds the hart of the one piece until the other is reported, for so many looks at
-    /// most.
+    /// A gate that no hart has passed. It holds the hart of the one piece until the other is reported, for at most so many
+    /// looks.
     pub fn new(
         alloc: Global,
         held: Spot,
@@ -244,7 +261,7 @@ impl OvertakingGate {
         })
     }
 
-    /// What was noted.
+    /// The reports.
     pub fn noted(&self) -> &NotingGate {
         &self.noted
     }
@@ -254,7 +271,7 @@ impl OvertakingGate {
         *self.ran_out.lock(rt)
     }
 
-    // Looks until the piece that is awaited was reported.
+    // Looks until the awaited piece is reported.
     fn hold<R: Wait>(&self, rt: &R) {
         let backoff = Backoff::new();
         for _ in 0..self.looks {

@@ -1,4 +1,4 @@
-//! Tests of several harts by public calls alone: of sites that one opens and another finds, and of whole runs, each hart on a
+//! Tests of several harts, by public calls alone: sites that one hart opens and another finds, and whole runs, each hart on a
 //! thread.
 #![tactic(auto)]
 

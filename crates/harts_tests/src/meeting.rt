@@ -1,4 +1,4 @@
-//! Runs whose gates see all harts.
+//! Runs whose gates meet all harts.
 use crate::gates::{CrowdGate, MeetingGate, NotingGate, Report};
 use crate::runs::{NESTED, SIXTEEN, TWO, TWO_BRANCHES, output_of};
 use memchr::memmem;
@@ -9,7 +9,7 @@ use std::test::Fail;
 const MET: &[u8] =
     b"a = 1 2 0 0\ntransfers 5\n0 h0 register s1 under s0\n1 h0 request s1 1\n2 h1 enter s1\n3 h1 yield s1\n4 h0 unregister s1\n";
 
-// Whether there are just two reports, of both places of site 1, by both harts.
+// Whether there are exactly two reports, of both pieces of site 1, by both harts.
 fn are_both(reports: &[Report]) -> bool {
     match reports {
         [first, second] => {
@@ -42,7 +42,11 @@ fn has(text: &[u8], bytes: &[u8]) -> bool {
     memmem::find(text, bytes).is_some()
 }
 
-/// Whether the journal brings the hart of each report into its site.
+/// Whether the journal moves the hart of each report into its site.
+///
+/// # Errors
+///
+/// An error if an allocation fails.
 pub fn are_brought(alloc: Global, output: &[u8], reports: &[Report]) -> Result<bool, AllocError> {
     for report in reports {
         if !is_brought(alloc, output, report)? {
@@ -52,7 +56,7 @@ pub fn are_brought(alloc: Global, output: &[u8], reports: &[Report]) -> Result<b
     Ok(true)
 }
 
-// Whether the journal brings the hart into the site.
+// Whether the journal moves the hart into the site.
 fn is_brought(alloc: Global, output: &[u8], report: &Report) -> Result<bool, AllocError> {
     let hart = report.hart;
     let site = report.site;
@@ -61,7 +65,7 @@ fn is_brought(alloc: Global, output: &[u8], report: &Report) -> Result<bool, All
     Ok(has(output, registered.as_bytes()) || has(output, entered.as_bytes()))
 }
 
-/// How many of the reports are of this piece.
+/// The number of reports of this piece.
 pub fn times(reports: &[Report], site: u16, phase: u8, place: u8) -> usize {
     reports
         .iter()
@@ -86,7 +90,7 @@ fn each_piece_is_taken_once_by_a_hart_inside_its_site(rt: HostRuntime) -> Result
 const SIXTEEN_BRANCHES: &[u8] =
     b"array a[16]; par { { a[0] = 1; } { a[1] = 2; } { a[2] = 3; } { a[3] = 4; } { a[4] = 5; } { a[5] = 6; } { a[6] = 7; } { a[7] = 8; } { a[8] = 9; } { a[9] = 10; } { a[10] = 11; } { a[11] = 12; } { a[12] = 13; } { a[13] = 14; } { a[14] = 15; } { a[15] = 16; } }";
 
-// Each of the harts is held at its first piece until all have one, so each takes just one.
+// Each hart is held at its first piece until all have one, so each takes exactly one.
 #[test]
 fn sixteen_harts_are_inside_one_site(rt: HostRuntime) -> Result<(), Fail> {
     let gate = CrowdGate::new(rt.alloc(), 16)?;

@@ -18,7 +18,7 @@ use transfer_table::first_fault;
 
 const PIPE: &[&str] = &["pipe", "--harts", "2"];
 
-// In the second phase each member reads what lies below it.
+// In the second phase, each member reads the cell below its own.
 const TWO_STEPS: &[u8] =
     b"array a[6]; array b[6]; team i in 0..6 by 3 { a[i] = i + 1; } barrier { b[i] = a[i / 2] * 10; }";
 
@@ -46,8 +46,8 @@ fn a_member_goes_on_while_one_above_it_is_held(rt: HostRuntime) -> Result<(), Fa
     Ok(())
 }
 
-// Whether the member above is begun by another hart while the first member is held in its second phase. A guest that came before
-// the first piece was filled, and left, begins nothing.
+// Whether another hart begins the member above while the first member is held in its second phase. A guest that came before the
+// first piece was filled, and left, begins nothing.
 fn is_shared<R: AllocGlobal + Threads + Wait + Sync>(rt: &R) -> Result<bool, Fail> {
     let gate = OvertakingGate::new(rt.alloc(), AHEAD, ABOVE, 1_000_000)?;
     let output = output_of(rt, PIPE, TWO_STEPS, &gate)?;
@@ -101,18 +101,18 @@ fn the_journal_is_that_of_its_ports(rt: HostRuntime) -> Result<(), Fail> {
     Ok(())
 }
 
-// In each of its four phases a member reads what the two below it wrote in the phase before.
+// In each of its four phases, a member reads what the two members below it wrote in the phase before.
 const FOUR_STEPS: &[u8] =
     b"array a[32]; array b[32]; array c[32]; array d[32]; team i in 0..32 by 8 { a[i] = i; } barrier { b[i] = a[i] + a[i / 2]; } barrier { c[i] = b[i] + b[i / 2]; } barrier { d[i] = c[i] + c[i / 2]; }";
 
-// In a member's phases there are pools.
+// Pools in the phases of a member.
 const POOLS: &[u8] =
     b"array a[8]; array b[8]; team i in 0..4 by 4 { par { { a[2 * i] = i; } { a[2 * i + 1] = 9; } } } barrier { par { { b[2 * i] = a[i]; } { b[2 * i + 1] = a[i] * 2; } } }";
 
-// All of them have no two pieces that cross.
+// The programs without a crossing of two pieces.
 const PIPED: &[&[u8]] = &[TWO_BRANCHES, NESTED, TURNS, TWO_STEPS, FOUR_STEPS, POOLS];
 
-// Whether the table takes the journal of a run on so many harts as a complete one.
+// Whether the table accepts the journal of a run on so many harts as complete.
 fn is_complete<R: Threads + Wait + Sync>(
     rt: &R,
     alloc: Global,
@@ -132,7 +132,7 @@ fn is_complete<R: Threads + Wait + Sync>(
     Ok(fault.is_none())
 }
 
-// Whether it is so on two, three and four harts.
+// The same on two, three and four harts.
 fn are_complete<R: Threads + Wait + Sync>(
     rt: &R,
     alloc: Global,

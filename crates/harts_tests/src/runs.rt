@@ -35,7 +35,7 @@ pub const STENCIL: &[u8] =
 const CHOICES: &[u8] =
     b"array a[8]; array b[8]; array c[32]; team i in 0..8 by 4 { a[i] = i % 3; } barrier { if a[i] { par { { b[i] = i; } { } } } else { par { { b[i] = 9; } { } { } } } } for i in 0..8 { if b[i] > 5 { par { { a[i] = 1; } { b[i] = 2; } } } else { team j in 0..4 by 4 { c[4 * i + j] = a[i]; } } }";
 
-/// All of them that enter each of their sites.
+/// All programs that enter each of their sites.
 pub const PROGRAMS: &[&[u8]] = &[b"", TWO_BRANCHES, NESTED, PHASES, TURNS, STENCIL];
 
 /// The words of a run on two, three and four harts.
@@ -51,7 +51,11 @@ pub const SIXTEEN: &[&str] = &["run", "--harts", "16"];
 
 const SOLO: &[&str] = &["solo"];
 
-/// What the words write for the program.
+/// The output of the words for the program.
+///
+/// # Errors
+///
+/// An error if the run isn't Done, or an allocation fails.
 pub fn output_of<R: AllocGlobal + Threads + Wait + Sync, G: Gate>(
     rt: &R,
     words: &[&str],
@@ -146,7 +150,7 @@ fn is_of_its_board(journal: &Journal, harts: u8) -> bool {
     }
 }
 
-// Whether the table takes the journal of a run on so many harts as a complete one.
+// Whether the table accepts the journal of a run on so many harts as complete.
 fn is_complete<R: Threads + Wait + Sync>(
     rt: &R,
     alloc: Global,

@@ -1,4 +1,4 @@
-//! Sites that a hart opens, and that another finds.
+//! Sites that one hart opens and another finds.
 ghost use Rattle.std.specs.Prelude.{◌≡◌, map, vec_len};
 ghost use Rattle.claim_words.specs.Seats.{AreAll, kin};
 ghost use Rattle.hart_loop.specs.Openings.{IsOpened};
@@ -39,7 +39,7 @@ fn two_tools<'x>(
     }
 }
 
-// A piece that a hart is given at the site, and has done.
+// A piece that the site gave a hart, done.
 fn next_piece<'a, 'p, R: Wait, S: InDirectory<'p>>(
     rt: &'a R,
     alloc: Global,
@@ -77,7 +77,7 @@ fn does_a_piece<'a, 'p, R: Wait, S: InDirectory<'p>>(
     }
 }
 
-// What the pool of a `par` of two branches writes whose home does all of it.
+// The writes of the pool of a `par` of two branches whose home does all of it.
 fn by_the_home<'a, 'p, R: Wait, S: InDirectory<'p>>(
     rt: &'a R,
     alloc: Global,
@@ -99,12 +99,12 @@ fn by_the_home<'a, 'p, R: Wait, S: InDirectory<'p>>(
     Err(Fail::new("not two pieces"))
 }
 
-// Whether this is what both branches of the program write.
+// Whether these are the writes of both branches of the program.
 fn are_both(written: &Overlay) -> bool {
     written.pairs() == BOTH_BRANCHES.as_slice()
 }
 
-// Whether a home that does all pieces writes what both branches do.
+// Whether a home that does all pieces writes the cells of both branches.
 fn writes_both<R: Wait>(rt: &R, alloc: Global, program: &Program) -> Result<bool, Fail> {
     let cells = cells::<SharedSite<'_>>(alloc, 1)?;
     let (words, claims) = Claims::new(alloc, &check(alloc, program, 2)?, 2)?;
@@ -121,7 +121,7 @@ fn a_home_does_all_pieces(rt: HostRuntime) -> Result<(), Fail> {
     Ok(())
 }
 
-// Whether a guest does one piece while the home has the other, and is then told that there is nothing.
+// Whether a guest does one piece while the home has the other, and then finds nothing.
 fn does_one<'a, 'p, R: Wait, S: InDirectory<'p>>(
     rt: &'a R,
     alloc: Global,
@@ -138,7 +138,7 @@ fn does_one<'a, 'p, R: Wait, S: InDirectory<'p>>(
     none
 }
 
-// The same of a guest that finds the site by its lines.
+// The same for a guest that finds the site by its lines.
 fn helps<'a, 'p, R: Wait, S: InDirectory<'p>>(
     rt: &'a R,
     alloc: Global,
@@ -170,7 +170,7 @@ fn is_helped<'a, 'p, R: Wait, S: InDirectory<'p>>(
     helped
 }
 
-// What the pool of a `par` of two branches writes of which a guest does the second.
+// The writes of the pool of a `par` of two branches, of which a guest does the second.
 fn with_a_guest<'a, 'p, R: Wait, S: InDirectory<'p>>(
     rt: &'a R,
     alloc: Global,
@@ -188,7 +188,7 @@ fn with_a_guest<'a, 'p, R: Wait, S: InDirectory<'p>>(
     Err(Fail::new("the guest had another part"))
 }
 
-// The same by harts that are made for it.
+// The same with harts that are made for it.
 fn by_two<'a, 'p, R: Wait, S: InDirectory<'p>>(
     rt: &'a R,
     alloc: Global,
@@ -202,7 +202,7 @@ fn by_two<'a, 'p, R: Wait, S: InDirectory<'p>>(
     with_a_guest(rt, alloc, nested, &mut home, &mut guest)
 }
 
-// Whether both branches are written where a guest does one.
+// Whether both branches are written if a guest does one.
 fn shares_both<R: Wait>(rt: &R, alloc: Global, program: &Program) -> Result<bool, Fail> {
     let cells = cells::<SharedSite<'_>>(alloc, 1)?;
     let (words, claims) = Claims::new(alloc, &check(alloc, program, 2)?, 2)?;
@@ -220,7 +220,7 @@ fn a_guest_does_a_piece_and_is_told_nothing_more(rt: HostRuntime) -> Result<(), 
     Ok(())
 }
 
-// What a home takes from a site of which no piece was done, and how many harts it had work for.
+// What a home takes from a site of which no piece is done, and the number of harts for which it had work.
 fn untouched<'a, 'p, R: Wait, S: InDirectory<'p>>(
     rt: &'a R,
     alloc: Global,
@@ -236,7 +236,7 @@ fn untouched<'a, 'p, R: Wait, S: InDirectory<'p>>(
     Ok((home.take(rt, alloc, site)?, wishes))
 }
 
-// Whether a home takes this from an untouched site that it alone knows, and had work for so many harts.
+// Whether a home takes this from an untouched site that no other hart knows, and had work for so many harts.
 fn takes<R: Wait>(
     rt: &R,
     alloc: Global,
@@ -297,7 +297,7 @@ fn a_team_whose_pieces_cross_is_computed_by_its_home(rt: HostRuntime) -> Result<
     Ok(())
 }
 
-// Whether the second of two homes whose cell is one and the same asks for nobody, and computes its construct.
+// Whether the second of two homes with the same cell requests no hart, and computes its construct.
 fn asks_for_nobody<R: Wait>(rt: &R, alloc: Global, program: &Program) -> Result<bool, Fail> {
     let cells = cells::<SharedSite<'_>>(alloc, 1)?;
     let (words, claims) = Claims::new(alloc, &check(alloc, program, 2)?, 2)?;

@@ -12,7 +12,7 @@ pub trait Holds<T: TaskKind>: TaskKind {
     fn hold(task: T) -> Self
         ensures { result ≡ held task };
 
-    /// Turns an output of a task that was held into that task's own. `None` only if no task of the kind `T` gives it.
+    /// Turns an output of a task that was held into that task's own. `None` only if no task of the kind `T` has it.
     fn output_of(output: Self::Output) -> Option<T::Output>
         ensures { (task : T) → Self.gives (held task) output
             → (own : T.Output) × (result ≡ Some own) × T.gives task own };
@@ -26,7 +26,7 @@ pub trait Holds<T: TaskKind>: TaskKind {
     /// A task that is held has as many levels of tasks inside as it has alone.
     ghost same_depth: { (task : T) → Self.depth (held task) ≡ T.depth task };
 
-    /// Where a held task gives an output, the task alone gives one too.
+    /// If a held task has an output, the task alone has one too.
     ghost same_outcome: { (task : T) (output : Self.Output) → Self.gives (held task) output
         → (own : T.Output) × T.gives task own };
 }

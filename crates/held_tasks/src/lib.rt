@@ -1,8 +1,8 @@
-//! Tasks of one kind inside tasks of another: a library's tasks run on the harts of whatever task calls the library.
+//! Tasks of one kind inside tasks of another: a library's tasks run on the harts of any task that calls the library.
 //!
-//! A kind of tasks that [`Holds`] another can stand around it. A library states what its own kind of tasks is, and writes its
-//! procedure over any `V: Holds<Own>` and `H: Harts<V>`, with [`fork_join_as`] in the place of `fork_join`, or [`join_as`] for
-//! two tasks. So the procedure runs inside the tasks of an application, and inside its own.
+//! A kind of tasks that [`Holds`] another can contain it. A library defines its own kind of tasks, and writes its procedure
+//! over any `V: Holds<Own>` and `H: Harts<V>`, with [`fork_join_as`] instead of `fork_join`, or [`join_as`] for two tasks. So
+//! the procedure runs inside the tasks of an application, and inside its own.
 //!
 //! # Example
 //!

@@ -1,4 +1,4 @@
-//! A library's task, of which the greatest number comes, inside an application's own tasks.
+//! A library's task, which outputs the greatest number, inside an application's own tasks.
 ghost use Rattle.std.specs.Prelude.{ℕ, ◌≡◌, ◌≤◌, ◌+◌, ◌⊎◌, [], Some, None, All, IfOk, IfErr, IfSome, MatchOption, refl, alloc_error};
 ghost use Rattle.held_tasks.specs.declared.tests.GreatestError.TheVariants.{NoNumbers};
 

@@ -1,6 +1,7 @@
-//! The machines that run a program's jobs, as a hart's procedure asks for them.
+//! The machines that run a program's jobs, as an implementation of the trait `Machines` of `hart_work`.
 //!
-//! They are the same on one hart and on several. What they tell of the sites of their jobs serves a hart that keeps an account.
+//! They are the same on one hart and on several. Their ghost members about the sites of jobs are for a hart that keeps an
+//! account. Begin with `JobMachines` in `machines.rt`; the tests in `by_bound.rt` of `job_tests` run jobs by the trait.
 #![tactic(auto)]
 
 mod machines;

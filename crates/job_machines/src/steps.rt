@@ -1,4 +1,4 @@
-//! How a machine begins in its context, and what a step of it comes to.
+//! The begin of a machine in its context, and the results of its steps.
 ghost use Rattle.std.specs.Prelude.{◌≡◌, IfOk};
 ghost use Rattle.step_eval.specs.Machines.{fresh_machine};
 ghost use Rattle.job_machines.specs.Met.{as_seen};
@@ -10,6 +10,14 @@ use std::alloc::{AllocError, Global};
 use step_eval::{Found as Met, Nested, StepMachine};
 
 /// A context that runs a machine for the job.
+///
+/// # Errors
+///
+/// `AllocError` if an allocation fails.
+///
+/// # Memory
+///
+/// It allocates the context and the machine.
 pub fn started<'p>(alloc: Global, job: Job<'p>) -> Result<Running<StepMachine<'p>>, AllocError>
     ensures { IfOk result (λ running. running ≡ fresh_machine job.entry) }
 {
@@ -19,7 +27,7 @@ pub fn started<'p>(alloc: Global, job: Job<'p>) -> Result<Running<StepMachine<'p
     }
 }
 
-/// What a step of a machine came to, for the hart that runs it.
+/// The result of a machine's step, for the hart that runs it.
 pub fn as_seen<'p>(step: Step<Met<'p>>) -> Step<Found<Nested<'p>>>
     ensures { result ≡ as_seen step.entry }
 {

@@ -37,7 +37,7 @@ fn both_write(alloc: Global, text: &[u8], expected: &[(u16, i64)]) -> Result<boo
     Ok(by_machine && by_piece)
 }
 
-// Stops unless the machine of a program's body writes this, and its piece the same.
+// Fails unless the machine of a program's body writes this, and its piece the same.
 fn expect_writes(
     rt: &impl Abort,
     alloc: Global,

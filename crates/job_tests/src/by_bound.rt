@@ -1,4 +1,4 @@
-//! The machines of jobs, as a hart has them: by what is asked of machines alone.
+//! The machines of jobs, as a hart has them: by the trait `Machines` alone.
 ghost use Rattle.std.specs.Prelude.{◌≡◌, true};
 
 use crate::constructs::first_construct;
@@ -11,7 +11,7 @@ use job_machines::JobMachines;
 use std::alloc::Global;
 use std::test::Fail;
 
-// Whether a machine has what its construct writes, computed by itself.
+// Supplies a machine with the writes of its construct, computed by itself. Returns whether that succeeded.
 fn is_supplied<M: Machines>(
     alloc: Global,
     running: &mut Running<M::Machine>,
@@ -55,7 +55,7 @@ fn piece_by<M: Machines>(alloc: Global, job: M::Job) -> Result<M::Piece, Fail> {
     Ok(finished::<M>(alloc, running, 100).ok_or("no piece")?)
 }
 
-// Whether the body of the program writes the three cells, and is told to be the piece at the first place of the first phase.
+// Whether the body of the program writes the three cells, and is reported as the first piece of the first phase.
 fn is_run(alloc: Global, accepted: &Accepted) -> Result<bool, Fail> {
     let job = body_job(alloc, accepted.program())?;
     let is_first = JobMachines::phase(&job) == 0 && JobMachines::place(&job) == 0;

@@ -1,4 +1,4 @@
-//! Constructs that are handed out, their jobs, and the pieces of these.
+//! Constructs that are handed out, their jobs and their pieces.
 
 use crate::driving::{parsed, stepped};
 use array_eval::{MarkedStore, Store};
@@ -37,7 +37,7 @@ fn writes(alloc: Global, nested: &Nested, expected: &[(u16, i64)]) -> Result<boo
     Ok(written.pairs() == expected)
 }
 
-// Whether a construct is the first of all and a `par` of three branches, of which the second writes nothing.
+// Whether a construct is the first of all and a `par` of three branches, the second of which writes nothing.
 fn is_a_par(alloc: Global, nested: &Nested) -> Result<bool, Fail> {
     if nested.kind() != Kind::Par || nested.site != 1 {
         return Ok(false);
@@ -77,7 +77,7 @@ fn first_jobs<'p>(alloc: Global, nested: &Nested<'p>) -> Result<Vec<Job<'p>>, Al
     jobs_of(alloc, nested, 0, &nested.store)
 }
 
-// Whether this is written where the pieces of jobs are merged in an order.
+// Whether the pieces of jobs, merged in an order, write this.
 fn merge_to(
     alloc: Global,
     store: &Store,
@@ -98,7 +98,7 @@ fn merge_to(
     Ok(written.pairs() == expected)
 }
 
-// Merges what a job writes into a store.
+// Merges the writes of a job into a store.
 fn merge(alloc: Global, marked: &mut MarkedStore, job: &Job) -> Result<(), AllocError> {
     marked.merge(&written_by(alloc, job)?);
     Ok(())
@@ -128,19 +128,19 @@ fn pieces_are_merged_in_any_order(rt: HostRuntime) -> Result<(), Fail> {
     Ok(())
 }
 
-// Whether the copies of a construct's jobs equal them, and are two, of which the second is the branch at place 1.
+// Whether the copies of a construct's jobs equal them, and are two, the second of which is the branch at index 1.
 fn has_copied_jobs(alloc: Global, nested: &Nested) -> Result<bool, Fail> {
     let jobs = first_jobs(alloc, nested)?;
     Ok(are_copied(alloc, &jobs)?)
 }
 
-// Whether the copies of jobs equal them, and are two, of which the second is at place 1.
+// Whether the copies of jobs equal them, and are two, the second of which is at index 1.
 fn are_copied(alloc: Global, jobs: &[Job]) -> Result<bool, AllocError> {
     let copies = copy_jobs(alloc, jobs)?;
     Ok(copies.as_slice() == jobs && is_second_at_one(&copies))
 }
 
-// Whether there are two jobs, of which the second is at place 1 and begins with site 2.
+// Whether there are two jobs, the second of which is at index 1 and begins with site 2.
 fn is_second_at_one(jobs: &[Job]) -> bool {
     match jobs {
         [_, second] => second.place == 1 && second.first == 2,
@@ -170,7 +170,7 @@ fn counts_sites_before(alloc: Global, nested: &Nested) -> Result<bool, Fail> {
     Ok(begin_with_two_and_four(&jobs))
 }
 
-// Whether there are two jobs, at the places 0 and 1, that begin with the sites 2 and 4.
+// Whether there are two jobs, at the indices 0 and 1, that begin with the sites 2 and 4.
 fn begin_with_two_and_four(jobs: &[Job]) -> bool {
     match jobs {
         [first, second] => {

@@ -1,4 +1,4 @@
-//! Texts that are parsed, and machines that are run to their ends.
+//! Texts that are parsed, and machines that run to their ends.
 ghost use Rattle.std.specs.Prelude.{◌≡◌, false, IfOk};
 ghost use Rattle.job_tests.specs.declared.driving.Turn.TheVariants.{Over};
 ghost use Rattle.step_eval.specs.Machines.{is_awaiting, Advances, IsFinished};
@@ -13,6 +13,10 @@ use std::test::Fail;
 use step_eval::{Found, StepMachine, compute};
 
 /// The program of a text.
+///
+/// # Errors
+///
+/// A failure of the test if the text spells no program, or an allocation fails.
 pub fn parsed(alloc: Global, text: &[u8]) -> Result<Program, Fail> {
     if text.len() > 65_536 {
         return Err(Fail::new("a longer text than any program's"));
@@ -21,6 +25,10 @@ pub fn parsed(alloc: Global, text: &[u8]) -> Result<Program, Fail> {
 }
 
 /// Whether this holds of the program of a text, which must be accepted.
+///
+/// # Errors
+///
+/// A failure of the test if the program isn't accepted, or an allocation fails.
 pub fn holds<F: Fn(Global, &Accepted) -> Result<bool, Fail>>(
     alloc: Global,
     text: &[u8],
@@ -41,18 +49,18 @@ pub fn stepped<'p>(machine: &mut StepMachine<'p>) -> Step<Found<'p>>
     machine.step()
 }
 
-/// What a step came to, where memory was found.
+/// The result of a step, if no allocation failed.
 #[derive(Clone, Copy, Debug, PartialEq, Eq, Drop)]
 pub enum Turn {
     On,
     /// A construct was handed out, and its writes were supplied.
     Construct,
-    /// These sites are to be skipped.
+    /// The hart has to skip these sites.
     Pass { first: u16, end: u16 },
     Over,
 }
 
-// One step, and the supply of what it hands out.
+// One step, and the supply of the construct that it hands out.
 fn turned(alloc: Global, machine: &mut StepMachine) -> Result<Turn, Fail>
     requires { is_awaiting machine.old.stage ≡ false }
     ensures going { IfOk result (λ _. is_awaiting machine.new.stage ≡ false) }
@@ -70,7 +78,11 @@ fn turned(alloc: Global, machine: &mut StepMachine) -> Result<Turn, Fail>
     }
 }
 
-/// The piece of a job by its machine, which is supplied with what each construct writes.
+/// The piece of a job by its machine, which is supplied with the writes of each construct.
+///
+/// # Errors
+///
+/// A failure of the test if an allocation fails.
 pub fn driven<'p>(alloc: Global, job: Job<'p>) -> Result<Piece<'p>, Fail> {
     let mut machine = StepMachine::new(alloc, job)?;
     for _ in 0..u64::MAX {
@@ -81,7 +93,11 @@ pub fn driven<'p>(alloc: Global, job: Job<'p>) -> Result<Piece<'p>, Fail> {
     Err(Fail::new("a machine without an end"))
 }
 
-/// What the steps of a job come to, one after another, until nothing is left.
+/// The results of the steps of a job, one after another, until no work remains.
+///
+/// # Errors
+///
+/// A failure of the test if an allocation fails.
 pub fn turns(alloc: Global, job: Job<'_>) -> Result<Vec<Turn>, Fail> {
     let mut machine = StepMachine::new(alloc, job)?;
     let mut turns = Vec::new(alloc);

@@ -1,4 +1,4 @@
-//! Tests of jobs, of machines and of what a construct writes, by texts and through public calls alone.
+//! Tests of jobs, of machines and of the writes of constructs, by texts and public calls alone.
 #![tactic(auto)]
 
 #[cfg(test)]

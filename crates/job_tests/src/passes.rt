@@ -1,4 +1,4 @@
-//! What machines tell of sites that aren't entered.
+//! The sites that machines report as not entered.
 
 use crate::driving::{Turn, holds, turns};
 use array_jobs::body_job;

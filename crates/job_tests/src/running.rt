@@ -23,7 +23,7 @@ fn run<'p>(alloc: Global, job: Job<'p>) -> Result<Running<StepMachine<'p>>, Allo
     }
 }
 
-// What may lie between two steps: 0 is nothing, 1 a pause, 2 a wait at a mutex.
+// The actions between two steps: 0 for nothing, 1 for a pause, 2 for a wait at a mutex.
 fn put_aside<'p>(running: Running<StepMachine<'p>>, how: u8) -> Running<StepMachine<'p>>
     ensures { result ≡ running.entry }
 {
@@ -34,7 +34,7 @@ fn put_aside<'p>(running: Running<StepMachine<'p>>, how: u8) -> Running<StepMach
     }
 }
 
-// Runs a context to its end, where it has at most so many steps left.
+// Runs a context to its end, if it has at most so many steps left.
 fn run_context<'p>(running: Running<StepMachine<'p>>, steps: u8, how: u8) -> Option<Piece<'p>>
     requires { is_awaiting running.stage ≡ false }
 {
@@ -50,7 +50,7 @@ fn run_context<'p>(running: Running<StepMachine<'p>>, steps: u8, how: u8) -> Opt
     None
 }
 
-// Whether a context ends by so many steps just where they are three, with one cell written.
+// Whether a context ends within so many steps exactly if they are three, with one cell written.
 fn needs_three_steps(alloc: Global, accepted: &Accepted, steps: u8, how: u8) -> Result<bool, Fail> {
     let running = run(alloc, body_job(alloc, accepted.program())?)?;
     match run_context(running, steps, how) {
@@ -59,10 +59,10 @@ fn needs_three_steps(alloc: Global, accepted: &Accepted, steps: u8, how: u8) -> 
     }
 }
 
-// Whether a program of one assignment takes three steps, whatever lies between them.
+// Whether a program of one assignment takes three steps, for any action between them.
 fn is_run_in_three_steps(alloc: Global, accepted: &Accepted) -> Result<bool, Fail> {
     for how in 0..3 {
-        // The assignment, the end of the block, and that nothing is left.
+        // Why three: the assignment, the end of the block, and the step that finds no work.
         for steps in 2..4 {
             if !needs_three_steps(alloc, accepted, steps, how)? {
                 return Ok(false);

@@ -1,4 +1,4 @@
-//! Jobs, pieces, constructs and machines go from thread to thread.
+//! Jobs, pieces, constructs and machines that move from thread to thread.
 
 use crate::constructs::first_construct;
 use crate::driving::{driven, parsed};
@@ -12,7 +12,7 @@ use step_eval::StepMachine;
 
 fn look<T>(_value: &T) {}
 
-// Two threads look at a value, and then one of them takes it and gives it back.
+// Two threads read a value, and then one of them takes it and returns it.
 fn crossed<R: Threads, T: Send + Sync + Drop>(rt: &R, value: T) -> T {
     let _ = thread::join(rt, || look(&value), || look(&value));
     let (value, ()) = thread::join(rt, move || value, || ());
@@ -51,7 +51,7 @@ fn machine_crosses<R: Threads>(
     Ok(())
 }
 
-// How many members a program's first construct has when it comes back from threads.
+// The number of members of a program's first construct after it came back from threads.
 fn members_across<R: Threads>(rt: &R, alloc: Global, accepted: &Accepted) -> Result<u8, Fail> {
     let nested = first_construct(alloc, accepted)?;
     Ok(crossed(rt, nested).members())

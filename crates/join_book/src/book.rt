@@ -13,21 +13,21 @@ use array_jobs::{Job, Piece};
 use std::alloc::{AllocError, Global};
 use std::marker::Model;
 
-/// What came of a deposit.
+/// The result of a deposit.
 #[derive(Debug, Drop)]
 pub enum Deposit<'p> {
-    /// The piece is kept at the place of its job.
+    /// The piece is kept in the slot of its job.
     Kept,
-    /// The place of the piece's job is filled, or it has failed. The piece is given back.
+    /// The slot of the piece's job is filled or failed. The piece is returned.
     Double(Piece<'p>),
-    /// No place has the piece's job. The piece is given back.
+    /// No slot has the piece's job. The piece is returned.
     Stranger(Piece<'p>),
 }
 
-/// The jobs of one phase of a construct, and for each a place for its piece.
+/// The jobs of one phase of a construct, with a slot for the piece of each.
 ///
-/// Contracts see the jobs, and which places are open, filled or failed. The type keeps that a place is filled with
-/// what its own job writes.
+/// Contracts see the jobs, and the slots as open, filled or failed. The type's invariant: a filled slot has the writes of its
+/// own job.
 #[derive(Debug, Drop)]
 pub struct Book<'p> {
     alloc: Global,
@@ -52,8 +52,16 @@ impl<'p> Model for Book<'p> {
 }
 
 impl<'p> Book<'p> {
-    /// A book of these jobs, whose places are open. They are one to 64 jobs of one site and one phase, each at the
-    /// place that it names. Of the calls below only `take_all` allocates.
+    /// A book of these jobs, whose slots are open. They are one to 64 jobs of one site and one phase, each at the index that it
+    /// names.
+    ///
+    /// # Errors
+    ///
+    /// `AllocError` if an allocation fails.
+    ///
+    /// # Memory
+    ///
+    /// It allocates a slot for each job. Of the calls below only `blank_store` and `take_all` allocate.
     pub fn new(alloc: Global, jobs: Vec<Job<'p>>) -> Result<Book<'p>, AllocError>
         requires { IsGroup (map job_of jobs.items) }
         ensures { IfOk result (λ book. book ≡ open_book jobs.entry.items) }
@@ -66,14 +74,14 @@ impl<'p> Book<'p> {
         })
     }
 
-    /// The jobs, in the order of their places.
+    /// The jobs, in the order of their indices.
     pub fn jobs(&self) -> &[Job<'p>]
         ensures { result.now ≡ self.now.jobs }
     {
         &self.jobs
     }
 
-    /// Whether the place is there and its piece is still to come.
+    /// Whether the slot at this index exists and is open.
     pub fn is_open(&self, place: u8) -> bool
         ensures { IsTrue result ↔ IsMarked self.now place Open }
     {
@@ -83,7 +91,7 @@ impl<'p> Book<'p> {
         }
     }
 
-    /// Keeps a piece at the place of its job.
+    /// Puts a piece into the slot of its job.
     pub fn deposit(&mut self, piece: Piece<'p>) -> Deposit<'p>
         ensures { Deposits self.old piece.entry result self.new }
     {
@@ -98,8 +106,7 @@ impl<'p> Book<'p> {
         Deposit::Kept
     }
 
-    /// Keeps a piece at the place of its job, which must be open. The caller knows that it is that place, so no jobs are
-    /// compared.
+    /// Puts a piece into the slot of its job, which must be open. The caller knows the slot, so no jobs are compared.
     pub fn keep(&mut self, piece: Piece<'p>)
         requires own { IsPlaceOf self.old piece.job.place piece.job }
         requires open { IsMarked self.old piece.job.place Open }
@@ -109,9 +116,9 @@ impl<'p> Book<'p> {
         self.places[usize::from(job.place)] = Place::Filled(written);
     }
 
-    /// Keeps a piece at the place that its job names, with that job in place of the place's own. The jobs are not compared, but
-    /// for how many cells they start from; so who wants the pieces of certain jobs has to compare `jobs` with them. Stranger
-    /// exactly where there is no such place, or its job starts from another number of cells.
+    /// Puts a piece into the slot that its job names, with that job instead of the slot's own. It doesn't compare the jobs,
+    /// except for the number of cells from which they start; so a caller that wants the pieces of certain jobs compares `jobs`
+    /// with them. Returns `Stranger` exactly if there is no such slot, or its job starts from another number of cells.
     pub fn put(&mut self, piece: Piece<'p>) -> Deposit<'p>
         ensures { Puts self.old piece.entry result self.new }
     {
@@ -125,7 +132,7 @@ impl<'p> Book<'p> {
         Deposit::Kept
     }
 
-    // Puts a piece at its place, with its job.
+    // Puts a piece into its slot, with its job.
     fn take_in(&mut self, piece: Piece<'p>)
         requires place { HasPlaceFor self.old piece.job }
         requires open { IsMarked self.old piece.job.place Open }
@@ -137,7 +144,7 @@ impl<'p> Book<'p> {
         self.places[place] = Place::Filled(written);
     }
 
-    /// Marks a place as failed: an allocation failed for its piece. The place must be open.
+    /// Marks a slot as failed: an allocation failed for its piece. The slot must be open.
     pub fn fail(&mut self, place: u8)
         requires { IsMarked self.old place Open }
         ensures { self.new ≡ marked_book self.old place Failed }
@@ -145,7 +152,7 @@ impl<'p> Book<'p> {
         self.places[usize::from(place)] = Place::Failed;
     }
 
-    /// Whether every place is filled or failed.
+    /// Whether every slot is filled or failed.
     pub fn is_full(&self) -> bool
         ensures { IsTrue result ↔ IsFull self.now }
     {
@@ -157,7 +164,7 @@ impl<'p> Book<'p> {
         true
     }
 
-    /// Whether some place is failed.
+    /// Whether some slot is failed.
     pub fn has_failed(&self) -> bool
         ensures { IsTrue result ↔ HasFailed self.now }
     {
@@ -169,18 +176,22 @@ impl<'p> Book<'p> {
         false
     }
 
-    /// A store of the jobs' cells, of which none is marked, for the pieces to be merged into.
+    /// A store of the jobs' cells, none of which is marked, for merging the pieces.
     ///
     /// # Errors
     ///
     /// `AllocError` if an allocation fails.
+    ///
+    /// # Memory
+    ///
+    /// It allocates a marked store.
     pub fn blank_store(&self) -> Result<MarkedStore, AllocError>
         ensures { IfOk result (λ store. IsBlank self.now store) }
     {
         MarkedStore::new(self.alloc, &self.jobs[0].store)
     }
 
-    /// Merges the pieces of the filled places into a blank store, in the order of their places. It does not allocate.
+    /// Merges the pieces of the filled slots into a blank store, in the order of their indices. Does not allocate.
     pub fn merge_into(&self, store: &mut MarkedStore)
         requires { IsBlank self.now store.old }
         ensures filled { marked store.new
@@ -196,8 +207,15 @@ impl<'p> Book<'p> {
         }
     }
 
-    /// The writes of all pieces, merged in the order of their places. The book must be full; where a place has failed,
-    /// the result is an allocation failure.
+    /// The writes of all pieces, merged in the order of their indices. The book must be full.
+    ///
+    /// # Errors
+    ///
+    /// `AllocError` if a piece has failed, or an allocation fails.
+    ///
+    /// # Memory
+    ///
+    /// It allocates a store and the overlay.
     pub fn take_all(self) -> Result<Overlay, AllocError>
         requires { IsFull self }
         ensures failed { HasFailed self.entry → IsErr result }
@@ -211,7 +229,7 @@ impl<'p> Book<'p> {
         store.written(self.alloc)
     }
 
-    // Whether the place that the job names is there, and its own job starts from as many cells.
+    // Whether the slot that the job names exists, and the slot's own job starts from as many cells.
     fn has_place_for(&self, job: &Job) -> bool
         ensures { IsTrue result ↔ HasPlaceFor self.now job.now }
     {
@@ -221,7 +239,7 @@ impl<'p> Book<'p> {
         }
     }
 
-    // Whether the place is that of the job.
+    // Whether the slot at this index belongs to the job.
     fn is_place_of(&self, place: u8, job: &Job) -> bool
         ensures own { IsTrue result ↔ IsPlaceOf self.now place job.now }
         ensures alone { (i : ℕ) → IsPlaceOf self.now i job.now → i ≡ job.now.place }
@@ -233,7 +251,7 @@ impl<'p> Book<'p> {
     }
 }
 
-// An open place for each job. The jobs are read, since each one that is there is fit.
+// An open slot for each job. Why it reads the jobs: each job is fit by its invariant.
 fn open_places(alloc: Global, jobs: &[Job]) -> Result<Vec<Place>, AllocError>
     ensures all_open { IfOk result
         (λ places. places.items ≡ replicate (length jobs.now) place.Open) }
@@ -242,7 +260,7 @@ fn open_places(alloc: Global, jobs: &[Job]) -> Result<Vec<Place>, AllocError>
 {
     let mut places = Vec::with_capacity(alloc, jobs.len())?;
     for job in jobs {
-        // Reading a field makes the invariant of a job known.
+        // Why: reading a field makes the job's invariant known.
         let _place = job.place;
         places.push(Place::Open)?;
     }

@@ -1,7 +1,7 @@
 //! Books: the pieces of one phase of a construct, collected as they come.
 //!
-//! Pools and barriers each have a book, for authors of schedulers. A book has a place for each job. It takes a piece only at the
-//! place of its own job, and merges all when each place is filled or failed. Begin with `Book` in `book.rt`; the tests of
+//! Pools and barriers each have a book, for authors of schedulers. A book has a slot for each job. It takes a piece only into
+//! the slot of the piece's job, and merges all when each slot is filled or failed. Begin with `Book` in `book.rt`; the tests of
 //! `sched_tests` fill books.
 #![tactic(auto)]
 

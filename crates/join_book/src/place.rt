@@ -1,15 +1,15 @@
-//! Places for pieces.
+//! Slots for pieces.
 ghost use Rattle.std.specs.Prelude.{◌≡◌, ◌↔◌, IsTrue};
 ghost use Rattle.join_book.specs.Books.{Open, Failed, mark_of};
 
 use array_eval::Overlay;
 
-// One place of a book.
+// One slot of a book.
 #[derive(Debug, Drop)]
 pub(crate) enum Place {
-    // Its piece hasn't come.
+    // The slot's piece hasn't come.
     Open,
-    // What the place's job writes.
+    // The writes of the slot's job.
     Filled(Overlay),
     // An allocation failed for its piece.
     Failed,

@@ -4,7 +4,8 @@ use Rattle.std.specs.Prelude.{codes, nat_le, ◌&&◌}
 use Rattle.std.specs.List.{list_all}
 use Rattle.std.proofs.lemmas.List.Folds.{list_all-append}
 use Rattle.journal_picture.specs.SvgPicture.{escaped, escaped_byte}
-use Rattle.journal_picture.specs.Laws.{is_plain, EscapedHasNoMarkup}
+use Rattle.journal_picture.specs.Kinds.{is_plain}
+use Rattle.journal_picture.specs.Laws.{EscapedHasNoMarkup}
 
 pick : (c : Bool) (x y : List ℕ) → list_all is_plain x ≡ true → list_all is_plain y ≡ true → list_all is_plain (cond c x y) ≡ true
 pick true x y first second = first

@@ -1,5 +1,5 @@
 -- The laws of faults hold.
-use Rattle.std.proofs.Common.{◌≡◌, ◌≢◌, ℕ, zero, suc, ◌+◌, ◌-◌, ◌<◌, ◌≤◌, ◌==◌, ◌⊎◌, inl, inr, Bool, true, false, not, eqb, List, [], ◌∷◌, ◌++◌, length, take, Option, Some, None, Result, Ok, Err, refl, sym, ap, subst, ◌∙◌, arith, slice_index, slice_index_or, eq-eqb, ne_eqb}
+use Rattle.std.proofs.Common.{◌≡◌, ◌≢◌, ℕ, zero, suc, ◌+◌, ◌-◌, ◌<◌, ◌==◌, ◌⊎◌, inl, inr, Bool, true, false, not, List, [], ◌∷◌, ◌++◌, length, take, Option, Some, None, Result, Ok, Err, refl, sym, ap, subst, ◌∙◌, arith, slice_index, slice_index_or, eq-eqb}
 use Rattle.std.specs.Prelude.{nat_le, nat_lt, ◌&&◌, slice_get, if◌then◌else◌}
 use Rattle.std.specs.Option.{is_some, option_map}
 use Rattle.std.proofs.lemmas.Bool.Decides.{nat_tests}
@@ -7,7 +7,7 @@ use Rattle.transfer_table.specs.Causes.{cause_if, first_cause}
 use Rattle.transfer_table.specs.Plan.{Plan, IsPlan, IsHart, IsSite, parent, site_count}
 use Rattle.transfer_table.specs.Entry.{hart_of, site_of}
 use Rattle.transfer_table.specs.Table.{TableState, admit_of, blank, child_left, common_refusals, effect_of, first_state, hart_inside, is_gone, is_home, is_live, is_new, least_left, no_such_site, other_inside, owner, refusals_of, row, unless_refused}
-use Rattle.transfer_table.specs.Journal.{AllGone, Reaches, and_then, first_fault_of, has_register, is_meant, lacking, lacks, or_refused, refused_from, replay, replay_from, unfinished, unmeant}
+use Rattle.transfer_table.specs.Journal.{AllGone, Reaches, and_then, first_fault_of, has_register, lacking, lacks, or_refused, refused_from, replay, replay_from, unfinished, unmeant}
 use Rattle.transfer_table.specs.declared.entry.Row.{Row}
 use Rattle.transfer_table.specs.declared.entry.Stage.{Stage}
 use Rattle.transfer_table.specs.declared.entry.Stage.TheVariants.{New, Live, Gone}

@@ -5,5 +5,7 @@ pub mod Written
 pub mod StripHolds
 pub mod FaultsHold
 pub mod Visited
+pub mod Travelled
+pub mod Named
 pub mod EscapedHolds
 pub mod Wishes

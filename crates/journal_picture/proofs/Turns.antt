@@ -16,6 +16,7 @@ use Rattle.journal_picture.specs.SvgBars.{bars_text, lanes_svg, part_text, parts
 use Rattle.journal_picture.specs.SvgMarks.{figures_svg, hart_at, harts_svg, row_names, rows_svg, strip_svg}
 use Rattle.journal_picture.specs.declared.visits.Visits.{Visits}
 use Rattle.journal_picture.specs.SvgTable.{listed_row, rows_from}
+use Rattle.journal_picture.specs.Travels.{travels_from, travels_in}
 use Rattle.journal_picture.specs.TextPicture.{band_text, bands_text, cell, lanes_of, numbers_text, sites_of, steps_up}
 
 -- what a function of what is left gives, where one more is left
@@ -78,3 +79,7 @@ strip_more p end t i es other lt = ap (strip_svg p end t i) (drop_more es i othe
 pub rows_from_more : (p : Plan) (t : TableState) (vs : List Visits) (shapes : List Shape) (top s n i : ℕ) → i < n
     → rows_from p t vs shapes top s (n - i) ≡ listed_row p t vs shapes top s ++ rows_from p t vs shapes top (s + 1) (n - (i + 1))
 rows_from_more p t vs shapes top s n i lt = one_more (λ k. rows_from p t vs shapes top s k) n i lt
+
+pub travels_more : (p : Plan) (es : List Entry) (n h : ℕ) → h < n
+    → travels_from p es h (n - h) ≡ travels_in p es h ∷ travels_from p es (h + 1) (n - (h + 1))
+travels_more p es n h lt = one_more (λ k. travels_from p es h k) n h lt

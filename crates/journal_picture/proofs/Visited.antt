@@ -1,6 +1,6 @@
 -- How the numbers of the sites follow the entries, and the laws of them.
-use Rattle.std.proofs.Common.{◌≡◌, ◌≢◌, ℕ, zero, suc, ◌+◌, ◌-◌, ◌<◌, ◌≤◌, ◌==◌, ◌⊎◌, inl, inr, cond, Bool, true, false, not, List, [], ◌∷◌, length, length-set, take, drop, get_or, get_or-set_same, get_or-set_other, Option, Some, None, Result, Ok, Err, refl, sym, ap, subst, ◌∙◌, arith, slice_index, slice_index_or}
-use Rattle.std.specs.Prelude.{nat_le, nat_lt, max, ◌&&◌, ◌||◌, if◌then◌else◌, slice_set, replicate}
+use Rattle.std.proofs.Common.{◌≡◌, ◌≢◌, ℕ, zero, suc, ◌+◌, ◌-◌, ◌<◌, ◌≤◌, ◌==◌, ◌⊎◌, inl, inr, cond, Bool, true, false, not, List, [], ◌∷◌, length, length-set, take, drop, get_or, get_or-set_same, get_or-set_other, Option, Result, Ok, Err, refl, sym, ap, subst, ◌∙◌, arith, slice_index, slice_index_or}
+use Rattle.std.specs.Prelude.{nat_lt, max, ◌&&◌, ◌||◌, if◌then◌else◌, slice_set, replicate}
 use Rattle.std.proofs.lemmas.Bool.Decides.{nat_tests}
 use Rattle.std.proofs.lemmas.List.{drop_more, drop_all, length-replicate}
 use Rattle.std.proofs.Math.Nat.{le-max_left, le-max_right, max-le, max-eq_left, max-eq_right, zero-max}
@@ -8,13 +8,12 @@ use Rattle.std.proofs.lemmas.Bool.{cases_lt}
 use mathlib.Core.Logic.{dite}
 use native.Mathlib.Decide.{ℕ_discrete}
 use Rattle.transfer_table.specs.Counts.{one_if}
-use Rattle.transfer_table.specs.Plan.{Plan, IsPlan, IsHart, IsSite, site_count}
-use Rattle.transfer_table.specs.Entry.{hart_of, site_of, covers}
-use Rattle.transfer_table.specs.Table.{TableState, admit_of, blank, effect_of, first_state, is_home, is_live, owner, row, swept_row}
-use Rattle.transfer_table.specs.Journal.{Reaches, and_then, replay_from}
+use Rattle.transfer_table.specs.Plan.{Plan, IsSite, site_count}
+use Rattle.transfer_table.specs.Entry.{hart_of, site_of}
+use Rattle.transfer_table.specs.Table.{TableState, admit_of, blank, effect_of, first_state, is_home, is_live, owner, row}
+use Rattle.transfer_table.specs.Journal.{and_then, replay_from}
 use Rattle.transfer_table.specs.Allowed.{IsAllowed}
 use Rattle.transfer_table.specs.declared.entry.Row.{Row}
-use Rattle.transfer_table.specs.declared.entry.Stage.TheVariants.{New, Live, Gone}
 use Rattle.transfer_table.specs.declared.entry.Entry.{Entry}
 use Rattle.transfer_table.specs.declared.entry.Entry.TheVariants.{Register, Request, Enter, Yield, Unregister, Skip}
 use Rattle.transfer_table.specs.declared.entry.NotAdmitted.{NotAdmitted}
@@ -23,7 +22,7 @@ use Rattle.transfer_table.proofs.Positions.{Fits, fits_effect}
 use Rattle.transfer_table.proofs.Effects.{allowed_hart, at_site, owner-effect_other, owner-effect_same, owner_after, row_after}
 use Rattle.transfer_table.proofs.LawsHold.{wishes_balance}
 use Rattle.journal_picture.specs.Drawn.{or_same}
-use Rattle.journal_picture.specs.Visits.{GuestsAreAtMost, GuestsAreReached, MetWishesEntered, followed, followed_by, guests_below, guests_by, guests_in, is_outside, made_from, most_from, site_at, visits_at, visits_from, visits_in, with_entry, with_guests}
+use Rattle.journal_picture.specs.Visits.{GuestsAreAtMost, GuestsAreReached, MetWishesEntered, followed, guests_below, guests_by, guests_in, is_outside, made_from, most_from, site_at, visits_at, visits_from, visits_in, with_entry, with_guests}
 use Rattle.journal_picture.specs.declared.visits.Visits.{Visits}
 
 -- ---- the guests of a site to which no hart comes

@@ -1,5 +1,5 @@
 -- The laws of stays and of the escaped verdict, for every plan and every list of entries.
-use Rattle.std.specs.Prelude.{◌≡◌, ℕ, ◌+◌, ◌≤◌, ◌==◌, Bool, true, not, List, [], ◌∷◌, length, take, Some, None}
+use Rattle.std.specs.Prelude.{◌≡◌, ℕ, ◌+◌, ◌≤◌, true, List, [], ◌∷◌, length, take, Some, None}
 use Rattle.std.specs.List.{filter, list_all}
 use Rattle.transfer_table.specs.Plan.{Plan, IsPlan, IsHart, IsSite, IsWithin}
 use Rattle.transfer_table.specs.Table.{TableState, owner, row}
@@ -7,6 +7,7 @@ use Rattle.transfer_table.specs.Journal.{Reaches}
 use Rattle.transfer_table.specs.declared.entry.Entry.{Entry}
 use Rattle.journal_picture.specs.declared.stay.Stay.{Stay}
 use Rattle.journal_picture.specs.Stays.{stays_of, has_place}
+use Rattle.journal_picture.specs.Kinds.{is_plain}
 use Rattle.journal_picture.specs.SvgPicture.{escaped}
 
 -- Of the hart's stays this one has the place, and no other.
@@ -40,10 +41,6 @@ GuestsAreWithTheHome = (p : Plan) (es : List Entry) (k : ℕ) (t : TableState) �
     → (stay : Stay) → IsOnlyAt p es h k stay → IsSite p stay.site
     → (home : ℕ) × (homes : Stay) × ((row t stay.site).home ≡ Some home)
     × IsOnlyAt p es home k homes × IsWithin p stay.site homes.site
-
--- The byte begins no markup.
-abbrev pub is_plain : ℕ → Bool
-is_plain byte = not (byte == 60)
 
 -- Whatever the verdict's line is, its escaped form has no `<`.
 abbrev pub EscapedHasNoMarkup : Type 0

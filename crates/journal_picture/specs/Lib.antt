@@ -1,8 +1,10 @@
 pub mod Stays
 pub mod Drawn
+pub mod Kinds
 pub mod Faults
 pub mod Strip
 pub mod Visits
+pub mod Travels
 pub mod TextPicture
 pub mod Scale
 pub mod SvgBars

@@ -1,31 +1,32 @@
 -- The bars of the picture: for each stay of a hart a bar in each row in which the stay has places.
-use Rattle.std.specs.Prelude.{ℕ, zero, suc, ◌+◌, ◌-◌, ◌*◌, ◌/◌, ◌==◌, nat_le, min, max, if◌then◌else◌, List, [], ◌∷◌, ◌++◌, codes, length, slice_get, Option, Some, None}
+use Rattle.std.specs.Prelude.{ℕ, zero, suc, ◌+◌, ◌-◌, ◌*◌, ◌/◌, ◌==◌, nat_le, min, max, Bool, if◌then◌else◌, List, [], ◌∷◌, ◌++◌, codes, length, slice_get, Option, Some, None}
 use Rattle.std.specs.List.{concat, flat_map}
 use Rattle.std.specs.Fmt.{decimal}
 use Rattle.transfer_table.specs.Plan.{Plan}
 use Rattle.transfer_table.specs.declared.entry.Entry.{Entry}
 use Rattle.journal_picture.specs.declared.stay.Stay.{Stay}
-use Rattle.journal_picture.specs.declared.shape.Kind.{Kind}
-use Rattle.journal_picture.specs.declared.shape.Kind.TheVariants.{Pool, Team}
 use Rattle.journal_picture.specs.declared.shape.Shape.{Shape}
+use Rattle.journal_picture.specs.Kinds.{kind_text}
 use Rattle.journal_picture.specs.Stays.{stays_of}
 use Rattle.journal_picture.specs.Scale.{step_of, per_row, row_of, is_shown, place_x, row_y, level_of, bar_y}
-use Rattle.journal_picture.specs.TextPicture.{kind_text, last_or, site_name}
+use Rattle.journal_picture.specs.TextPicture.{last_or, site_name}
 
 -- What the program says of the site; the base has no shape.
 abbrev pub shape_of : List Shape → ℕ → Option Shape
 shape_of shapes s = if s == 0 then None else slice_get shapes (s - 1)
 
--- ---- colours by kind and depth; the outline of a team is dashed
+-- ---- colours by depth; the outline is dashed if the site has phases
 
-abbrev pub kind_fill : Kind → ℕ → List ℕ
-kind_fill Pool level =
-    if level == 1 then codes "#cfe3f8' stroke='#2c5d8f" else
-    if level == 2 then codes "#9fc8f0' stroke='#2c5d8f" else codes "#6fabe4' stroke='#2c5d8f"
-kind_fill Team level =
-    if level == 1 then codes "#fbe3bd' stroke-dasharray='4 2' stroke='#8a5a12" else
-    if level == 2 then codes "#f6c987' stroke-dasharray='4 2' stroke='#8a5a12"
-    else codes "#eba94d' stroke-dasharray='4 2' stroke='#8a5a12"
+abbrev pub depth_fill : ℕ → List ℕ
+depth_fill level =
+    if level == 1 then codes "#cfe3f8" else if level == 2 then codes "#9fc8f0" else codes "#6fabe4"
+
+abbrev pub outline : Bool → List ℕ
+outline phased =
+    if phased then codes "' stroke-dasharray='4 2' stroke='#2c5d8f" else codes "' stroke='#2c5d8f"
+
+abbrev pub site_fill : Bool → ℕ → List ℕ
+site_fill phased level = depth_fill level ++ outline phased
 
 -- In the base hart 0 runs the program's body; another hart there is idle.
 abbrev pub base_fill : ℕ → List ℕ
@@ -33,7 +34,7 @@ base_fill h = if h == 0 then codes "#e9f3e4' stroke='#4f7a3a" else codes "#e3e6e
 
 abbrev pub fill_text : Option Shape → ℕ → ℕ → List ℕ
 fill_text None h level = base_fill h
-fill_text (Some shape) h level = kind_fill shape.kind level
+fill_text (Some shape) h level = site_fill shape.phased level
 
 -- ---- the title of a bar: the hart, the site with its kind and line, and from which entry to which the hart is there
 
@@ -75,10 +76,13 @@ words_text x y name word =
     word ∷ codes "</text>\n" ∷ [])
 
 -- The label of a bar where it is wide enough: the site, and the kind too where there is room for both.
+abbrev pub kind_label_by : List ℕ → ℕ → ℕ → List ℕ
+kind_label_by kind letters width =
+    if nat_le (width / 7 - (length kind + 1)) letters then [] else codes " " ++ kind
+
 abbrev pub kind_label : Option Shape → ℕ → ℕ → List ℕ
 kind_label None letters width = []
-kind_label (Some shape) letters width =
-    if nat_le (width / 7 - 5) letters then [] else codes " " ++ kind_text shape.kind
+kind_label (Some shape) letters width = kind_label_by (kind_text shape.kind) letters width
 
 abbrev pub label_text : ℕ → ℕ → ℕ → List ℕ → Option Shape → List ℕ
 label_text x y width name shape =

@@ -1,19 +1,20 @@
 -- The picture as SVG 1.1: rows of places, in each a lane for each hart, a bar for each stay, and the strip. All numbers are whole.
-use Rattle.std.specs.Prelude.{ℕ, ◌+◌, ◌==◌, nat_le, nat_lt, Bool, if◌then◌else◌, List, [], ◌∷◌, ◌++◌, codes, length}
+use Rattle.std.specs.Prelude.{ℕ, ◌+◌, ◌==◌, nat_le, nat_lt, Bool, true, false, if◌then◌else◌, List, [], ◌∷◌, ◌++◌, codes, length}
 use Rattle.std.specs.List.{concat, flat_map}
 use Rattle.std.specs.Fmt.{decimal}
 use Rattle.transfer_table.specs.Plan.{Plan, site_count}
 use Rattle.transfer_table.specs.Table.{TableState, first_state}
 use Rattle.transfer_table.specs.Journal.{first_fault_of}
 use Rattle.transfer_table.specs.declared.entry.Entry.{Entry}
-use Rattle.journal_picture.specs.declared.shape.Kind.TheVariants.{Pool, Team}
 use Rattle.journal_picture.specs.declared.shape.Shape.{Shape}
 use Rattle.journal_picture.specs.Drawn.{drawn, has_fault, state_after}
 use Rattle.journal_picture.specs.Faults.{words_of}
 use Rattle.journal_picture.specs.Scale.{rows_of, rows_bottom, step_of, width_of}
-use Rattle.journal_picture.specs.SvgBars.{base_fill, kind_fill, lanes_svg, rect_text}
+use Rattle.journal_picture.specs.SvgBars.{base_fill, lanes_svg, rect_text, site_fill}
+use Rattle.journal_picture.specs.declared.travels.Travels.{Travels}
 use Rattle.journal_picture.specs.declared.visits.Visits.{Visits}
-use Rattle.journal_picture.specs.SvgTable.{table_height, table_svg}
+use Rattle.journal_picture.specs.SvgTable.{tables_height, tables_svg}
+use Rattle.journal_picture.specs.Travels.{travels_of}
 use Rattle.journal_picture.specs.Visits.{visits_of}
 use Rattle.journal_picture.specs.SvgMarks.{fault_svg, mark_svg, marks_text, red, rows_svg, strip_svg, ticks_text}
 
@@ -27,7 +28,7 @@ head_of width height =
     codes "' font-family='Helvetica, Arial, sans-serif' font-size='11' text-anchor='middle'>\n<rect width='100%' height='100%' fill='#ffffff'/>\n" ∷ [])
 
 abbrev pub head_svg : Plan → ℕ → List ℕ
-head_svg p end = head_of (width_of end) (rows_bottom p end + 76 + table_height (site_count p))
+head_svg p end = head_of (width_of end) (rows_bottom p end + 76 + tables_height p)
 
 unfoldable pub title_of : ℕ → ℕ → ℕ → List ℕ
 title_of harts sites entries =
@@ -59,8 +60,8 @@ base_swatches y =
 
 abbrev pub site_swatches : ℕ → List ℕ
 site_swatches y =
-    swatch_svg 336 y (kind_fill Pool 1) (codes "a pool (par)")
-    ++ swatch_svg 456 y (kind_fill Team 1) (codes "a team")
+    swatch_svg 336 y (site_fill false 1) (codes "a site")
+    ++ swatch_svg 416 y (site_fill true 1) (codes "a site of phases")
     ++ swatch_svg 556 y red (codes "a missed wish")
 
 -- What the marks mean.
@@ -73,7 +74,7 @@ marks_note step =
 unfoldable pub words_svg : ℕ → ℕ → List ℕ → List ℕ
 words_svg first second note =
     concat (codes "<text x='56' y='" ∷ decimal first ∷
-    codes "'>higher: deeper in the tree. a missed wish: a child of the base has an unmet wish while a hart is idle.</text>\n<text x='56' y='" ∷
+    codes "'>higher and darker: deeper in the tree. a missed wish: a child of the base has an unmet wish while a hart is idle.</text>\n<text x='56' y='" ∷
     decimal second ∷ codes "'>" ∷ note ∷ codes "</text>\n</g>\n" ∷ [])
 
 abbrev pub swatches_svg : ℕ → List ℕ
@@ -124,14 +125,15 @@ abbrev pub picture_svg : Plan → TableState → List Shape → List Entry → B
 picture_svg p t shapes es faulty words =
     under_svg p es ++ lanes_svg p shapes es 0 p.harts ++ over_svg p t es faulty words
 
-unfoldable pub shown_svg : Plan → TableState → List Visits → List Shape → List Entry → Bool → List ℕ → List ℕ
-shown_svg p t vs shapes es faulty words =
+unfoldable pub shown_svg : Plan → TableState → List Visits → List Travels → List Shape → List Entry → Bool → List ℕ → List ℕ
+shown_svg p t vs ts shapes es faulty words =
     frame_svg p (length es) ++ picture_svg p t shapes es faulty words
-    ++ table_svg p t vs shapes (rows_bottom p (length es) + 90) ++ verdict_start
+    ++ tables_svg p t vs ts shapes (rows_bottom p (length es) + 90) ++ verdict_start
 
 abbrev pub svg_of : Plan → List Shape → List Entry → Bool → List ℕ → List ℕ → List ℕ
 svg_of p shapes es faulty words verdict =
-    shown_svg p (state_after p es) (visits_of p es) shapes es faulty words ++ end_svg verdict
+    shown_svg p (state_after p es) (visits_of p es) (travels_of p es) shapes es faulty words
+    ++ end_svg verdict
 
 abbrev pub svg_picture : Plan → List Bool → List Shape → List Entry → List ℕ → List ℕ
 svg_picture p meant shapes es verdict =

@@ -1,11 +1,11 @@
--- The table of sites below the legend: a line for each site that is listed, with its numbers.
+-- The tables below the legend: of sites, a line with numbers for each site that is listed, and of harts, a line for each.
 use Rattle.std.specs.Prelude.{ℕ, zero, suc, ◌+◌, ◌-◌, ◌*◌, ◌==◌, nat_le, nat_lt, min, Bool, ◌||◌, if◌then◌else◌, List, [], ◌∷◌, ◌++◌, codes}
 use Rattle.std.specs.List.{concat}
 use Rattle.std.specs.Fmt.{decimal}
 use Rattle.transfer_table.specs.Plan.{Plan, parent, site_count}
 use Rattle.transfer_table.specs.Table.{TableState, row}
-use Rattle.transfer_table.specs.declared.entry.Row.{Row}
 use Rattle.journal_picture.specs.declared.shape.Shape.{Shape}
+use Rattle.journal_picture.specs.declared.travels.Travels.{Travels}
 use Rattle.journal_picture.specs.declared.visits.Visits.{Visits}
 use Rattle.journal_picture.specs.SvgBars.{about_text, shape_of}
 use Rattle.journal_picture.specs.TextPicture.{fate_text, site_name}
@@ -19,9 +19,9 @@ is_listed sites s = nat_le s 20 || nat_lt sites (s + 20)
 abbrev pub slot_at : ℕ → ℕ → ℕ
 slot_at sites s = if nat_le s 20 then s else min 40 (s - (sites - 40))
 
--- How high the table is: a line of 18 units for each site that is listed, and two more.
+-- How high the table is: a line of 18 units for each site that is listed, and two more. Without sites there is no table.
 abbrev pub table_height : ℕ → ℕ
-table_height sites = 18 * (min 40 sites + 2)
+table_height sites = if sites == 0 then 0 else 18 * (min 40 sites + 2)
 
 -- A table that leaves sites out says so.
 abbrev pub sites_note : ℕ → List ℕ
@@ -77,7 +77,48 @@ rows_from p t vs shapes top s zero = []
 rows_from p t vs shapes top s (suc n) =
     listed_row p t vs shapes top s ++ rows_from p t vs shapes top (s + 1) n
 
--- The table whose first line is at this height.
+-- The table of so many sites, whose first line is at this height.
+abbrev pub sites_table : Plan → TableState → List Visits → List Shape → ℕ → ℕ → List ℕ
+sites_table p t vs shapes top sites =
+    table_head top (sites_note sites) ++ rows_from p t vs shapes top 1 sites
+
+-- A plan without sites has no table.
 abbrev pub table_svg : Plan → TableState → List Visits → List Shape → ℕ → List ℕ
 table_svg p t vs shapes top =
-    table_head top (sites_note (site_count p)) ++ rows_from p t vs shapes top 1 (site_count p)
+    if site_count p == 0 then [] else sites_table p t vs shapes top (site_count p)
+
+-- ---- the table of harts
+
+unfoldable pub harts_head : ℕ → List ℕ
+harts_head y =
+    concat (codes "<text y='" ∷ decimal y ∷
+    codes "' font-weight='bold'><tspan x='86'>entries made</tspan><tspan x='166'>stays</tspan><tspan x='246'>sites visited</tspan><tspan x='306' text-anchor='start'>hart</tspan></text>\n" ∷ [])
+
+unfoldable pub hart_row : ℕ → ℕ → ℕ → ℕ → ℕ → List ℕ
+hart_row y entries stays sites h =
+    concat (codes "<text y='" ∷ decimal y ∷ codes "'><tspan x='86'>" ∷ decimal entries ∷
+    codes "</tspan><tspan x='166'>" ∷ decimal stays ∷ codes "</tspan><tspan x='246'>" ∷
+    decimal sites ∷ codes "</tspan><tspan x='306' text-anchor='start'>h" ∷ decimal h ∷
+    codes "</tspan></text>\n" ∷ [])
+
+-- The lines of harts with these numbers, the first of which is this one.
+abbrev pub hart_rows : ℕ → ℕ → List Travels → List ℕ
+hart_rows top h [] = []
+hart_rows top h (v ∷ more) =
+    hart_row (top + 18 * (h + 1)) v.entries v.stays v.sites h ++ hart_rows top (h + 1) more
+
+-- The table whose first line is at this height.
+abbrev pub harts_table : ℕ → List Travels → List ℕ
+harts_table top vs = harts_head top ++ hart_rows top 0 vs
+
+-- How high the table of so many harts is.
+abbrev pub harts_height : ℕ → ℕ
+harts_height harts = 18 * (harts + 2)
+
+-- Both tables, the first line of the upper one at this height.
+abbrev pub tables_svg : Plan → TableState → List Visits → List Travels → List Shape → ℕ → List ℕ
+tables_svg p t vs ts shapes top =
+    table_svg p t vs shapes top ++ harts_table (top + table_height (site_count p)) ts
+
+abbrev pub tables_height : Plan → ℕ
+tables_height p = table_height (site_count p) + harts_height p.harts

@@ -13,14 +13,15 @@ use Rattle.transfer_table.specs.declared.entry.Stage.TheVariants.{New, Live, Gon
 use Rattle.transfer_table.specs.declared.entry.Entry.{Entry}
 use Rattle.transfer_table.specs.declared.entry.Entry.TheVariants.{Register, Request, Enter, Yield, Unregister, Skip}
 use Rattle.journal_picture.specs.declared.stay.Stay.{Stay}
-use Rattle.journal_picture.specs.declared.shape.Kind.{Kind}
-use Rattle.journal_picture.specs.declared.shape.Kind.TheVariants.{Pool, Team}
 use Rattle.journal_picture.specs.declared.shape.Shape.{Shape}
 use Rattle.journal_picture.specs.declared.strip.Figures.{Figures}
+use Rattle.journal_picture.specs.Kinds.{kind_text}
 use Rattle.journal_picture.specs.Stays.{stays_of}
 use Rattle.journal_picture.specs.declared.visits.Visits.{Visits}
+use Rattle.journal_picture.specs.declared.travels.Travels.{Travels}
 use Rattle.journal_picture.specs.Strip.{strip_of}
 use Rattle.journal_picture.specs.Visits.{visits_at, visits_of}
+use Rattle.journal_picture.specs.Travels.{travels_of}
 use Rattle.journal_picture.specs.Drawn.{drawn, has_fault, state_after}
 use Rattle.journal_picture.specs.Faults.{fault_line_of}
 
@@ -185,11 +186,6 @@ steps_up p (suc n) s = if s == 0 then 0 else 1 + steps_up p n (parent p s)
 abbrev pub depth_of : Plan → ℕ → ℕ
 depth_of p s = steps_up p s s
 
--- Each kind of site has its word.
-abbrev pub kind_text : Kind → List ℕ
-kind_text Pool = codes "pool"
-kind_text Team = codes "team"
-
 -- The home of a site is named, and a site without one is skipped.
 abbrev pub home_text : Option ℕ → List ℕ
 home_text None = codes ", skipped"
@@ -236,24 +232,47 @@ abbrev pub tree_text : Plan → TableState → List Visits → List Shape → Li
 tree_text p t vs shapes =
     codes "   req   met unmet guest  made  base\n" ++ site_lines p t vs 1 shapes
 
--- The legend explains the words of entries, of the strip and of the sites' numbers.
+-- ---- the table of harts
+
+-- The numbers at the left of a hart: the entries that it made, its stays, and the sites that it visited.
+abbrev pub travel_cells : Travels → List ℕ
+travel_cells v =
+    cell (decimal v.entries) ++ cell (decimal v.stays) ++ cell (decimal v.sites)
+
+-- The name of the hart ends its line.
+abbrev pub hart_end : ℕ → List ℕ
+hart_end h = concat (codes "  h" ∷ decimal h ∷ codes "\n" ∷ [])
+
+abbrev pub hart_line : ℕ → Travels → List ℕ
+hart_line h v = travel_cells v ++ hart_end h
+
+-- The lines of harts with these numbers, the first of which is this one.
+abbrev pub hart_lines : ℕ → List Travels → List ℕ
+hart_lines h [] = []
+hart_lines h (v ∷ more) = hart_line h v ++ hart_lines (h + 1) more
+
+-- The table has the names of the numbers, and a line for each hart.
+abbrev pub harts_text : List Travels → List ℕ
+harts_text vs = codes "\n  made stays sites  hart\n" ++ hart_lines 0 vs
+
+-- The legend explains the words of entries, of the strip and of the numbers of sites and harts.
 abbrev pub legend_text : List ℕ
 legend_text =
-    codes "\nreg registers a site, req requests harts, unreg unregisters the site\nunm unmet wishes, idl idle harts, ! a child of the base has an unmet wish while a hart is idle\nof sites: req requested harts, met and unmet wishes, guest most guests at once, made entries inside\n"
+    codes "\nreg registers a site, req requests harts, unreg unregisters the site\nunm unmet wishes, idl idle harts, ! a child of the base has an unmet wish while a hart is idle\nof sites: req requested harts, met and unmet wishes, guest most guests at once, made entries inside\nof harts: made entries, stays with those in the base, sites visited, each once\n"
 
 -- ---- the whole, with the verdict's line
 
 abbrev pub shown_text : Plan → TableState → List Shape → List Entry → List (List ℕ) → List Figures
-    → List Visits → Bool → List ℕ
-shown_text p t shapes es lanes strip vs faulty =
+    → List Visits → List Travels → Bool → List ℕ
+shown_text p t shapes es lanes strip vs ts faulty =
     bands_text faulty es lanes strip 0 (band_count (length es)) ++ tree_text p t vs shapes
-    ++ legend_text
+    ++ harts_text ts ++ legend_text
 
 -- The picture of these entries ends with these lines.
 abbrev pub text_of : Plan → List Shape → List Entry → Bool → List ℕ → List ℕ
 text_of p shapes es faulty ending =
     shown_text p (state_after p es) shapes es (lanes_of p es 0 p.harts) (strip_of p es)
-    (visits_of p es) faulty
+    (visits_of p es) (travels_of p es) faulty
     ++ ending
 
 -- The lines at the end are that of the fault, if there is one, and the verdict.

@@ -4,7 +4,7 @@ ghost use Rattle.transfer_table.specs.Entry.{hart_of, site_of};
 ghost use Rattle.transfer_table.specs.Plan.{most_entries};
 ghost use Rattle.journal_picture.specs.SvgMarks.{deed_text, guide_text, hart_at, harts_svg, mark_svg, names_svg, number_text, row_names, rows_svg, shown_tick, strip_names, strip_y, tick_marks, tick_text, ticks_text, who_by, who_text};
 
-use crate::scale::{entry_x, every, is_shown, lane_y, row_of, row_y, rows_of, step_of};
+use crate::scale::{entry_x, every, is_shown, lane_y, row_of, row_y, step_of};
 use crate::text::{deed, hart_of, site_of};
 use std::alloc::{AllocError, Global};
 use transfer_table::{Entry, Plan};

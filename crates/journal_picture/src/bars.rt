@@ -1,14 +1,14 @@
 //! The bars of the picture.
-ghost use Rattle.std.specs.Prelude.{◌≡◌, ◌≤◌, ◌<◌, ◌++◌, ◌+◌, ◌*◌, IfOk, OnOk, codes, length, string_bytes, Some, None};
+ghost use Rattle.std.specs.Prelude.{◌≡◌, ◌≤◌, ◌<◌, ◌++◌, ◌+◌, IfOk, OnOk, length, string_bytes, true, false, Some, None};
 ghost use Rattle.transfer_table.specs.Plan.{most_entries};
-ghost use Rattle.journal_picture.specs.TextPicture.{kind_text, last_or, site_name};
+ghost use Rattle.journal_picture.specs.TextPicture.{last_or, site_name};
 ghost use Rattle.journal_picture.specs.Scale.{level_of, per_row, row_of};
-ghost use Rattle.journal_picture.specs.SvgBars.{about_by, about_text, bar_text, bars_text, base_fill, fill_text, first_in, kind_fill, kind_label, label_text, lanes_svg, last_in, part_text, parts_text, placed_bar, rect_text, row_count, shape_of, shown_part, since_text, stay_title, title_by, until_text, words_text};
+ghost use Rattle.journal_picture.specs.SvgBars.{about_by, about_text, bar_text, bars_text, base_fill, fill_text, first_in, kind_label, kind_label_by, label_text, lanes_svg, last_in, part_text, parts_text, placed_bar, rect_text, row_count, shape_of, shown_part, since_text, site_fill, stay_title, title_by, until_text, words_text};
 
 use crate::scale::{bar_y, is_shown, level_of, per_row, place_x, row_of, row_y, step_of, times};
-use crate::shape::{Kind, Shape};
+use crate::shape::{Shape, kind_name};
 use crate::stay::{Stay, stays_of};
-use crate::words::{kind_name, site_name};
+use crate::words::site_name;
 use std::alloc::{AllocError, Global};
 use transfer_table::{Entry, Plan};
 
@@ -261,7 +261,8 @@ fn about_base(hart: u8) -> &'static str
 fn about_shape(alloc: Global, shape: Shape) -> Result<String, AllocError>
     ensures { IfOk result (λ about. string_bytes about ≡ about_text (Some shape) 0) }
 {
-    about_by(alloc, kind_name(shape.kind), shape.line)
+    let kind = kind_name(alloc, shape.kind)?;
+    about_by(alloc, kind.as_str(), shape.line)
 }
 
 // A kind and a line.
@@ -350,11 +351,12 @@ fn write_label(
         ++ label_text x y width (site_name site) shape) }
 {
     let name = site_name(alloc, site)?;
-    write_label_of(text, x, y, width, name.as_str(), shape)
+    write_label_of(alloc, text, x, y, width, name.as_str(), shape)
 }
 
 // Adds a label with this name, where there is room.
 fn write_label_of(
+    alloc: Global,
     text: &mut String,
     x: usize,
     y: usize,
@@ -372,13 +374,8 @@ fn write_label_of(
     if width / 7 <= letters {
         return Ok(());
     }
-    write_words(
-        text,
-        x + width / 2,
-        y + 11,
-        name,
-        kind_label(shape, letters, width),
-    )
+    let kind = kind_label(alloc, shape, letters, width)?;
+    write_words(text, x + width / 2, y + 11, name, kind.as_str())
 }
 
 // Adds a name and a word at a place.
@@ -396,25 +393,37 @@ fn write_words(
 }
 
 // The kind of a bar's site, where there is room for it behind so many letters.
-fn kind_label(shape: Option<Shape>, letters: usize, width: usize) -> &'static str
-    ensures { result.now ≡ kind_label shape letters width }
+fn kind_label(
+    alloc: Global,
+    shape: Option<Shape>,
+    letters: usize,
+    width: usize,
+) -> Result<String, AllocError>
+    ensures { IfOk result (λ label. string_bytes label ≡ kind_label shape letters width) }
 {
-    if (width / 7).saturating_sub(5) <= letters {
-        return "";
-    }
     match shape {
-        None => "",
-        Some(shape) => kind_word(shape.kind),
+        None => Ok(String::new(alloc)),
+        Some(shape) => {
+            let kind = kind_name(alloc, shape.kind)?;
+            kind_label_by(alloc, kind.as_str(), letters, width)
+        }
     }
 }
 
-// The name of a kind behind a blank.
-fn kind_word(kind: Kind) -> &'static str
-    ensures { result.now ≡ codes " " ++ kind_text kind }
+// The kind behind a blank, where there is room for both behind so many letters.
+fn kind_label_by(
+    alloc: Global,
+    kind: &str,
+    letters: usize,
+    width: usize,
+) -> Result<String, AllocError>
+    ensures { IfOk result (λ label. string_bytes label
+        ≡ kind_label_by kind.now letters width) }
 {
-    match kind {
-        Kind::Pool => " pool",
-        Kind::Team => " team",
+    if (width / 7).saturating_sub(kind.len() + 1) <= letters {
+        Ok(String::new(alloc))
+    } else {
+        format!(in alloc; " {kind}")
     }
 }
 
@@ -434,7 +443,7 @@ pub(crate) fn fill(shape: Option<Shape>, hart: u8, level: usize) -> &'static str
 {
     match shape {
         None => base_fill(hart),
-        Some(shape) => kind_fill(shape.kind, level),
+        Some(shape) => site_fill(shape.phased, level),
     }
 }
 
@@ -449,28 +458,39 @@ pub(crate) fn base_fill(hart: u8) -> &'static str
     }
 }
 
-/// The colour of a site and its outline, by its kind and depth.
-pub(crate) fn kind_fill(kind: Kind, level: usize) -> &'static str
-    ensures { result.now ≡ kind_fill kind level }
+/// The colour of a site by its depth, and its outline, which is dashed if the site has phases.
+pub(crate) fn site_fill(phased: bool, level: usize) -> &'static str
+    ensures { result.now ≡ site_fill phased level }
 {
-    match kind {
-        Kind::Pool => {
-            if level == 1 {
-                "#cfe3f8' stroke='#2c5d8f"
-            } else if level == 2 {
-                "#9fc8f0' stroke='#2c5d8f"
-            } else {
-                "#6fabe4' stroke='#2c5d8f"
-            }
-        }
-        Kind::Team => {
-            if level == 1 {
-                "#fbe3bd' stroke-dasharray='4 2' stroke='#8a5a12"
-            } else if level == 2 {
-                "#f6c987' stroke-dasharray='4 2' stroke='#8a5a12"
-            } else {
-                "#eba94d' stroke-dasharray='4 2' stroke='#8a5a12"
-            }
-        }
+    if phased {
+        phased_fill(level)
+    } else {
+        plain_fill(level)
+    }
+}
+
+// The colour by the depth, with a dashed outline.
+fn phased_fill(level: usize) -> &'static str
+    ensures { result.now ≡ site_fill true level }
+{
+    if level == 1 {
+        "#cfe3f8' stroke-dasharray='4 2' stroke='#2c5d8f"
+    } else if level == 2 {
+        "#9fc8f0' stroke-dasharray='4 2' stroke='#2c5d8f"
+    } else {
+        "#6fabe4' stroke-dasharray='4 2' stroke='#2c5d8f"
+    }
+}
+
+// The colour by the depth, with a solid outline.
+fn plain_fill(level: usize) -> &'static str
+    ensures { result.now ≡ site_fill false level }
+{
+    if level == 1 {
+        "#cfe3f8' stroke='#2c5d8f"
+    } else if level == 2 {
+        "#9fc8f0' stroke='#2c5d8f"
+    } else {
+        "#6fabe4' stroke='#2c5d8f"
     }
 }

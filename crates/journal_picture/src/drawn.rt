@@ -1,7 +1,7 @@
 //! What is drawn of a list of entries.
 ghost use Rattle.std.specs.Prelude.{◌≡◌, ◌≤◌, IfOk, length};
-ghost use Rattle.transfer_table.specs.Table.{first_state, admit_of};
-ghost use Rattle.journal_picture.specs.Drawn.{before, or_same, state_from, state_after};
+ghost use Rattle.transfer_table.specs.Table.{admit_of};
+ghost use Rattle.journal_picture.specs.Drawn.{before, or_same, state_after};
 
 use std::alloc::{AllocError, Global};
 use transfer_table::{Board, Entry, Fault, Plan};

@@ -1,9 +1,11 @@
-//! The laws of stays, of the strip, of faults and of escaped texts, each the contract of a function that does nothing. They hold for every plan
-//! and every list of entries. They are stated in `specs/Laws.antt`, `specs/Strip.antt`
-//! and `specs/Faults.antt`.
+//! The laws of stays, of the strip, of faults, of the numbers of sites and harts, and of escaped texts, each the contract of a
+//! function that does nothing. They hold for every plan and every list of entries. They are stated in `specs/Laws.antt`,
+//! `specs/Strip.antt`, `specs/Faults.antt`, `specs/Visits.antt` and `specs/Travels.antt`.
 ghost use Rattle.journal_picture.specs.Laws.{EscapedHasNoMarkup, OneStayAtEachPlace, StaysFollowOneAnother, GuestsAreWithTheHome};
 ghost use Rattle.journal_picture.specs.Faults.{FaultHasItsReason, FaultIsIncomplete};
 ghost use Rattle.journal_picture.specs.Visits.{GuestsAreAtMost, GuestsAreReached, MetWishesEntered};
+ghost use Rattle.journal_picture.specs.Travels.{EntriesAreMade, StaysAreMoves, VisitedHasPlace};
+ghost use Rattle.journal_picture.specs.Kinds.{KindHasItsName, KindHasNoMarkup};
 ghost use Rattle.journal_picture.specs.Strip.{RedIsMissed, StripHasFigures};
 
 /// At each place up to which a list is legal each hart is in exactly one of its stays, and that is at the site that holds it.
@@ -60,4 +62,29 @@ pub fn guests_are_reached()
 /// Of a legal list, the requested and the met wishes of a site are as many as its entries say.
 pub fn met_wishes_entered()
     ensures { MetWishesEntered }
+{}
+
+/// A site counts for a hart of a legal list exactly if the hart is there at some place.
+pub fn visited_has_place()
+    ensures { VisitedHasPlace }
+{}
+
+/// A hart of a legal list has one stay more than there are entries that move it.
+pub fn stays_are_moves()
+    ensures { StaysAreMoves }
+{}
+
+/// The harts of a legal list made all its entries.
+pub fn entries_are_made()
+    ensures { EntriesAreMade }
+{}
+
+/// A kind has the name that it was made with.
+pub fn kind_has_its_name()
+    ensures { KindHasItsName }
+{}
+
+/// The name of no kind has a `<`.
+pub fn kind_has_no_markup()
+    ensures { KindHasNoMarkup }
 {}

@@ -1,5 +1,5 @@
 //! The marks at the lanes, the strip and the fault.
-ghost use Rattle.std.specs.Prelude.{◌≡◌, ◌≤◌, ◌++◌, IfOk, OnOk, codes, length, string_bytes};
+ghost use Rattle.std.specs.Prelude.{◌≡◌, ◌≤◌, ◌++◌, IfOk, OnOk, length, string_bytes};
 ghost use Rattle.std.specs.Fmt.{decimal};
 ghost use Rattle.transfer_table.specs.Plan.{most_entries};
 ghost use Rattle.transfer_table.specs.Table.{first_state};

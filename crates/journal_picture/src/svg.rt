@@ -4,13 +4,14 @@ ghost use Rattle.transfer_table.specs.Plan.{site_count, most_entries};
 ghost use Rattle.journal_picture.specs.SvgPicture.{base_swatches, end_svg, escaped, escaped_byte, frame_svg, head_of, head_svg, legend_svg, marks_note, note_svg, over_svg, picture_svg, rows_note, shown_svg, site_swatches, svg_of, svg_picture, swatch_svg, swatches_svg, title_of, title_svg, under_svg, words_svg};
 
 use crate::axis::{write_at, write_rows, write_ticks};
-use crate::bars::{base_fill, kind_fill, write_lanes, write_rect};
+use crate::bars::{base_fill, site_fill, write_lanes, write_rect};
 use crate::drawn::{before, board_after};
 use crate::faults::words_of;
 use crate::marks::{write_fault, write_marks, write_strip};
 use crate::scale::{rows_bottom, rows_of, step_of, width_of};
-use crate::shape::{Kind, Shape};
-use crate::table::{table_height, write_table};
+use crate::shape::Shape;
+use crate::table::{tables_height, write_tables};
+use crate::travels::{Travels, travels_of};
 use crate::visits::{Visits, visits_of};
 use std::alloc::{AllocError, Global};
 use transfer_table::{Board, Entry, Plan, first_fault};
@@ -21,6 +22,7 @@ use transfer_table::{Board, Entry, Plan, first_fault};
 ///
 /// The places stand in rows of at most 1,500 units. A picture has at most 32 rows: if there are more, the first 16 and the last 16
 /// are shown, and the picture says so. The table of sites below lists at most 40: if there are more, the first 20 and the last 20.
+/// Below it is the table of harts.
 ///
 /// # Errors
 ///
@@ -68,9 +70,10 @@ fn svg_of(
 {
     let board = board_after(alloc, plan, list)?;
     let visits = visits_of(alloc, plan, list)?;
+    let travels = travels_of(alloc, plan, list)?;
     let mut text = String::new(alloc);
     write_shown(
-        alloc, &mut text, &board, &visits, shapes, list, faulty, words,
+        alloc, &mut text, &board, &visits, &travels, shapes, list, faulty, words,
     )?;
     ended(text.into_bytes(), verdict)
 }
@@ -113,6 +116,7 @@ fn write_shown(
     text: &mut String,
     board: &Board,
     visits: &[Visits],
+    travels: &[Travels],
     shapes: &[Shape],
     list: &[Entry],
     faulty: bool,
@@ -120,14 +124,15 @@ fn write_shown(
 ) -> Result<(), AllocError>
     requires few { length list.now ≤ most_entries }
     requires visits { length visits.now ≡ site_count board.now.plan }
+    requires travels { length travels.now ≤ 255 }
     ensures { OnOk result (string_bytes text.new ≡ string_bytes text.old
-        ++ shown_svg board.now.plan board.now.state visits.now shapes.now list.now faulty
-        words.now) }
+        ++ shown_svg board.now.plan board.now.state visits.now travels.now shapes.now list.now
+        faulty words.now) }
 {
     write_frame(text, board.plan(), list.len())?;
     write_picture(alloc, text, board, shapes, list, faulty, words)?;
     let top = rows_bottom(board.plan(), list.len()) + 90;
-    write_table(alloc, text, board, visits, shapes, top)?;
+    write_tables(alloc, text, board, visits, travels, shapes, top)?;
     text.push_str("<text x='16' y='52' font-size='14' text-anchor='start'>")
 }
 
@@ -221,7 +226,7 @@ fn write_head(text: &mut String, plan: &Plan, end: usize) -> Result<(), AllocErr
     requires { end ≤ most_entries }
     ensures { OnOk result (string_bytes text.new ≡ string_bytes text.old ++ head_svg plan.now end) }
 {
-    let height = rows_bottom(plan, end) + 76 + table_height(plan.sites());
+    let height = rows_bottom(plan, end) + 76 + tables_height(plan);
     write_head_of(text, width_of(end), height)
 }
 
@@ -293,8 +298,8 @@ fn write_site_swatches(text: &mut String, y: usize) -> Result<(), AllocError>
     requires { y ≤ 5000000000000 }
     ensures { OnOk result (string_bytes text.new ≡ string_bytes text.old ++ site_swatches y) }
 {
-    write_swatch(text, 336, y, kind_fill(Kind::Pool, 1), "a pool (par)")?;
-    write_swatch(text, 456, y, kind_fill(Kind::Team, 1), "a team")?;
+    write_swatch(text, 336, y, site_fill(false, 1), "a site")?;
+    write_swatch(text, 416, y, site_fill(true, 1), "a site of phases")?;
     write_swatch(text, 556, y, "#f6b3b9' stroke='#b00020", "a missed wish")
 }
 
@@ -323,7 +328,7 @@ fn write_words(text: &mut String, first: usize, second: usize, note: &str) -> Re
 {
     write!(
         text,
-        "<text x='56' y='{first}'>higher: deeper in the tree. a missed wish: a child of the base has an unmet wish while a hart is idle.</text>\n<text x='56' y='{second}'>{note}</text>\n</g>\n"
+        "<text x='56' y='{first}'>higher and darker: deeper in the tree. a missed wish: a child of the base has an unmet wish while a hart is idle.</text>\n<text x='56' y='{second}'>{note}</text>\n</g>\n"
     )
 }
 

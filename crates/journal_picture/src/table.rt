@@ -1,26 +1,60 @@
-//! The table of sites.
+//! The table of sites, and with it the table of harts.
 ghost use Rattle.std.specs.Prelude.{◌≡◌, ◌≤◌, ◌++◌, ◌*◌, ◌+◌, ◌-◌, IfOk, OnOk, length, min, string_bytes};
 ghost use Rattle.transfer_table.specs.Plan.{IsSite, site_count};
-ghost use Rattle.journal_picture.specs.SvgTable.{inside_text, is_listed, listed_row, rows_from, site_row, site_words, sites_note, slot_at, table_head, table_height, table_row, table_svg, visits_part, wishes_part};
+ghost use Rattle.journal_picture.specs.SvgTable.{inside_text, is_listed, listed_row, rows_from, site_row, site_words, sites_note, sites_table, slot_at, table_head, table_height, table_row, table_svg, tables_height, tables_svg, visits_part, wishes_part};
 
 use crate::bars::{about_text, shape_of};
+use crate::harts::{harts_height, write_harts_table};
 use crate::shape::Shape;
+use crate::travels::Travels;
 use crate::tree::write_fate;
 use crate::visits::Visits;
 use crate::words::site_name;
 use std::alloc::{AllocError, Global};
-use transfer_table::Board;
+use transfer_table::{Board, Plan};
 
-/// How high the table of so many sites is.
-pub(crate) fn table_height(sites: u16) -> usize
+/// How high both tables are.
+pub(crate) fn tables_height(plan: &Plan) -> usize
+    ensures same { result ≡ tables_height plan.now }
+    ensures low { result ≤ 6000 }
+{
+    table_height(plan.sites()) + harts_height(plan.harts())
+}
+
+/// Adds the tables of sites and of harts, with their first line at this height.
+pub(crate) fn write_tables(
+    alloc: Global,
+    text: &mut String,
+    board: &Board,
+    visits: &[Visits],
+    travels: &[Travels],
+    shapes: &[Shape],
+    top: usize,
+) -> Result<(), AllocError>
+    requires visits { length visits.now ≡ site_count board.now.plan }
+    requires travels { length travels.now ≤ 255 }
+    requires upper { top ≤ 5000000000000 }
+    ensures { OnOk result (string_bytes text.new ≡ string_bytes text.old
+        ++ tables_svg board.now.plan board.now.state visits.now travels.now shapes.now top) }
+{
+    write_table(alloc, text, board, visits, shapes, top)?;
+    let next = top + table_height(board.plan().sites());
+    write_harts_table(text, travels, next)
+}
+
+// How high the table of so many sites is.
+fn table_height(sites: u16) -> usize
     ensures same { result ≡ table_height sites }
     ensures low { result ≤ 1000 }
 {
+    if sites == 0 {
+        return 0;
+    }
     18 * ((sites as usize).min(40) + 2)
 }
 
-/// Adds the table of sites, with its first line at this height.
-pub(crate) fn write_table(
+// Adds the table of sites, if there are some.
+fn write_table(
     alloc: Global,
     text: &mut String,
     board: &Board,
@@ -32,6 +66,28 @@ pub(crate) fn write_table(
     requires upper { top ≤ 5000000000000 }
     ensures { OnOk result (string_bytes text.new ≡ string_bytes text.old
         ++ table_svg board.now.plan board.now.state visits.now shapes.now top) }
+{
+    if board.plan().sites() == 0 {
+        Ok(())
+    } else {
+        write_sites_table(alloc, text, board, visits, shapes, top)
+    }
+}
+
+// Adds the table of sites.
+fn write_sites_table(
+    alloc: Global,
+    text: &mut String,
+    board: &Board,
+    visits: &[Visits],
+    shapes: &[Shape],
+    top: usize,
+) -> Result<(), AllocError>
+    requires visits { length visits.now ≡ site_count board.now.plan }
+    requires upper { top ≤ 5000000000000 }
+    ensures { OnOk result (string_bytes text.new ≡ string_bytes text.old
+        ++ sites_table board.now.plan board.now.state visits.now shapes.now top
+        (site_count board.now.plan)) }
 {
     let note = sites_note(alloc, board.plan().sites())?;
     write_table_head(text, top, note.as_str())?;

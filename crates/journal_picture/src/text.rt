@@ -1,16 +1,17 @@
 //! The picture in text.
-ghost use Rattle.std.specs.Prelude.{◌≡◌, ◌≤◌, ◌++◌, ◌*◌, ◌+◌, IfOk, OnOk, length, take, drop, string_bytes, true};
+ghost use Rattle.std.specs.Prelude.{◌≡◌, ◌≤◌, ◌++◌, ◌*◌, ◌+◌, IfOk, OnOk, length, take, drop, string_bytes};
 ghost use Rattle.transfer_table.specs.Entry.{hart_of, site_of};
 ghost use Rattle.transfer_table.specs.Plan.{site_count, most_entries};
 ghost use Rattle.journal_picture.specs.TextPicture.{requesting, at_sites_line, at_sites_text, band_count, band_text, bands_text, deed, deed_lines, deeds_line, deeds_text, doer, doers_line, doers_text, hart_name, idle_line, idle_words, idles_text, lanes_text, mark_text, numbers_line, numbers_text, shown_text, sites_text, strip_lines, text_of, text_picture, unmet_line, unmets_text};
-ghost use Rattle.journal_picture.specs.Drawn.{state_after};
 ghost use Rattle.journal_picture.specs.Faults.{fault_line_of};
 
 use crate::drawn::{before, board_after};
 use crate::faults::fault_line_of;
+use crate::harts::write_harts_text;
 use crate::lanes::{Lane, lanes_of};
 use crate::shape::Shape;
 use crate::strip::{Figures, strip_of};
+use crate::travels::{Travels, travels_of};
 use crate::tree::write_tree;
 use crate::visits::{Visits, visits_of};
 use crate::words::{site_name, write_cell, write_name};
@@ -77,17 +78,18 @@ fn text_of(
     let lanes = lanes_of(alloc, plan, list)?;
     let strip = strip_of(alloc, plan, list)?;
     let visits = visits_of(alloc, plan, list)?;
+    let travels = travels_of(alloc, plan, list)?;
     let board = board_after(alloc, plan, list)?;
     let mut text = String::new(alloc);
     write_shown(
-        alloc, &mut text, &board, shapes, list, &lanes, &strip, &visits, faulty,
+        alloc, &mut text, &board, shapes, list, &lanes, &strip, &visits, &travels, faulty,
     )?;
     let mut bytes = text.into_bytes();
     bytes.extend_from_slice(ending)?;
     Ok(bytes)
 }
 
-// Adds the bands, the tree and the legend.
+// Adds the bands, the tree, the table of harts and the legend.
 fn write_shown(
     alloc: Global,
     text: &mut String,
@@ -97,6 +99,7 @@ fn write_shown(
     lanes: &[Lane],
     strip: &[Figures],
     visits: &[Visits],
+    travels: &[Travels],
     faulty: bool,
 ) -> Result<(), AllocError>
     requires few { length list.now ≤ most_entries }
@@ -104,12 +107,13 @@ fn write_shown(
     requires visits { length visits.now ≡ site_count board.now.plan }
     ensures { OnOk result (string_bytes text.new ≡ string_bytes text.old
         ++ shown_text board.now.plan board.now.state shapes.now list.now lanes.now strip.now
-        visits.now faulty) }
+        visits.now travels.now faulty) }
 {
     write_bands(alloc, text, list, lanes, strip, faulty)?;
     write_tree(alloc, text, board, visits, shapes)?;
+    write_harts_text(alloc, text, travels)?;
     text.push_str(
-        "\nreg registers a site, req requests harts, unreg unregisters the site\nunm unmet wishes, idl idle harts, ! a child of the base has an unmet wish while a hart is idle\nof sites: req requested harts, met and unmet wishes, guest most guests at once, made entries inside\n",
+        "\nreg registers a site, req requests harts, unreg unregisters the site\nunm unmet wishes, idl idle harts, ! a child of the base has an unmet wish while a hart is idle\nof sites: req requested harts, met and unmet wishes, guest most guests at once, made entries inside\nof harts: made entries, stays with those in the base, sites visited, each once\n",
     )
 }
 

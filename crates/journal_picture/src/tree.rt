@@ -1,14 +1,14 @@
 //! The tree of the sites in text, with their numbers.
-ghost use Rattle.std.specs.Prelude.{◌≡◌, ◌++◌, ◌≤◌, OnOk, IfOk, codes, length, string_bytes};
+ghost use Rattle.std.specs.Prelude.{◌≡◌, ◌++◌, ◌≤◌, OnOk, length, string_bytes};
 ghost use Rattle.std.specs.Fmt.{decimal};
 ghost use Rattle.transfer_table.specs.Plan.{IsSite, site_count};
 ghost use Rattle.transfer_table.specs.Table.{row};
 ghost use Rattle.journal_picture.specs.TextPicture.{cell, depth_of, fate_text, home_text, site_line, site_lines, site_start, tree_text, visit_cells, wish_cells};
 ghost use Rattle.journal_picture.specs.Visits.{visits_at};
 
-use crate::shape::Shape;
+use crate::shape::{Shape, kind_name};
 use crate::visits::Visits;
-use crate::words::{kind_name, write_blanks, write_cell};
+use crate::words::{write_blanks, write_cell};
 use std::alloc::{AllocError, Global};
 use transfer_table::{Board, Plan, Stage};
 
@@ -66,7 +66,7 @@ fn write_site(
 {
     write_wishes(alloc, text, board.asked(site), board.wishes(site))?;
     write_visits(alloc, text, visits[site as usize - 1])?;
-    write_start(text, depth_of(board.plan(), site), site, shape)?;
+    write_start(alloc, text, depth_of(board.plan(), site), site, shape)?;
     write_fate(text, board.stage(site), board.home(site))?;
     text.push_str("\n")
 }
@@ -90,8 +90,8 @@ fn write_visits(alloc: Global, text: &mut String, visits: Visits) -> Result<(), 
     text.push_str("  ")
 }
 
-// Adds a number in a cell.
-fn write_number(alloc: Global, text: &mut String, number: u32) -> Result<(), AllocError>
+/// Adds a number in a cell.
+pub(crate) fn write_number(alloc: Global, text: &mut String, number: u32) -> Result<(), AllocError>
     ensures { OnOk result (string_bytes text.new ≡ string_bytes text.old
         ++ cell (decimal number)) }
 {
@@ -100,10 +100,17 @@ fn write_number(alloc: Global, text: &mut String, number: u32) -> Result<(), All
 }
 
 // Adds the name of a site, what it is and where it stands.
-fn write_start(text: &mut String, depth: u16, site: u16, shape: Shape) -> Result<(), AllocError>
+fn write_start(
+    alloc: Global,
+    text: &mut String,
+    depth: u16,
+    site: u16,
+    shape: Shape,
+) -> Result<(), AllocError>
     ensures { OnOk result (string_bytes text.new ≡ string_bytes text.old ++ site_start depth site shape) }
 {
-    let kind = kind_name(shape.kind);
+    let name = kind_name(alloc, shape.kind)?;
+    let kind = name.as_str();
     let line = shape.line;
     write_blanks(text, 2 * depth as usize)?;
     write!(text, "s{site} {kind}, line {line}")

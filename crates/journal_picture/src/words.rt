@@ -1,8 +1,7 @@
 //! Words of both pictures.
 ghost use Rattle.std.specs.Prelude.{◌≡◌, ◌++◌, OnOk, string_bytes, IfOk};
-ghost use Rattle.journal_picture.specs.TextPicture.{blanks, cell, name_cell, site_name, kind_text};
+ghost use Rattle.journal_picture.specs.TextPicture.{blanks, cell, name_cell, site_name};
 
-use crate::shape::Kind;
 use std::alloc::{AllocError, Global};
 
 /// Adds so many blanks.
@@ -39,15 +38,5 @@ pub(crate) fn site_name(alloc: Global, site: u16) -> Result<String, AllocError>
         String::from_str(alloc, "base")
     } else {
         format!(in alloc; "s{site}")
-    }
-}
-
-/// The name of a kind.
-pub(crate) fn kind_name(kind: Kind) -> &'static str
-    ensures { result.now ≡ kind_text kind }
-{
-    match kind {
-        Kind::Pool => "pool",
-        Kind::Team => "team",
     }
 }

@@ -5,7 +5,7 @@ use Rattle.transfer_table.specs.Plan.{Plan, parent}
 use Rattle.transfer_table.specs.declared.entry.Entry.{Entry}
 use Rattle.transfer_table.specs.declared.entry.Entry.TheVariants.{Register, Request, Enter, Yield, Unregister, Skip}
 
--- the beginning of each line: the entry's place, its hart, what it does and its site
+-- the beginning of each line: the entry's index, its hart, what it does and its site
 abbrev pub start_text : ℕ → ℕ → List ℕ → ℕ → List ℕ
 start_text place hart action site =
     decimal place ++ codes " h" ++ decimal hart ++ codes " " ++ action ++ codes " s" ++ decimal site
@@ -14,7 +14,7 @@ start_text place hart action site =
 abbrev pub under_text : ℕ → List ℕ
 under_text around = codes " under s" ++ decimal around ++ 10 ∷ []
 
--- the line of the entry at a place
+-- the line of the entry at an index
 abbrev pub line_text : Plan → ℕ → Entry → List ℕ
 line_text plan place (Register hart site) =
     start_text place hart (codes "register") site ++ under_text (parent plan site)
@@ -26,7 +26,7 @@ line_text plan place (Unregister hart site) =
     start_text place hart (codes "unregister") site ++ 10 ∷ []
 line_text plan place (Skip hart site) = start_text place hart (codes "skip") site ++ 10 ∷ []
 
--- the lines of entries, the first of which is at this place
+-- the lines of entries, the first of which is at this index
 abbrev pub lines_text : Plan → ℕ → List Entry → List ℕ
 lines_text plan place [] = []
 lines_text plan place (entry ∷ more) =

@@ -16,6 +16,7 @@ use Rattle.journal_text.specs.declared.fault.TextFault.TheVariants.{BadLine, Bad
 abbrev pub lines_of : List ℕ → List (List ℕ)
 lines_of text = slice_split (λ byte. byte == 10) text
 
+-- the words of a line
 abbrev pub words_of : List ℕ → List (List ℕ)
 words_of line = slice_split (λ byte. byte == 32) line
 
@@ -58,13 +59,14 @@ deed_of action (under ∷ around ∷ []) =
     then Some (registers (drop 1 around)) else None
 deed_of action more = None
 
--- a line that has the form of a row: the words of its place, its hart and its site, and its deed
+-- a line that has the form of a row: the words of its index, its hart and its site, and its deed
 pub record Row : Type 0 where
   pub place : List ℕ
   pub hart : List ℕ
   pub site : List ℕ
   pub deed : Deed
 
+-- the row of these words
 abbrev pub row_with : List ℕ → List ℕ → List ℕ → Deed → Row
 row_with place hart site deed = record { place = place; hart = hart; site = site; deed = deed }
 
@@ -81,9 +83,11 @@ row_of words = None
 abbrev pub most_hart : ℕ
 most_hart = 255
 
+-- the greatest number of a site
 abbrev pub most_site : ℕ
 most_site = 65535
 
+-- the greatest number of requested harts
 abbrev pub most_count : ℕ
 most_count = 255
 
@@ -97,7 +101,7 @@ entry_by plan hart site yields = Some (Yield hart site)
 entry_by plan hart site unregisters = Some (Unregister hart site)
 entry_by plan hart site skips = Some (Skip hart site)
 
--- the entry of a row at this place, if all its numbers are right: its first one is the place
+-- the entry of a row at this index, if all its numbers are right: the first number is the index
 abbrev pub entry_in : Plan → ℕ → Row → Option Entry
 entry_in plan place row =
     if spells place row.place
@@ -110,12 +114,13 @@ abbrev pub or_fault : {A : Type 0} → TextFault → Option A → Result A TextF
 or_fault fault None = Err fault
 or_fault fault (Some x) = Ok x
 
+-- the result of f on a value, or the fault
 abbrev pub and_then : {A B : Type 0} → (A → Result B TextFault) → Result A TextFault
     → Result B TextFault
 and_then f (Ok x) = f x
 and_then f (Err fault) = Err fault
 
--- the entry of the line that has these words; the line of place 0 is the second
+-- the entry of the line that has these words; the line of index 0 is the second
 abbrev pub entry_of : Plan → ℕ → List (List ℕ) → Result Entry TextFault
 entry_of plan place words =
     and_then (λ row. or_fault (BadNumber (place + 2)) (entry_in plan place row))
@@ -128,7 +133,7 @@ count_in (word ∷ number ∷ []) =
     else Err (BadLine 1)
 count_in words = Err (BadLine 1)
 
--- the entries of the lines from this place on; what stands behind the last newline is a line without one
+-- the entries of the lines from this index on; the text after the last newline is a line without one
 abbrev pub entries_of : Plan → ℕ → List (List ℕ) → Result (List Entry) TextFault
 entries_of plan place [] = Ok []
 entries_of plan place (last ∷ []) = if length last == 0 then Ok [] else Err (BadLine (place + 2))

@@ -6,8 +6,8 @@ use std::alloc::{AllocError, AllocFailed};
 pub enum TextFault {
     /// The line doesn't have the form that is due there, or no newline ends it.
     BadLine { line: u32 },
-    /// The line has its form, but a number in it isn't decimal, has leading zeros, is too large, isn't the entry's index, or isn't
-    /// the plan's parent.
+    /// The line has its form, but a number in it isn't decimal, has leading zeros, is too large, isn't the entry's index, or
+    /// isn't the plan's parent.
     BadNumber { line: u32 },
     /// Every line is right, but the number of entries differs from that in the first line.
     WrongCount { said: u32, found: u32 },

@@ -1,5 +1,5 @@
 //! Reads a journal.
-ghost use Rattle.std.specs.Prelude.{◌≡◌, ◌⊎◌, ◌+◌, ◌<◌, ◌≤◌, ◌^◌, ℕ, List, [], ◌∷◌, Ok, Err, IfOk, IfErr, MatchOption, ◌==◌, position, vec_len, length, map, take};
+ghost use Rattle.std.specs.Prelude.{◌≡◌, ◌⊎◌, ◌+◌, ◌<◌, ◌≤◌, ◌^◌, ℕ, List, [], ◌∷◌, Ok, Err, IfOk, MatchOption, ◌==◌, position, vec_len, length, map, take};
 ghost use Rattle.transfer_table.specs.declared.entry.Entry.{Entry};
 ghost use Rattle.journal_text.specs.Journals.{IsJournalOf};
 ghost use Rattle.journal_text.specs.Reading.{lines_of, words_of, count_in, entry_of, entries_of, journal_of};

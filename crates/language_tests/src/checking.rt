@@ -1,4 +1,4 @@
-//! Programs with known answers.
+//! Programs with known results of the check.
 
 use crate::programs::parsed;
 use array_lang::parse;
@@ -6,7 +6,7 @@ use disjoint_check::{Accepted, CheckFault, Limit, check};
 use std::alloc::Global;
 use std::test::Fail;
 
-// The first condition that the program of a text fails, where it fails one.
+// The first condition that the program of a text fails, if it fails one.
 fn refusal(alloc: Global, text: &str) -> Result<Option<CheckFault>, Fail> {
     let program = parsed(alloc, text)?;
     match check(alloc, &program, 1) {

@@ -1,4 +1,4 @@
-//! How many sites and pieces there are, counted by hand.
+//! The numbers of sites and pieces, counted by hand.
 
 use crate::programs::parsed;
 use array_tree::Stmt;
@@ -15,7 +15,7 @@ fn counts(alloc: Global, text: &str) -> Result<(u64, u64), Fail> {
     ))
 }
 
-// The sites of a text's first statement, by turns where it is a loop, and its parts where it is a `par`.
+// The sites of a text's first statement, by turns if it is a loop, and its parts if it is a `par`.
 fn first_counts(alloc: Global, text: &str) -> Result<(u64, u64, usize), Fail> {
     let program = parsed(alloc, text)?;
     let Some(first) = program.body.statements.first() else {
@@ -37,7 +37,7 @@ fn first_counts(alloc: Global, text: &str) -> Result<(u64, u64, usize), Fail> {
 #[test]
 fn sites_and_pieces_of_nested_constructs(rt: HostRuntime) -> Result<(), Fail> {
     let alloc = rt.alloc();
-    // In each of three turns a `par` of two branches, and in it a `team` of two members and two phases.
+    // Each of three turns has a `par` of two branches, with a `team` of two members and two phases in it.
     let nested = "for i in 0..3 { par { { } { team j in 0..2 by 2 { } barrier { } } } }";
     assert!(rt; counts(alloc, nested)? == (6, 18));
     assert!(rt; first_counts(alloc, nested)? == (6, 6, 0));

@@ -1,4 +1,4 @@
-//! The arrays that programs end with.
+//! The arrays with which programs end.
 
 use crate::programs::{are_sized, parsed};
 use array_eval::{run_one, write_arrays};
@@ -12,7 +12,7 @@ fn ends_with(alloc: Global, text: &str, expected: &[u8]) -> Result<bool, Fail> {
     writes(alloc, &program, expected)
 }
 
-// Whether these are the array lines that the run of a program ends with.
+// Whether the run of a program ends with these array lines.
 fn writes(alloc: Global, program: &Program, expected: &[u8]) -> Result<bool, Fail> {
     if !are_sized(&program.arrays) {
         return Err(Fail::new("arrays of no size that a program may have"));
@@ -55,7 +55,7 @@ fn numbers_wrap_and_divide_by_zero(rt: HostRuntime) -> Result<(), Fail> {
     Ok(())
 }
 
-// The names of two arrays have one digest.
+// The names of two arrays have the same digest.
 #[test]
 fn arrays_of_one_digest_are_told_apart(rt: HostRuntime) -> Result<(), Fail> {
     let text = "array eO0J8aA2qbhs[2]; array d92BRY10am9L[3];
@@ -84,7 +84,7 @@ fn a_loop_writes_one_cell_in_each_turn(rt: HostRuntime) -> Result<(), Fail> {
     Ok(())
 }
 
-// A turn adds what the cells have in that turn.
+// A turn adds the values that the cells have in that turn.
 #[test]
 fn a_loop_adds_cells_that_it_changes(rt: HostRuntime) -> Result<(), Fail> {
     let text = "array x[2]; array y[4]; x[1] = 1;
@@ -105,7 +105,7 @@ fn an_inner_loop_writes_the_cell_of_the_outer_turn(rt: HostRuntime) -> Result<()
     Ok(())
 }
 
-// No check refuses these programs here: a write behind the last cell does nothing.
+// No check refuses these programs here: a write after the last cell does nothing.
 #[test]
 fn a_loop_writes_no_cell_behind_the_last(rt: HostRuntime) -> Result<(), Fail> {
     let text = "array a[2];

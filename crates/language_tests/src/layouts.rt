@@ -1,4 +1,4 @@
-//! Where arrays are found.
+//! The positions of arrays in layouts.
 
 use crate::programs::{are_sized, parsed};
 use array_eval::Layout;
@@ -6,13 +6,13 @@ use array_tree::{Arrays, Name};
 use std::alloc::Global;
 use std::test::Fail;
 
-// The place, the first cell and the length of the array of a name.
+// The index, the first cell and the length of the array with a name.
 fn place(alloc: Global, text: &str, name: &[u8]) -> Result<(usize, usize, usize), Fail> {
     let program = parsed(alloc, text)?;
     place_in(alloc, &program.arrays, name)
 }
 
-// The place, the first cell and the length of the array of a name among these.
+// The index, the first cell and the length of the array with a name among these.
 fn place_in(alloc: Global, arrays: &Arrays, name: &[u8]) -> Result<(usize, usize, usize), Fail> {
     if !are_sized(arrays) {
         return Err(Fail::new("arrays of no size that a program may have"));
@@ -53,7 +53,7 @@ fn no_array_is_one_cell_behind_the_others(rt: HostRuntime) -> Result<(), Fail> {
     Ok(())
 }
 
-// How many arrays and cells a layout counts, and how many declarations it keeps.
+// The numbers of arrays and cells that a layout counts, and of declarations that it keeps.
 fn counts(alloc: Global, arrays: &Arrays) -> Result<(usize, usize, usize), Fail> {
     if !are_sized(arrays) {
         return Err(Fail::new("arrays of no size that a program may have"));

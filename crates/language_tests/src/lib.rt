@@ -1,6 +1,6 @@
-//! Tests of the language's crates, through their public calls alone, and what other tests of them need too.
+//! Tests of the language's crates by public calls alone, and functions that tests of other crates use.
 //!
-//! They stand apart since a crate is proved a second time with its tests.
+//! Why a crate of its own: a crate is proved a second time with its tests.
 #![tactic(auto)]
 
 #[cfg(test)]

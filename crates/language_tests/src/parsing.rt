@@ -1,4 +1,4 @@
-//! Texts, their programs and their faults.
+//! Texts, their programs and their errors.
 
 use array_lang::{SyntaxFault, parse};
 use array_tree::{Program, Stmt};

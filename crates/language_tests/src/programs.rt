@@ -9,6 +9,10 @@ use std::alloc::Global;
 use std::test::Fail;
 
 /// The program of a text.
+///
+/// # Errors
+///
+/// A failure of the test if the text spells no program, or an allocation fails.
 pub fn parsed(alloc: Global, text: &str) -> Result<Program, Fail> {
     let text = text.as_bytes();
     if text.len() > 65_536 {
@@ -17,7 +21,7 @@ pub fn parsed(alloc: Global, text: &str) -> Result<Program, Fail> {
     Ok(parse(alloc, text)?)
 }
 
-/// Whether each array has a cell, and all at most 4,096.
+/// Whether each array has a cell, and all arrays together at most 4,096.
 pub fn are_sized(arrays: &Arrays) -> bool
     ensures { IsTrue result → AreSized (arrays_of (declarations_of arrays.now)) }
 {

@@ -212,7 +212,7 @@ fn ends_with_five(alloc: Global, marked: &mut MarkedStore) -> Result<bool, Alloc
     Ok(store.get(3) == 5)
 }
 
-// Whether these were written of four cells, told in an overlay of its own and in one that has room.
+// Whether these of four cells were written, by an overlay of its own and by one that has room.
 fn has_written(
     alloc: Global,
     marked: &MarkedStore,
@@ -226,7 +226,7 @@ fn has_written(
     Ok(written.pairs() == expected && room.pairs() == expected)
 }
 
-// Whether a store of four cells knows that 0, 5 and 5 were written into all cells but cell 1.
+// Whether the marks of a store of four cells show that 0, 5 and 5 were written into all cells but cell 1.
 fn knows_what_was_written(alloc: Global, marked: &mut MarkedStore) -> Result<bool, AllocError> {
     if marked.count() != 4 {
         return Ok(false);
@@ -267,7 +267,7 @@ fn put_nine(alloc: Global, marked: &mut MarkedStore, cell: u16) -> Result<(), Al
     Ok(())
 }
 
-// Whether a store with a written page, and the next with one more, have both, and those before stay as they were.
+// Whether a store with a written page, and the next store with one more, have both pages, and the earlier stores are unchanged.
 fn have_both_pages(start: &Store, second: &Store, third: &Store) -> bool
     requires first { length start.now ≡ 130 }
     requires second { length second.now ≡ 130 }
@@ -288,8 +288,8 @@ fn a_store_that_is_taken_has_both_pages(rt: HostRuntime) -> Result<(), Fail> {
     Ok(())
 }
 
-// Whether a store of 130 cells, made from that of three pages, of which cell 65 was written, is read right: on the page that
-// was written, on one that wasn't, and behind the last cell.
+// Whether a store of 130 cells, made from that of three pages, with cell 65 written, is read right: on the written page, on
+// another page, and after the last cell.
 fn is_read_over_its_store(marked: &MarkedStore) -> bool {
     let is_written = marked.read(63) == 7 && marked.read(64) == 7 && marked.read(65) == 9;
     is_written && marked.read(129) == 7 && marked.read(130) == 0 && marked.count() == 130
@@ -304,7 +304,7 @@ fn a_marked_store_is_read_over_its_store(rt: HostRuntime) -> Result<(), Fail> {
     Ok(())
 }
 
-// The sum of 2 and a cell of `a`, where no cell is there to be read, and where the cells are those of a store.
+// The sum of 2 and a cell of `a`, with no cell to read, and with the cells of a store.
 fn sums(alloc: Global, arrays: &Arrays, store: &MarkedStore) -> Result<(i64, i64), Fail> {
     if !are_sized(arrays) {
         return Err(Fail::new("arrays of no size that a program may have"));

@@ -51,7 +51,7 @@ fn tells_expressions_apart(rt: HostRuntime) -> Result<(), Fail> {
     Ok(())
 }
 
-// Whether the sum of 1 and 2 equals one, and no difference and no sum of 2 and 1.
+// Whether the sum of 1 and 2 equals itself, but no difference and not the sum of 2 and 1.
 fn tells_sums_apart(alloc: Global, sum: &Expr) -> Result<bool, Fail> {
     let is_sum = is_binary(alloc, sum, Op::Add, 1, 2)?;
     let is_difference = is_binary(alloc, sum, Op::Sub, 1, 2)?;
@@ -59,7 +59,7 @@ fn tells_sums_apart(alloc: Global, sum: &Expr) -> Result<bool, Fail> {
     Ok(is_sum && !is_difference && !is_turned)
 }
 
-// Whether cell 1 of `a` equals one, and no cell of another array, no other cell, and no variable.
+// Whether cell 1 of `a` equals itself, but no cell of another array, no other cell, and no variable.
 fn tells_cells_apart(alloc: Global, cell: &Expr) -> Result<bool, Fail> {
     let is_cell = is_read(alloc, cell, b"a", 1)?;
     let is_other_array = is_read(alloc, cell, b"ab", 1)?;
@@ -92,7 +92,7 @@ fn same(a: &Program, b: &Program) -> bool
     a == b
 }
 
-// A par of so many branches, each of which assigns the value on the line.
+// A `par` of so many branches, each of which assigns the value on the line.
 fn par(alloc: Global, line: u32, value: i64, branches: usize) -> Result<Program, Fail> {
     let body = body_of(alloc, line, value, branches)?;
     Ok(Program {

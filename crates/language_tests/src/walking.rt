@@ -1,4 +1,4 @@
-//! What the walk through programs finds.
+//! The results of the walk through programs.
 
 use crate::programs::{are_sized, parsed};
 use array_tree::Program;
@@ -6,13 +6,13 @@ use site_walk::{WalkFault, walk_program};
 use std::alloc::Global;
 use std::test::Fail;
 
-// What the walk through the program of a text finds.
+// The result of the walk through the program of a text.
 fn found(alloc: Global, text: &str) -> Result<Option<WalkFault>, Fail> {
     let program = parsed(alloc, text)?;
     found_in(alloc, &program)
 }
 
-// What the walk through a program finds.
+// The result of the walk through a program.
 fn found_in(alloc: Global, program: &Program) -> Result<Option<WalkFault>, Fail> {
     if !are_sized(&program.arrays) {
         return Err(Fail::new("arrays of no size that a program may have"));

@@ -1,6 +1,6 @@
-//! Tests of the table, of ports and of ledgers, through public calls alone.
+//! Tests of the table, of ports and of ledgers, by public calls alone.
 //!
-//! They stand apart since a crate is proved a second time with its tests.
+//! Why a crate of its own: a crate is proved a second time with its tests.
 #![tactic(auto)]
 
 #[cfg(test)]

@@ -9,7 +9,7 @@ use std::alloc::Global;
 use std::test::Fail;
 use transfer_table::{Entry, NotAdmitted, Plan, first_fault};
 
-// Whether the entries are those of a hart that goes into two sites and back, and complete.
+// Whether the entries are complete, and those of a hart that goes into two sites and back.
 fn is_there_and_back(alloc: Global, plan: &Plan, entries: &[Entry]) -> Result<bool, Fail> {
     let all = [
         Entry::Register { hart: 0, site: 1 },
@@ -24,7 +24,7 @@ fn is_there_and_back(alloc: Global, plan: &Plan, entries: &[Entry]) -> Result<bo
     Ok(first_fault(alloc, plan, &all, entries)? == None)
 }
 
-// Whether the port is that of the only hart, which is in the base.
+// Whether the port is that of the single hart, in the base.
 fn is_first(port: &PlainPort) -> bool {
     port.hart() == 0 && port.owner() == 0
 }
@@ -38,7 +38,7 @@ fn registers(port: &mut PlainPort, site: u16) -> bool
     port.register((), site).is_ok()
 }
 
-// Whether nobody wants the hart in a site.
+// Whether the site's word wants no hart.
 fn is_unwanted(port: &mut PlainPort, site: u16) -> bool
     requires known { IsSite port.old.view.plan site }
     requires child { port.old.view.owner ≡ parent port.old.view.plan site }
@@ -81,12 +81,12 @@ fn words(ledger: &Ledger) -> (u64, u64) {
     (ledger.board_word(), ledger.site_word(1))
 }
 
-// Whether the ledger admits an entry, and has these words then.
+// Whether the ledger admits an entry, and then has these words.
 fn admits(ledger: &mut Ledger, entry: Entry, shown: (u64, u64)) -> bool {
     ledger.admit(entry) == Ok(()) && words(ledger) == shown
 }
 
-// Whether a new ledger lets a hart into a site, and not twice.
+// Whether a new ledger admits a hart into a site, and not twice.
 fn lets_in_once(ledger: &mut Ledger) -> bool {
     words(ledger) == (0, 0)
         && admits(ledger, REGISTER, (281474976710657, 1))
@@ -95,7 +95,7 @@ fn lets_in_once(ledger: &mut Ledger) -> bool {
         && ledger.admit(ENTER) == Err(NotAdmitted::NotOwner { owner: 1 })
 }
 
-// Whether it marks the site alone, and lets its home leave after the guest.
+// Whether it marks only the site, and admits that its home leaves after the guest.
 fn lets_out_in_order(ledger: &mut Ledger) -> bool {
     ledger.mark(1);
     ledger.mark(2);

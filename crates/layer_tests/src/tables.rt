@@ -27,7 +27,7 @@ fn is_nested(plan: &Plan) -> bool {
     plan.harts() == 2 && plan.sites() == 2 && plan.parent(2) == 1 && plan.parent(3) == 0
 }
 
-// What a plan is refused for.
+// The fault of a plan.
 fn fault_of(alloc: Global, harts: u8, parents: &[u16]) -> Option<PlanFault> {
     Plan::new(alloc, harts, parents).err()
 }
@@ -70,7 +70,7 @@ fn plans_of_sixteen_harts(rt: HostRuntime) -> Result<(), Fail> {
     Ok(())
 }
 
-// Whether a board shows a site with its home, and the hart that the home asked for.
+// Whether a board has a site with its home, and the hart that the home requested.
 fn shows_the_home(board: &Board) -> bool
     requires { board.now.plan ≡ record { harts = 2; parents = 0 ∷ [] } }
 {
@@ -140,7 +140,7 @@ fn are_skipped(board: &Board) -> bool
         && (board.owner(0), board.owner(1)) == (0, 0)
 }
 
-// Whether the board answers an entry so.
+// Whether the board returns this for an entry.
 fn answers(board: &mut Board, entry: Entry, answer: Result<(), NotAdmitted>) -> bool
     ensures plan { board.new.plan ≡ board.old.plan }
 {

@@ -21,8 +21,8 @@ use Rattle.board_rule.specs.declared.layout.Layout.TheVariants.{Owners, Guests}
 use Rattle.board_rule.specs.Rule.{SawChildren}
 use Rattle.board_rule.specs.Views.{look_at, looked, home_marks, see_gone_view, drained_marks, empty_marks}
 
--- the view after an entry: the new owner, the entry last among those that the hart made, the place that was drawn for it, the
--- new marks, and the words that the call read; all else is as it was
+-- The view after an entry: the new owner, the entry last among the hart's entries, the index that was drawn for it in the
+-- journal, the new marks, and the words that the call read. Everything else is unchanged.
 abbrev pub did : Entry → ℕ → ℕ → Marks → List Look → View → View
 did e place o m words v = record v {
   owner = o;
@@ -32,7 +32,7 @@ did e place o m words v = record v {
   looks = v.looks ++ words;
 }
 
--- Of a call that reads no word: the hart made the entry, at some place.
+-- A call that reads no word: the hart made the entry, at some index of the journal.
 abbrev pub Makes : Entry → ℕ → Marks → View → View → Type 0
 Makes e o m v w = (place : ℕ)
     × (w ≡ record v {
@@ -42,8 +42,8 @@ Makes e o m v w = (place : ℕ)
       marks = m;
     })
 
--- Of a register: the claim found the site unclaimed, and the hart made its Register, having made neither Register nor Request
--- of the site before; or it found the site claimed.
+-- A register: the claim found the site unclaimed, and the hart made its Register, having made neither Register nor Request of
+-- the site before. Or the claim found the site claimed.
 abbrev pub Registers : View → ℕ → Result (Unit {0}) Taken → View → Type 0
 Registers v x (Ok done) w =
     (found place : ℕ) × (is_claimed found ≡ false)
@@ -52,7 +52,7 @@ Registers v x (Ok done) w =
 Registers v x (Err taken) w =
     (is_claimed taken.shown ≡ true) × (w ≡ looked x look.Claim taken.shown v)
 
--- Of a skip: the claim found the site unclaimed, and the hart made its Skip; or it found the site claimed.
+-- A skip: the claim found the site unclaimed, and the hart made its Skip. Or the claim found the site claimed.
 abbrev pub Skips : View → ℕ → Result (Unit {0}) Taken → View → Type 0
 Skips v x (Ok done) w =
     (found place : ℕ) × (is_claimed found ≡ false)
@@ -60,7 +60,8 @@ Skips v x (Ok done) w =
 Skips v x (Err taken) w =
     (is_claimed taken.shown ≡ true) × (w ≡ looked x look.Claim taken.shown v)
 
--- when a hart may ask for more harts: it is its owner's home, hasn't closed it, and asks for some but not too many
+-- When a hart may request more harts: it is its owner's home, hasn't closed the owner, and requests at least one but not too
+-- many.
 pub record MayAsk (p : Plan) (v : View) (x k : ℕ) : Type 0 where
   pub inside : v.owner ≡ x
   pub home : is_in v.marks.homes x ≡ true
@@ -68,8 +69,8 @@ pub record MayAsk (p : Plan) (v : View) (x k : ℕ) : Type 0 where
   pub some_hart : 1 ≤ k
   pub few : requested x v.mine + k ≤ p.harts - 1
 
--- Of a try to enter: the word that was read wants a hart, was found again by the exchange, and the hart made its Enter; or the
--- word wants none; or it wants one, and the exchange found another.
+-- A try to enter: the word that was read wants a hart, the exchange found the same word, and the hart made its Enter. Or the
+-- word wants no hart. Or it wants one, and the exchange found another word.
 abbrev pub Enters : View → ℕ → Entered → View → Type 0
 Enters v x Inside w = (read place : ℕ) × (is_wanted read ≡ true)
     × (w ≡ did (Enter v.hart x) place x v.marks
@@ -82,12 +83,12 @@ Enters v x (Moved read found) w =
           ∷ look_at x look.Reserve found ∷ [];
     })
 
--- Of a look whether a site is gone: whether the word that was read is closed. Where it is, the site is among those seen gone,
--- and its parent is no longer seen empty if it wasn't among them before.
+-- A check whether a site is gone: the result is whether the word that was read is closed. If so, the site joins those seen
+-- gone. If it wasn't seen gone before, its parent isn't seen empty afterwards.
 abbrev pub SeesGone : View → ℕ → Bool → View → Type 0
 SeesGone v x answer w = (found : ℕ) × (answer ≡ is_closed found) × (w ≡ see_gone_view x found v)
 
--- Of the look at the first word that decides where it has the owners: it has no other hart in the owner, or it has one.
+-- The read of a first word that holds the owners: it has no other hart in the owner, or it has one.
 abbrev pub SeesOwners : View → Seen → View → Type 0
 SeesOwners v Empty w = (board : ℕ) × (others_at v.plan.harts board v.hart v.owner ≡ false)
     × (w ≡ record v {
@@ -98,8 +99,8 @@ SeesOwners v (Flying shown) w = ⊥
 SeesOwners v (Held shown) w = (others_at v.plan.harts shown v.hart v.owner ≡ true)
     × (w ≡ looked 0 look.LookAtBoard shown v)
 
--- Of a look that finds the owner empty: its word has no guest, and, where the first word has the owners, that has no other hart
--- in it.
+-- A check that finds the owner empty: its word has no guest. If the first word holds the owners, it also has no other hart in
+-- the owner.
 abbrev pub SeesEmpty : Layout → View → View → Type 0
 SeesEmpty Owners v w = (site board : ℕ) × (flight_of site ≡ 0)
     × (others_at v.plan.harts board v.hart v.owner ≡ false)
@@ -113,7 +114,7 @@ SeesEmpty Guests v w = (site : ℕ) × (flight_of site ≡ 0)
       looks = v.looks ++ look_at v.owner look.Look site ∷ [];
     })
 
--- Of one that finds another hart in the owner, by the first word.
+-- A check that finds another hart in the owner, by the first word.
 abbrev pub SeesHeld : Layout → View → ℕ → View → Type 0
 SeesHeld Owners v shown w = (others_at v.plan.harts shown v.hart v.owner ≡ true)
     × ((site : ℕ) × (flight_of site ≡ 0)
@@ -124,13 +125,14 @@ SeesHeld Owners v shown w = (others_at v.plan.harts shown v.hart v.owner ≡ tru
     }))
 SeesHeld Guests v shown w = ⊥
 
--- Of a look whether the owner is empty: it is; or its word has a guest; or the first word has another hart in it.
+-- A check whether the owner is empty: it is, or its word has a guest, or the first word has another hart in it.
 abbrev pub Sees : Layout → View → Seen → View → Type 0
 Sees lay v Empty w = SeesEmpty lay v w
 Sees lay v (Flying shown) w = (1 ≤ flight_of shown) × (w ≡ looked v.owner look.Look shown v)
 Sees lay v (Held shown) w = SeesHeld lay v shown w
 
--- when a hart may unregister its owner: it is the home, has closed it and seen it empty since, and each child gone
+-- When a hart may unregister its owner: it is the home, has closed the owner and seen it empty since, and has seen each child
+-- gone.
 pub record MayLeaveHome (p : Plan) (v : View) : Type 0 where
   pub home : is_in v.marks.homes v.owner ≡ true
   pub closed : is_in v.marks.closed v.owner ≡ true

@@ -7,12 +7,12 @@ use Rattle.board_rule.specs.Rule.{IsSeat}
 use Rattle.lent_board.specs.declared.seat.HartSeat.{HartSeat}
 use Rattle.lent_board.specs.declared.board.Board.{Board}
 
--- it belongs to the board's words, and has the board's plan
+-- The seat belongs to the board's words, and has the board's plan.
 pub record IsOf {L : Type 0} {laid : Ghosts L} (b : Board L laid) (q : HartSeat) : Type 0 where
   pub board : q.seat.table_id ≡ b.table.shared.table_id
   pub plan : q.seat.me.0.plan ≡ b.plan
 
--- the same between the steps of a call, of a seat of the words z with the view v
+-- The same between the steps of a call, for a seat of the words z with the view v.
 pub record IsOn {L : Type 0} {laid : Ghosts L} (b : Board L laid) (z : TableId) (v : View) : Type 0 where
   pub board : z ≡ b.table.shared.table_id
   pub plan : v.plan ≡ b.plan

@@ -1,4 +1,4 @@
-//! By how much the first word grows with an entry, and how many entries it counts.
+//! The amounts by which entries increase the first word, and the number of entries that it counts.
 ghost use Rattle.std.specs.Prelude.{◌≡◌, ◌≤◌, ℕ};
 ghost use Rattle.board_rule.specs.Layouts.{Adds, entries_of};
 ghost use Rattle.lent_board.specs.Amounts.{IsDigit};
@@ -6,7 +6,7 @@ ghost use Rattle.lent_board.specs.Amounts.{IsDigit};
 use crate::words::{LENGTH_UNIT, digit};
 use board_rule::{Laid, Layout};
 
-/// The amount where the hart goes from its owner to the site, whose number isn't smaller.
+/// The amount if the hart goes from its owner to the site, whose number isn't smaller.
 pub(crate) fn rise<L: Laid>(hart: u8, owner: u16, site: u16) -> u64
     requires digit { IsDigit L.layout hart }
     requires up { owner ≤ site }
@@ -18,7 +18,7 @@ pub(crate) fn rise<L: Laid>(hart: u8, owner: u16, site: u16) -> u64
     }
 }
 
-/// The amount where the hart goes from its owner to the site `above`, whose number isn't greater.
+/// The amount if the hart goes from its owner to the site `above`, whose number isn't greater.
 pub(crate) fn fall<L: Laid>(hart: u8, owner: u16, above: u16) -> u64
     requires digit { IsDigit L.layout hart }
     requires down { above ≤ owner }
@@ -31,7 +31,7 @@ pub(crate) fn fall<L: Laid>(hart: u8, owner: u16, above: u16) -> u64
     }
 }
 
-/// The amount where a hart stays in its owner.
+/// The amount if a hart stays in its owner.
 pub(crate) fn stay<L: Laid>() -> u64
     ensures { (owner hart : ℕ) → Adds L.layout owner hart owner result }
 {
@@ -41,7 +41,7 @@ pub(crate) fn stay<L: Laid>() -> u64
     }
 }
 
-/// How many entries the first word counts.
+/// The number of entries that the first word counts.
 pub(crate) fn entries_of<L: Laid>(word: u64) -> u64
     ensures { result ≡ entries_of L.layout word }
 {

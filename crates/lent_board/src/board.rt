@@ -33,12 +33,15 @@ pub struct Board<L: Laid> {
     pub ghost slotless: { table.shared.table_id.slots ≡ 0 },
 }
 
-/// Each call has the condition that the seat is one of this board.
+/// Each call requires that the seat is a seat of this board.
 impl<L: Laid> Board<L> {
     ghost use Rattle.lent_board.specs.Of.{IsOf};
 
-    /// Makes Register of the site, a child of the owner, whose home the hart then is. A hart that
-    /// finds the site claimed gets the word.
+    /// Makes Register of the site, a child of the owner. The hart becomes the site's home.
+    ///
+    /// # Errors
+    ///
+    /// `Taken` with the site's word if the site was claimed. The hart then made no entry.
     pub fn register(&self, seat: &mut HartSeat, site: u16) -> Result<(), Taken>
         requires of { IsOf self.now seat.old }
         requires site { IsSite self.now.plan site }
@@ -57,8 +60,11 @@ impl<L: Laid> Board<L> {
         Ok(())
     }
 
-    /// Makes Skip of the site, a child of the owner, in which the hart stays. A hart that finds the site
-    /// claimed gets the word.
+    /// Makes Skip of the site, a child of the owner. The hart stays in its owner.
+    ///
+    /// # Errors
+    ///
+    /// `Taken` with the site's word if the site was claimed. The hart then made no entry.
     pub fn skip(&self, seat: &mut HartSeat, site: u16) -> Result<(), Taken>
         requires of { IsOf self.now seat.old }
         requires site { IsSite self.now.plan site }
@@ -77,7 +83,8 @@ impl<L: Laid> Board<L> {
         Ok(())
     }
 
-    /// Makes Request of the site that the hart is in and the home of, for `count` more harts.
+    /// Makes Request of the site for `count` more harts. The hart is in the site and its home, and hasn't closed it. `count` is
+    /// at least 1, and all its requests of the site add up to fewer than the plan's harts.
     pub fn request(&self, seat: &mut HartSeat, site: u16, count: u8)
         requires of { IsOf self.now seat.old }
         requires site { IsSite self.now.plan site }
@@ -92,7 +99,7 @@ impl<L: Laid> Board<L> {
         self.credit(&mut seat.seat, site, count);
     }
 
-    /// Tries to make Enter of the site, a child of the owner.
+    /// Tries to make Enter of the site, a child of the owner. Returns the word that was read if the hart isn't inside.
     pub fn try_enter(&self, seat: &mut HartSeat, site: u16) -> Entered
         requires of { IsOf self.now seat.old }
         requires site { IsSite self.now.plan site }
@@ -116,7 +123,7 @@ impl<L: Laid> Board<L> {
         Entered::Inside
     }
 
-    /// Makes Yield of the owner, whose home the hart isn't.
+    /// Makes Yield of the owner. The hart isn't the owner's home.
     pub fn yield_hart(&self, seat: &mut HartSeat)
         requires of { IsOf self.now seat.old }
         requires inside { 0 < seat.old.seat.me.0.owner }
@@ -134,7 +141,7 @@ impl<L: Laid> Board<L> {
         self.depart(&mut seat.seat, site);
     }
 
-    /// Closes the owner, whose home the hart is: no further hart is let in.
+    /// Closes the owner, so that it admits no further hart. The hart is the owner's home.
     pub fn close_site(&self, seat: &mut HartSeat)
         requires of { IsOf self.now seat.old }
         requires home { is_in seat.old.seat.me.0.marks.homes seat.old.seat.me.0.owner ≡ true }
@@ -146,7 +153,7 @@ impl<L: Laid> Board<L> {
         self.shut(&mut seat.seat, site);
     }
 
-    /// Whether the site is gone: whether the site word that the call read is closed.
+    /// Whether the site is gone: whether the site's word, which the call reads, is closed.
     pub fn see_gone(&self, seat: &mut HartSeat, site: u16) -> bool
         requires of { IsOf self.now seat.old }
         requires site { IsSite self.now.plan site }
@@ -156,9 +163,9 @@ impl<L: Laid> Board<L> {
         is_closed(self.look_gone(&mut seat.seat, site))
     }
 
-    /// Looks whether the owner, which the hart has closed, has a guest. By guests that are another hart in
-    /// it or in a site below it, one on its way in, or one that is leaving, and `Held` is never the answer.
-    /// By owners they are the harts on their way in, and `Held` reports another hart in the owner.
+    /// Checks whether the owner, which the hart has closed, has a guest. With guests, a guest is another hart in the owner or
+    /// in a site below it, on its way in, or leaving, and `Held` is never returned. With owners, a guest is a hart on its way
+    /// in, and `Held` reports another hart in the owner.
     pub fn see_empty(&self, seat: &mut HartSeat) -> Seen
         requires of { IsOf self.now seat.old }
         requires home { is_in seat.old.seat.me.0.marks.homes seat.old.seat.me.0.owner ≡ true }
@@ -177,7 +184,7 @@ impl<L: Laid> Board<L> {
         }
     }
 
-    // The look at the first word that decides where it has the owners.
+    // The read of a first word that holds the owners.
     fn see_owners(&self, seat: &mut HartSeat, hart: u8, site: u16) -> Seen
         requires of { IsOf self.now seat.old }
         requires layout { L.layout ≡ Owners }
@@ -193,8 +200,8 @@ impl<L: Laid> Board<L> {
         Seen::Empty
     }
 
-    /// Makes Unregister of the owner, which the hart has closed and has seen empty since it last saw
-    /// a child gone. It has seen every child gone.
+    /// Makes Unregister of the owner. The hart has closed the owner, has seen every child gone, and has seen the owner empty
+    /// since.
     pub fn unregister(&self, seat: &mut HartSeat)
         requires of { IsOf self.now seat.old }
         requires may { MayLeaveHome self.now.plan seat.old.seat.me.0 }
@@ -212,8 +219,8 @@ impl<L: Laid> Board<L> {
         self.seal(&mut seat.seat, site);
     }
 
-    /// The word at this place, as it is now: the first word, then those of the sites, then those of the
-    /// journal. It takes no seat and changes no view. Tests compare words by it.
+    /// The atomic word at this index: the first word, then the words of the sites, then those of the journal. It needs no seat
+    /// and changes no view. Tests compare words by it.
     pub fn peek(&self, place: usize) -> u64
         requires { place < width self.now.plan }
     {

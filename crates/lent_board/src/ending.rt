@@ -19,8 +19,8 @@ use std::alloc::Global;
 use std::marker::{Model, PhantomData};
 use transfer_table::{Entry, Plan};
 
-/// The journal of a board that was closed, of this layout. Contracts see it as the list of its entries.
-/// Only `Board::close` makes one.
+/// The journal of a board that was closed, of this layout. Contracts see it as the list of its entries. Only `Board::close`
+/// makes one.
 #[derive(Drop)]
 pub struct Closed<L: Laid> {
     list: Vec<Entry>,
@@ -45,7 +45,7 @@ impl<L: Laid> Closed<L> {
     }
 }
 
-/// There was no memory for the journal. Nothing has changed: the board and the seats come back.
+/// The allocation of the journal failed. The board and the seats come back unchanged.
 #[derive(Drop)]
 pub struct CloseRefused<L: Laid> {
     pub board: Board<L>,
@@ -85,7 +85,7 @@ impl<L: Laid> Board<L> {
     }
 }
 
-// The first seat takes in all others.
+// Joins all other seats into the first.
 fn gather_all<L: Laid>(board: &Board<L>, first: &mut HartSeat, mut seats: Vec<HartSeat>)
     requires board { first.old.seat.table_id ≡ board.now.table.shared.table_id }
     requires first { first.old.seat.me.0.hart ≡ 0 }
@@ -105,7 +105,7 @@ fn gather_all<L: Laid>(board: &Board<L>, first: &mut HartSeat, mut seats: Vec<Ha
     }
 }
 
-// The first seat takes in another hart's.
+// Joins another hart's seat into the first.
 fn gather<L: Laid>(board: &Board<L>, first: &mut HartSeat, other: HartSeat)
     requires boards { (first.old.seat.table_id ≡ board.now.table.shared.table_id)
         × (other.seat.table_id ≡ board.now.table.shared.table_id) }
@@ -151,7 +151,7 @@ fn finish<L: Laid>(board: Board<L>, first: HartSeat, mut list: Vec<Entry>) -> Ve
     list
 }
 
-// Puts the entries of the journal words into the list, which has room for them.
+// Copies the entries of the journal words into the list, which has room for them.
 fn read_journal<L: Laid>(
     closed: &atomic_table::Closed<(), Global>,
     plan: &Plan,

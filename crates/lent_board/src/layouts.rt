@@ -3,7 +3,7 @@ ghost use Rattle.board_rule.specs.declared.layout.Layout.TheVariants.{Owners, Gu
 
 use board_rule::{Laid, Layout};
 
-/// The first word has each hart's owner: for at most four harts.
+/// The first word holds each hart's owner, for at most four harts.
 #[derive(Drop)]
 pub struct ByOwners;
 

@@ -1,10 +1,11 @@
 //! The table of lent harts as atomic words.
 //!
-//! A `Board` is shared by reference among the threads of a run; each hart has a `HartSeat`, which it
-//! makes its transfers with. A transfer is one addition to the first word, and one to four steps on
-//! other words; a look is a load. No call locks, waits or takes memory, but for `new` and `close`. What
-//! the first word and those of the sites show is a `Layout`, which the board has as a type.
-//! `docs/BOARD.md` explains it; `board_rule` has the rule and its laws.
+//! The threads of a run share a `Board` by reference. Each hart has a `HartSeat`, with which it makes its transfers. A transfer
+//! is one addition to the first word, and one to four steps on other words; a check is a load. No call locks or blocks, and
+//! only `new` and `close` allocate. The layout of the first word and of the sites' words is a type parameter, `Layout`.
+//!
+//! Begin with `Board` in `board.rt`. `docs/BOARD.md` explains the protocol, `board_rule` has its invariant and laws, and
+//! `board_tests` has examples.
 #![tactic(auto)]
 
 mod amounts;

@@ -14,8 +14,16 @@ use std::marker::PhantomData;
 use transfer_table::Plan;
 
 impl<L: Laid> Board<L> {
-    /// The board, and a seat for each hart, in order. It has a word for each site and for each entry
-    /// that a legal journal may have. By owners there are at most four harts, since these share one word.
+    /// The board, and a seat for each hart, in order. The board has an atomic word for each site and for each entry that a
+    /// legal journal may have. A layout by owners has room for at most four harts, since these share one word.
+    ///
+    /// # Errors
+    ///
+    /// `AllocError` if an allocation fails.
+    ///
+    /// # Memory
+    ///
+    /// It allocates the words, a copy of the plan and the seats. No other call allocates.
     pub fn new(alloc: Global, plan: &Plan) -> Result<(Board<L>, Vec<HartSeat>), AllocError>
         requires few_harts { HasRoom L.layout plan.now.harts }
         ensures plan { IfOk result (λ r. r.0.plan ≡ plan.now) }

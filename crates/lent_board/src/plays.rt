@@ -1,5 +1,5 @@
-//! The kinds of step. `specs/Plays.antt` says what each adds to its seat's view, and there the word that was
-//! found is noted: no kind can note another word.
+//! The kinds of step. `specs/Plays.antt` defines the effect of each on its seat's view. The definition also notes the word
+//! found, so no kind can note another word.
 ghost use Rattle.std.specs.Prelude.{ℕ};
 
 use atomic_table::{Join, Play, Split};
@@ -15,8 +15,8 @@ impl Play<(), View> for Claim {
     ghost then = { claims };
 }
 
-/// Makes the Register of the site that is claimed. Its place is inside the journal, and of that site
-/// the hart had made neither Register nor Request.
+/// Makes the Register of the claimed site. The entry's index is inside the journal, and the hart had made neither Register nor
+/// Request of that site.
 pub(crate) struct MakeRegister<L: Laid> {
     of: PhantomData<L>,
 }
@@ -27,7 +27,7 @@ impl<L: Laid> Play<(), View> for MakeRegister<L> {
     ghost then = { makes_register L.layout };
 }
 
-/// Makes the Skip of the site that is claimed.
+/// Makes the Skip of the claimed site.
 pub(crate) struct MakeSkip<L: Laid> {
     of: PhantomData<L>,
 }
@@ -38,8 +38,8 @@ impl<L: Laid> Play<(), View> for MakeSkip<L> {
     ghost then = { makes_skip L.layout };
 }
 
-/// How many harts a request asks for. Why a ghost member, which each call of `request` picks: a step shows its seat only the
-/// operands and the view.
+/// The number of harts that a request is for. Why a ghost member, which each call of `request` picks: a step shows its seat
+/// only the operands and the view.
 pub(crate) trait Asked {
     ghost count: { ℕ };
 }
@@ -60,7 +60,7 @@ impl<L: Laid, A: Asked> Play<(), View> for MakeRequest<L, A> {
     ghost then = { makes_request L.layout A.count };
 }
 
-/// Makes the Enter of the site that the hart is reserved to.
+/// Makes the Enter of the site to which the hart is reserved.
 pub(crate) struct MakeEnter<L: Laid> {
     of: PhantomData<L>,
 }
@@ -93,7 +93,7 @@ impl<L: Laid> Play<(), View> for MakeUnregister<L> {
     ghost then = { makes_unregister L.layout };
 }
 
-/// Writes the entry at its place.
+/// Writes the entry at its index.
 pub(crate) struct Jot;
 
 impl Play<(), View> for Jot {
@@ -111,7 +111,7 @@ impl Play<(), View> for Follow {
     ghost then = { follows };
 }
 
-/// Looks at a site.
+/// Reads a site's word.
 pub(crate) struct Glance;
 
 impl Play<(), View> for Glance {
@@ -120,7 +120,7 @@ impl Play<(), View> for Glance {
     ghost then = { glances };
 }
 
-/// Looks whether a site is gone.
+/// Checks whether a site is gone.
 pub(crate) struct SeeGone;
 
 impl Play<(), View> for SeeGone {
@@ -129,7 +129,7 @@ impl Play<(), View> for SeeGone {
     ghost then = { sees_gone };
 }
 
-/// Looks whether the owner's word has a guest.
+/// Checks whether the owner's word has a guest.
 pub(crate) struct SeeDrained<L: Laid> {
     of: PhantomData<L>,
 }
@@ -140,7 +140,7 @@ impl<L: Laid> Play<(), View> for SeeDrained<L> {
     ghost then = { sees_drained L.layout };
 }
 
-/// Looks at a first word that has the owners, whether another hart is in the owner.
+/// Checks by a first word that holds the owners whether another hart is in the owner.
 pub(crate) struct SeeEmpty;
 
 impl Play<(), View> for SeeEmpty {
@@ -167,7 +167,7 @@ impl Play<(), View> for Shut {
     ghost then = { shuts };
 }
 
-/// Hart 0's seat makes the next hart's.
+/// Splits the next hart's seat off hart 0's.
 pub(crate) struct Deal;
 
 impl Split<View> for Deal {
@@ -178,7 +178,7 @@ impl Split<View> for Deal {
     ghost right = { split_right };
 }
 
-/// Hart 0's seat takes in another hart's.
+/// Joins another hart's seat into hart 0's.
 pub(crate) struct Gather;
 
 impl Join<View> for Gather {

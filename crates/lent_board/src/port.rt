@@ -12,8 +12,8 @@ use crate::seat::HartSeat;
 use board_rule::Laid;
 use hart_port::{Entered, Port, Seen, Taken};
 
-/// The port of a hart of a board. No call waits. A call that shows a word, or sees a site gone,
-/// also says what the seat knows then, as the board's call does: so it read that word on the board.
+/// The port of a hart of a board. No call blocks. The contract of a call that returns a word, or sees a site gone, also states
+/// the seat's new view, as the board's call does: so it read that word on the board.
 #[derive(Drop)]
 pub struct BoardPort<'a, L: Laid> {
     board: &'a Board<L>,
@@ -23,7 +23,7 @@ pub struct BoardPort<'a, L: Laid> {
 }
 
 impl<'a, L: Laid> BoardPort<'a, L> {
-    /// The port of a seat of the board, which was never refused.
+    /// The port of a seat of the board, with no refusal counted.
     pub fn new(board: &'a Board<L>, seat: HartSeat) -> BoardPort<'a, L>
         requires of { IsOf board.now seat }
         ensures board { result.board.now ≡ board.now }

@@ -6,8 +6,8 @@ ghost use Rattle.board_rule.specs.Rule.{IsSeat, FitsPlan};
 use atomic_table::Seat;
 use board_rule::View;
 
-/// One hart's right to make transfers on a board. Contracts see what the seat knows. Between two
-/// calls no step of a call is under way.
+/// One hart's right to make transfers on a board. Contracts see what the seat knows. Between two calls no step of a call is
+/// pending.
 #[derive(Drop)]
 pub struct HartSeat {
     pub(crate) seat: Seat<(), View>,

@@ -26,7 +26,7 @@ impl<L: Laid> Board<L> {
     ghost use Rattle.lent_board.specs.Of.{IsOn};
     ghost use Rattle.lent_board.specs.Plays.{IsSmall};
 
-    /// Claims the site. The word that was found is given back.
+    /// Claims the site. Returns the word found.
     pub(crate) fn claim(&self, seat: &mut Seat<(), View>, site: u16) -> u64
         requires on { IsOn self.now seat.old.table_id seat.old.me.0 }
         requires may { MayClaim self.now.plan seat.old.me.0 site }
@@ -39,7 +39,7 @@ impl<L: Laid> Board<L> {
             .fetch_or::<Claim>(seat, site as usize, CLAIMED)
     }
 
-    /// Makes the Register of the site that is claimed. The place of its entry is given back.
+    /// Makes the Register of the claimed site. Returns the index of its entry.
     pub(crate) fn make_register(
         &self,
         seat: &mut Seat<(), View>,
@@ -66,7 +66,7 @@ impl<L: Laid> Board<L> {
         )
     }
 
-    /// Makes the Skip of the site that is claimed. The place of its entry is given back.
+    /// Makes the Skip of the claimed site. Returns the index of its entry.
     pub(crate) fn make_skip(&self, seat: &mut Seat<(), View>, site: u16) -> u64
         requires on { IsOn self.now seat.old.table_id seat.old.me.0 }
         requires claiming { seat.old.me.0.doing ≡ Claiming site }
@@ -75,13 +75,13 @@ impl<L: Laid> Board<L> {
         ensures fits { FitsPlan seat.new.me.0 }
         ensures place { result < room self.now.plan }
     {
-        // The step is about the site that is claimed.
+        // The step is about the claimed site.
         let _ = site;
         let amount = stay::<L>();
         entries_of::<L>(self.table.shared.fetch_add::<MakeSkip<L>>(seat, 0, amount))
     }
 
-    /// Makes a Request of the owner for `count` harts. The place of its entry is given back.
+    /// Makes a Request of the owner for `count` harts. Returns the index of its entry.
     pub(crate) fn make_request(&self, seat: &mut Seat<(), View>, count: u8) -> u64
         requires on { IsOn self.now seat.old.table_id seat.old.me.0 }
         requires may { MayRequest self.now.plan seat.old.me.0 count }
@@ -93,7 +93,7 @@ impl<L: Laid> Board<L> {
         self.make_request_as::<Brand>(seat, count)
     }
 
-    /// The same, where the count is named in the type of the step.
+    /// The same, with the count named by the type of the step.
     fn make_request_as<A: Asked>(&self, seat: &mut Seat<(), View>, count: u8) -> u64
         requires on { IsOn self.now seat.old.table_id seat.old.me.0 }
         requires asked { count ≡ A.count }
@@ -103,7 +103,7 @@ impl<L: Laid> Board<L> {
         ensures fits { FitsPlan seat.new.me.0 }
         ensures place { result < room self.now.plan }
     {
-        // The step's type stands for the count, by the clause `asked`.
+        // The step's type has the count, by the clause `asked`.
         let _ = count;
         let amount = stay::<L>();
         entries_of::<L>(
@@ -113,7 +113,7 @@ impl<L: Laid> Board<L> {
         )
     }
 
-    /// Makes the Enter of the site that the hart is reserved to. The place of its entry is given back.
+    /// Makes the Enter of the site to which the hart is reserved. Returns the index of its entry.
     pub(crate) fn make_enter(
         &self,
         seat: &mut Seat<(), View>,
@@ -134,7 +134,7 @@ impl<L: Laid> Board<L> {
         entries_of::<L>(self.table.shared.fetch_add::<MakeEnter<L>>(seat, 0, amount))
     }
 
-    /// Makes a Yield of the owner, whose parent is `above`. The place of its entry is given back.
+    /// Makes a Yield of the owner, whose parent is `above`. Returns the index of its entry.
     pub(crate) fn make_yield(
         &self,
         seat: &mut Seat<(), View>,
@@ -155,7 +155,7 @@ impl<L: Laid> Board<L> {
         entries_of::<L>(self.table.shared.fetch_add::<MakeYield<L>>(seat, 0, amount))
     }
 
-    /// Makes an Unregister of the owner, whose parent is `above`. The place of its entry is given back.
+    /// Makes an Unregister of the owner, whose parent is `above`. Returns the index of its entry.
     pub(crate) fn make_unregister(
         &self,
         seat: &mut Seat<(), View>,
@@ -180,7 +180,7 @@ impl<L: Laid> Board<L> {
         )
     }
 
-    /// Writes the entry at its place.
+    /// Writes the entry at its index of the journal.
     pub(crate) fn jot(&self, seat: &mut Seat<(), View>, place: u64, entry: Entry)
         requires on { IsOn self.now seat.old.table_id seat.old.me.0 }
         requires place { place < room self.now.plan }
@@ -208,7 +208,7 @@ impl<L: Laid> Board<L> {
             .fetch_add::<Follow>(seat, site as usize, WISH * count as u64);
     }
 
-    /// What is left of an Enter of the site.
+    /// The step that completes an Enter of the site.
     pub(crate) fn arrive(&self, seat: &mut Seat<(), View>, site: u16)
         requires on { IsOn self.now seat.old.table_id seat.old.me.0 }
         requires site { IsSite self.now.plan site }
@@ -224,7 +224,7 @@ impl<L: Laid> Board<L> {
         }
     }
 
-    /// What is left of a Yield of the site.
+    /// The step that completes a Yield of the site.
     pub(crate) fn depart(&self, seat: &mut Seat<(), View>, site: u16)
         requires on { IsOn self.now seat.old.table_id seat.old.me.0 }
         requires site { IsSite self.now.plan site }
@@ -240,7 +240,7 @@ impl<L: Laid> Board<L> {
         }
     }
 
-    /// Takes the hart out of those on their way into the site.
+    /// Takes the hart off the harts on their way into the site.
     fn land(&self, seat: &mut Seat<(), View>, site: u16)
         requires on { IsOn self.now seat.old.table_id seat.old.me.0 }
         requires site { IsSite self.now.plan site }
@@ -254,7 +254,7 @@ impl<L: Laid> Board<L> {
             .fetch_sub::<Follow>(seat, site as usize, GUEST);
     }
 
-    /// Takes the hart out of the site's guests.
+    /// Takes the hart off the site's guests.
     fn leave(&self, seat: &mut Seat<(), View>, site: u16)
         requires on { IsOn self.now seat.old.table_id seat.old.me.0 }
         requires site { IsSite self.now.plan site }
@@ -297,7 +297,7 @@ impl<L: Laid> Board<L> {
             .fetch_or::<Shut>(seat, owner as usize, CLOSING);
     }
 
-    /// The word of the site.
+    /// Reads the site's word.
     pub(crate) fn glance(&self, seat: &mut Seat<(), View>, site: u16) -> u64
         requires on { IsOn self.now seat.old.table_id seat.old.me.0 }
         requires site { IsSite self.now.plan site }
@@ -310,7 +310,7 @@ impl<L: Laid> Board<L> {
         self.table.shared.load::<Glance>(seat, site as usize)
     }
 
-    /// The word of the site. Where it is closed, the site is seen gone.
+    /// Reads the site's word. If it is closed, the view has seen the site gone.
     pub(crate) fn look_gone(&self, seat: &mut Seat<(), View>, site: u16) -> u64
         requires on { IsOn self.now seat.old.table_id seat.old.me.0 }
         requires site { IsSite self.now.plan site }
@@ -322,7 +322,7 @@ impl<L: Laid> Board<L> {
         self.table.shared.load::<SeeGone>(seat, site as usize)
     }
 
-    /// The word of the owner. Where it has no guest, the owner is seen drained, and by guests empty.
+    /// Reads the owner's word. If it has no guest, the view has seen the owner drained, and with guests empty.
     pub(crate) fn look_drained(&self, seat: &mut Seat<(), View>, owner: u16) -> u64
         requires on { IsOn self.now seat.old.table_id seat.old.me.0 }
         requires owner { seat.old.me.0.owner ≡ owner }
@@ -337,8 +337,7 @@ impl<L: Laid> Board<L> {
             .load::<SeeDrained<L>>(seat, owner as usize)
     }
 
-    /// The first word, which has the owners. Where it has no other hart in the owner, the owner is seen
-    /// empty.
+    /// Reads the first word, which holds the owners. If no other hart is in the owner, the view has seen the owner empty.
     pub(crate) fn look_empty(&self, seat: &mut Seat<(), View>) -> u64
         requires on { IsOn self.now seat.old.table_id seat.old.me.0 }
         requires layout { L.layout ≡ Owners }
@@ -350,8 +349,7 @@ impl<L: Laid> Board<L> {
         self.table.shared.load::<SeeEmpty>(seat, 0)
     }
 
-    /// Reserves the hart to the site, if its word is still the one that was read. The word that was found
-    /// is given back.
+    /// Reserves the hart to the site, if the site's word is still the one that was read. Returns the word found.
     pub(crate) fn reserve(&self, seat: &mut Seat<(), View>, site: u16, read: u64) -> u64
         requires on { IsOn self.now seat.old.table_id seat.old.me.0 }
         requires small { IsSmall read }

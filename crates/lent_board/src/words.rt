@@ -1,13 +1,13 @@
-//! A first word that has the owners, as a number.
+//! A first word that holds the owners, as a number.
 ghost use Rattle.std.specs.Prelude.{◌≡◌, ◌<◌, ◌≤◌, ◌*◌, ◌^◌};
 ghost use Rattle.board_rule.specs.Words.{owner_unit, others_at};
 
 use hart_port::other_hart;
 
-/// By how much it grows with each entry.
+/// The amount by which each entry increases it.
 pub(crate) const LENGTH_UNIT: u64 = 1 << 48;
 
-/// The change in the hart's digit of it.
+/// The change of the hart's digit.
 pub(crate) fn digit(change: u16, hart: u8) -> u64
     requires { hart < 4 }
     ensures value { result ≡ change * owner_unit hart }
@@ -22,7 +22,7 @@ pub(crate) fn digit(change: u16, hart: u8) -> u64
     }
 }
 
-/// Whether it has another of so many harts in the site.
+/// Whether another of so many harts is in the site.
 pub(crate) fn is_held(word: u64, harts: u8, hart: u8, site: u16) -> bool
     ensures { result ≡ others_at harts word hart site }
 {

@@ -1,4 +1,4 @@
--- A barrier: a book of one phase, in which no place fails, that opens once.
+-- A barrier: a book of one phase, in which no slot fails, and which opens once.
 use Rattle.std.specs.Prelude.{◌≡◌, ℕ, ◌≤◌, [], length, map, Option, IsSome}
 use Rattle.std.specs.Option.{ForSome}
 use Rattle.array_jobs.specs.Jobs.{job_of}
@@ -9,13 +9,14 @@ use Rattle.lithe_barrier.specs.declared.state.Arrival.{Arrival}
 use Rattle.lithe_barrier.specs.declared.state.Arrival.TheVariants.{Kept, Opened, Stranger}
 use Rattle.lithe_barrier.specs.declared.state.Room.{Room}
 
--- The piece's own place is free, and is filled.
+-- The piece's own slot is free, and becomes filled.
 pub record Fills (before : BookParts) (piece : PieceParts) (after : BookParts) : Type 0 where
   pub own : IsPlaceOf before piece.job.place piece.job
   pub free : IsMarked before piece.job.place Open
   pub filled : after ≡ marked_book before piece.job.place Filled
 
--- Of a barrier and a piece, the answer and the barrier afterwards. It opens with the last piece that it waited for.
+-- A relation of a barrier, a piece, the result and the barrier afterwards. The barrier opens with the last piece that it waited
+-- for.
 abbrev pub Arrives : BookParts → PieceParts → Arrival → BookParts → Type 0
 Arrives before piece Kept after = Fills before piece after × (¬ IsFull after)
 Arrives before piece (Opened written) after =
@@ -30,15 +31,15 @@ pub record IsRoomFor (book : BookParts) (room : Room) : Type 0 where
   pub none : room.overlay.pairs ≡ []
   pub enough : length room.store.cells ≤ room.overlay.room
 
--- What the type keeps: the jobs are a group, no place has failed, and as long as one is free there is room for all that will be written.
+-- The barrier's invariant: the jobs are a group, no slot has failed, and while a slot is free there is room for all that will
+-- be written.
 pub record IsWaiting (book : BookParts) (room : Option Room) : Type 0 where
   pub group : IsGroup (map job_of book.jobs)
   pub none_failed : ¬ HasFailed book
   pub ready : (i : ℕ) → IsMarked book i Open → IsSome room
   pub right : ForSome room (λ r. IsRoomFor book r)
 
--- What is known of an arrival without what the lock holds: the piece is kept, is part of what is handed out, or is given
--- back.
+-- The result of an arrival under the lock: the piece is kept, is part of what is handed out, or is returned.
 abbrev pub GivesBack : PieceParts → Arrival → Type 0
 GivesBack piece Kept = Unit {0}
 GivesBack piece (Opened written) = Unit {0}

@@ -1,7 +1,10 @@
 //! The barrier between the phases of a loop team.
 //!
-//! Neither a hart nor a context waits at it: a member that ends its phase brings its piece and is done, and whoever
-//! brings the last one takes what the whole phase wrote.
+//! Neither a hart nor a context waits at the barrier. A member that ends its phase brings its piece and is done. The hart that
+//! brings the last piece gets the writes of the whole phase.
+//!
+//! `BarrierState` is the barrier of one owner, and `LitheBarrier` the same under a lock. Begin with `BarrierState` in
+//! `state.rt`. `loop_team` uses it, and `sched_tests` has examples.
 #![tactic(auto)]
 
 mod shared;

@@ -7,21 +7,21 @@ use array_jobs::Piece;
 use std::sync::{Mutex, Wait};
 use std::thread::Threads;
 
-/// A barrier that harts share. The lock is held for the length of a call, and each call may wait for it.
+/// A barrier that harts share. A call holds the lock while it runs, and may block.
 #[derive(Drop)]
 pub struct LitheBarrier<'p> {
     lock: Mutex<BarrierState<'p>>,
 }
 
 impl<'p> LitheBarrier<'p> {
-    /// The barrier in this state.
+    /// The barrier with this state.
     pub fn new(state: BarrierState<'p>) -> LitheBarrier<'p> {
         LitheBarrier {
             lock: Mutex::new(state),
         }
     }
 
-    /// What `arrive` of the state does.
+    /// The same as `arrive` of the state, under the lock. May block.
     pub fn arrive<R: Threads + Wait + Sync>(&self, rt: &R, piece: Piece<'p>) -> Arrival<'p>
         ensures { GivesBack piece.entry result }
     {

@@ -1,4 +1,4 @@
-//! The barrier as one owner has it.
+//! The barrier of one owner.
 ghost use Rattle.std.specs.Prelude.{◌≡◌, ◌↔◌, ◌<◌, IsTrue, IfOk, length, map};
 ghost use Rattle.array_jobs.specs.Jobs.{job_of};
 ghost use Rattle.array_jobs.specs.Groups.{IsGroup};
@@ -11,27 +11,27 @@ use join_book::{Book, Deposit};
 use std::alloc::{AllocError, Global};
 use std::marker::Model;
 
-/// What came of an arrival.
+/// The result of an arrival.
 #[derive(Debug, Drop)]
 pub enum Arrival<'p> {
-    /// The piece is kept. Others are still to come.
+    /// The piece is kept. The barrier waits for others.
     Kept,
-    /// It was the last one: what all members wrote in this phase, merged in the order of their places.
+    /// The piece was the last one: the writes of all members in this phase, merged in the order of their indices.
     Opened(Overlay),
-    /// The piece's job isn't that of a place that is free. The piece is given back.
+    /// The piece's job isn't the job of a free slot. The piece is returned.
     Stranger(Piece<'p>),
 }
 
-// Room for what the jobs write, made before the first piece comes.
+// Room for the writes of the jobs, made before the first piece comes.
 #[derive(Debug, Drop)]
 pub(crate) struct Room {
     store: MarkedStore,
     overlay: Overlay,
 }
 
-/// A barrier that waits for the pieces of one phase: one place for each member's job.
+/// A barrier that waits for the pieces of one phase, with a slot for each member's job.
 ///
-/// Contracts see it as a book, of which places are open, that is free, or filled. After it has opened no place is free.
+/// Contracts see it as a book whose slots are open (free) or filled. After the barrier has opened, no slot is free.
 #[derive(Debug, Drop)]
 pub struct BarrierState<'p> {
     book: Book<'p>,
@@ -55,8 +55,16 @@ impl<'p> Model for BarrierState<'p> {
 }
 
 impl<'p> BarrierState<'p> {
-    /// A barrier that waits for the pieces of these jobs. They are one to 64 jobs of one site and one phase, each at the
-    /// place that it names. No other call takes memory.
+    /// A barrier that waits for the pieces of these jobs. They are one to 64 jobs of one site and one phase, each at the index
+    /// that it names.
+    ///
+    /// # Errors
+    ///
+    /// `AllocError` if an allocation fails.
+    ///
+    /// # Memory
+    ///
+    /// It allocates the book, and the store and the overlay of the merge. No other call allocates.
     pub fn new(alloc: Global, jobs: Vec<Job<'p>>) -> Result<BarrierState<'p>, AllocError>
         requires { IsGroup (map job_of jobs.items) }
         ensures { IfOk result (λ barrier. barrier ≡ open_book jobs.entry.items) }
@@ -69,7 +77,7 @@ impl<'p> BarrierState<'p> {
         })
     }
 
-    /// The jobs, in the order of their places. There is one or more.
+    /// The jobs, in the order of their indices. There is at least one.
     pub fn jobs(&self) -> &[Job<'p>]
         ensures same { result.now ≡ self.now.jobs }
         ensures some { 0 < length self.now.jobs }
@@ -77,15 +85,15 @@ impl<'p> BarrierState<'p> {
         self.book.jobs()
     }
 
-    /// Whether the place is there and its piece is still to come.
+    /// Whether the slot at this index exists and waits for its piece.
     pub fn is_free(&self, place: u8) -> bool
         ensures { IsTrue result ↔ IsMarked self.now place Open }
     {
         self.book.is_open(place)
     }
 
-    /// Takes a piece to the place of its job, which must be free. The caller knows that it is that place, so no jobs are
-    /// compared, and the piece is no Stranger.
+    /// Puts a piece into the slot of its job, which must be free. The caller knows the slot, so no jobs are compared, and the
+    /// result is never `Stranger`.
     pub fn keep(&mut self, piece: Piece<'p>) -> Arrival<'p>
         requires own { IsPlaceOf self.old piece.job.place piece.job }
         requires free { IsMarked self.old piece.job.place Open }
@@ -101,7 +109,7 @@ impl<'p> BarrierState<'p> {
         }
     }
 
-    /// Takes a piece to the place of its job.
+    /// Puts a piece into the slot of its job.
     pub fn arrive(&mut self, piece: Piece<'p>) -> Arrival<'p>
         ensures { Arrives self.old piece.entry result self.new }
     {
@@ -121,7 +129,7 @@ impl<'p> BarrierState<'p> {
     }
 }
 
-// Room for all that the book's jobs write.
+// Room for the writes of all the book's jobs.
 fn room_for(alloc: Global, book: &Book) -> Result<Room, AllocError>
     ensures { IfOk result (λ room. IsRoomFor book.now room) }
 {
@@ -130,7 +138,7 @@ fn room_for(alloc: Global, book: &Book) -> Result<Room, AllocError>
     Ok(Room { store, overlay })
 }
 
-// The writes of all pieces of a full book. It takes no memory.
+// The writes of all pieces of a full book. Does not allocate.
 fn merged_writes(book: &Book, room: Room) -> Overlay
     requires full { IsFull book.now }
     requires none_failed { ¬ HasFailed book.now }

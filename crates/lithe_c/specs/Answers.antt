@@ -1,5 +1,5 @@
--- What each call of C makes of the hart's block, and which status it returns. The board stays the same. The call is one of the board's
--- checked calls on the hart's seat, and the status is that of its result.
+-- The effect of each call of C on the hart's block, and the status that it returns. The board is unchanged. The call is one of
+-- the board's checked calls on the hart's seat, and the status is that of its result.
 use Rattle.std.specs.Prelude.{◌≡◌, ℕ, Result}
 use Rattle.std.specs.Arc.{arc_value}
 use Rattle.open_rule.specs.declared.view.View.{View}
@@ -13,15 +13,15 @@ use Rattle.open_board.specs.declared.checked.Refused.{Refused}
 use Rattle.lithe_c.specs.Status.{plain_status, register_status, site_after, enter_status, look_status}
 use Rattle.lithe_c.specs.declared.lent.Lent.{Lent}
 
--- The board that the hart is of.
+-- The board of the hart.
 abbrev pub board_of : Lent → OpenBoard
 board_of l = arc_value l.board
 
--- What the hart knows.
+-- The hart's view.
 abbrev pub view_of : Lent → View
 view_of l = l.seat.seat.me.0
 
--- A register, with what stood where the site's number goes before and after.
+-- A register, with the value at the site's number before and after.
 abbrev pub AnswersRegister : Lent → ℕ → ℕ → ℕ → Lent → Type 0
 AnswersRegister l before status after m = (board_of m ≡ board_of l)
     × ((r : Result ℕ TooDeep) × Registers (view_of l) r (view_of m) × (status ≡ register_status r) × (after ≡ site_after before r))
@@ -46,7 +46,7 @@ abbrev pub AnswersClose : Lent → ℕ → Lent → Type 0
 AnswersClose l status m = (board_of m ≡ board_of l)
     × ((r : Result (Unit {0}) Refused) × ChecksClose (view_of l) r (view_of m) × (status ≡ plain_status r))
 
--- A look whether the owner is empty.
+-- A check whether the owner is empty.
 abbrev pub AnswersLook : Lent → ℕ → Lent → Type 0
 AnswersLook l status m = (board_of m ≡ board_of l)
     × ((r : Result Seen Refused) × ChecksLook (view_of l) r (view_of m) × (status ≡ look_status r))

@@ -1,4 +1,4 @@
--- What a hart of C owns: the block of its seat.
+-- The block of a hart's seat, which a hart of C owns.
 use base.Fml.{Fml}
 use base.Stored.{Coded}
 use denote.RawPtr.{Ptr}
@@ -11,6 +11,6 @@ use Rattle.lithe_c.specs.contracts.lent.Lent.{the_row}
 abbrev pub hart_owns : Global → Ptr → the_row.Denot → Fml
 hart_owns alloc = box_owns (ghosts.dealloc_token alloc) the_row
 
--- How the logic stores what a block holds.
+-- The encoding of a block's contents in the logic.
 abbrev pub lent_coded : Coded the_row.Denot
 lent_coded = the_row.coded

@@ -6,8 +6,8 @@ use denote.RawPtr.{Ptr}
 abbrev pub IsSize : ℕ → ℕ → Type 0
 IsSize harts levels = ((1 ≤ harts) × (harts ≤ 64)) × ((1 ≤ levels) × (levels ≤ 64))
 
--- A board with a size that a board can have was made, or there was no memory for it, or it can have no such size. Where none was
--- made, what stood where the harts' pointers go is as it was.
+-- A board of a valid size was made, or an allocation failed, or the size is invalid. If no board was made, the array of the
+-- harts' pointers is unchanged.
 abbrev pub MakesOrKeeps : ℕ → List Ptr → ℕ → List Ptr → Type 0
 MakesOrKeeps levels before status after =
     (((status ≡ 0) × IsSize (length before) levels)

@@ -18,7 +18,7 @@ refusal_status NotClosed = 5
 refusal_status (NotEmpty shown) = 6
 refusal_status NoSuchSite = 7
 
--- The status of a call that has no other result than a refusal.
+-- The status of a call whose only other result is a refusal.
 abbrev pub plain_status : Result (Unit {0}) Refused → ℕ
 plain_status (Ok done) = 0
 plain_status (Err refused) = refusal_status refused
@@ -28,7 +28,7 @@ abbrev pub register_status : Result ℕ TooDeep → ℕ
 register_status (Ok site) = 0
 register_status (Err deep) = 8
 
--- What a register leaves where it writes the site's number: the number, or what was there.
+-- The value at the site's number after a register: the number, or the value before.
 abbrev pub site_after : ℕ → Result ℕ TooDeep → ℕ
 site_after before (Ok site) = site
 site_after before (Err deep) = before
@@ -40,13 +40,13 @@ enter_status (Ok (NotWanted shown)) = 9
 enter_status (Ok (Moved read found)) = 10
 enter_status (Err refused) = refusal_status refused
 
--- The status of a look.
+-- The status of a check.
 abbrev pub look_status : Result Seen Refused → ℕ
 look_status (Ok Empty) = 0
 look_status (Ok (Busy shown)) = 6
 look_status (Err refused) = refusal_status refused
 
--- A text that was written: where there was room, it ends within it, with a 0.
+-- A text that was written: if there was room, it ends within it, with a 0.
 abbrev pub EndsText : List ℕ → ℕ → List ℕ → Type 0
 EndsText before count after = (length after ≡ length before)
     × (0 < length before → (count < length before) × (slice_index_or after count 0 ≡ 0))

@@ -1,4 +1,4 @@
-//! Each call of a hart: the block is taken from C's pointer, the call is made on it, and the pointer owns it again.
+//! Each call of a hart: it takes the block from C's pointer, makes the call on it, and returns the block to the pointer.
 ghost use Rattle.std.specs.Prelude.{◌≡◌};
 ghost use Rattle.open_board.specs.Calls.{Registers};
 ghost use Rattle.open_board.specs.Checked.{ChecksRequest, ChecksEnter, ChecksYield, ChecksClose, ChecksLook, ChecksUnregister};

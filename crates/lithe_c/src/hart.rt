@@ -1,4 +1,4 @@
-//! What C has of a hart: the pointer to its seat.
+//! A hart as C has it: the pointer to its seat.
 ghost use Rattle.std.specs.Prelude.{◌≡◌};
 ghost use Rattle.lithe_c.specs.declared.lent.Lent.{Lent};
 ghost use Rattle.lithe_c.specs.Hart.{lent_coded, hart_owns};
@@ -8,7 +8,7 @@ use crate::parts::Parts;
 use std::alloc::Global;
 use std::marker::Model;
 
-/// A hart as C has it: one pointer, to a block that the library made. Contracts see what the block holds.
+/// A hart as C has it: one pointer, to a block that the library made. Contracts see the contents of the block.
 #[repr(C)]
 pub struct LitheHart {
     ptr: *mut u8,

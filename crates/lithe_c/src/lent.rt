@@ -11,8 +11,8 @@ use std::sync::Arc;
 pub struct Lent {
     pub(crate) board: Arc<OpenBoard, Global>,
     pub(crate) seat: OpenSeat,
-    /// Fills 128 bytes. Why: a hart's calls write to the first 72 bytes alone. Those of two blocks then lie 56
-    /// bytes apart, and glibc's 16 bytes between blocks make it 72, so no two harts write to one cache line.
+    /// Fills 128 bytes. Why: a hart's calls write only to the first 72 bytes. Those of two blocks are then 56 bytes apart, and
+    /// glibc's 16 bytes between blocks make it 72, so no two harts write to one cache line.
     unused: [u64; 7],
     pub ghost of_board: { IsOf (arc_value board) seat },
 }

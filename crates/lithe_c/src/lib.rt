@@ -1,12 +1,12 @@
 //! The open board for C, a static library. `bindings/c/lithe.h` declares it.
 //!
-//! C has of each hart one pointer, to a block with the hart's seat and its share of the board. Each call tests its own
-//! condition and returns a status. The contracts say what each call makes of the hart's view, and which status it returns.
-//! A call takes the hart from the pointer and puts it back: it writes the pointer, to what it was.
+//! C has one pointer for each hart, to a block with the hart's seat and its share of the board. Each call tests its own
+//! condition and returns a status. The contracts state the effect of each call on the hart's view, and the status that it
+//! returns. A call takes the hart from the pointer and puts it back: it writes the pointer's old value.
 //!
-//! Left to C: a hart's pointer is one that `lithe_hart_make` wrote and `lithe_hart_drop` hasn't taken. Each hart is given to
-//! one call at a time. A hart may go from thread to thread by a lock, by the start or the join of a thread, or by a
-//! sequentially consistent atomic. No call is made in a signal handler, or in a forked child of a process with threads.
+//! Not checked, for C to ensure: a hart's pointer is one that `lithe_hart_make` wrote and `lithe_hart_drop` hasn't taken. Each
+//! hart is passed to one call at a time. A hart may go from thread to thread by a lock, by the start or the join of a thread,
+//! or by a sequentially consistent atomic. No call is made in a signal handler, or in a forked child of a process with threads.
 #![tactic(auto)]
 
 ghost use Rattle.std.specs.Prelude.{◌≡◌, ◌⊎◌, ◌<◌, ◌≢◌, length};
@@ -31,17 +31,17 @@ use std::alloc::Global;
 use std::sync::Arc;
 
 /// Makes a board with `levels` levels, and writes a pointer for each hart into `harts`. The length of `harts` is the number of
-/// harts, and hart `h` is at place `h`, from 0. Each hart is at the base.
+/// harts, and hart `h` is at index `h`, from 0. Each hart is at the base.
 ///
-/// Returns 12 (bad size) exactly unless there are 1 to 64 harts and 1 to 64 levels, and 11 if there is no memory. `harts` is
-/// then as it was, and nothing stays allocated.
+/// Returns 12 (bad size) exactly unless there are 1 to 64 harts and 1 to 64 levels, and 11 if an allocation fails. `harts` is
+/// then unchanged, and nothing stays allocated.
 ///
 /// # Memory
 ///
 /// A block of 64 bytes for each site and one for the base, one of 128 bytes for each hart, and one for the board.
 /// `lithe_hart_drop` of the last hart frees the board.
 ///
-/// Left to the caller: that a pointer is one of a hart, which no clause says, is so for each that this call writes.
+/// Not in a clause: each pointer that this call writes is a pointer to a hart, as the other calls require.
 #[unsafe(no_mangle)]
 pub extern "C" fn lithe_hart_make(alloc: Global, levels: u8, harts: &mut [*mut u8]) -> u32
     ensures { MakesOrKeeps levels harts.old result harts.new }
@@ -79,10 +79,15 @@ pub extern "C" fn lithe_hart_register(hart: &mut LitheHart, site: &mut u16) -> u
     status::of_register(made)
 }
 
-/// Asks for `count` more harts at the owner. A load and an addition.
+/// Requests `count` more harts at the owner. A load and an addition.
 ///
-/// Returns, in this order, 1 (not home) if the hart isn't the home of its owner, 4 (is closed) if it closed it, 3 (too many
-/// wished) if the site would have asked in all for more than the board's other harts. No hart is asked for then.
+/// Returns, in this order:
+///
+/// - 1 (not home) if the hart isn't the home of its owner,
+/// - 4 (is closed) if the hart closed it,
+/// - 3 (too many wished) if the site would have requested in all more than the board's other harts.
+///
+/// The call requests no hart then.
 #[unsafe(no_mangle)]
 pub extern "C" fn lithe_hart_request(hart: &mut LitheHart, count: u8) -> u32
     ensures { AnswersRequest hart.old.lent count result hart.new.lent }
@@ -90,11 +95,16 @@ pub extern "C" fn lithe_hart_request(hart: &mut LitheHart, count: u8) -> u32
     status::of_call(replace_with(hart, count, calls::requested))
 }
 
-/// Tries to enter the site as a guest. The site is then the hart's owner. A load, and an exchange if the word that was loaded
-/// lets the hart in.
+/// Tries to enter the site as a guest. The site is then the hart's owner. A load, and an exchange if the loaded word admits the
+/// hart.
 ///
-/// Returns 7 (no such site) if the number isn't 1 to harts times levels, 9 (not wanted) if the loaded word doesn't let the
-/// hart in, 10 (moved) if the exchange found another word. The hart stays in its owner then.
+/// Returns
+///
+/// - 7 (no such site) if the number isn't 1 to harts times levels,
+/// - 9 (not wanted) if the loaded word doesn't admit the hart,
+/// - 10 (moved) if the exchange found another word.
+///
+/// The hart stays in its owner then.
 #[unsafe(no_mangle)]
 pub extern "C" fn lithe_hart_enter(hart: &mut LitheHart, site: u16) -> u32
     ensures { AnswersEnter hart.old.lent site result hart.new.lent }
@@ -122,7 +132,7 @@ pub extern "C" fn lithe_hart_close(hart: &mut LitheHart) -> u32
     status::of_call(replace_with(hart, (), calls::closed))
 }
 
-/// Looks whether the owner, which the hart has closed, has no guest: 0 if so, 6 (not empty) if it has one. A guest in a site
+/// Checks whether the owner, which the hart has closed, has no guest: 0 if so, 6 (not empty) if it has one. A guest in a site
 /// below the owner is a guest of the owner too. Two loads.
 ///
 /// Returns 1 (not home) if the hart isn't the home of its owner, else 5 (not closed) if it hasn't closed it.
@@ -135,8 +145,13 @@ pub extern "C" fn lithe_hart_see_empty(hart: &mut LitheHart) -> u32
 
 /// Ends the owner, if it is closed and has no guest. Its parent is then the hart's owner. Two loads and a swap.
 ///
-/// Returns, in this order, 1 (not home) if the hart isn't the home of its owner, 5 (not closed) if it hasn't closed it, 6
-/// (not empty) if the second word that was loaded has a guest. The site stays then.
+/// Returns, in this order:
+///
+/// - 1 (not home) if the hart isn't the home of its owner,
+/// - 5 (not closed) if the hart hasn't closed it,
+/// - 6 (not empty) if the second loaded word has a guest.
+///
+/// The site stays live then.
 #[unsafe(no_mangle)]
 pub extern "C" fn lithe_hart_unregister(hart: &mut LitheHart) -> u32
     ensures { AnswersUnregister hart.old.lent result hart.new.lent }
@@ -153,17 +168,17 @@ pub extern "C" fn lithe_hart_owner(hart: &mut LitheHart) -> u16
     replace_with(hart, (), calls::owned)
 }
 
-/// Takes the hart away and frees its block. The last hart of a board takes the board with it.
+/// Takes the hart away and frees its block. The last hart of a board frees the board.
 ///
-/// Left to the caller: sites of the hart stay live, and a site in which it is a guest never gets empty, so each hart should
-/// be at the base. No later call is given the hart.
+/// Not checked: sites of the hart stay live, and a site in which it is a guest never becomes empty, so each hart should be at
+/// the base. No later call may get the hart.
 #[unsafe(no_mangle)]
 pub extern "C" fn lithe_hart_drop(hart: LitheHart) {
     drop(hart.into_box());
 }
 
-/// Writes one line for the status into `text`, with a final 0. A line that has no room is cut off. Returns the number of bytes
-/// before the 0. Without room for the 0 nothing is written. 80 bytes are room for each line.
+/// Writes one line for the status into `text`, with a final 0. A line that doesn't fit is truncated. Returns the number of
+/// bytes before the 0. Without room for the 0 nothing is written. 80 bytes are enough for each line.
 #[unsafe(no_mangle)]
 pub extern "C" fn lithe_status_text(status: u32, text: &mut [u8]) -> usize
     ensures { EndsText text.old result text.new }

@@ -1,4 +1,4 @@
-//! What C is told of a call: a number, and a text for each number.
+//! The statuses of calls for C: a number, and a text for each number.
 ghost use Rattle.std.specs.Prelude.{◌≡◌};
 ghost use Rattle.lithe_c.specs.Status.{refusal_status, plain_status, register_status, enter_status, look_status};
 

@@ -1,5 +1,5 @@
 -- Programs whose members overtake: why one isn't piped.
-use Rattle.std.proofs.Common.{◌≡◌, ◌⊎◌, ◌≤◌, ◌∙◌, ℕ, List, length, Option, Some, None, sym, ap, refl, inl, inr}
+use Rattle.std.proofs.Common.{◌≡◌, ◌⊎◌, ◌≤◌, ◌∙◌, ℕ, List, length, Some, None, sym, refl, inl, inr}
 use Rattle.array_tree.specs.Trees.{ProgramTree}
 use Rattle.array_lang.specs.Spelled.{Spells}
 use Rattle.disjoint_check.specs.declared.fault.CheckFault.{CheckFault}

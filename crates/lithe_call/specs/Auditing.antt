@@ -1,4 +1,4 @@
--- What an audit is of, and what it finds.
+-- The input of an audit, and its verdict.
 use Rattle.std.specs.Prelude.{◌≡◌, ℕ, List, Some, Result, Ok}
 use Rattle.array_tree.specs.Trees.{ProgramTree}
 use Rattle.array_meaning.specs.Work.{final_store}
@@ -15,20 +15,20 @@ use Rattle.lithe_call.specs.declared.answer.Ending.TheVariants as ending
 use Rattle.lithe_call.specs.declared.status.Status.{Status}
 use Rattle.lithe_call.specs.declared.status.Status.TheVariants as status
 
--- These bytes have two parts, for which this holds.
+-- These bytes have two parts, for which `AreSo` holds.
 pub record HasParts (AreSo : List ℕ → List ℕ → Type 0) (bytes : List ℕ) : Type 0 where
   pub first : List ℕ
   pub second : List ℕ
   pub parts : parts_of bytes ≡ Some (first, second)
   pub are : AreSo first second
 
--- This is what an audit finds in an output of the program's run on so many harts.
+-- The verdict of an audit of an output of the program's run on so many harts.
 abbrev pub found_in : ℕ → ProgramTree → List ℕ → Result Verdict TextFault
 found_in harts program output =
     audit_of (table_plan program harts) (entered_of program)
     (array_text program (final_store program)) output
 
--- The first part spells an accepted program, and this is the verdict on the second.
+-- The first part spells an accepted program, and `verdict` is the verdict on the second part.
 pub record AreFound (harts : ℕ) (verdict : Verdict) (first second : List ℕ) : Type 0 where
   pub program : ProgramTree
   pub input : SpellAccepted harts first program
@@ -38,13 +38,13 @@ pub record AreFound (harts : ℕ) (verdict : Verdict) (first second : List ℕ) 
 abbrev pub HasVerdict : ℕ → List ℕ → Verdict → Type 0
 HasVerdict harts bytes verdict = HasParts (AreFound harts verdict) bytes
 
--- A verdict has this status.
+-- The status of a verdict.
 abbrev pub status_by : Verdict → Status
 status_by (verdict.Legal entries) = status.Done
 status_by (verdict.Differs line) = status.Illegal
 status_by (verdict.Illegal fault) = status.Illegal
 
--- The status of a command, by how it ends.
+-- The status of a command, by its ending.
 abbrev pub status_of_ending : Ending → Status
 status_of_ending ending.Written = status.Done
 status_of_ending ending.Illegal = status.Illegal

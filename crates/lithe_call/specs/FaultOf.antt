@@ -14,7 +14,7 @@ read_fault_of reading.Memory = fault.Memory
 read_fault_of reading.TooLong = fault.TooLong
 read_fault_of reading.Failed = fault.ReadFault
 
--- Each fault has its status.
+-- The status of each fault.
 abbrev pub status_of : Fault → Status
 status_of fault.Usage = status.Usage
 status_of fault.TooLong = status.TooLong
@@ -23,7 +23,7 @@ status_of (fault.Syntax line) = status.Syntax
 status_of (fault.Refused line) = status.Refused
 status_of fault.Memory = status.NoMemory
 
--- The line of a fault is its own, or else the text of its status.
+-- The line of a fault: its own, or else the text of its status.
 abbrev pub line_of : Fault → List ℕ
 line_of (fault.Syntax line) = line.items
 line_of (fault.Refused line) = line.items

@@ -73,13 +73,14 @@ pub record IsSpreadRefused (harts : ℕ) (program : ProgramTree) (line : List �
   pub shaped : spread_fault_of program ≡ None
   pub first : IsToldFault (check_fault_of (spread_of program) harts) (spread_of program) line
 
--- The first of the three that refuses a program to `tally`: its meaning, its adds, or the check of it with rows.
+-- The first of the three conditions for which `tally` refuses a program: its meaning, its adds, or the check of the program
+-- with rows.
 abbrev pub IsUntallied : ℕ → ProgramTree → List ℕ → Type 0
 IsUntallied harts program line =
     IsToldFault (meaning_fault_of program harts) program line
     ⊎ (IsUnspread harts program line ⊎ IsSpreadRefused harts program line)
 
--- Bytes within the limit spell a program that isn't tallied by so many harts, and the line reports why.
+-- Bytes within the limit spell a program that can't be tallied by so many harts, and the line reports why.
 pub record SpellUntallied (harts : ℕ) (bytes line : List ℕ) : Type 0 where
   pub short : length bytes ≤ most_bytes
   pub program : ProgramTree
@@ -87,7 +88,8 @@ pub record SpellUntallied (harts : ℕ) (bytes line : List ℕ) : Type 0 where
   pub refused : IsTallied harts program → ⊥
   pub first : IsUntallied harts program line
 
--- The program is accepted, but two pieces cross at one of its sites, and the line reports the first such site and its least cell.
+-- The program is accepted, but two pieces cross at one of its sites, and the line reports the first such site and its least
+-- cell.
 pub record IsCrossed (harts : ℕ) (program : ProgramTree) (line : List ℕ) : Type 0 where
   pub accepted : IsAcceptedFor program harts
   pub fault : PipeFault
@@ -95,12 +97,12 @@ pub record IsCrossed (harts : ℕ) (program : ProgramTree) (line : List ℕ) : T
   pub real : fault ≢ pipe.Memory
   pub told : line ≡ crossing_text program fault
 
--- The first of the two that refuses a program to `pipe`: the check, or the one for crossings.
+-- The first of the two conditions for which `pipe` refuses a program: the check, or the check for crossings.
 abbrev pub IsUnpiped : ℕ → ProgramTree → List ℕ → Type 0
 IsUnpiped harts program line =
     IsToldFault (check_fault_of program harts) program line ⊎ IsCrossed harts program line
 
--- Bytes within the limit spell a program that isn't piped by so many harts, and the line reports why.
+-- Bytes within the limit spell a program that can't be piped by so many harts, and the line reports why.
 pub record SpellUnpiped (harts : ℕ) (bytes line : List ℕ) : Type 0 where
   pub short : length bytes ≤ most_bytes
   pub program : ProgramTree
@@ -108,13 +110,13 @@ pub record SpellUnpiped (harts : ℕ) (bytes line : List ℕ) : Type 0 where
   pub refused : IsPiped harts program → ⊥
   pub first : IsUnpiped harts program line
 
--- The input has no line `%%`, and the line says so.
+-- The input has no line `%%`, and the line reports that.
 pub record HasNoMark (bytes line : List ℕ) : Type 0 where
   pub none : parts_of bytes ≡ None
   pub told : line ≡ codes "syntax: no line %%" ++ 10 ∷ []
 
--- A first part that spells an accepted program, and a second that is no output's text; the line reports its first fault, which
--- isn't an allocation failure.
+-- A first part that spells an accepted program, and a second part that is no output's text. The line reports its first fault,
+-- which isn't an allocation failure.
 pub record AreNoOutput (harts : ℕ) (line first second : List ℕ) : Type 0 where
   pub program : ProgramTree
   pub input : SpellAccepted harts first program
@@ -123,11 +125,11 @@ pub record AreNoOutput (harts : ℕ) (line first second : List ℕ) : Type 0 whe
   pub real : fault ≢ text.Memory
   pub told : line ≡ text_fault_text fault
 
--- The first part spells no program, or the second is no output's text.
+-- The first part spells no program, or the second part is no output's text.
 abbrev pub AreNoText : ℕ → List ℕ → List ℕ → List ℕ → Type 0
 AreNoText harts line first second = SpellNothing first line ⊎ AreNoOutput harts line first second
 
--- The command's input is no text that it takes, as the line reports.
+-- The command's input is no text of the form that it reads, as the line reports.
 abbrev pub IsNoText : Command → List ℕ → List ℕ → Type 0
 IsNoText (Audit harts) bytes line = HasNoMark bytes line ⊎ HasParts (AreNoText harts line) bytes
 IsNoText (Make seed size harts) bytes line = ⊥
@@ -147,8 +149,8 @@ abbrev pub IsLong : Command → List ℕ → Type 0
 IsLong (Audit harts) bytes = HasParts (λ first second. most_bytes < length first) bytes
 IsLong command bytes = ⊥
 
--- The cause of a fault of the command, by what the source had left before and has left after, and by its count of faults
--- before and after. An allocation failure has none.
+-- The cause of a fault of the command, by the bytes that the source had left before and has left after, and by its count of
+-- faults before and after. An allocation failure has no cause.
 abbrev pub IsCause : Command → Fault → Option (List ℕ) → Option (List ℕ) → ℕ → ℕ → Type 0
 IsCause command fault.Usage left left' faults faults' = ⊥
 IsCause command fault.TooLong left left' faults faults' =
@@ -161,14 +163,14 @@ IsCause command (fault.Refused line) left left' faults faults' =
     (bytes : List ℕ) × ReadsAll command left bytes left' × IsRefused command bytes line.items
 IsCause command fault.Memory left left' faults faults' = Unit {0}
 
--- The words give no command, or memory ran out while they were read.
+-- The words are no form of a command, or an allocation failed while they were read.
 abbrev pub IsNoCommand : List (List ℕ) → Fault → Type 0
 IsNoCommand words fault.Usage = form_of words ≡ None
 IsNoCommand words fault.Memory = Unit {0}
 IsNoCommand words why = ⊥
 
--- The fault is that of usage only where the words give no command, and there it is that or an allocation failure, which may come
--- also while the words are read. Any other has its cause.
+-- The fault is Usage only if the words are no form of a command. For such words it is Usage or an allocation failure, which may
+-- also occur while the words are read. Any other fault has its cause.
 abbrev pub IsFault : List (List ℕ) → Fault → Option (List ℕ) → Option (List ℕ) → ℕ → ℕ → Type 0
 IsFault words fault.Usage left left' faults faults' = form_of words ≡ None
 IsFault words fault.Memory left left' faults faults' = Unit {0}
@@ -176,20 +178,20 @@ IsFault words why left left' faults faults' =
     (command : Command) × (form_of words ≡ Some command)
     × IsCause command why left left' faults faults'
 
--- The program of these bytes has no output, by which lines report that it is refused.
+-- The program of these bytes has no output. `AreRefused` relates bytes to the line that reports a refusal.
 abbrev pub IsNoRun : (List ℕ → List ℕ → Type 0) → List ℕ → Fault → Type 0
 IsNoRun AreRefused bytes (fault.Syntax line) = SpellNothing bytes line.items
 IsNoRun AreRefused bytes (fault.Refused line) = AreRefused bytes line.items
 IsNoRun AreRefused bytes fault.Memory = Unit {0}
 IsNoRun AreRefused bytes why = ⊥
 
--- The fault reports why the program isn't tallied, or memory ran out.
+-- The fault reports why the program can't be tallied, or an allocation failed.
 abbrev pub TellsUntallied : ℕ → ProgramTree → Fault → Type 0
 TellsUntallied harts program (fault.Refused line) = IsUntallied harts program line.items
 TellsUntallied harts program fault.Memory = Unit {0}
 TellsUntallied harts program why = ⊥
 
--- The fault reports why the program isn't piped, or memory ran out.
+-- The fault reports why the program can't be piped, or an allocation failed.
 abbrev pub TellsUnpiped : ℕ → ProgramTree → Fault → Type 0
 TellsUnpiped harts program (fault.Refused line) = IsUnpiped harts program line.items
 TellsUnpiped harts program fault.Memory = Unit {0}

@@ -1,4 +1,4 @@
--- The faults that carry a line, from what the line reports.
+-- The faults that have a line, by what the line reports.
 use Rattle.std.specs.Prelude.{◌≡◌, ◌≢◌}
 use Rattle.array_tree.specs.Trees.{ProgramTree}
 use Rattle.array_lang.specs.declared.fault.SyntaxFault.{SyntaxFault}
@@ -19,33 +19,33 @@ use Rattle.tally_cells.specs.declared.fault.TallyFault.TheVariants as tally
 use Rattle.lithe_call.specs.declared.fault.Fault.{Fault}
 use Rattle.lithe_call.specs.declared.fault.Fault.TheVariants as fault
 
--- The fault reports that of the text, or memory ran out.
+-- The fault reports the text's first error, or an allocation failed.
 abbrev pub TellsSyntax : SyntaxFault → Fault → Type 0
 TellsSyntax cause (fault.Syntax line) = (cause ≢ syntax.Memory) × (line.items ≡ syntax_text cause)
 TellsSyntax cause fault.Memory = Unit {0}
 TellsSyntax cause why = ⊥
 
--- The fault reports why the program isn't accepted, or memory ran out.
+-- The fault reports why the program isn't accepted, or an allocation failed.
 abbrev pub TellsRefusal : ProgramTree → CheckFault → Fault → Type 0
 TellsRefusal program cause (fault.Refused line) =
     (cause ≢ check.Memory) × (line.items ≡ refusal_text program cause)
 TellsRefusal program cause fault.Memory = Unit {0}
 TellsRefusal program cause why = ⊥
 
--- The fault reports why the program isn't spread, or memory ran out.
+-- The fault reports why the program can't be spread, or an allocation failed.
 abbrev pub TellsTally : TallyFault → Fault → Type 0
 TellsTally cause (fault.Refused line) = (cause ≢ tally.Memory) × (line.items ≡ tally_text cause)
 TellsTally cause fault.Memory = Unit {0}
 TellsTally cause why = ⊥
 
--- The fault reports where two pieces cross, or memory ran out.
+-- The fault reports the crossing of two pieces, or an allocation failed.
 abbrev pub TellsCrossing : ProgramTree → PipeFault → Fault → Type 0
 TellsCrossing program cause (fault.Refused line) =
     (cause ≢ pipe.Memory) × (line.items ≡ crossing_text program cause)
 TellsCrossing program cause fault.Memory = Unit {0}
 TellsCrossing program cause why = ⊥
 
--- The fault reports that of an output's text, or memory ran out.
+-- The fault reports the first error of an output's text, or an allocation failed.
 abbrev pub TellsText : TextFault → Fault → Type 0
 TellsText cause (fault.Syntax line) = (cause ≢ text.Memory) × (line.items ≡ text_fault_text cause)
 TellsText cause fault.Memory = Unit {0}

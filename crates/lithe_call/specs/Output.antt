@@ -1,4 +1,4 @@
--- What a command writes, and the status that it then has.
+-- The output of a command, and its status.
 use Rattle.std.specs.Prelude.{◌≡◌, ℕ, ◌≤◌, List, length, ◌++◌}
 use Rattle.transfer_table.specs.Plan.{Plan}
 use Rattle.transfer_table.specs.Journal.{IsComplete}
@@ -25,24 +25,25 @@ use Rattle.lithe_call.specs.Auditing.{HasVerdict, status_by}
 use Rattle.lithe_call.specs.declared.status.Status.{Status}
 use Rattle.lithe_call.specs.declared.status.Status.TheVariants.{Done, Refused}
 
--- The output has the array lines, and then the journal.
+-- The text of the array lines, followed by the journal.
 abbrev pub output_text : ProgramTree → Plan → Store → List Entry → List ℕ
 output_text program plan store journal = array_text program store ++ journal_text plan journal
 
--- `run` writes the arrays as the one-thread meaning leaves them, and a journal that is complete for the program's
--- plan and the sites that this meaning enters.
+-- The output of `run`: the arrays as the one-thread meaning leaves them, and a journal that is complete for the program's plan
+-- and the sites that this meaning enters.
 pub record IsRunOutput (program : ProgramTree) (harts : ℕ) (text : List ℕ) : Type 0 where
   pub journal : List Entry
   pub complete : IsComplete (table_plan program harts) (entered_of program) journal
   pub whole : text ≡ output_text program (table_plan program harts) (final_store program) journal
 
--- `make` writes the summary of such a run.
+-- The output of `make`: the summary of such a run.
 pub record IsSummary (program : ProgramTree) (harts : ℕ) (text : List ℕ) : Type 0 where
   pub journal : List Entry
   pub complete : IsComplete (table_plan program harts) (entered_of program) journal
   pub whole : text ≡ summary_text (table_plan program harts) (final_store program) journal
 
--- `solo` writes the arrays alone; `tally`, `pipe` and an audit don't run each accepted program as it stands.
+-- The output of a command for a program. `solo` writes only the arrays; `tally`, `pipe` and an audit don't run each accepted
+-- program unchanged.
 abbrev pub IsOutput : Command → ProgramTree → List ℕ → Type 0
 IsOutput (Run harts) program text = IsRunOutput program harts text
 IsOutput (Tally harts) program text = ⊥
@@ -51,33 +52,33 @@ IsOutput Solo program text = text ≡ array_text program (final_store program)
 IsOutput (Audit harts) program text = ⊥
 IsOutput (Make seed size harts) program text = IsSummary program harts text
 
--- The text is what the command writes for the program that these bytes spell.
+-- The text is the output of the command for the program that these bytes spell.
 pub record IsRunOf (command : Command) (bytes text : List ℕ) : Type 0 where
   pub program : ProgramTree
   pub input : SpellAccepted (harts_in command) bytes program
   pub output : IsOutput command program text
 
--- The text is what `tally` writes for the program that these bytes spell: its arrays as the one-thread meaning of this same
+-- The text is the output of `tally` for the program that these bytes spell: its arrays as the one-thread meaning of this same
 -- program leaves them, and a journal that is complete for its plan and the sites that it enters.
 pub record IsTallyOf (harts : ℕ) (bytes text : List ℕ) : Type 0 where
   pub program : ProgramTree
   pub input : SpellTallied harts bytes program
   pub output : IsRunOutput program harts text
 
--- The text is what `pipe` writes for the program that these bytes spell: what `run` may write for it.
+-- The text is the output of `pipe` for the program that these bytes spell: an output that `run` may write for it.
 pub record IsPipeOf (harts : ℕ) (bytes text : List ℕ) : Type 0 where
   pub program : ProgramTree
   pub input : SpellPiped harts bytes program
   pub output : IsRunOutput program harts text
 
--- The text is the line of the bytes' verdict, and the status the verdict's.
+-- The text is the line of the bytes' verdict, and the status is the verdict's.
 pub record IsAuditOf (harts : ℕ) (bytes : List ℕ) (status : Status) (text : List ℕ) : Type 0 where
   pub verdict : Verdict
   pub has : HasVerdict harts bytes verdict
   pub same : status ≡ status_by verdict
   pub told : text ≡ verdict_text verdict
 
--- The text is what the command writes for these bytes, and the status is that which it then has.
+-- The text is the output of the command for these bytes, with this status.
 abbrev pub IsOutputOf : Command → List ℕ → Status → List ℕ → Type 0
 IsOutputOf (Run harts) bytes status text = (status ≡ Done) × IsRunOf (Run harts) bytes text
 IsOutputOf (Tally harts) bytes status text = (status ≡ Done) × IsTallyOf harts bytes text
@@ -87,14 +88,14 @@ IsOutputOf (Audit harts) bytes status text = IsAuditOf harts bytes status text
 IsOutputOf (Make seed size harts) bytes status text =
     (status ≡ Done) × IsRunOf (Make seed size harts) (made_text seed size) text
 
--- The text of a made program spells one that is accepted for so many harts, or one that isn't.
+-- The printed text of a generated program spells a program that is accepted for so many harts, or one that isn't.
 abbrev pub EndsMade : ℕ → List ℕ → Status → Type 0
 EndsMade harts text Done = (program : ProgramTree) × SpellAccepted harts text program
 EndsMade harts text Refused =
     (program : ProgramTree) × Spells text program × (IsAcceptedFor program harts → ⊥)
 EndsMade harts text status = ⊥
 
--- The command has this status with these bytes; `make` has it with any.
+-- The command ends with this status for these bytes; `make` does so for any bytes.
 abbrev pub EndsWith : Command → List ℕ → Status → Type 0
 EndsWith (Run harts) bytes status =
     (status ≡ Done) × ((program : ProgramTree) × SpellAccepted harts bytes program)

@@ -1,4 +1,4 @@
--- Programs whose members overtake: they are accepted, and at none of their sites do two pieces cross.
+-- Programs whose members may overtake: they are accepted, and at none of their sites do two pieces cross.
 use Rattle.std.specs.Prelude.{ℕ, ◌≤◌, List, length}
 use Rattle.array_tree.specs.Trees.{ProgramTree}
 use Rattle.array_lang.specs.Spelled.{Spells}

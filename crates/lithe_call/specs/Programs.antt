@@ -1,4 +1,4 @@
--- Programs that are accepted, and their plans; the text of a made program.
+-- Programs that are accepted, and their plans; the text of a generated program.
 use Rattle.std.specs.Prelude.{ℕ, ◌≤◌, List, length}
 use Rattle.transfer_table.specs.Plan.{Plan}
 use Rattle.array_tree.specs.Trees.{ProgramTree}
@@ -9,11 +9,11 @@ use Rattle.array_meaning.specs.Plans.{plan_of}
 use Rattle.disjoint_check.specs.Meaning.{IsAcceptedFor}
 use Rattle.program_maker.specs.Made.{made_program}
 
--- A program has this plan for so many harts.
+-- The plan of a program for so many harts.
 abbrev pub table_plan : ProgramTree → ℕ → Plan
 table_plan program harts = record { harts = harts; parents = plan_of program }
 
--- The command `make` makes this text of a program, as it is printed.
+-- The printed text of the program that `make` generates.
 abbrev pub made_text : ℕ → ℕ → List ℕ
 made_text seed size = printed (made_program seed size)
 

@@ -1,4 +1,4 @@
--- What a call has read and written. The bytes are those that the source gave; a source that shows its bytes had
+-- The bytes that a call has read and written. A source that shows its bytes had exactly these left. `make` reads none.
 -- just these left. `make` reads none.
 use Rattle.std.specs.Prelude.{◌≡◌, ◌≢◌, ◌⊎◌, ℕ, List, Option, Some, None}
 use Rattle.outside_io.specs.Outside.{Rose, Appends}
@@ -13,7 +13,7 @@ use Rattle.command_words.specs.declared.command.Command.TheVariants.{Make}
 use Rattle.lithe_call.specs.declared.status.Status.{Status}
 use Rattle.lithe_call.specs.declared.status.Status.TheVariants.{Done, Illegal, Usage, Syntax, Refused, TooLong, ReadFault, WriteFault, NoMemory}
 
--- The words' command read these bytes to the end of the source, and this text is what it writes for them with this status.
+-- The words' command read these bytes to the end of the source, and this text is its output for them with this status.
 pub record IsOutputFor (words : List (List ℕ)) (left left' : Option (List ℕ)) (status : Status)
     (text : List ℕ) : Type 0 where
   pub command : Command
@@ -29,7 +29,7 @@ pub record WritesOutput (words : List (List ℕ)) (left left' : Option (List ℕ
   pub output : IsOutputFor words left left' status text
   pub written : Appends taken text taken'
 
--- The sink took a prefix of such a text, with whatever status.
+-- The sink took a prefix of such a text, for any status.
 pub record WritesPrefix (words : List (List ℕ))
     (left left' taken taken' : Option (List ℕ)) : Type 0 where
   pub status : Status
@@ -44,7 +44,7 @@ pub record IsTooLong (words : List (List ℕ)) (left left' : Option (List ℕ)) 
   pub longer : GivesTooMuch command left left'
       ⊎ ((bytes : List ℕ) × ReadsAll command left bytes left' × IsLong command bytes)
 
--- The line reports why what the words' command read isn't what it takes, or why it is refused.
+-- The line reports why the input of the words' command isn't of the form that it reads, or why the program is refused.
 pub record IsToldOf (IsSo : Command → List ℕ → List ℕ → Type 0) (words : List (List ℕ))
     (left left' : Option (List ℕ)) (line : List ℕ) : Type 0 where
   pub command : Command
@@ -53,7 +53,7 @@ pub record IsToldOf (IsSo : Command → List ℕ → List ℕ → Type 0) (words
   pub given : ReadsAll command left bytes left'
   pub is : IsSo command bytes line
 
--- The text is the status's, for what the source gave.
+-- The text is the status's, for the bytes that the source gave.
 abbrev pub IsTextOf : List (List ℕ) → Status → Option (List ℕ) → Option (List ℕ) → List ℕ → Type 0
 IsTextOf words Syntax left left' text = IsToldOf IsNoText words left left' text
 IsTextOf words Refused left left' text = IsToldOf IsRefused words left left' text
@@ -67,8 +67,8 @@ pub record TellsStatus (words : List (List ℕ)) (status : Status)
   pub right : IsTextOf words status left left' text
   pub tells : Tells taken faults text taken' faults'
 
--- How a call sees the outside: what the source has left, what the sinks for the output and for errors have taken, and the
--- count of faults of each.
+-- The views of the outside for a call: the bytes that the source has left, the bytes that the sinks for the output and for
+-- errors have taken, and the count of faults of each.
 pub record Outside (A B E : Type 0) : Type 0 where
   pub left : A → Option (List ℕ)
   pub read_faults : A → ℕ
@@ -77,25 +77,26 @@ pub record Outside (A B E : Type 0) : Type 0 where
   pub told : E → Option (List ℕ)
   pub tell_faults : E → ℕ
 
--- The words were served, with this status: what the source, the sink and the sink for errors were before and are after.
+-- The words were served with this status. The arguments are the source, the sink and the sink for errors before and after.
 pub record AreServed {A B E : Type 0} (see : Outside A B E) (words : List (List ℕ)) (status : Status) (source source' : A)
     (out out' : B) (err err' : E) : Type 0 where
-  -- The arrays are those of the one-thread meaning of the program that the source gave to its end, and the transfers are
-  -- a complete legal run of the program's table; an output that was audited is such, and a summary is that of such a run.
+  -- The arrays are those of the one-thread meaning of the program that the source gave to its end, and the transfers are a
+  -- complete legal run of the program's table. The same holds of an output that was audited, and a summary is the summary of
+  -- such a run.
   pub done : status ≡ Done
       → WritesOutput words (see.left source) (see.left source') Done (see.taken out) (see.taken out')
-  -- An output that was audited isn't the program's, and the line says so.
+  -- An output that was audited isn't the program's, and the line reports that.
   pub illegal : status ≡ Illegal
       → WritesOutput words (see.left source) (see.left source') Illegal (see.taken out) (see.taken out')
-  -- What is for the command is served with the status that it has, unless memory runs out or the outside fails.
+  -- Each command is served with its status, unless an allocation or the outside fails.
   pub complete : (command : Command) → form_of words ≡ Some command
       → (bytes : List ℕ) → AreInput command (see.left source) bytes
       → (ended : Status) → EndsWith command bytes ended
       → (FailsToRead command (see.read_faults source) (see.read_faults source') → ⊥)
       → (Rose (see.write_faults out) (see.write_faults out') → ⊥)
       → (status ≡ ended) ⊎ (status ≡ NoMemory)
-  -- When each other status comes. The texts of Syntax and Refused have their causes. Words that are no form are Usage,
-  -- unless memory runs out while they are read.
+  -- The conditions of each other status. The texts of Syntax and Refused have their causes. Words that are no form are Usage,
+  -- unless an allocation fails while they are read.
   pub usage : status ≡ Usage → form_of words ≡ None
   pub no_form : form_of words ≡ None → (status ≡ Usage) ⊎ (status ≡ NoMemory)
   pub too_long : status ≡ TooLong → IsTooLong words (see.left source) (see.left source')
@@ -104,7 +105,7 @@ pub record AreServed {A B E : Type 0} (see : Outside A B E) (words : List (List 
   pub lines : status ≢ Done → status ≢ Illegal
       → TellsStatus words status (see.left source) (see.left source') (see.told err) (see.tell_faults err)
       (see.told err') (see.tell_faults err')
-  -- What the source gave and what the sinks took otherwise.
+  -- The bytes that the source gave and the sinks took with any other status.
   pub prefix : status ≡ WriteFault
       → WritesPrefix words (see.left source) (see.left source') (see.taken out) (see.taken out')
   pub source_stays : form_of words ≡ None → source' ≡ source

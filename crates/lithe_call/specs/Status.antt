@@ -3,7 +3,7 @@ use Rattle.std.specs.Prelude.{ℕ, List, [], ◌∷◌, ◌++◌, codes}
 use Rattle.lithe_call.specs.declared.status.Status.{Status}
 use Rattle.lithe_call.specs.declared.status.Status.TheVariants.{Done, Illegal, Usage, Syntax, Refused, TooLong, ReadFault, WriteFault, NoMemory}
 
--- A status has this exit status.
+-- The exit status of a status.
 abbrev pub number_of : Status → ℕ
 number_of Done = 0
 number_of Illegal = 1
@@ -15,7 +15,7 @@ number_of ReadFault = 6
 number_of WriteFault = 7
 number_of NoMemory = 8
 
--- A line is a text with a newline behind it.
+-- A line: a text followed by a newline.
 abbrev pub line : List ℕ → List ℕ
 line text = text ++ 10 ∷ []
 
@@ -29,7 +29,7 @@ usage_text =
     ++ line (codes "       lithe_run tally --harts N")
     ++ line (codes "       lithe_run pipe --harts N")
 
--- A status writes this text to the stream of errors, if it is always the same.
+-- The text that a status writes to the stream of errors, if it is always the same.
 abbrev pub constant_text : Status → List ℕ
 constant_text Usage = usage_text
 constant_text TooLong = line (codes "too long")

@@ -1,5 +1,5 @@
--- Programs that are tallied: branches and members may add into one cell of an array whose name ends in `_sum`. Each has a
--- meaning of its own, and is run as the program in which each branch or member adds into a row of its own.
+-- Programs that are tallied: branches and members may add into one cell of an array whose name ends in `_sum`. Such a program
+-- has a meaning of its own, and runs as the program in which each branch or member adds into a row of its own.
 use Rattle.std.specs.Prelude.{◌≡◌, ℕ, ◌≤◌, List, length, None}
 use Rattle.array_tree.specs.Trees.{ProgramTree}
 use Rattle.array_lang.specs.Spelled.{Spells}
@@ -9,7 +9,7 @@ use Rattle.spread_laws.specs.Faults.{spread_fault_of}
 use Rattle.spread_laws.specs.Spread.{spread_of}
 
 -- A program may be tallied by so many harts if it meets all conditions but that its pieces are apart, its adds can have rows,
--- and with these it is accepted.
+-- and the program with rows is accepted.
 pub record IsTallied (harts : ℕ) (program : ProgramTree) : Type 0 where
   pub meaning : HasMeaningFor program harts
   pub shaped : spread_fault_of program ≡ None

@@ -1,4 +1,4 @@
--- The same for bytes that a source showed beforehand: what was written for them.
+-- The same for bytes that a source showed beforehand.
 use Rattle.std.specs.Prelude.{◌≡◌, ℕ, List, Option}
 use Rattle.outside_io.specs.Outside.{Appends}
 use Rattle.lithe_call.specs.Telling.{AppendsPrefix, Tells}
@@ -9,14 +9,14 @@ use Rattle.command_words.specs.declared.command.Command.{Command}
 use Rattle.lithe_call.specs.declared.status.Status.{Status}
 use Rattle.lithe_call.specs.declared.status.Status.TheVariants.{Syntax, Refused}
 
--- The sink took what the command writes for these bytes with this status.
+-- The sink took the output of the command for these bytes with this status.
 pub record TookOutput (command : Command) (bytes : List ℕ) (status : Status)
     (taken taken' : Option (List ℕ)) : Type 0 where
   pub text : List ℕ
   pub output : IsOutputOf command bytes status text
   pub written : Appends taken text taken'
 
--- The sink took a prefix of what it writes with whatever status.
+-- The sink took a prefix of the output for any status.
 pub record TookPrefix (command : Command) (bytes : List ℕ)
     (taken taken' : Option (List ℕ)) : Type 0 where
   pub status : Status

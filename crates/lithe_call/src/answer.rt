@@ -1,17 +1,17 @@
-//! What a command writes.
+//! The output of a command.
 
-/// What a command writes, and how it ends.
+/// The output of a command, and its ending.
 #[derive(Drop)]
 pub struct Answer {
     pub text: Vec<u8>,
     pub ending: Ending,
 }
 
-/// How a command ends that writes its whole output.
+/// The ending of a command that writes its whole output.
 #[derive(Clone, Copy)]
 pub enum Ending {
-    /// What the command was asked for; of an audit, that the output is the program's.
+    /// The command wrote its output; for an audit, that the audited output is the program's.
     Written,
-    /// That an output isn't the program's.
+    /// The audited output isn't the program's.
     Illegal,
 }

@@ -1,5 +1,5 @@
-//! From bytes to the verdict on the output that stands behind their program.
-ghost use Rattle.std.specs.Prelude.{◌≡◌, ◌≤◌, ◌++◌, ◌∷◌, [], codes, length, IfOk, IfErr, Result, Ok, Err};
+//! From bytes to the verdict on the output after their program.
+ghost use Rattle.std.specs.Prelude.{◌≡◌, ◌≤◌, ◌++◌, ◌∷◌, [], length, IfOk, IfErr, Result, Ok, Err};
 ghost use Rattle.array_meaning.specs.Bounds.{most_bytes};
 ghost use Rattle.command_words.specs.declared.command.Command.TheVariants.{Audit};
 ghost use Rattle.run_audit.specs.Parts.{most_audited};
@@ -19,8 +19,17 @@ use journal_text::TextFault;
 use run_audit::{Verdict, audit, parts_of, text_fault_line, verdict_line};
 use std::alloc::Global;
 
-/// The line of the verdict on the output that stands behind a program, or why there is none. An input without a line `%%` has no
-/// program part, so it is a `Syntax` fault whatever its length.
+/// The line of the verdict on the output after a program. `harts` is 1 to 16.
+///
+/// # Errors
+///
+/// `Fault::TooLong` if the program part is longer than its limit. `Syntax` if it spells no program, or the output's text is no
+/// output; an input without a line `%%` has no program part, so it is `Syntax` whatever its length. `Refused` if the program
+/// isn't accepted. `Memory` if an allocation fails.
+///
+/// # Memory
+///
+/// It allocates the program, the array lines, the journal and the line.
 pub fn audited(alloc: Global, harts: u8, bytes: &[u8]) -> Result<Answer, Fault>
     requires short { length bytes.now ≤ most_audited }
     requires some_hart { 1 ≤ harts }
@@ -41,7 +50,7 @@ pub fn audited(alloc: Global, harts: u8, bytes: &[u8]) -> Result<Answer, Fault>
     Ok(Answer { text, ending })
 }
 
-// How a command ends that writes the line of a verdict.
+// The ending of a command that writes the line of a verdict.
 fn ending(verdict: Verdict) -> Ending
     ensures { status_of_ending result ≡ status_by verdict }
 {
@@ -51,7 +60,7 @@ fn ending(verdict: Verdict) -> Ending
     }
 }
 
-// The verdict on the second part by the program of the first.
+// The verdict on the second part, by the program of the first.
 fn verdict(alloc: Global, harts: u8, first: &[u8], second: &[u8]) -> Result<Verdict, Fault>
     requires short { length first.now ≤ most_bytes }
     requires short_output { length second.now ≤ most_audited }

@@ -1,6 +1,5 @@
 //! The top call: from the words and the input to the output and the status.
 ghost use Rattle.std.specs.Prelude.{◌≡◌, ◌≢◌, ◌⊎◌, ◌≤◌, true, length, ℕ, List, map, string_bytes, vec_len, Some, None, IfOk, IfErr, IsErrOf};
-ghost use Rattle.outside_io.specs.Outside.{Rose};
 ghost use Rattle.array_meaning.specs.Bounds.{most_bytes};
 ghost use Rattle.command_words.specs.declared.command.Command.{Command};
 ghost use Rattle.command_words.specs.declared.command.Command.TheVariants.{Make};
@@ -9,7 +8,7 @@ ghost use Rattle.lithe_call.specs.Telling.{Tells};
 ghost use Rattle.command_words.specs.Form.{form_of};
 ghost use Rattle.command_words.specs.Parts.{harts_in, size_in};
 ghost use Rattle.lithe_call.specs.Command.{runs_programs};
-ghost use Rattle.lithe_call.specs.Inputs.{limit_of, AreInput, ReadsAll, GivesTooMuch, FailsToRead};
+ghost use Rattle.lithe_call.specs.Inputs.{limit_of, ReadsAll, GivesTooMuch, FailsToRead};
 ghost use Rattle.lithe_call.specs.Auditing.{status_of_ending};
 ghost use Rattle.lithe_call.specs.Output.{IsOutputOf, IsRunOf, IsTallyOf, IsPipeOf};
 ghost use Rattle.lithe_call.specs.Faults.{SpellRefused, SpellUntallied, SpellUnpiped, IsFault, IsNoOutput, IsNoRun};
@@ -34,16 +33,20 @@ use std::alloc::Global;
 use std::sync::Wait;
 use std::thread::Threads;
 
-/// Serves the words: reads the input, runs its program and writes the output, or writes to `err` why not.
+/// Serves the words: reads the input, runs its program and writes the output, or writes the error to `err`.
 ///
-/// `run --harts N`, N from 1 to 16, runs the program on N harts, each of several on a thread, and writes its arrays and the
-/// journal of its transfers; `tally --harts N` does so where branches and members add into one cell of an array whose name
-/// ends in `_sum`; `pipe --harts N` does so with members that overtake, where no two of their pieces cross; `solo` writes the
-/// arrays alone. `audit --harts N` reads a program, a line `%%` and an output of
-/// `run`, and writes whether the output is the program's; where it isn't, the status is Illegal. `make --seed X --size K
-/// --harts N`, K from 1 to 40, reads nothing: it makes a program, runs its printed text as `run` does, and writes the
-/// summary of the run. The whole output is built before its first byte is written, so a fault leaves the output empty.
-/// Whatever the status, its text was written to `err`, and a failure of `err` changes no status.
+/// - `run --harts N`, N from 1 to 16, runs the program on N harts. More than one hart run on a thread each. It writes the
+///   program's arrays and the journal of its transfers.
+/// - `tally --harts N` does the same for branches and members that add into one cell of an array whose name ends in `_sum`.
+/// - `pipe --harts N` does the same with members that overtake, if no two of their pieces cross.
+/// - `solo` writes only the arrays.
+/// - `audit --harts N` reads a program, a line `%%` and an output of `run`, and writes whether the output is the program's; if
+///   it isn't, the status is Illegal.
+/// - `make --seed X --size K --harts N`, K from 1 to 40, reads nothing. It generates a program, runs its printed text as `run`
+///   does, and writes the summary of the run.
+///
+/// The whole output is built before its first byte is written, so an error leaves the output empty. For each status its text is
+/// written to `err`, and a failure of `err` changes no status.
 pub fn lithe<R: Threads + Wait + Sync, A: Source, B: Sink, E: Sink, G: Gate>(
     rt: &R,
     alloc: Global,
@@ -75,7 +78,7 @@ pub fn lithe<R: Threads + Wait + Sync, A: Source, B: Sink, E: Sink, G: Gate>(
     }
 }
 
-/// Ends a run whose words aren't text, and so are no form: writes so to `err`, as `lithe` does of words that are no form.
+/// Ends a run whose words aren't text, and so are no form: writes this to `err`, as `lithe` does for words that are no form.
 pub fn no_form_for_words<E: Sink>(err: &mut E) -> Status
     ensures same { result ≡ Status.Usage }
     ensures told { Tells (E.taken err.old) (E.faults err.old) (constant_text Status.Usage)
@@ -84,7 +87,7 @@ pub fn no_form_for_words<E: Sink>(err: &mut E) -> Status
     tell(err, Status::Usage)
 }
 
-/// Ends a run that could not allocate its words: writes so to `err`, as `lithe` does of an allocation failure.
+/// Ends a run that could not allocate its words: writes this to `err`, as `lithe` does for an allocation failure.
 pub fn no_memory_for_words<E: Sink>(err: &mut E) -> Status
     ensures same { result ≡ Status.NoMemory }
     ensures told { Tells (E.taken err.old) (E.faults err.old) (constant_text Status.NoMemory)
@@ -113,7 +116,7 @@ fn tell_fault<E: Sink>(err: &mut E, fault: &Fault) -> Status
     fault.status()
 }
 
-// Writes the status's text, where that is always the same, and returns the status.
+// Writes the status's text, if it is always the same, and returns the status.
 fn tell<E: Sink>(err: &mut E, status: Status) -> Status
     ensures same { result ≡ status }
     ensures told { Tells (E.taken err.old) (E.faults err.old) (constant_text status)
@@ -123,7 +126,7 @@ fn tell<E: Sink>(err: &mut E, status: Status) -> Status
     status
 }
 
-// The whole output of the command that the words give.
+// The whole output of the command of the words.
 fn output_of<R: Threads + Wait + Sync, G: Gate, A: Source>(
     rt: &R,
     alloc: Global,
@@ -168,7 +171,7 @@ fn input<A: Source>(alloc: Global, source: &mut A, command: Command) -> Result<V
     }
 }
 
-// What a run of the program of these bytes comes to.
+// The output of a run of the program of these bytes, or the fault.
 fn run_of<R: Threads + Wait + Sync, G: Gate>(
     rt: &R,
     alloc: Global,
@@ -190,7 +193,7 @@ fn run_of<R: Threads + Wait + Sync, G: Gate>(
     })
 }
 
-// What `tally` of the program of these bytes comes to.
+// The output of `tally` for the program of these bytes, or the fault.
 fn tally_of<R: Threads + Wait + Sync, G: Gate>(
     rt: &R,
     alloc: Global,
@@ -211,7 +214,7 @@ fn tally_of<R: Threads + Wait + Sync, G: Gate>(
     })
 }
 
-// What `pipe` of the program of these bytes comes to.
+// The output of `pipe` for the program of these bytes, or the fault.
 fn pipe_of<R: Threads + Wait + Sync, G: Gate>(
     rt: &R,
     alloc: Global,

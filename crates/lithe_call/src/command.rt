@@ -1,4 +1,4 @@
-//! The command that the words ask for.
+//! The command of the words.
 ghost use Rattle.std.specs.Prelude.{◌≡◌, ◌≤◌, Some, IfOk, IfErr, map, string_bytes};
 ghost use Rattle.command_words.specs.Form.{form_of};
 ghost use Rattle.run_audit.specs.Parts.{most_audited};
@@ -16,7 +16,15 @@ pub const MOST_BYTES: usize = 65_536;
 /// The greatest length of the input of an audit, in bytes: a program and an output.
 pub const MOST_AUDITED: usize = 4_194_304;
 
-/// The command that the words give, if they are a form. Else they are none, or memory ran out while they were read.
+/// The command that the words are a form of.
+///
+/// # Errors
+///
+/// `Fault::Usage` if the words are no form. `Fault::Memory` if an allocation fails while the words are read.
+///
+/// # Memory
+///
+/// It allocates the commands and the matches of `clap`.
 pub fn asked_command(alloc: Global, words: &[String]) -> Result<Command, Fault>
     ensures form { IfOk result (λ command. form_of (map string_bytes words.now) ≡ Some command) }
     ensures some_hart { IfOk result (λ command. 1 ≤ harts_in command) }
@@ -31,7 +39,7 @@ pub fn asked_command(alloc: Global, words: &[String]) -> Result<Command, Fault>
     }
 }
 
-/// How many harts the plan of the command's program is made for.
+/// The number of harts of the plan of the command's program.
 pub fn harts(command: Command) -> u8
     ensures { result ≡ harts_in command }
 {

@@ -15,9 +15,9 @@ pub enum Fault {
     TooLong,
     /// The source failed.
     ReadFault,
-    /// The input spells no program, or is no input of an audit; the line reports its first fault.
+    /// The input spells no program, or is no input of an audit. The line reports its first error.
     Syntax(Vec<u8>),
-    /// The program isn't accepted; the line reports the first condition that it fails.
+    /// The program isn't accepted. The line reports the first condition that it fails.
     Refused(Vec<u8>),
     /// An allocation failed.
     Memory,

@@ -1,4 +1,4 @@
-//! Laws of the top call. They are proved, and do nothing where they are called.
+//! Laws of the top call, each the contract of a function with an empty body.
 ghost use Rattle.std.specs.Prelude.{◌≡◌, ◌<◌, ◌⊎◌, ℕ, List, length, Option, Some};
 ghost use Rattle.command_words.specs.declared.command.Command.{Command};
 ghost use Rattle.lithe_call.specs.declared.status.Status.{Status};
@@ -8,7 +8,7 @@ ghost use Rattle.lithe_call.specs.Faults.{IsLong};
 ghost use Rattle.lithe_call.specs.Served.{WritesOutput, WritesPrefix, IsTooLong, TellsStatus};
 ghost use Rattle.lithe_call.specs.Told.{TookOutput, TookPrefix, ToldLine};
 
-/// If the source showed its bytes beforehand, all that `lithe` wrote is that of these bytes.
+/// If the source showed its bytes beforehand, all that `lithe` wrote is the output for these bytes.
 pub fn told_bytes_are_served()
     ensures done { (words : List (List ℕ)) (status : Status)
         (left left' taken taken' : Option (List ℕ))

@@ -1,8 +1,8 @@
-//! The top call: words and a program in, its arrays and its journal out.
+//! The top call of `lithe`: from words and a program to its arrays and its journal.
 //!
-//! `lithe` is the call, and its contract is what is claimed of the whole. `specs/Output.antt` says what a command writes,
-//! `specs/Served.antt` what a call has read and written, and `src/laws.rt` what follows where the source shows
-//! its bytes beforehand.
+//! `lithe` is the call, and its contract states the correctness of the whole. `specs/Output.antt` defines the output of a
+//! command, `specs/Served.antt` what a call has read and written, and `src/laws.rt` what follows if the source shows its bytes
+//! beforehand.
 //!
 //! Begin with `lithe` in `call.rt` and the clause `done` of `AreServed` in `specs/Served.antt`. The program `lithe_run` calls
 //! it, and the tests of `lithe_tests` serve commands from memory.

@@ -20,7 +20,16 @@ use std::alloc::{AllocError, Global};
 use std::sync::Wait;
 use std::thread::Threads;
 
-/// What `pipe` writes for the program that the bytes spell, or why there is nothing to write.
+/// The output of `pipe` for the program that the bytes spell. `harts` is 1 to 16.
+///
+/// # Errors
+///
+/// `Fault::Syntax` if the bytes spell no program. `Refused` if the program isn't accepted, or two of its pieces cross. `Memory`
+/// if an allocation fails.
+///
+/// # Memory
+///
+/// It allocates the program, its run and the output.
 pub fn piped<R: Threads + Wait + Sync, G: Gate>(
     rt: &R,
     alloc: Global,
@@ -51,7 +60,7 @@ pub fn piped<R: Threads + Wait + Sync, G: Gate>(
     }
 }
 
-/// The fault of a program two pieces of which cross.
+/// The fault of a program with a crossing of two pieces.
 pub fn crossing_fault(alloc: Global, program: &Program, fault: PipeFault) -> Fault
     ensures { TellsCrossing (program_of program.now) fault result }
 {
@@ -64,7 +73,7 @@ pub fn crossing_fault(alloc: Global, program: &Program, fault: PipeFault) -> Fau
     }
 }
 
-// The arrays and the journal that a run leaves whose members overtake.
+// The arrays and the journal of a run whose members overtake.
 fn overtaken<R: Threads + Wait + Sync, G: Gate>(
     rt: &R,
     alloc: Global,

@@ -36,6 +36,10 @@ const BUFFER: usize = 4096;
 ///
 /// `ReadError::TooLong` if the source has more bytes, `ReadError::Failed` if it fails, and `ReadError::Memory` if an allocation
 /// fails.
+///
+/// # Memory
+///
+/// It allocates the bytes.
 pub fn read_all<A: Source>(
     alloc: Global,
     source: &mut A,

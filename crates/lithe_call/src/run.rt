@@ -1,9 +1,6 @@
 //! From bytes to the output of the program that they spell.
 ghost use Rattle.std.specs.Prelude.{◌≡◌, ◌≢◌, ◌≤◌, IfOk, IfErr, length, true};
 ghost use Rattle.array_tree.specs.Trees.{program_of};
-ghost use Rattle.array_lang.specs.Spelled.{HasFault};
-ghost use Rattle.disjoint_check.specs.FaultOf.{check_fault_of};
-ghost use Rattle.disjoint_check.specs.AcceptedProgram.{IsAcceptedProgram};
 ghost use Rattle.lithe_call.specs.Output.{IsOutput, IsRunOf, IsRunOutput, IsSummary};
 ghost use Rattle.command_words.specs.Parts.{harts_in};
 ghost use Rattle.lithe_call.specs.Command.{runs_programs};
@@ -34,7 +31,15 @@ use std::alloc::{AllocError, Global};
 use std::sync::Wait;
 use std::thread::Threads;
 
-/// What the command writes for the program that the bytes spell, or why there is nothing to write.
+/// The output of a command that runs programs, for the program that the bytes spell.
+///
+/// # Errors
+///
+/// `Fault::Syntax` if the bytes spell no program. `Refused` if the program isn't accepted. `Memory` if an allocation fails.
+///
+/// # Memory
+///
+/// It allocates the program, its run and the output.
 pub fn answer<R: Threads + Wait + Sync, G: Gate>(
     rt: &R,
     alloc: Global,
@@ -89,7 +94,7 @@ pub fn refusal(alloc: Global, program: &Program, fault: CheckFault) -> Fault
     }
 }
 
-// What the command writes for an accepted program.
+// The output of the command for an accepted program.
 fn output<R: Threads + Wait + Sync, G: Gate>(
     rt: &R,
     alloc: Global,
@@ -120,7 +125,7 @@ fn arrays(alloc: Global, accepted: &Accepted<'_>) -> Result<Vec<u8>, AllocError>
     write_arrays(alloc, program, &store)
 }
 
-// The arrays and the journal that a run leaves.
+// The arrays and the journal of a run.
 fn run<R: Threads + Wait + Sync, G: Gate>(
     rt: &R,
     alloc: Global,
@@ -134,7 +139,7 @@ fn run<R: Threads + Wait + Sync, G: Gate>(
     run_text(alloc, accepted, &outcome)
 }
 
-/// The arrays and the journal of what a run came to.
+/// The arrays and the journal of a run's outcome.
 pub(crate) fn run_text(
     alloc: Global,
     accepted: &Accepted<'_>,
@@ -174,7 +179,7 @@ fn summary<R: Threads + Wait + Sync, G: Gate>(
     )
 }
 
-/// Runs the program on the harts of its plan. One hart is alone, and waits for no other.
+/// Runs the program on the harts of its plan. A single hart never blocks.
 pub(crate) fn outcome<R: Threads + Wait + Sync, G: Gate>(
     rt: &R,
     alloc: Global,

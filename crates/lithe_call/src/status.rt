@@ -1,17 +1,17 @@
-//! How a run ends.
+//! The status of a run.
 ghost use Rattle.std.specs.Prelude.{◌≡◌};
 ghost use Rattle.lithe_call.specs.Status.{constant_text, number_of};
 
-/// How a run ended. Its number is the process's exit status.
+/// The status of a run. Its number is the process's exit status.
 #[derive(Clone, Copy, Debug, PartialEq, Eq)]
 pub enum Status {
     /// The input, if the command reads one, was read to its end, and the whole output was written.
     Done = 0,
-    /// An output that was audited isn't the program's; the line that says so was written.
+    /// An output that was audited isn't the program's, and the line that reports that was written.
     Illegal = 1,
     /// The words are no form of a command.
     Usage = 2,
-    /// The input spells no program; of an audit also one without a line `%%`, or whose second part is no output's text.
+    /// The input spells no program; for an audit, also an input without a line `%%`, or whose second part is no output's text.
     Syntax = 3,
     /// The program isn't accepted.
     Refused = 4,
@@ -19,7 +19,7 @@ pub enum Status {
     TooLong = 5,
     /// The source failed.
     ReadFault = 6,
-    /// The sink failed; it took a prefix of the output.
+    /// The sink failed, and took a prefix of the output.
     WriteFault = 7,
     /// An allocation failed.
     NoMemory = 8,
@@ -37,7 +37,7 @@ impl Status {
 const USAGE: &[u8] =
     b"usage: lithe_run run --harts N\n       lithe_run solo\n       lithe_run audit --harts N\n       lithe_run make --seed X --size K --harts N\n       lithe_run tally --harts N\n       lithe_run pipe --harts N\n";
 
-/// The text that the status writes to the stream of errors, where it is always the same.
+/// The text that the status writes to the stream of errors, if it is always the same.
 pub fn constant_text(status: Status) -> &'static [u8]
     ensures { result.now ≡ constant_text status }
 {

@@ -24,7 +24,16 @@ use std::sync::Wait;
 use std::thread::Threads;
 use tally_cells::{TallyFault, first_cells, spread};
 
-/// What `tally` writes for the program that the bytes spell, or why there is nothing to write.
+/// The output of `tally` for the program that the bytes spell. `harts` is 1 to 16.
+///
+/// # Errors
+///
+/// `Fault::Syntax` if the bytes spell no program. `Refused` if its branches and members can't have rows of their own, or the
+/// program with rows isn't accepted. `Memory` if an allocation fails.
+///
+/// # Memory
+///
+/// It allocates the program, the program with rows, its run and the output.
 #[tactic(auto, using(crate::proofs::Tallying::untallied_line))]
 pub fn tallied<R: Threads + Wait + Sync, G: Gate>(
     rt: &R,
@@ -73,7 +82,7 @@ pub fn with_rows(alloc: Global, harts: u8, program: &Program) -> Result<Program,
     }
 }
 
-// The fault of a program that isn't spread.
+// The fault of a program that can't be spread.
 fn tally_fault(alloc: Global, fault: TallyFault) -> Fault
     ensures { TellsTally fault result }
 {
@@ -86,7 +95,7 @@ fn tally_fault(alloc: Global, fault: TallyFault) -> Fault
     }
 }
 
-// The arrays of the given program and the journal that a run of the one with rows leaves.
+// The arrays of the given program, and the journal of a run of the program with rows.
 fn sums<R: Threads + Wait + Sync, G: Gate>(
     rt: &R,
     alloc: Global,

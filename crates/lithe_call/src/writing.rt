@@ -1,11 +1,11 @@
-//! Writes an output whole.
+//! Writes a whole output.
 ghost use Rattle.std.specs.Prelude.{◌≤◌, IsTrue, IsFalse};
 ghost use Rattle.outside_io.specs.Outside.{Rose, Appends};
 ghost use Rattle.lithe_call.specs.Telling.{AppendsPrefix};
 
 use outside_io::{Put, Sink};
 
-/// Writes the bytes, and returns whether all of them were taken. Else the sink failed, and took a prefix.
+/// Writes the bytes, and returns whether the sink took all of them. If not, the sink failed, and took a prefix.
 pub fn write_all<B: Sink>(out: &mut B, bytes: &[u8]) -> bool
     ensures count { B.faults out.old ≤ B.faults out.new }
     ensures done { IsTrue result → Appends (B.taken out.old) bytes.now (B.taken out.new) }

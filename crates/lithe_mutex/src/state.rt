@@ -96,7 +96,8 @@ impl<T: Drop, C> MutexState<T, C> {
         }
     }
 
-    /// Returns the holder's value with the context that waited longest, or frees the mutex if none waits. Precondition: `is_held`.
+    /// Returns the holder's value with the context that waited longest, or frees the mutex if none waits. Precondition:
+    /// `is_held`.
     pub fn release(&mut self, value: T) -> Released<T, C>
         requires { IsHeld self.old.possession }
         ensures does { Releases self.old.possession value result self.new.possession }

@@ -1,4 +1,6 @@
-//! Runs programs of the array language over Lithe.
+//! The program `lithe`: runs, audits and checks programs of the array language over Lithe. It reads the words of the command
+//! line, and passes them to `lithe` of `lithe_call`, which has the commands. `docs/LANGUAGE.md` explains the commands, and the
+//! directory `examples` has programs with their outputs.
 #![tactic(auto)]
 
 ghost use Rattle.std.specs.Prelude.{◌≡◌, map, string_bytes, IfOk, IfErr, IsErrOf};
@@ -15,8 +17,8 @@ use std::process::ExitCode;
 use std::sync::Wait;
 use std::thread::Threads;
 
-// Serves the words as `lithe` does, where they could be had. Else want of memory is told as such, and what isn't text is no
-// form; then nothing is read, and nothing written to the output.
+// Serves the words as `lithe` does, if they could be read. Otherwise an allocation failure is reported as such, and words that
+// aren't text are no form of a command. Then it reads nothing, and writes nothing to the output.
 fn serve<R: Threads + Wait + Sync, A: Source, B: Sink, E: Sink>(
     rt: &R,
     alloc: Global,

@@ -22,7 +22,7 @@ fn parsed(alloc: Global, text: &[u8]) -> Result<Program, Fail> {
     Ok(parse(alloc, text)?)
 }
 
-// What a run on one hart comes to.
+// The outcome of a run on one hart.
 fn outcome(alloc: Global, text: &[u8]) -> Result<Outcome, Fail> {
     let program = parsed(alloc, text)?;
     let accepted = check(alloc, &program, 1)?;

@@ -20,7 +20,7 @@ fn input(alloc: Global, program: &[u8], output: &[u8]) -> Result<Vec<u8>, AllocE
     Ok(text)
 }
 
-// Audits an output of the branches on two harts, and tests the status and what is told.
+// Audits an output of the branches on two harts, and compares the status and the line.
 fn audits<R: AllocGlobal + Abort + Threads + Wait + Sync>(
     rt: &R,
     output: &[u8],
@@ -113,7 +113,7 @@ fn texts_that_are_no_output_are_told(rt: HostRuntime) -> Result<(), Fail> {
 // Two members add into one cell.
 const ADDED: &[u8] = b"array n_sum[1]; team i in 0..4 by 2 { n_sum[0] = n_sum[0] + i; }\n";
 
-// An audit knows the programs of `run` alone.
+// An audit accepts only the programs of `run`.
 #[test]
 fn what_tally_takes_is_refused(rt: HostRuntime) -> Result<(), Fail> {
     let output = b"n_sum = 6\ntransfers 2\n0 h0 register s1 under s0\n1 h0 unregister s1\n";
@@ -132,7 +132,7 @@ fn the_program_part_is_read_first(rt: HostRuntime) -> Result<(), Fail> {
     serve(&rt, AUDIT, b"a[0] = 1;\n%%\n", Status::Refused, b"", told)
 }
 
-// A program part of spaces, as long as an audit's may be and one more, and an output of no arrays and no transfers.
+// A program part of spaces, one longer than an audit's may be, and an output of no arrays and no transfers.
 fn long_program(alloc: Global) -> Result<Vec<u8>, AllocError> {
     let mut text = vec![in alloc; b' '; 65536]?;
     text.extend_from_slice(b"\n%%\ntransfers 0\n")?;
@@ -157,7 +157,7 @@ fn both_parts_have_a_limit(rt: HostRuntime) -> Result<(), Fail> {
     serve(&rt, AUDIT, &past, Status::TooLong, b"", b"too long\n")
 }
 
-// The input of an audit of what a run of the branches writes.
+// The input of an audit of the output of a run of the branches.
 fn input_of_run<R: AllocGlobal + Threads + Wait + Sync>(rt: &R) -> Result<Vec<u8>, Fail> {
     let mut source = SureSource::new(rt.alloc(), BRANCHES)?;
     let served = serve_within(rt, RUN, &mut source, ROOM)?;

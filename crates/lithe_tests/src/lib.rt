@@ -1,4 +1,4 @@
-//! Tests of the top call and of the streams outside, by public calls alone.
+//! Tests of the top call and of the streams outside, by public calls alone. Begin with `runs.rt`.
 #![tactic(auto)]
 
 #[cfg(test)]

@@ -1,4 +1,4 @@
-//! Made programs, through the top call.
+//! Generated programs, through the top call.
 ghost use Rattle.std.specs.Prelude.{◌≤◌};
 
 use crate::serving::{serve, serve_no_input};
@@ -13,7 +13,7 @@ const LARGE: &[u8] = b"cells 528\nsum 85920000\nsites 82\nregisters 82\n";
 
 const SMALL: &[u8] = b"cells 3\nsum 26250\nsites 22\nregisters 22\n";
 
-// Serves words that make a program, and tests the summary.
+// Serves words that generate a program, and compares the summary.
 fn made<R: AllocGlobal + Abort + Threads + Wait + Sync>(
     rt: &R,
     words: &[&str],
@@ -36,12 +36,13 @@ fn a_summary_is_the_same_on_one_four_and_sixteen_harts(rt: HostRuntime) -> Resul
     made(&rt, words, SMALL)
 }
 
-// The summary of the made program of a size.
+// The summary of the generated program of a size.
 fn summary_of(alloc: Global, size: u64) -> Result<String, Fail>
     requires some { 1 ≤ size }
     requires most { size ≤ 40 }
 {
-    // Each of four sweeps multiplies the grid's sum by 5, and what is added up is the grid, its last sweep and its rows.
+    // Why this sum: each of four sweeps multiplies the grid's sum by 5, and the summary adds up the grid, its last sweep and
+    // its rows.
     let cells = size * size;
     let grid = cells * 14 + 22 * cells * (size - 1) / 2;
     let (all, sum, sites) = (2 * cells + size, 1875 * grid, 4 * size + 18);
@@ -53,14 +54,14 @@ fn summary_of(alloc: Global, size: u64) -> Result<String, Fail>
     Ok(summary)
 }
 
-// The word that gives a size.
+// The word with a size.
 fn size_word(alloc: Global, size: u64) -> Result<String, Fail> {
     let mut word = String::new(alloc);
     write!(word, "--size={size}")?;
     Ok(word)
 }
 
-// Makes the program of a size on four harts, and tests the summary.
+// Generates the program of a size on four harts, and compares the summary.
 fn made_of_size<R: AllocGlobal + Abort + Threads + Wait + Sync>(
     rt: &R,
     size: u64,

@@ -153,7 +153,7 @@ fn an_input_has_a_limit(rt: HostRuntime) -> Result<(), Fail> {
     serve(&rt, RUN, &spaces, Status::TooLong, b"", b"too long\n")
 }
 
-// Whether a journal of so many sites is written whole.
+// Whether the complete journal of so many sites is written.
 fn is_whole(journal: Option<&[u8]>) -> bool {
     match journal {
         Some(text) => {

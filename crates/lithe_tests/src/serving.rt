@@ -1,4 +1,4 @@
-//! Calls of `lithe`, and what is wanted of them.
+//! Calls of `lithe`, and their expected results.
 use lithe_call::{Status, lithe};
 use outside_io::{Fill, OpenGate, Sink, Source, SureSink, SureSource};
 use std::process::Abort;
@@ -13,11 +13,11 @@ pub const RUN: &[&str] = &["run", "--harts", "1"];
 
 pub const SOLO: &[&str] = &["solo"];
 
-/// What is told of words that are no form.
+/// The text for words that are no form.
 pub const USAGE: &[u8] =
     b"usage: lithe_run run --harts N\n       lithe_run solo\n       lithe_run audit --harts N\n       lithe_run make --seed X --size K --harts N\n       lithe_run tally --harts N\n       lithe_run pipe --harts N\n";
 
-/// Serves the words, and answers the status.
+/// Serves the words, and returns the status.
 pub fn status_of<R: AllocGlobal + Threads + Wait + Sync, A: Source, B: Sink, E: Sink>(
     rt: &R,
     words: &[&str],
@@ -33,7 +33,7 @@ pub fn status_of<R: AllocGlobal + Threads + Wait + Sync, A: Source, B: Sink, E: 
     Ok(lithe(rt, alloc, &own, source, out, err, &OpenGate))
 }
 
-/// Serves the words on the input, and tests the status and what the sinks took.
+/// Serves the words with the input, and compares the status and the bytes that the sinks took.
 pub fn serve<R: AllocGlobal + Abort + Threads + Wait + Sync>(
     rt: &R,
     words: &[&str],
@@ -46,7 +46,7 @@ pub fn serve<R: AllocGlobal + Abort + Threads + Wait + Sync>(
     serve_source(rt, words, &mut source, status, out, err)
 }
 
-/// The same on what the source gives.
+/// The same with a source.
 pub fn serve_source<R: AllocGlobal + Abort + Threads + Wait + Sync, A: Source>(
     rt: &R,
     words: &[&str],
@@ -60,7 +60,7 @@ pub fn serve_source<R: AllocGlobal + Abort + Threads + Wait + Sync, A: Source>(
     Ok(())
 }
 
-/// What a call came to.
+/// The results of a call.
 #[derive(Drop)]
 pub struct Served {
     pub status: Status,
@@ -69,7 +69,7 @@ pub struct Served {
 }
 
 impl Served {
-    /// Whether it is this status, and the sinks took this.
+    /// Whether the status is this, and the sinks took these bytes.
     pub fn is(&self, status: Status, out: &[u8], err: &[u8]) -> bool {
         let output = took(&self.out, out);
         let errors = took(&self.err, err);
@@ -77,7 +77,7 @@ impl Served {
     }
 }
 
-/// Whether a sink took just this, all within its room.
+/// Whether a sink took exactly this, all within its room.
 pub fn took(sink: &SureSink, bytes: &[u8]) -> bool {
     match sink.bytes() {
         Some(taken) => taken == bytes,
@@ -85,7 +85,7 @@ pub fn took(sink: &SureSink, bytes: &[u8]) -> bool {
     }
 }
 
-/// Serves the words on what the source gives, with so much room for the output.
+/// Serves the words with a source, and with so much room for the output.
 pub fn serve_within<R: AllocGlobal + Threads + Wait + Sync, A: Source>(
     rt: &R,
     words: &[&str],
@@ -105,7 +105,7 @@ fn gives_three(source: &mut SureSource) -> bool {
     got == Fill::Got(3) && buf.as_slice() == b"abc\0".as_slice()
 }
 
-/// Serves words that read no input, and tests the same, and that the source is left.
+/// Serves words that read no input, compares the same, and that the source is unchanged.
 pub fn serve_no_input<R: AllocGlobal + Abort + Threads + Wait + Sync>(
     rt: &R,
     words: &[&str],

@@ -27,7 +27,7 @@ impl Read for Torn {
     }
 }
 
-/// A stream that fails, or takes nothing more, once its room is full.
+/// A stream that fails, or takes no more bytes, once its room is full.
 #[derive(Drop)]
 struct Narrow {
     taken: Vec<u8>,
@@ -112,7 +112,7 @@ fn broken_off(kind: ErrorKind) -> StdSource<Torn> {
     })
 }
 
-// Serves such a source, and tests that it is a read fault.
+// Serves such a source, and checks that the result is a read fault.
 fn read_fault<R: AllocGlobal + Abort + Threads + Wait + Sync>(
     rt: &R,
     kind: ErrorKind,
@@ -147,7 +147,7 @@ fn solo_into<R: AllocGlobal + Threads + Wait + Sync>(
     status_of(rt, SOLO, &mut source, &mut out, err)
 }
 
-// Whether a stream that takes five bytes of the output makes a write fault, which is told.
+// Whether a stream that takes five bytes of the output leads to a write fault, which is reported.
 fn is_write_fault<R: AllocGlobal + Threads + Wait + Sync>(
     rt: &R,
     stream: &mut Narrow,
@@ -159,7 +159,7 @@ fn is_write_fault<R: AllocGlobal + Threads + Wait + Sync>(
     Ok(status == Status::WriteFault && status.number() == 7 && told && same)
 }
 
-// The same of a stream that fails, or takes nothing more, once its room is full.
+// The same for a stream that fails, or takes no more bytes, once its room is full.
 fn breaks_off<R: AllocGlobal + Threads + Wait + Sync>(rt: &R, fails: bool) -> Result<bool, Fail> {
     let mut stream = stream_of(rt.alloc(), 5, fails);
     is_write_fault(rt, &mut stream)
@@ -173,7 +173,7 @@ fn an_output_that_breaks_off_is_a_write_fault(rt: HostRuntime) -> Result<(), Fai
     Ok(())
 }
 
-// Serves a text that spells no program, and tells so to a stream.
+// Serves a text that spells no program, and reports that to a stream.
 fn tell_fault<R: AllocGlobal + Threads + Wait + Sync>(
     rt: &R,
     stream: &mut Narrow,
@@ -192,7 +192,7 @@ fn an_error_stream_that_breaks_off_changes_no_status(rt: HostRuntime) -> Result<
     Ok(())
 }
 
-// Whether want of memory for the words is told.
+// Whether the allocation failure of the words is reported.
 fn tells_no_memory(err: &mut SureSink) -> bool {
     let status = no_memory_for_words(err);
     let told = took(err, b"no memory\n");
@@ -207,7 +207,7 @@ fn words_without_memory_are_told(rt: HostRuntime) -> Result<(), Fail> {
     Ok(())
 }
 
-// Whether the usage is told of words that are no text.
+// Whether the usage is reported for words that are no text.
 fn tells_no_form(err: &mut SureSink) -> bool {
     let status = no_form_for_words(err);
     let told = took(err, USAGE);

@@ -1,4 +1,4 @@
-//! Texts that spell no program, and the place of their first fault.
+//! Texts that spell no program, and the position of their first error.
 use crate::serving::{RUN, serve};
 use lithe_call::Status;
 use std::alloc::Global;
@@ -7,14 +7,14 @@ use std::sync::Wait;
 use std::test::Fail;
 use std::thread::Threads;
 
-// The line that tells a fault.
+// The line that reports an error.
 fn line_of(alloc: Global, fault: &str) -> Result<String, Fail> {
     let mut told = String::new(alloc);
     writeln!(told, "syntax: {fault}")?;
     Ok(told)
 }
 
-// Serves a text, and tests what is told of it after `syntax: `.
+// Serves a text, and compares the line after `syntax: `.
 fn first_fault<R: AllocGlobal + Abort + Threads + Wait + Sync>(
     rt: &R,
     text: &[u8],
@@ -24,7 +24,7 @@ fn first_fault<R: AllocGlobal + Abort + Threads + Wait + Sync>(
     serve(rt, RUN, text, Status::Syntax, b"", told.as_bytes())
 }
 
-// The same of each text.
+// The same for each text.
 fn first_faults<R: AllocGlobal + Abort + Threads + Wait + Sync>(
     rt: &R,
     rows: &[(&[u8], &str)],

@@ -10,7 +10,7 @@ const FIVE: &[&str] = &["run", "--harts", "5"];
 
 const SIXTEEN: &[&str] = &["run", "--harts", "16"];
 
-// What the words write for the program.
+// The results of serving the words with the program.
 fn served<R: AllocGlobal + Threads + Wait + Sync>(
     rt: &R,
     words: &[&str],

@@ -8,7 +8,7 @@ use std::thread::Threads;
 
 const PROGRAM: &[u8] = b"array a[2]; a[1] = 7;";
 
-// Serves each of the words, and tests that they are no form.
+// Serves each of the words, and checks that they are no form.
 fn are_no_forms<R: AllocGlobal + Abort + Threads + Wait + Sync>(
     rt: &R,
     rows: &[&[&str]],
@@ -19,7 +19,7 @@ fn are_no_forms<R: AllocGlobal + Abort + Threads + Wait + Sync>(
     Ok(())
 }
 
-// Serves the words, and tests that they are a form of `run`.
+// Serves the words, and checks that they are a form of `run`.
 fn runs<R: AllocGlobal + Abort + Threads + Wait + Sync>(
     rt: &R,
     words: &[&str],

@@ -61,7 +61,7 @@ fn next_tools<'x>(tools: &mut Vec<Tools<'x>>) -> Result<Tools<'x>, Fail> {
     Ok(tools.pop().ok_or("too few tools")?)
 }
 
-// A hart for each of the plan's. The first has the job, and stands last.
+// A hart for each of the plan's. The first has the job, and is last in the list.
 fn crew<'x, 'p: 'x, R: Threads + Wait + Sync>(
     rt: &'x R,
     alloc: Global,
@@ -86,7 +86,7 @@ fn crew<'x, 'p: 'x, R: Threads + Wait + Sync>(
     Ok(harts)
 }
 
-// Runs each hart on a thread, the last of them on this one.
+// Runs each hart on a thread, the last of them on the current one.
 fn run_each<'x, 'p: 'x, R: Threads + Wait + Sync, F: Fn(u8, u16, u8, u8) + Sync>(
     rt: &'x R,
     alloc: Global,
@@ -97,7 +97,7 @@ fn run_each<'x, 'p: 'x, R: Threads + Wait + Sync, F: Fn(u8, u16, u8, u8) + Sync>
     requires callable { F.IsAlwaysCallable pass.now }
     requires starts { All (λ hart. StartsIn tree.now hart.port.port.view) harts.old }
 {
-    // As many parts as harts: the harts of one part run one after another, and each waits for all others.
+    // Why as many parts as harts: the harts of one part run one after another, and each waits for all others.
     let parts = harts.len().max(1);
     thread::for_each_mut(
         rt,
@@ -107,14 +107,14 @@ fn run_each<'x, 'p: 'x, R: Threads + Wait + Sync, F: Fn(u8, u16, u8, u8) + Sync>
     );
 }
 
-// The piece of the hart that stands last.
+// The piece of the hart that is last in the list.
 fn last_piece<'x, 'p: 'x, R: Threads + Wait + Sync>(
     harts: &mut [Hart<'x, 'p, WaitingPort<'x, LockedPort<'x, R>, R>, SharedSite<'p>>],
 ) -> Option<Piece<'p>> {
     harts.last_mut()?.piece.take()
 }
 
-// What the program's body writes, by harts over locked ports.
+// The writes of the program's body, by harts over locked ports.
 fn run_body<'x, 'p: 'x, R: Threads + Wait + Sync>(
     rt: &'x R,
     alloc: Global,
@@ -236,7 +236,7 @@ fn two_tools<'x>(
     Ok((first, next_tools(&mut tools)?))
 }
 
-// The first hart runs the whole body, and no other is there.
+// The first hart runs the whole body, without another hart.
 fn run_whole<'x, 'p: 'x, R: Threads + Wait + Sync>(
     rt: &'x R,
     alloc: Global,
@@ -267,7 +267,7 @@ fn run_whole<'x, 'p: 'x, R: Threads + Wait + Sync>(
     Ok(())
 }
 
-// What the second hart computes of the first construct.
+// The second hart's writes of the first construct, which it computes.
 fn run_first<'x, 'p: 'x, R: Threads + Wait + Sync>(
     rt: &'x R,
     alloc: Global,
@@ -300,8 +300,8 @@ fn run_first<'x, 'p: 'x, R: Threads + Wait + Sync>(
     )?)
 }
 
-// Whether a hart that comes to the first construct when its site has come and gone writes both branches: the other has run the
-// whole body.
+// Whether a hart that comes to the first construct after its site has come and gone writes both branches, although the other
+// hart has run the whole body.
 fn writes_late<'x, 'p: 'x, R: Threads + Wait + Sync>(
     rt: &'x R,
     alloc: Global,
@@ -323,7 +323,7 @@ fn writes_late<'x, 'p: 'x, R: Threads + Wait + Sync>(
     Ok(written.pairs() == BOTH_BRANCHES.as_slice())
 }
 
-// Whether it does so with tools of a run of two harts.
+// The same with tools of a run of two harts.
 fn is_computed<R: Threads + Wait + Sync>(
     rt: &R,
     alloc: Global,
@@ -363,7 +363,7 @@ fn open_first<'x, 'p: 'x, R: Wait>(
     Ok(())
 }
 
-// Whether the second hart enters site 2 by what stands in its cell.
+// Whether the second hart enters site 2 by the scheduler in its cell.
 fn enters_second<'x, 'p: 'x, R: Threads + Wait + Sync>(
     rt: &'x R,
     alloc: Global,
@@ -383,7 +383,7 @@ fn enters_second<'x, 'p: 'x, R: Threads + Wait + Sync>(
     }
 }
 
-// Whether a hart enters site 2 where the pool of site 1 stands in its cell.
+// Whether a hart enters site 2 if its cell has the pool of site 1.
 fn enters_by_another<'x, 'p: 'x, R: Threads + Wait + Sync>(
     rt: &'x R,
     alloc: Global,
@@ -403,7 +403,7 @@ fn enters_by_another<'x, 'p: 'x, R: Threads + Wait + Sync>(
     enters_second(rt, alloc, plan, lock, cells, others)
 }
 
-// Whether it does so with tools of a run of two harts.
+// The same with tools of a run of two harts.
 fn is_entered<R: Threads + Wait + Sync>(
     rt: &R,
     alloc: Global,

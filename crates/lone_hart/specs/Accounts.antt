@@ -1,11 +1,11 @@
--- Which jobs a site has handed out, and which of them came back.
+-- The jobs that a site has handed out, and those that came back.
 use Rattle.std.specs.Prelude.{◌≡◌, ℕ, suc, ◌<◌, ◌≤◌, [], length, map, drop, slice_get, Some}
 use Rattle.array_jobs.specs.Jobs.{JobParts}
 use Rattle.join_book.specs.Books.{BookParts, Open, IsMarked}
 use Rattle.work_agenda.specs.Agenda.{AgendaParts}
 
--- A book of jobs and an agenda stand so: no context is ready, the jobs before place `begun` were handed out, and exactly those
--- before place `done` came back, as a piece or as a failure.
+-- The state of a book of jobs and an agenda: no context is ready, the jobs before index `begun` were handed out, and exactly
+-- those before index `done` came back, as a piece or as a failure.
 pub record Stands {C : Type 0} (begin : JobParts → C) (book : BookParts) (agenda : AgendaParts C)
     (done begun : ℕ) : Type 0 where
   pub none_ready : agenda.ready ≡ []
@@ -19,7 +19,7 @@ pub record Stands {C : Type 0} (begin : JobParts → C) (book : BookParts) (agen
 abbrev pub AllCameBack : {C : Type 0} → (JobParts → C) → BookParts → AgendaParts C → Type 0
 AllCameBack begin book agenda = (k : ℕ) × Stands begin book agenda k k
 
--- All jobs that were handed out came back but this one, which was handed out last.
+-- All jobs that were handed out came back, except this one, which was handed out last.
 abbrev pub AllButOneCameBack : {C : Type 0} → (JobParts → C) → BookParts → AgendaParts C
     → JobParts → Type 0
 AllButOneCameBack begin book agenda job =

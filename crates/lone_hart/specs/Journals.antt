@@ -4,7 +4,7 @@ use Rattle.transfer_table.specs.declared.entry.Entry.{Entry}
 use Rattle.lone_hart.specs.declared.outcome.Journal.{Journal}
 use Rattle.lone_hart.specs.declared.outcome.Journal.TheVariants.{Listed, Board, Wide}
 
--- The entries of a journal are those of its list or of its board.
+-- The entries of a journal, from its list or its board.
 abbrev pub entries_in : Journal → List Entry
 entries_in (Listed entries) = entries
 entries_in (Board entries) = entries

@@ -1,4 +1,4 @@
--- The account of sites that the only hart keeps: what it did with those of the jobs that a scheduler gave it.
+-- The account of sites that a single hart keeps: its entries for the jobs that a scheduler handed out.
 use Rattle.std.specs.Prelude.{◌≡◌, ◌⊎◌, ℕ, suc, true, List, slice_get, Some}
 use Rattle.transfer_table.specs.Plan.{Plan, IsPlan}
 use Rattle.transfer_table.specs.declared.entry.Entry.{Entry}
@@ -15,7 +15,7 @@ use Rattle.lone_hart.specs.Sites.{IsPoolOf}
 use Rattle.lone_hart.specs.declared.site.LoneSite.{LoneSite}
 use Rattle.lone_hart.specs.declared.site.LoneSite.TheVariants.{Base, Pool, Team}
 
--- The jobs that the pool handed out were run, one after another.
+-- The jobs that the pool handed out have run, one after another.
 pub record ServesPool (p : Plan) (around : ℕ) (start es : List Entry) (nested : NestedParts)
     (pool : PoolParts) : Type 0 where
   pub done : ℕ
@@ -23,7 +23,7 @@ pub record ServesPool (p : Plan) (around : ℕ) (start es : List Entry) (nested 
   pub stands : Stands pool_work.Begin pool.book pool.agenda done done
   pub served : HasServed p around start es (nested_of nested) 0 done
 
--- The jobs that the pool handed out were run, all but this one, which it handed out last.
+-- The jobs that the pool handed out have run, except this one, which it handed out last.
 pub record LendsJob (p : Plan) (around : ℕ) (start es : List Entry) (nested : NestedParts)
     (pool : PoolParts) (job : JobParts) : Type 0 where
   pub done : ℕ
@@ -32,19 +32,19 @@ pub record LendsJob (p : Plan) (around : ℕ) (start es : List Entry) (nested : 
   pub stands : Stands pool_work.Begin pool.book pool.agenda done (suc done)
   pub served : HasServed p around start es (nested_of nested) 0 done
 
--- The jobs of the phases that have opened were run, and those of the next one that the team handed out.
+-- The jobs of the opened phases have run, and those of the next phase that the team handed out.
 pub record ServesPhase (p : Plan) (around : ℕ) (start es : List Entry) (t : TeamParts) : Type 0 where
   pub jobs : AreJobsIn t.nested t.opened t.barrier.jobs
   pub done : ℕ
   pub stands : Stands team_work.Begin t.barrier t.agenda done done
   pub served : HasServed p around start es (nested_of t.nested) t.opened done
 
--- All phases of the team were run.
+-- All phases of the team have run.
 pub record ServedPhases (p : Plan) (around : ℕ) (start es : List Entry) (t : TeamParts) : Type 0 where
   pub last : t.opened ≡ phases_in t.nested
   pub served : HasServed p around start es (nested_of t.nested) t.opened 0
 
--- The jobs of the phases that have opened were run, and all but this one of the next one that the team handed out.
+-- The jobs of the opened phases have run, and those of the next phase that the team handed out, except this one.
 pub record LendsMember (p : Plan) (around : ℕ) (start es : List Entry) (t : TeamParts)
     (job : JobParts) : Type 0 where
   pub jobs : AreJobsIn t.nested t.opened t.barrier.jobs
@@ -53,23 +53,24 @@ pub record LendsMember (p : Plan) (around : ℕ) (start es : List Entry) (t : Te
   pub stands : Stands team_work.Begin t.barrier t.agenda done (suc done)
   pub served : HasServed p around start es (nested_of t.nested) t.opened done
 
--- A pool of which no job failed was served so.
+-- A pool without a failed job was served in this way.
 abbrev pub serves_pool : NestedParts → PoolParts → Plan → ℕ → List Entry → List Entry → Type 0
 serves_pool nested pool p around start es =
     HasFailed pool.book ⊎ ServesPool p around start es nested pool
 
--- A team of which no job failed was served so.
+-- A team without a failed job was served in this way.
 abbrev pub serves_team : TeamParts → Plan → ℕ → List Entry → List Entry → Type 0
 serves_team t p around start es =
     (t.failed ≡ true) ⊎ (ServedPhases p around start es t ⊎ ServesPhase p around start es t)
 
--- Between these entries the jobs of the site that came back were run; nothing is said where one failed. The base gives none.
+-- Between these entries, the jobs of the site that came back have run; nothing is stated if one failed. The base hands out no
+-- job.
 abbrev pub is_serving : LoneSite → Plan → ℕ → List Entry → List Entry → Type 0
 is_serving (Base base) p around start es = ⊥
 is_serving (Pool nested pool) p around start es = IsPlan p × serves_pool nested pool p around start es
 is_serving (Team t) p around start es = IsPlan p × serves_team t p around start es
 
--- The jobs of the site that came back were run, and this one is out.
+-- The jobs of the site that came back have run, and this one is out.
 abbrev pub is_lent : LoneSite → JobParts → Plan → ℕ → List Entry → List Entry → Type 0
 is_lent (Base base) job p around start es = ⊥
 is_lent (Pool nested pool) job p around start es =

@@ -1,4 +1,4 @@
--- The schedulers of the sites, as the only hart has them.
+-- The schedulers of the sites, as the single hart has them.
 use Rattle.std.specs.Prelude.{◌≡◌, ◌⊎◌, ℕ, suc, ◌+◌, ◌-◌, ◌*◌, min, length, map, Option, Some, None}
 use Rattle.array_tree.specs.Trees.{statement_of}
 use Rattle.array_meaning.specs.Plans.{statement_sites_in}
@@ -24,16 +24,16 @@ construct_in (Base base) = None
 construct_in (Pool nested p) = Some nested
 construct_in (Team t) = Some t.nested
 
--- how many wishes the sites inside a construct, which is a site itself, can have: fifteen each, and no more than a plan's sites
+-- the number of wishes that the sites inside a construct can have: fifteen each, and at most those of a plan's sites
 abbrev pub wishes_inside : NestedParts → ℕ
 wishes_inside nested = min (15 * (statement_sites_in (statement_of nested.construct) - 1)) MOST_WISHES
 
--- how many jobs a team still hands out, with those of the phases to come
+-- the number of jobs that a team still hands out, with those of the later phases
 abbrev pub team_jobs_left : TeamParts → ℕ
 team_jobs_left t = length t.agenda.unbegun + (phases_in t.nested - suc t.opened)
     * members_in t.nested
 
--- The number says how many jobs a site still hands out.
+-- The number of jobs that a site still hands out.
 abbrev pub jobs_left : LoneSite → ℕ
 jobs_left (Base base) = 0
 jobs_left (Pool nested p) = length p.agenda.unbegun
@@ -45,7 +45,7 @@ pub record IsPoolOf (nested : NestedParts) (p : PoolParts) : Type 0 where
   pub one_phase : phases_of (statement_of nested.construct) ≡ 1
   pub jobs : map job_of p.book.jobs ≡ jobs_in (nested_of nested) 0 nested.store
 
--- A team that isn't over waits for a piece, and all jobs that it handed out came back.
+-- A team that isn't done waits for a piece, and all jobs that it handed out came back.
 pub record IsRunning (t : TeamParts) : Type 0 where
   pub waits : ¬ IsFull t.barrier
   pub account : AllCameBack team.Begin t.barrier t.agenda
@@ -56,19 +56,19 @@ IsSettledSite (Base base) = Unit {0}
 IsSettledSite (Pool nested p) = IsPoolOf nested p × AllCameBack pool.Begin p.book p.agenda
 IsSettledSite (Team t) = IsOver t ⊎ IsRunning t
 
--- Every job that the site handed out came back but this one; the base hands none out.
+-- Every job that the site handed out came back, except this one. The base hands out no job.
 abbrev pub IsOwed : LoneSite → JobParts → Type 0
 IsOwed (Base base) job = ⊥
 IsOwed (Pool nested p) job = IsPoolOf nested p × AllButOneCameBack pool.Begin p.book p.agenda job
 IsOwed (Team t) job = AllButOneCameBack team.Begin t.barrier t.agenda job
 
--- Its work is over.
+-- The work of the site is done.
 abbrev pub IsOverSite : LoneSite → Type 0
 IsOverSite (Base base) = Unit {0}
 IsOverSite (Pool nested p) = IsPoolOf nested p × (IsFull p.book ⊎ HasFailed p.book)
 IsOverSite (Team t) = IsOver t
 
--- A callback of the site's scheduler did this, by what it received.
+-- The effect of a callback of the site's scheduler.
 abbrev pub HearsAt : LoneSite → Told → LoneSite → Type 0
 HearsAt (Base b) told (Base b') = base.HearsOf b told b'
 HearsAt (Pool nested p) told (Pool nested' p') = (nested' ≡ nested) × pools.Hears p told p'

@@ -1,10 +1,10 @@
-//! Runs of accepted programs on one hart. Begin with `run_alone` in `run.rt`; the tests of `harts_tests` run programs by it.
+//! Runs of accepted programs on one hart. Begin with `run_alone` in `run.rt`; the tests of `harts_tests` run programs with it.
 //!
-//! `run_alone` runs a program on one hart: each `par` by a pool, each `team` by a team, each piece by a machine of its own,
-//! and each transfer by a call of the schedulers over the port of a single hart. It takes no runtime, and returns.
+//! `run_alone` runs a program on one hart: each `par` by a pool, each `team` by a team, each piece by a machine of its own, and
+//! each transfer by a call of the schedulers over the port of a single hart. It needs no runtime, and returns.
 //!
-//! Runs on several harts open pools and teams (`open_pool`, `open_team`), give schedulers room for wishes (`room_for_wishes`), take
-//! what a pool holds (`take_from_pool`) and end (`store_after`, `Outcome`) the same way.
+//! Runs on several harts open pools and teams (`open_pool`, `open_team`), give schedulers room for wishes (`room_for_wishes`),
+//! take the writes of a pool (`take_from_pool`) and end (`store_after`, `Outcome`) in the same way.
 #![tactic(auto)]
 
 mod lone;

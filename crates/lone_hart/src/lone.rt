@@ -1,6 +1,5 @@
-//! The schedulers of the sites, as the only hart has them.
-ghost use Rattle.std.specs.Prelude.{◌≡◌, ◌≤◌, ℕ, IfOk, IsSome, Some};
-ghost use Rattle.hart_work.specs.Tasks.{HasNext, HasAccount};
+//! The schedulers of the sites, as the single hart has them.
+ghost use Rattle.std.specs.Prelude.{◌≡◌, ◌≤◌, ℕ, Some};
 ghost use Rattle.lone_hart.specs.Sites.{construct_in, jobs_left, IsSettledSite, IsOwed, IsOverSite, HearsAt};
 ghost use Rattle.lone_hart.specs.Served.{is_serving, is_lent, is_failed};
 
@@ -18,14 +17,14 @@ use std::alloc::{AllocError, Global};
 use std::marker::PhantomData;
 use step_eval::{Kind, Nested};
 
-/// The schedulers of the sites, as the only hart has them: no other hart knows them, and no call waits.
+/// The schedulers of the sites, as the single hart has them. No other hart knows them, and no call blocks.
 #[derive(Drop)]
 pub struct LoneSchedulers<'p> {
     of: PhantomData<&'p Block>,
 }
 
 impl<'p> LoneSchedulers<'p> {
-    /// The schedulers of a run that begins.
+    /// The schedulers of a run at its begin.
     pub fn new() -> LoneSchedulers<'p> {
         LoneSchedulers { of: PhantomData }
     }
@@ -37,7 +36,7 @@ impl<'p, R> Schedulers<R, JobMachines<'p>> for LoneSchedulers<'p> {
 
     type Site = LoneSite<'p>;
 
-    // It was lent none.
+    // The hart was lent no tools.
     type Tools = ();
 
     ghost tools = { λ _. tt };
@@ -73,12 +72,12 @@ impl<'p, R> Schedulers<R, JobMachines<'p>> for LoneSchedulers<'p> {
         }
     }
 
-    /// No other hart could be asked for.
+    /// There is no other hart to request.
     fn wishes(&self, _site: &LoneSite<'p>) -> u8 {
         0
     }
 
-    /// There is no other hart that opens a site.
+    /// There is no other hart that could open a site.
     fn find(&mut self, _rt: &R, _site: u16) -> Option<LoneSite<'p>> {
         None
     }
@@ -150,7 +149,7 @@ impl<'p, R> Schedulers<R, JobMachines<'p>> for LoneSchedulers<'p> {
         }
     }
 
-    /// Inside there is nothing for a guest: the only hart is the home of each site that is open.
+    /// Inside a site there is nothing for a guest: the single hart is the home of each open site.
     fn enter<P: Port>(
         &mut self,
         _rt: &R,

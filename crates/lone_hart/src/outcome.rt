@@ -1,4 +1,4 @@
-//! What a run comes to.
+//! The result of a run.
 ghost use Rattle.std.specs.Prelude.{◌≡◌};
 ghost use Rattle.lone_hart.specs.Journals.{entries_in};
 
@@ -7,7 +7,7 @@ use transfer_table::{Entries, Entry};
 use wide_board::WideClosed;
 use word_board::Closed;
 
-/// What a run comes to.
+/// The result of a run.
 #[derive(Drop)]
 pub struct Outcome {
     /// The value of each cell at the end.
@@ -19,11 +19,11 @@ pub struct Outcome {
 /// All transfers of a run, in their order.
 #[derive(Drop)]
 pub enum Journal {
-    /// The list that the port of a single hart kept.
+    /// The list of a single hart's port.
     Listed(Entries),
     /// The journal of a closed word board, on which several harts moved.
     Board(Closed),
-    /// That of a closed wide board, on which there is room for more harts.
+    /// The journal of a closed wide board, which has room for more harts.
     Wide(WideClosed),
 }
 

@@ -1,11 +1,11 @@
-//! Pools, as the only hart has them.
-ghost use Rattle.std.specs.Prelude.{◌≡◌, ◌≤◌, ◌⊎◌, ℕ, List, IfOk, IsErr, length, suc, map};
+//! Pools, as the single hart has them.
+ghost use Rattle.std.specs.Prelude.{◌≡◌, ◌≤◌, ◌⊎◌, ℕ, List, IfOk, IsErr, length, suc};
 ghost use Rattle.transfer_table.specs.Plan.{Plan};
 ghost use Rattle.transfer_table.specs.declared.entry.Entry.{Entry};
 ghost use Rattle.array_tree.specs.Trees.{statement_of};
 ghost use Rattle.array_jobs.specs.Jobs.{JobParts, job_of};
 ghost use Rattle.join_book.specs.Books.{Filled, IsFull, HasFailed, marked_book};
-ghost use Rattle.step_eval.specs.Nests.{NestedParts, nested_of, nested_writes, phases_of, jobs_in};
+ghost use Rattle.step_eval.specs.Nests.{NestedParts, nested_of, nested_writes, phases_of};
 ghost use Rattle.machine_accounts.specs.Machines.{IsFreshJob};
 ghost use Rattle.forkjoin_sched.specs.declared.work.PoolWork.TheVariants.{Begin};
 ghost use Rattle.hart_work.specs.Tasks.{HasNext, HasAccount};
@@ -28,6 +28,10 @@ use step_eval::{Nested, jobs_of};
 /// # Errors
 ///
 /// `AllocError` if an allocation fails.
+///
+/// # Memory
+///
+/// It allocates the jobs and the pool.
 pub fn open_pool<'p>(alloc: Global, nested: &Nested<'p>) -> Result<Pool<'p>, AllocError>
     requires { phases_of (statement_of nested.now.construct) ≡ 1 }
     ensures of { IfOk result (IsPoolOf nested.now) }
@@ -38,7 +42,7 @@ pub fn open_pool<'p>(alloc: Global, nested: &Nested<'p>) -> Result<Pool<'p>, All
     Pool::with_wishes(alloc, jobs, room_for_wishes(nested))
 }
 
-/// What the hart does next in the pool: the next job, or nothing where every job came back or one failed.
+/// The next action of the hart in the pool: the next job, or nothing if every job came back or one failed.
 pub fn next_of_pool<'p>(pool: &mut Pool<'p>) -> Task<Job<'p>>
     requires { AllCameBack Begin pool.old.book pool.old.agenda }
     ensures book { pool.new.book ≡ pool.old.book }
@@ -60,7 +64,7 @@ pub fn next_of_pool<'p>(pool: &mut Pool<'p>) -> Task<Job<'p>>
         Next::Run(PoolWork::Begin(job)) => Task::Piece(job),
         // No context waits, so none is ready.
         Next::Run(PoolWork::Ready(_)) => unreachable!(),
-        // Each job that was begun came back, so one that wasn't is left.
+        // Why: each job that was begun came back, so a job that wasn't begun is left.
         Next::Lend(_) => unreachable!(),
         Next::Nothing => unreachable!(),
     }
@@ -89,7 +93,15 @@ pub fn fail_in_pool(pool: &mut Pool, place: u8)
     pool.fail(place);
 }
 
-/// What the `par` of a pool writes that is full, or of which a piece failed: then the result is an allocation failure.
+/// The writes of the `par` of a pool that is full, or of which a piece failed.
+///
+/// # Errors
+///
+/// `AllocError` if a piece failed, or an allocation fails.
+///
+/// # Memory
+///
+/// It allocates a store and the overlay.
 pub fn take_from_pool<'p>(nested: &Nested<'p>, pool: Pool<'p>) -> Result<Overlay, AllocError>
     requires of { IsPoolOf nested.now pool }
     requires over { IsFull pool.book ⊎ HasFailed pool.book }

@@ -27,9 +27,16 @@ use std::alloc::{AllocError, Global};
 
 /// Runs an accepted program on one hart, and returns. The plan must have one hart.
 ///
-/// The store is that of the one-thread meaning, and the journal, which is listed, is complete for the plan and the sites that
-/// this meaning enters: every transfer is legal, every site is gone, and exactly the entered ones came and went. If an
-/// allocation fails anywhere, the whole run returns that.
+/// The store is the store of the one-thread meaning. The journal is listed, and complete for the plan and the sites that this
+/// meaning enters: every transfer is legal, every site is gone, and exactly the entered ones came and went.
+///
+/// # Errors
+///
+/// `AllocError` if any allocation fails.
+///
+/// # Memory
+///
+/// It allocates the store, the journal, and a machine and an overlay for each piece.
 pub fn run_alone(alloc: Global, accepted: &Accepted<'_>) -> Result<Outcome, AllocError>
     requires { accepted.now.plan.harts ≡ 1 }
     ensures store { IfOk result
@@ -51,7 +58,7 @@ pub fn run_alone(alloc: Global, accepted: &Accepted<'_>) -> Result<Outcome, Allo
     })
 }
 
-// Runs the body of an accepted program, with all sites that it enters, and brings the hart back to the base.
+// Runs the body of an accepted program, with all sites that it enters, and returns the hart to the base.
 fn run_body<'p>(
     alloc: Global,
     tree: &SiteTree,
@@ -72,7 +79,7 @@ fn run_body<'p>(
     let job = body_job(alloc, accepted.program())?;
     let mut base = LoneSite::Base(Base::new(alloc, tree.plan().sites())?);
     run_piece(
-        // There is no runtime, and nothing waits.
+        // Why: there is no runtime, and nothing blocks.
         &(),
         alloc,
         tree,
@@ -91,6 +98,10 @@ fn run_body<'p>(
 /// # Errors
 ///
 /// `AllocError` if an allocation fails.
+///
+/// # Memory
+///
+/// It allocates a list of pages, and each page that it writes.
 pub fn store_after(piece: Piece<'_>) -> Result<Store, AllocError>
     ensures { IfOk result (λ store. (program : ProgramTree)
         → job_of piece.entry.job ≡ body_of program → store ≡ final_store program) }
@@ -98,7 +109,7 @@ pub fn store_after(piece: Piece<'_>) -> Result<Store, AllocError>
     store_of(&piece.job, &piece.written)
 }
 
-// The store of a job after what it writes.
+// The store of a job after its writes.
 fn store_of(job: &Job<'_>, written: &Overlay) -> Result<Store, AllocError>
     requires { written.now.pairs ≡ piece_of_job (job_of job.now) }
     ensures { IfOk result (λ store. (program : ProgramTree) → job_of job.now ≡ body_of program

@@ -1,4 +1,4 @@
-//! Teams, as the only hart has them.
+//! Teams, as the single hart has them.
 ghost use Rattle.std.specs.Prelude.{◌≡◌, ◌≤◌, ◌⊎◌, ℕ, List, IfOk, Some, true};
 ghost use Rattle.transfer_table.specs.Plan.{Plan};
 ghost use Rattle.transfer_table.specs.declared.entry.Entry.{Entry};
@@ -23,11 +23,15 @@ use sched_api::{Next, sched_reenter};
 use std::alloc::{AllocError, Global};
 use step_eval::{Kind, Nested};
 
-/// The team of a `team`.
+/// The team of a `team` construct.
 ///
 /// # Errors
 ///
 /// `AllocError` if an allocation fails.
+///
+/// # Memory
+///
+/// It allocates the jobs of the first phase and the team.
 pub fn open_team<'p>(alloc: Global, nested: Nested<'p>) -> Result<Team<'p>, AllocError>
     requires { kind_of (statement_of nested.construct) ≡ Some Kind.Team }
     ensures nested { IfOk result (λ team. team.nested ≡ nested.entry) }
@@ -40,12 +44,12 @@ pub fn open_team<'p>(alloc: Global, nested: Nested<'p>) -> Result<Team<'p>, Allo
 {
     let wishes = room_for_wishes(&nested);
     let team = Team::with_wishes(alloc, nested, wishes)?;
-    // What is known of the construct.
+    // Why: reading the construct makes its invariant known.
     let _ = team.nested();
     Ok(team)
 }
 
-/// What the hart does next in the team: the next job, or nothing where the team is over.
+/// The next action of the hart in the team: the next job, or nothing if the team is done.
 pub fn next_of_team<'p>(team: &mut Team<'p>) -> Task<Job<'p>>
     requires { IsOver team.old ⊎ IsRunning team.old }
     ensures nested { team.new.nested ≡ team.old.nested }
@@ -65,13 +69,13 @@ pub fn next_of_team<'p>(team: &mut Team<'p>) -> Task<Job<'p>>
         Next::Run(TeamWork::Begin(job)) => Task::Piece(job),
         // No context waits, so none is ready.
         Next::Run(TeamWork::Ready(_)) => unreachable!(),
-        // The phase that runs waits for a piece, and each job that was begun came back, so one that wasn't is left.
+        // Why: the current phase waits for a piece, and each job that was begun came back, so a job that wasn't begun is left.
         Next::Lend(_) => unreachable!(),
         Next::Nothing => unreachable!(),
     }
 }
 
-/// A piece came back. Where it was its phase's last one, the next phase is there to be begun.
+/// A piece came back. If it was the last one of its phase, the next phase can be begun.
 pub fn arrive_in_team<'p>(team: &mut Team<'p>, piece: Piece<'p>)
     requires { AllButOneCameBack Begin team.old.barrier team.old.agenda piece.job }
     ensures nested { team.new.nested ≡ team.old.nested }
@@ -81,7 +85,7 @@ pub fn arrive_in_team<'p>(team: &mut Team<'p>, piece: Piece<'p>)
         → LendsMember p around start es team.old piece.entry.job
         → IsRunJob p es es' (job_of piece.entry.job) → serves_team team.new p around start es' }
 {
-    // What is known of the construct.
+    // Why: reading the construct makes its invariant known.
     let _ = team.nested();
     let _ = team.keep(piece);
 }

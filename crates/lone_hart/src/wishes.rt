@@ -6,12 +6,12 @@ use site_counts::sites_in_statement;
 use step_eval::Nested;
 use work_agenda::MOST_WISHES;
 
-/// How many harts a site can ask for: all but its home.
+/// The greatest number of harts that a site can request: all but its home.
 const WISHES_PER_SITE: u64 = 15;
 
-/// How many wishes the sites inside the construct can have: 15 each, and at most `MOST_WISHES`.
+/// The number of wishes that the sites inside the construct can have: 15 each, and at most `MOST_WISHES`.
 ///
-/// Why: each site asks for harts once, and its wishes are removed when it is unregistered. So no wish is dropped, and a
+/// Why: each site requests harts once, and its wishes are removed when it is unregistered. So no wish is dropped, and a
 /// construct with no site inside allocates no room.
 pub fn room_for_wishes(nested: &Nested) -> usize
     ensures { result ≡ wishes_inside nested.now }

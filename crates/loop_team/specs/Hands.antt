@@ -1,4 +1,4 @@
--- What a hart's hand on a shared team does.
+-- The calls of a hart's hand on a shared team. A look is one read of the team under its lock.
 use Rattle.std.specs.Prelude.{◌≡◌, ◌⊎◌, ℕ, ◌+◌, ◌<◌, ◌≤◌, List, [], ◌∷◌, ◌++◌, Option, Some, None}
 use Rattle.array_jobs.specs.Jobs.{JobParts}
 use Rattle.claim_words.specs.declared.sight.Look.{Look}
@@ -16,7 +16,7 @@ use Rattle.loop_team.specs.declared.work.TeamWork.{TeamWork}
 use Rattle.loop_team.specs.declared.work.TeamWork.TheVariants.{Begin, Ready}
 use Rattle.loop_team.specs.Teams.{phases_in, members_in}
 
--- No call of a hand changes its team, its rows, and whose seat it has.
+-- No call of a hand changes its team, its claim counters, and the hart of its seat.
 pub record IsSameHand {R : Type 0} (before after : TeamHand R) : Type 0 where
   pub team : after.shared ≡ before.shared
   pub claims : after.claims ≡ before.claims
@@ -24,13 +24,13 @@ pub record IsSameHand {R : Type 0} (before after : TeamHand R) : Type 0 where
   pub name : after.seat.ghost_name ≡ before.seat.ghost_name
   pub kin : kin after.seat.now ≡ kin before.seat.now
 
--- The hand looked under the lock, and found this last.
+-- The hand's last look had this result.
 pub record HasFound {R : Type 0} (before : TeamHand R) (what : Found)
     (after : TeamHand R) : Type 0 where
   pub looked : Rose before.looks after.looks
   pub last : after.found ≡ what
 
--- The seat claimed a member last: the job is that of the team, its phase and place.
+-- The seat's last claim was a member: the job is that of the team, its phase and index.
 pub record HasClaimed {R : Type 0} (before : TeamHand R) (job : JobParts)
     (after : TeamHand R) : Type 0 where
   pub site : job.site ≡ before.shared.now.site
@@ -40,7 +40,7 @@ pub record HasClaimed {R : Type 0} (before : TeamHand R) (job : JobParts)
   pub claimed : (sight after.seat.now).claimed ≡ ((sight before.seat.now).claimed ++ earlier)
       ++ (before.row + job.phase, job.place) ∷ []
 
--- The word that the seat read last is that of a phase's row, and shows as many as the phase has members, or more.
+-- The word that the seat read last is the claim counter of a phase, and shows at least as many claims as the phase has members.
 pub record NoneWasLeft {R : Type 0} (before after : TeamHand R) : Type 0 where
   pub phase : ℕ
   pub there : phase < phases_in before.shared.now
@@ -51,13 +51,13 @@ pub record NoneWasLeft {R : Type 0} (before after : TeamHand R) : Type 0 where
   pub looks : (sight after.seat.now).looks ≡ ((sight before.seat.now).looks ++ earlier)
       ++ look (before.row + phase) kind shown ∷ []
 
--- What runs was found under the lock, or is a member that was claimed.
+-- The work that runs was found under the lock, or is a member that was claimed.
 abbrev pub Begins : {R : Type 0} → TeamHand R → TeamWork → TeamHand R → Type 0
 Begins before (Begin job) after = HasFound before found.Work after ⊎ HasClaimed before job after
 Begins before (Ready context) after = HasFound before found.Work after
 
--- The cause of a result of `enter`, all of it found by the call. A child's wish is met, and the result is Nothing of a team
--- that isn't handed out, only where no member was left to be claimed.
+-- The cause of a result of `enter`, all of it found by the call. `enter` meets a child's wish, or returns `Nothing` for a team
+-- that isn't handed out, only if no member was left to be claimed.
 abbrev pub HasCause : {R : Type 0} → TeamHand R → Next TeamWork → TeamHand R → Type 0
 HasCause before (Run work) after = Begins before work after
 HasCause before (Lend child) after = HasFound before found.Wish after × NoneWasLeft before after
@@ -65,13 +65,13 @@ HasCause before Nothing after =
     HasFound before found.HandedOut after
     ⊎ (HasFound before found.Idle after × NoneWasLeft before after)
 
--- The hand is still the same one, and the result of `enter` has its cause in what the call found.
+-- The hand is the same, and the result of `enter` has its cause in what the call found.
 pub record Enters {R : Type 0} (before : TeamHand R) (next : Next TeamWork)
     (after : TeamHand R) : Type 0 where
   pub same : IsSameHand before after
   pub cause : HasCause before next after
 
--- The hand looked under the lock once more, and its seat is as it was.
+-- The hand took one more look under the lock, and its seat is unchanged.
 pub record HasLooked {R : Type 0} (before after : TeamHand R) : Type 0 where
   pub team : after.shared ≡ before.shared
   pub claims : after.claims ≡ before.claims
@@ -79,7 +79,7 @@ pub record HasLooked {R : Type 0} (before after : TeamHand R) : Type 0 where
   pub seat : after.seat ≡ before.seat
   pub looked : Rose before.looks after.looks
 
--- The hand claimed in the row of a phase, and didn't look under the lock.
+-- The hand claimed at the claim counter of a phase, and took no look under the lock.
 pub record HasTried {R : Type 0} (before : TeamHand R) (phase : ℕ) (answer : Claimed)
     (after : TeamHand R) : Type 0 where
   pub team : after.shared ≡ before.shared
@@ -91,7 +91,7 @@ pub record HasTried {R : Type 0} (before : TeamHand R) (phase : ℕ) (answer : C
   pub gives : ClaimGives before.claims.now.counts.items (before.row + phase) before.seat.now answer
       after.seat.now
 
--- The hand may have looked more often, and its seat read and claimed more.
+-- The hand may have taken more looks, and its seat read and claimed more.
 pub record HasGoneOn {R : Type 0} (before after : TeamHand R) : Type 0 where
   pub same : IsSameHand before after
   pub read : (more : List Look)
@@ -100,7 +100,7 @@ pub record HasGoneOn {R : Type 0} (before after : TeamHand R) : Type 0 where
       × ((sight after.seat.now).claimed ≡ (sight before.seat.now).claimed ++ more)
   pub looks : before.looks ≤ after.looks
 
--- A turn of `enter`: it is answered, or the hand looks again.
+-- A turn of `enter`: it has a result, or the hand looks again.
 abbrev pub Turns : {R : Type 0} → TeamHand R → Option (Next TeamWork) → TeamHand R → Type 0
 Turns before None after = HasGoneOn before after
 Turns before (Some next) after = Enters before next after

@@ -1,4 +1,4 @@
--- What a look under the lock of a shared team found, and what a hart does then, if that is the result.
+-- The result of a look under the lock of a shared team, and the result of `enter` that follows from it.
 use Rattle.std.specs.Prelude.{◌≡◌, ◌⊎◌, Option, Some, None}
 use Rattle.sched_api.specs.declared.scheduler.Next.{Next}
 use Rattle.sched_api.specs.declared.scheduler.Next.TheVariants.{Run, Lend, Nothing}
@@ -13,7 +13,7 @@ TellsReady what (Some (Run work)) = what ≡ found.Work
 TellsReady what (Some (Lend child)) = ⊥
 TellsReady what (Some Nothing) = what ≡ found.HandedOut
 
--- A look where no member was left found the cause of this result.
+-- A look after the last member was claimed found the cause of this result.
 abbrev pub TellsRest : Found → Option (Next TeamWork) → Type 0
 TellsRest what None = Unit {0}
 TellsRest what (Some (Run work)) = what ≡ found.Work

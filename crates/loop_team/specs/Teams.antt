@@ -23,32 +23,32 @@ use Rattle.loop_team.specs.declared.team.Phase.{Phase}
 use Rattle.loop_team.specs.declared.work.TeamWork.{TeamWork}
 use Rattle.loop_team.specs.declared.work.TeamWork.TheVariants.{Begin}
 
--- Contracts see these parts of a team.
+-- The parts of a team that contracts see.
 pub record TeamParts : Type 0 where
   -- its construct, with the variables and the store before it
   pub nested : NestedParts
-  -- what it has for harts
+  -- its lists for harts
   pub agenda : AgendaParts TeamWork
-  -- how many phases have opened
+  -- the number of phases that have opened
   pub opened : ℕ
-  -- the places of the phase that runs, or that ran last
+  -- the slots of the current phase, or of the last one
   pub barrier : BookParts
   pub failed : Bool
 
--- How many phases a construct has, and how many members.
+-- The number of phases of a construct.
 abbrev pub phases_in : NestedParts → ℕ
 phases_in nested = phases_of (statement_of nested.construct)
 
--- The number of members is that of the construct.
+-- The number of members of a construct.
 abbrev pub members_in : NestedParts → ℕ
 members_in nested = members_of (statement_of nested.construct)
 
--- This is what a phase writes from the store that those before it leave.
+-- The writes of a phase from the store that the earlier phases leave.
 abbrev pub writes_in : NestedParts → ℕ → List Write
 writes_in nested phase =
     phase_writes (nested_of nested) phase (store_before (nested_of nested) phase)
 
--- These are the jobs of the members in a phase, from the store that the phases before it leave.
+-- The jobs of the members in a phase, from the store that the earlier phases leave.
 pub record AreJobsIn (nested : NestedParts) (phase : ℕ) (jobs : List JobParts) : Type 0 where
   pub there : phase < phases_in nested
   pub same : map job_of jobs
@@ -73,6 +73,7 @@ roomy_team nested jobs wishes = record {
   failed = false;
 }
 
+-- The team with room for so many wishes, before its first phase.
 pub record IsRoomy (nested : NestedParts) (wishes : ℕ) (team : TeamParts) : Type 0 where
   pub jobs : AreJobsIn nested 0 team.barrier.jobs
   pub rest : team ≡ roomy_team nested team.barrier.jobs wishes
@@ -85,7 +86,7 @@ IsNew nested team = IsRoomy nested MOST_WISHES team
 abbrev pub opened_team : TeamParts → TeamParts
 opened_team team = record team { opened = suc team.opened }
 
--- The members of a phase, with these jobs, are there to be begun, in place of any that are left.
+-- The team with the members of a phase, with these jobs, instead of any that are left to begin.
 abbrev pub with_phase : TeamParts → List JobParts → TeamParts
 with_phase team jobs = record team {
   agenda = record team.agenda { unbegun = map Begin jobs };
@@ -104,14 +105,14 @@ with_agenda team agenda = record team { agenda = agenda }
 abbrev pub failed_team : TeamParts → TeamParts
 failed_team team = record team { failed = true }
 
--- A team whose phase has just opened is over, or its next phase is there to be begun.
+-- A team whose phase has opened is done, or its next phase can be begun.
 pub record GoesOn (team after : TeamParts) : Type 0 where
   pub over : IsOver team → after ≡ team
   pub next : ¬ IsOver team
       → AreJobsIn team.nested team.opened after.barrier.jobs
       × (after ≡ with_phase team after.barrier.jobs)
 
--- The piece was the last one that the barrier waited for, and these are its places then.
+-- The piece was the last one that the barrier waited for, and these are its slots then.
 pub record Opens (before : TeamParts) (piece : PieceParts) (written : Laid)
     (full : BookParts) : Type 0 where
   pub arrives : Arrives before.barrier piece (Opened written) full
@@ -126,7 +127,7 @@ pub record FailsToGoOn (before : TeamParts) (piece : PieceParts) (full : BookPar
   pub failed : after ≡ failed_team (opened_team (with_barrier before full))
 
 -- A piece has this result and leaves this team: the result is the barrier's, and if the barrier opens the team goes on. An
--- allocation failure comes only if the next phase is to begin, and fails the team.
+-- allocation failure occurs only if the next phase is to begin, and fails the team.
 abbrev pub MovesOn : {E : Type 0} → TeamParts → PieceParts → Result Arrival E → TeamParts → Type 0
 MovesOn before piece (Ok Kept) after =
     Arrives before.barrier piece Kept after.barrier × (after ≡ with_barrier before after.barrier)
@@ -137,12 +138,12 @@ MovesOn before piece (Ok (Stranger back)) after =
     Arrives before.barrier piece (Stranger back) before.barrier × (after ≡ before)
 MovesOn before piece (Err refused) after = (full : BookParts) × FailsToGoOn before piece full after
 
--- The members that aren't begun are the last ones, in the order of their places.
+-- The members that aren't begun are the last ones, in the order of their indices.
 abbrev pub AreInOrder : TeamParts → Type 0
 AreInOrder team = (begun : ℕ) × (team.agenda.unbegun ≡ drop begun (map Begin team.barrier.jobs))
 
--- The call `enter` of a team gives what its agenda has, and changes its agenda alone. So the member that it hands out is the
--- lowest that isn't begun.
+-- The call `enter` of a team returns the next action of its agenda, and changes only its agenda. So the member that it hands
+-- out is the lowest that isn't begun.
 pub record Answers (before : TeamParts) (next : Next TeamWork) (after : TeamParts) : Type 0 where
   pub handed : TakesNext before.agenda next after.agenda
   pub rest : after ≡ with_agenda before after.agenda
@@ -160,7 +161,7 @@ pub record Takes (before : TeamParts) (c : TeamWork) (answer : Result (Unit {0})
   pub ready : PutsReady before.agenda c answer after.agenda
   pub rest : after ≡ with_agenda before after.agenda
 
--- A hand takes a context that is ready, or a member, by itself.
+-- A hand takes a ready context, or a member, by itself.
 pub record TakesReady (before : TeamParts) (answer : Option TeamWork)
     (after : TeamParts) : Type 0 where
   pub given : GivesReady before.agenda answer after.agenda
@@ -173,8 +174,8 @@ TakesMember before (Some job) after =
     × (after ≡ with_agenda before after.agenda)
 TakesMember before None after = GivesUnbegun before.agenda None after.agenda × (after ≡ before)
 
--- The type has this invariant: the store has what the phases that have opened wrote; while a place is free, the places are
--- those of the next phase's jobs; and the members are handed out in order.
+-- The team's invariant: the store has the writes of the opened phases; while a slot is free, the slots are those of the next
+-- phase's jobs; and the members are handed out in order.
 pub record IsKept (team : TeamParts) (store : Trace) : Type 0 where
   pub fit : IsFitNest (nested_of team.nested)
   pub reached : HasReached (nested_of team.nested) team.opened store
@@ -182,7 +183,7 @@ pub record IsKept (team : TeamParts) (store : Trace) : Type 0 where
       → AreJobsIn team.nested team.opened team.barrier.jobs
   pub in_order : AreInOrder team
 
--- A phase is to begin: no piece has come, and no member has begun.
+-- A phase that is to begin: no piece has come, and no member has begun.
 pub record IsPhase (nested : NestedParts) (phase : ℕ) (next : Phase) : Type 0 where
   pub jobs : AreJobsIn nested phase next.barrier.jobs
   pub barrier : next.barrier ≡ open_book next.barrier.jobs

@@ -1,17 +1,17 @@
-//! What a hand finds under the lock of its team.
+//! The results of a hand's looks under the lock of its team.
 
-/// What the last look of a hand under the lock found.
+/// The result of the last look of a hand under the lock.
 #[derive(Clone, Copy, Debug, PartialEq, Eq, Drop)]
 pub enum Found {
     /// The hand hasn't looked.
     Unlooked,
     /// The team was handed out.
     HandedOut,
-    /// No context was ready. The wishes weren't looked at.
+    /// No context was ready. The look didn't check the wishes.
     NoneReady,
-    /// Another phase runs than the one whose members were claimed.
+    /// The current phase isn't the one whose members were claimed.
     OtherPhase,
-    /// Work to take up.
+    /// Work to begin or to go on with.
     Work,
     /// No work, and a child's wish.
     Wish,

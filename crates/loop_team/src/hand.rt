@@ -17,26 +17,26 @@ use std::alloc::AllocError;
 use std::marker::PhantomData;
 use std::sync::Wait;
 
-/// How many times a hart that finds nothing snoozes inside one call of `enter`, at most, before it returns Nothing.
+/// The greatest number of snoozes of a hart that finds nothing inside one call of `enter`, before it returns `Nothing`.
 ///
 /// Why: a guest that leaves between two phases doesn't come back, since the wish that it met is spent.
 const SNOOZES: u32 = 100;
 
-/// One hart's hand on a shared team. It claims the members of the phase that runs with the hart's seat, beside the lock. Its
-/// other calls do what those of `Team` do, under the lock, for which each may wait but `site` and the callbacks that change
-/// no list. Once the team is handed out, `enter` returns Nothing and `unblock` gives its context back.
+/// One hart's hand on a shared team. It claims the members of the current phase with the hart's seat, without the lock. Its
+/// other calls do what those of `Team` do, under the lock. Each may block, except `site` and the callbacks that change no list.
+/// Once the team is handed out, `enter` returns `Nothing` and `unblock` returns its context.
 ///
-/// Where `enter` finds nothing and a phase is to come, it snoozes, a bounded number of times, until the team changes, and looks
+/// If `enter` finds nothing and another phase follows, it snoozes, a bounded number of times, until the team changes, and looks
 /// again.
 pub struct TeamHand<'a, 'r, 'p, R> {
     pub seat: &'r mut ClaimSeat,
     pub shared: &'a SharedTeam<'p>,
     pub claims: &'a ClaimTable,
-    /// The row of the first phase.
+    /// The claim counter of the first phase.
     pub row: u16,
-    /// How often it looked under the lock for what there is to do.
+    /// The number of looks under the lock.
     pub looks: u64,
-    /// What the last of these looks found.
+    /// The result of the last of these looks.
     pub found: Found,
     pub of: PhantomData<R>,
     pub ghost seated: { IsOf claims.now (kin seat.now) },
@@ -60,7 +60,8 @@ impl<'a, 'r, 'p, R> Drop for TeamHand<'a, 'r, 'p, R> {
 }
 
 impl<'a, 'r, 'p, R> TeamHand<'a, 'r, 'p, R> {
-    /// A hand on the team, with the hart's seat of the table whose row is that of the team's first phase. It doesn't wait.
+    /// A hand on the team, with the hart's seat of the claim table. `row` is the counter of the team's first phase. Does not
+    /// block.
     pub fn new(
         shared: &'a SharedTeam<'p>,
         claims: &'a ClaimTable,
@@ -92,19 +93,22 @@ impl<'a, 'r, 'p, R: Wait + 'a> TeamHand<'a, 'r, 'p, R> {
     ghost use Rattle.loop_team.specs.Looks.{TellsReady, TellsRest};
     ghost use Rattle.loop_team.specs.Teams.{IsOver, phases_in};
 
-    /// What `arrive` of the team does. Where the team was handed out, each piece is a Stranger.
+    /// What `arrive` of the team does. If the team was handed out, each piece is a `Stranger`.
     ///
     /// # Errors
     ///
     /// `AllocError` if an allocation fails.
+    ///
+    /// # Memory
+    ///
+    /// It allocates the jobs and the barrier of the next phase.
     pub fn arrive(&self, rt: &R, piece: Piece<'p>) -> Result<Arrival<'p>, AllocError>
         ensures { IfOk result (λ arrival. GivesBack piece.entry arrival) }
     {
         self.shared.arrive(rt, piece)
     }
 
-    /// What `fail` of the team does. Where the place isn't there in the phase that runs, or its piece has come, it does
-    /// nothing.
+    /// What `fail` of the team does. It does nothing if the slot doesn't exist in the current phase, or its piece has come.
     pub fn fail(&self, rt: &R, place: u8) {
         let shared = self.shared;
         if let Some(team) = shared.lock.lock(rt).as_mut() {
@@ -114,8 +118,8 @@ impl<'a, 'r, 'p, R: Wait + 'a> TeamHand<'a, 'r, 'p, R> {
         }
     }
 
-    /// Whether the last phase of the team has opened or the team is failed. One that was handed out is over. The lock isn't
-    /// taken as long as it isn't shown beside it.
+    /// Whether the last phase of the team has opened or the team is failed. A team that was handed out counts as done. It takes
+    /// the lock only if the flag beside the lock shows a done team.
     pub fn is_over(&self, rt: &R) -> bool {
         let shared = self.shared;
         if !shared.shows_over() {
@@ -127,7 +131,7 @@ impl<'a, 'r, 'p, R: Wait + 'a> TeamHand<'a, 'r, 'p, R> {
         }
     }
 
-    /// Whether the team is failed. It is false where the team was handed out.
+    /// Whether the team is failed; false if the team was handed out.
     pub fn has_failed(&self, rt: &R) -> bool {
         let shared = self.shared;
         match shared.lock.lock(rt).as_ref() {
@@ -136,7 +140,7 @@ impl<'a, 'r, 'p, R: Wait + 'a> TeamHand<'a, 'r, 'p, R> {
         }
     }
 
-    /// Hands the team out, once. None exactly where it was handed out before, or isn't over. A None changes nothing.
+    /// Hands the team out, once. `None` exactly if it was handed out before, or isn't done; nothing changes then.
     pub fn take_out(&self, rt: &R) -> Option<Team<'p>>
         ensures { IfSome result (λ team. IsOver team) }
     {
@@ -150,7 +154,7 @@ impl<'a, 'r, 'p, R: Wait + 'a> TeamHand<'a, 'r, 'p, R> {
         kept.take()
     }
 
-    // Looks for what there is to do, once. None where the hand has to look again.
+    // Looks for the hart's next action, once. `None` if the hand has to look again.
     fn turn(&mut self, rt: &R, snoozes: &mut u32) -> Option<Next<TeamWork<'p>>>
         ensures { Turns self.old result self.new }
     {
@@ -176,7 +180,7 @@ impl<'a, 'r, 'p, R: Wait + 'a> TeamHand<'a, 'r, 'p, R> {
         self.claims.claim(&mut *self.seat, row)
     }
 
-    // Looks for a ready context under the lock. None where the hand has to look for more.
+    // Looks for a ready context under the lock. `None` if the hand has to look for more.
     fn look_ready(&mut self, rt: &R) -> Option<Next<TeamWork<'p>>>
         ensures looked { HasLooked self.old self.new }
         ensures tells { TellsReady self.new.found result }
@@ -186,8 +190,8 @@ impl<'a, 'r, 'p, R: Wait + 'a> TeamHand<'a, 'r, 'p, R> {
         next
     }
 
-    // Looks under the lock for what there is to do where no member of the phase is left. Where it finds nothing, the hart stays
-    // for a change of the team. None where the hand has to look again.
+    // Looks under the lock for the hart's next action, when no member of the phase is left. If it finds nothing, the hart stays
+    // for a change of the team. `None` if the hand has to look again.
     fn look_rest(
         &mut self,
         rt: &R,
@@ -209,7 +213,7 @@ impl<'a, 'r, 'p, R: Wait + 'a> TeamHand<'a, 'r, 'p, R> {
         next
     }
 
-    // Notes what a look under the lock found.
+    // Notes the result of a look under the lock.
     fn note(&mut self, found: Found)
         ensures looked { HasLooked self.old self.new }
         ensures found { self.new.found ≡ found }
@@ -230,7 +234,8 @@ impl<'a, 'r, 'p, R: Wait + 'a> Scheduler for TeamHand<'a, 'r, 'p, R> {
 
     ghost site_of = { λ hand. hand.shared.now.site };
 
-    // Nothing is known of what the lock holds, so any result may come that has its cause in what the call found.
+    // Why: contracts know only the type of the lock-protected team, so any result is possible that has its cause in what the
+    // call found.
     ghost answers = { λ before next after. Enters before next after };
 
     ghost hears = { λ before _ after. after ≡ before };

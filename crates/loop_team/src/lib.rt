@@ -1,9 +1,9 @@
 //! The loop team: the scheduler of one `team`.
 //!
-//! A `Team` is for one hart. Harts share a `SharedTeam`, each by hands of its own, and claim its members by a `ClaimTable`.
+//! A `Team` is for one hart. Harts share a `SharedTeam`, each by a hand of its own, and claim its members by a `ClaimTable`.
 //!
-//! Members of one phase run at once, and the team opens the next phase when all have arrived. Begin with `Team` in `team.rt`,
-//! then `TeamHand` in `hand.rt`; the tests of `team_tests` run teams by one hart and by threads.
+//! The members of one phase run at once, and the team opens the next phase when all have arrived. Begin with `Team` in
+//! `team.rt`, then `TeamHand` in `hand.rt`; the tests of `team_tests` run teams with one hart and with threads.
 #![tactic(auto)]
 
 mod found;

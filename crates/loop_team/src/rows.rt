@@ -1,11 +1,12 @@
-//! The rows by which the members of a team are claimed.
+//! The claim counters of a team.
 ghost use Rattle.std.specs.Prelude.{◌↔◌, IsTrue};
 ghost use Rattle.loop_team.specs.Rows.{RowsFit};
 
 use claim_words::ClaimTable;
 use step_eval::Nested;
 
-/// Whether the table has, from this row on, a row for each phase of the construct, of as many members as the construct has.
+/// Whether the table has, from this counter on, a counter for each phase of the construct, with as many members as the
+/// construct has.
 pub fn rows_fit(claims: &ClaimTable, row: u16, nested: &Nested) -> bool
     ensures { IsTrue result ↔ RowsFit claims.now.counts.items row nested.now }
 {

@@ -19,26 +19,26 @@ use std::sync::atomic::{AtomicBool, AtomicU64, Ordering};
 use std::sync::{Mutex, Wait};
 use step_eval::Nested;
 
-/// A team that harts share until it is handed out. Beside the lock stand its construct, which never changes, and the members
-/// of the phase that runs, each behind a lock of its own.
+/// A team that harts share until it is handed out. Beside the lock are its construct, which never changes, and the members of
+/// the current phase, each under a lock of its own.
 #[derive(Drop)]
 pub struct SharedTeam<'p> {
     pub(crate) lock: Mutex<Option<Team<'p>>>,
     pub(crate) nested: Nested<'p>,
-    // The member of each place, until it begins.
+    // The member at each index, until it begins.
     slots: Vec<Mutex<Option<Job<'p>>>>,
-    // What came of the phase that runs, where the team has many members. Who has one of these locks takes no other.
+    // The pieces of the current phase, if the team has many members. A holder of one of these locks takes no other.
     stripes: Vec<Mutex<Stripe<'p>>>,
-    // How many pieces of that phase are still to come. It is set under the team's lock, before they can come.
+    // The number of pieces of that phase that are still to come. It is set under the team's lock, before they can come.
     left: AtomicU64,
-    // The phase that runs, or that ran last; the number of phases once the team is handed out. It changes under the lock.
+    // The current phase, or the last one; the number of phases once the team is handed out. Changed only under the lock.
     phase: AtomicU64,
-    // How many contexts are ready. It changes under the lock.
+    // The number of ready contexts. Changed only under the lock.
     ready: AtomicU64,
-    // Whether the team is over. It changes under the lock.
+    // Whether the team is done. Changed only under the lock.
     over: AtomicBool,
-    // How often what the team has for a hart changed: a phase began, a context became ready, a child asked for harts. It changes
-    // under the lock, after what it counts.
+    // The number of changes of what the team has for a hart: a phase began, a context became ready, or a child requested harts.
+    // Changed only under the lock, after the change that it counts.
     changes: AtomicU64,
 }
 
@@ -56,11 +56,15 @@ impl<'p> Model for SharedTeam<'p> {
 }
 
 impl<'p> SharedTeam<'p> {
-    /// Puts the team behind a lock, and a copy of its construct and the members that haven't begun beside it.
+    /// Puts the team under a lock, and a copy of its construct and the members that haven't begun beside it.
     ///
     /// # Errors
     ///
     /// `AllocError` if an allocation fails.
+    ///
+    /// # Memory
+    ///
+    /// It allocates a slot for each member, and the stripes of a team with many members.
     pub fn new(alloc: Global, mut team: Team<'p>) -> Result<SharedTeam<'p>, AllocError>
         ensures { IfOk result (λ shared. shared ≡ team.entry.nested) }
     {
@@ -85,14 +89,14 @@ impl<'p> SharedTeam<'p> {
         })
     }
 
-    /// The copy of the team's construct, with the variables and the store before it. It doesn't wait.
+    /// The copy of the team's construct, with the variables and the store before it. Does not block.
     pub fn nested(&self) -> &Nested<'p>
         ensures { result.now ≡ self.now }
     {
         &self.nested
     }
 
-    // The phase that runs, or that ran last; none once the team is handed out.
+    // The current phase, or the last one; `None` once the team is handed out.
     pub(crate) fn phase(&self) -> Option<u8>
         ensures { IfSome result (λ phase. phase < phases_in self.now) }
     {
@@ -109,7 +113,7 @@ impl<'p> SharedTeam<'p> {
         self.ready.load(Ordering::SeqCst) > 0
     }
 
-    // Takes a piece to the team. Where it is the last one of its phase, the next one is laid out.
+    // Takes a piece to the team. If it is the last one of its phase, the next phase is laid out.
     pub(crate) fn arrive<R: Wait>(
         &self,
         rt: &R,
@@ -149,7 +153,7 @@ impl<'p> SharedTeam<'p> {
         Ok(arrival)
     }
 
-    // Brings a piece to its stripe. It is given back where it isn't that of a place that waits for it.
+    // Takes a piece to its stripe. Returns it if no slot waits for it.
     fn bring<R: Wait>(&self, rt: &R, piece: Piece<'p>) -> Result<(), Piece<'p>>
         ensures { IfErr result (λ back. back ≡ piece.entry) }
     {
@@ -162,7 +166,7 @@ impl<'p> SharedTeam<'p> {
         }
     }
 
-    // Whether a stripe waits for the piece of a place, or the team has none. The caller has the team's lock.
+    // Whether a stripe waits for the piece at this index, or the team has no stripes. The caller holds the team's lock.
     pub(crate) fn is_open<R: Wait>(&self, rt: &R, place: u8) -> bool {
         match self.stripes.get(usize::from(place % STRIPES)) {
             Some(stripe) => stripe.lock(rt).is_open(place / STRIPES),
@@ -170,7 +174,7 @@ impl<'p> SharedTeam<'p> {
         }
     }
 
-    // Hands all pieces of a phase on to the team, now that each has come, and lays out the next phase. What this one wrote.
+    // Passes all pieces of a phase to the team, when each has come, and lays out the next phase. Returns the phase's writes.
     fn open_phase<R: Wait>(&self, rt: &R) -> Result<Option<Overlay>, AllocError> {
         let mut kept = self.lock.lock(rt);
         let Some(team) = kept.as_mut() else {
@@ -185,7 +189,7 @@ impl<'p> SharedTeam<'p> {
         Ok(written)
     }
 
-    // Lays out the phase that begins, if one does, where another has opened.
+    // Lays out the next phase, if there is one, after a phase has opened.
     fn go_on<R: Wait>(&self, rt: &R, team: &mut Team<'p>) -> Result<(), AllocError> {
         if team.is_over() {
             return Ok(());
@@ -193,7 +197,7 @@ impl<'p> SharedTeam<'p> {
         self.lay_out(rt, team)
     }
 
-    // Hands all that has come on to the team, which is that of the lock. What the phase wrote, where it opens.
+    // Passes all pieces that have come to the lock-protected team. Returns the phase's writes, if it opens.
     fn hand_on<R: Wait>(&self, rt: &R, team: &mut Team<'p>) -> Result<Option<Overlay>, AllocError> {
         for stripe in &self.stripes {
             let written = hand_on(team, &mut *stripe.lock(rt))?;
@@ -204,7 +208,7 @@ impl<'p> SharedTeam<'p> {
         Ok(None)
     }
 
-    // Lays out the members of the phase that begins, and then shows its number. If an allocation fails, the team is failed.
+    // Lays out the members of the next phase, and then shows its number. If an allocation fails, the team is failed.
     fn lay_out<R: Wait>(&self, rt: &R, team: &mut Team<'p>) -> Result<(), AllocError> {
         for slot in &self.slots {
             *slot.lock(rt) = team.take_member();
@@ -221,7 +225,7 @@ impl<'p> SharedTeam<'p> {
         Ok(())
     }
 
-    // Has all stripes wait for the pieces of the phase that begins.
+    // Opens all stripes for the pieces of the next phase.
     fn begin_stripes<R: Wait>(&self, rt: &R, team: &Team<'p>) -> Result<(), AllocError> {
         for stripe in &self.stripes {
             stripe.lock(rt).begin(team)?;
@@ -229,7 +233,7 @@ impl<'p> SharedTeam<'p> {
         Ok(())
     }
 
-    // Fails the team, which is that of the lock, by a place that is open there.
+    // Fails the lock-protected team, by an index whose slot is open there.
     pub(crate) fn fail(&self, team: &mut Team<'p>, place: u8) {
         if team.is_open(place) {
             team.fail(place);
@@ -237,7 +241,7 @@ impl<'p> SharedTeam<'p> {
         }
     }
 
-    // Puts a context last on the ready list of the team, which is that of the lock.
+    // Puts a context last on the ready list of the lock-protected team.
     pub(crate) fn unblock(&self, team: &mut Team<'p>, c: TeamWork<'p>) -> Result<(), TeamWork<'p>>
         ensures { IfErr result (λ back. back ≡ c.entry) }
     {
@@ -247,18 +251,18 @@ impl<'p> SharedTeam<'p> {
         Ok(())
     }
 
-    // How often what the team has for a hart changed.
+    // The number of changes of what the team has for a hart.
     pub(crate) fn changes(&self) -> u64 {
         self.changes.load(Ordering::SeqCst)
     }
 
-    // Counts a change. The caller has the team's lock.
+    // Counts a change. The caller holds the team's lock.
     pub(crate) fn count_change(&self) {
         let _ = self.changes.fetch_add(1, Ordering::SeqCst);
     }
 
-    // Snoozes in this phase, at most so many times, until the number of changes isn't `seen`, and returns how many times are left.
-    // None where they run out, where the team is over, and at once in the last phase, behind which none comes.
+    // Snoozes in this phase, at most `snoozes` times, until the number of changes isn't `seen`, and returns the number of
+    // snoozes left. `None` if they run out, if the team is done, and immediately in the last phase.
     pub(crate) fn stay(&self, phase: u8, seen: u64, snoozes: u32) -> Option<u32> {
         if u64::from(phase) + 1 >= u64::from(self.nested.phases()) {
             return None;
@@ -276,18 +280,18 @@ impl<'p> SharedTeam<'p> {
         None
     }
 
-    // Shows how many contexts of the team, which is that of the lock, are ready.
+    // Shows the number of ready contexts of the lock-protected team.
     fn show_ready(&self, team: &Team) {
         let ready = team.ready_count() as u64;
         self.ready.store(ready, Ordering::SeqCst);
     }
 
-    // Whether the team was over when its lock was held last.
+    // Whether the team was done at the end of the last call under the lock.
     pub(crate) fn shows_over(&self) -> bool {
         self.over.load(Ordering::SeqCst)
     }
 
-    // Shows whether the team, which is that of the lock, is over.
+    // Shows whether the lock-protected team is done.
     fn show_over(&self, team: &Team) {
         self.over.store(team.is_over(), Ordering::SeqCst);
     }
@@ -309,7 +313,7 @@ impl<'p> SharedTeam<'p> {
         }
     }
 
-    // Looks under the lock for what there is to do in this phase, of which no member is left.
+    // Looks under the lock for the hart's next action in this phase, of which no member is left.
     pub(crate) fn find_rest<R: Wait>(
         &self,
         rt: &R,
@@ -334,7 +338,7 @@ impl<'p> SharedTeam<'p> {
         self.phase.store(phases, Ordering::SeqCst);
     }
 
-    // Takes the member of a place that is to begin this phase. None where another one stands there, which it leaves, or none.
+    // Takes the member at an index, to begin this phase. `None` if there is none, or it is another phase's, which stays.
     pub(crate) fn take_member<R: Wait>(&self, rt: &R, phase: u8, place: u8) -> Option<Job<'p>>
         ensures { IfSome result (λ job. (job.site ≡ self.now.site) × (job.phase ≡ phase)
             × (job.place ≡ place)) }
@@ -348,13 +352,13 @@ impl<'p> SharedTeam<'p> {
     }
 }
 
-// The phase that runs where so many have opened, or that ran last.
+// The current phase if so many have opened, or the last one.
 fn running(nested: &Nested, opened: u8) -> u8 {
     opened.min(nested.phases() - 1)
 }
 
-// The stripes of a team with so many members. Few members have none: what lies in a stripe is compared once more when all
-// have come, and that would be as dear as what the stripes spare.
+// The stripes of a team with so many members. Why a team of few members has none: each piece of a stripe is compared once more
+// when all have come, and that costs as much as the stripes save.
 fn stripes_of<'p>(
     alloc: Global,
     team: &Team<'p>,
@@ -368,7 +372,7 @@ fn stripes_of<'p>(
     Ok(stripes)
 }
 
-// How many of so many places wait for their pieces.
+// The number of slots, of so many, that wait for their pieces.
 fn count_open(team: &Team, members: u8) -> u64 {
     let mut left = 0u64;
     for place in 0..members {
@@ -377,7 +381,7 @@ fn count_open(team: &Team, members: u8) -> u64 {
     left
 }
 
-// Takes the job if it is of this place.
+// Takes the job if it is at this index.
 fn taken_at<'p>(kept: &mut Option<Job<'p>>, place: u8) -> Option<Job<'p>>
     ensures { IfSome result (λ job. job.place ≡ place) }
 {
@@ -388,7 +392,7 @@ fn taken_at<'p>(kept: &mut Option<Job<'p>>, place: u8) -> Option<Job<'p>>
     }
 }
 
-// Takes the job if it is of this site, phase and place.
+// Takes the job if it is of this site, phase and index.
 fn taken_of<'p>(kept: &mut Option<Job<'p>>, site: u16, phase: u8, place: u8) -> Option<Job<'p>>
     ensures { IfSome result (λ job. (job.site ≡ site) × (job.phase ≡ phase)
         × (job.place ≡ place)) }
@@ -400,7 +404,7 @@ fn taken_of<'p>(kept: &mut Option<Job<'p>>, site: u16, phase: u8, place: u8) -> 
     }
 }
 
-// The members that haven't begun, each in the slot of its place.
+// The members that haven't begun, each in its slot.
 fn members_of<'p>(
     alloc: Global,
     team: &mut Team<'p>,
@@ -417,7 +421,7 @@ fn members_of<'p>(
     Ok(slots)
 }
 
-// What was found, where a team that isn't handed out gives this.
+// The result of a look at a team that isn't handed out and returns this action.
 fn found_by(next: &Next<TeamWork>) -> Found
     ensures { TellsRest result (Some next.now) }
 {

@@ -1,4 +1,4 @@
-//! What comes of a phase, a few places behind one lock.
+//! The pieces of a phase in stripes: a few slots under one lock.
 ghost use Rattle.std.specs.Prelude.{◌≡◌, ◌↔◌, ◌<◌, IsTrue, IfOk, OnOk, MatchOption, []};
 ghost use Rattle.lithe_barrier.specs.declared.state.Arrival.TheVariants.{Opened};
 ghost use Rattle.loop_team.specs.Stripes.{IsVacant, HasCome, IsOf, IsOpen, HasPiece, WaitsFor, Receives, Gives, IsSeatOf, AreSeatsOf, AreAllSeatsOf, IsNotOpened, StartsFrom, IsRid, HasNone, IsStillIn};
@@ -12,20 +12,20 @@ use std::alloc::{AllocError, Global};
 use std::marker::Model;
 use std::mem;
 
-/// How many stripes a team has that has any. The place of a member, divided by it, leaves the number of its stripe.
+/// The number of stripes of a team that has any. A member's index modulo this number is the number of its stripe.
 pub(crate) const STRIPES: u8 = 8;
 
-// How many places a stripe has at most.
+// The greatest number of slots of a stripe.
 const ROWS: u8 = 8;
 
-// What a stripe knows of one of its places.
+// The state of a slot in a stripe.
 #[derive(Drop)]
 pub(crate) enum Seat<'p> {
-    // Its piece is still to come, that of this job.
+    // The slot waits for the piece of this job.
     Open(Job<'p>),
     // Its piece has come.
     Came(Piece<'p>),
-    // No piece of it is awaited.
+    // The slot waits for no piece.
     Gone,
 }
 
@@ -42,7 +42,7 @@ impl<'p> Seat<'p> {
         matches!(self, Seat::Came(_))
     }
 
-    // Whether its piece is still to come, that of this job.
+    // Whether the slot waits for the piece of this job.
     fn is_of(&self, job: &Job) -> bool
         ensures { IsTrue result ↔ IsOf self.now job.now }
     {
@@ -53,7 +53,7 @@ impl<'p> Seat<'p> {
     }
 }
 
-/// Some of the places of the phase that runs: in row `n` the place `n * STRIPES` above the stripe's number.
+/// Some slots of the current phase: row `n` has the slot at `n * STRIPES` plus the stripe's number.
 ///
 /// Contracts see its number, the store from which all its jobs start, and its rows.
 #[derive(Drop)]
@@ -80,7 +80,7 @@ impl<'p> Model for Stripe<'p> {
 }
 
 impl<'p> Stripe<'p> {
-    /// The stripe of this number, for the phase that runs. It makes all room.
+    /// The stripe of this number, for the current phase. It allocates all room.
     pub(crate) fn new(alloc: Global, team: &Team<'p>, number: u8) -> Result<Stripe<'p>, AllocError>
         requires { number < STRIPES }
         ensures number { IfOk result (λ stripe. stripe.number ≡ number) }
@@ -96,7 +96,7 @@ impl<'p> Stripe<'p> {
         Ok(stripe)
     }
 
-    /// Waits for the pieces of the phase that runs.
+    /// Waits for the pieces of the current phase.
     pub(crate) fn begin(&mut self, team: &Team<'p>) -> Result<(), AllocError>
         ensures number { self.new.number ≡ self.old.number }
         ensures seats { AreSeatsOf team.now self.old.number self.new.seats }
@@ -107,7 +107,7 @@ impl<'p> Stripe<'p> {
         fill(&mut self.seats, team, self.number)
     }
 
-    /// Whether the piece of a row is still to come.
+    /// Whether a row waits for its piece.
     pub(crate) fn is_open(&self, row: u8) -> bool
         ensures { IsTrue result ↔ IsOpen self.now row }
     {
@@ -117,7 +117,7 @@ impl<'p> Stripe<'p> {
         }
     }
 
-    /// Takes the piece of a row. It is given back where the row doesn't wait for it.
+    /// Takes the piece of a row. Returns the piece if the row doesn't wait for it.
     pub(crate) fn arrive(&mut self, row: u8, piece: Piece<'p>) -> Result<(), Piece<'p>>
         ensures { Receives self.old row piece.entry result self.new }
     {
@@ -138,7 +138,7 @@ impl<'p> Stripe<'p> {
         }
     }
 
-    /// Hands the piece of a row on, if it has come.
+    /// Returns the piece of a row, if it has come.
     pub(crate) fn take(&mut self, row: u8) -> Option<Piece<'p>>
         ensures { Gives self.old row result self.new }
     {
@@ -161,7 +161,7 @@ impl<'p> Stripe<'p> {
         }
     }
 
-    // Whether its jobs start from this store.
+    // Whether the stripe's jobs start from this store.
     fn starts_from(&self, store: &Store) -> bool
         ensures { IsTrue result ↔ (self.now.start ≡ store.now) }
     {
@@ -169,7 +169,7 @@ impl<'p> Stripe<'p> {
     }
 }
 
-// Appends what a stripe of this number waits for.
+// Appends the slots of a stripe of this number.
 fn fill<'p>(seats: &mut Vec<Seat<'p>>, team: &Team<'p>, number: u8) -> Result<(), AllocError>
     requires none { seats.old.items ≡ [] }
     requires few { number < STRIPES }
@@ -186,7 +186,7 @@ fn fill<'p>(seats: &mut Vec<Seat<'p>>, team: &Team<'p>, number: u8) -> Result<()
     Ok(())
 }
 
-// What a place waits for.
+// The slot at an index of the team.
 fn seat_of<'p>(team: &Team<'p>, place: u8) -> Result<Seat<'p>, AllocError>
     ensures { IfOk result (λ s. IsSeatOf team.now place s) }
 {
@@ -196,9 +196,9 @@ fn seat_of<'p>(team: &Team<'p>, place: u8) -> Result<Seat<'p>, AllocError>
     }
 }
 
-/// Hands all that came to a stripe on to its team. What the phase wrote, where that opens.
+/// Passes all pieces of a stripe to its team. Returns the phase's writes, if it opens.
 ///
-/// All jobs of a stripe start from its store, so one store a stripe is compared, and of each job the rest.
+/// All jobs of a stripe start from its store, so it compares one store for the stripe, and the rest of each job.
 pub(crate) fn hand_on<'p>(
     team: &mut Team<'p>,
     stripe: &mut Stripe<'p>,
@@ -216,7 +216,7 @@ pub(crate) fn hand_on<'p>(
     Ok(None)
 }
 
-// Hands the piece of a row on, if it has come. Where it is known that the team's phase starts from the stripe's store, stores
+// Passes the piece of a row to the team, if it has come. If the team's phase is known to start from the stripe's store, stores
 // aren't compared.
 fn hand_row<'p>(
     team: &mut Team<'p>,
@@ -235,7 +235,7 @@ fn hand_row<'p>(
     Ok(opened_by(team.take_in(piece, known)?))
 }
 
-// What a phase wrote, where a piece opened it.
+// The writes of a phase, if a piece opened it.
 fn opened_by(arrival: Arrival) -> Option<Overlay>
     ensures { MatchOption result (IsNotOpened arrival.entry)
         (λ written. arrival.entry ≡ Opened written) }

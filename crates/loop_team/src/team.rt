@@ -1,13 +1,12 @@
 //! Teams.
 ghost use Rattle.std.specs.Prelude.{◌≡◌, ◌↔◌, ◌+◌, ◌<◌, IsTrue, IfOk, IsErr, MatchOption, OnOk, OnErr, Some, true, length, map};
 ghost use Rattle.sched_api.specs.declared.hearing.Told.{Told};
-ghost use Rattle.sched_api.specs.Calls.{registered_told, unregistered_told, requested_told, yielded_told, blocked_told};
-ghost use Rattle.sched_api.specs.Wishes.{with_wishes, without_child};
+ghost use Rattle.sched_api.specs.Wishes.{with_wishes};
 ghost use Rattle.array_tree.specs.Trees.{statement_of};
 ghost use Rattle.join_book.specs.Books.{Open, IsMarked, IsPlaceOf, IsFull};
 ghost use Rattle.step_eval.specs.declared.shape.Kind.TheVariants as kind;
 ghost use Rattle.step_eval.specs.Inside.Computed.{HasReached};
-ghost use Rattle.step_eval.specs.Nests.{nested_of, phases_of, nested_writes, IsFitNest};
+ghost use Rattle.step_eval.specs.Nests.{nested_of, nested_writes, IsFitNest};
 ghost use Rattle.step_eval.specs.Shapes.{kind_of};
 ghost use Rattle.loop_team.specs.declared.work.TeamWork.TheVariants.{Begin};
 ghost use Rattle.array_jobs.specs.Jobs.{job_of};
@@ -26,7 +25,7 @@ use std::mem;
 use step_eval::{Nested, jobs_of};
 use work_agenda::{Agenda, MOST_WISHES};
 
-/// What a callback of a team gives.
+/// The receipt of a callback of a team.
 #[derive(Drop)]
 pub struct TeamHeard {
     told: Told,
@@ -48,7 +47,7 @@ impl Hearing for TeamHeard {
     }
 }
 
-// Only callbacks call it.
+// Only callbacks call this function.
 pub(crate) fn heard(call: Call, child: u16, count: u8) -> TeamHeard
     ensures { result ≡ record { call = call; child = child; count = count } }
 {
@@ -57,8 +56,8 @@ pub(crate) fn heard(call: Call, child: u16, count: u8) -> TeamHeard
     }
 }
 
-/// The scheduler of one `team`. It has the members that haven't begun the phase that runs, the contexts that are ready to
-/// go on, the wishes of its children, the barrier of the phase, and the store that the phases before it left.
+/// The scheduler of one `team`. It has the members that haven't begun the current phase, the contexts that are ready to go on,
+/// and the wishes of its children. It also has the barrier of the phase, and the store that the earlier phases left.
 #[derive(Drop)]
 pub struct Team<'p> {
     alloc: Global,
@@ -66,7 +65,8 @@ pub struct Team<'p> {
     agenda: Agenda<TeamWork<'p>>,
     opened: u8,
     barrier: BarrierState<'p>,
-    // Its cells are the start of the next phase, and its marks the result of `take_all`: opening a phase merges that phase alone.
+    // Its cells are the start of the next phase, and its marks the result of `take_all`. Why: opening a phase then merges only
+    // that phase.
     store: MarkedStore,
     failed: bool,
 }
@@ -96,9 +96,16 @@ impl<'p> Model for Team<'p> {
 }
 
 impl<'p> Team<'p> {
-    /// A team whose first phase is there to be begun. The construct must be a `team`.
+    /// A team whose first phase can be begun. The construct must be a `team`.
     ///
-    /// It makes all room, for ready contexts one a member. Beside it only `arrive` and `take_all` allocate.
+    /// # Errors
+    ///
+    /// `AllocError` if an allocation fails.
+    ///
+    /// # Memory
+    ///
+    /// It allocates all room, with room for one ready context for each member. Of the other calls only `arrive`, `keep` and
+    /// `take_all` allocate.
     pub fn new(alloc: Global, nested: Nested<'p>) -> Result<Team<'p>, AllocError>
         requires { kind_of (statement_of nested.construct) ≡ Some kind.Team }
         ensures { IfOk result (λ team. IsNew nested.entry team) }
@@ -107,6 +114,14 @@ impl<'p> Team<'p> {
     }
 
     /// The team that `new` makes, with room for `wishes` wishes. A wish beyond the room is dropped.
+    ///
+    /// # Errors
+    ///
+    /// `AllocError` if an allocation fails.
+    ///
+    /// # Memory
+    ///
+    /// It allocates as `new` does.
     pub fn with_wishes(
         alloc: Global,
         nested: Nested<'p>,
@@ -139,14 +154,14 @@ impl<'p> Team<'p> {
         &self.nested
     }
 
-    // How many phases have opened.
+    // The number of phases that have opened.
     pub(crate) fn opened(&self) -> u8
         ensures { result ≡ self.now.opened }
     {
         self.opened
     }
 
-    // The jobs of the phase that runs, or that ran last.
+    // The jobs of the current phase, or of the last one.
     pub(crate) fn jobs(&self) -> &[Job<'p>]
         ensures { result.now ≡ self.now.barrier.jobs }
     {
@@ -162,7 +177,7 @@ impl<'p> Team<'p> {
         &first.store
     }
 
-    // The job of a place whose piece is still to come.
+    // The job at an index whose piece is awaited.
     pub(crate) fn open_job(&self, place: u8) -> Option<&Job<'p>>
         ensures { MatchOption result (IsNotAwaited self.now place)
             (λ job. IsAwaited self.now place job.now) }
@@ -174,14 +189,14 @@ impl<'p> Team<'p> {
         }
     }
 
-    // How many contexts are ready to go on.
+    // The number of ready contexts.
     pub(crate) fn ready_count(&self) -> usize
         ensures { result ≡ length self.now.agenda.ready }
     {
         self.agenda.ready_count()
     }
 
-    // Takes the oldest context that is ready to go on, if there is one.
+    // Takes the oldest ready context, if there is one.
     pub(crate) fn take_ready(&mut self) -> Option<TeamWork<'p>>
         ensures { TakesReady self.old result self.new }
     {
@@ -199,10 +214,16 @@ impl<'p> Team<'p> {
         }
     }
 
-    /// Takes a piece to the barrier of the phase that runs. Where it opens, what the phase wrote is put on the store, and
-    /// the members of the next phase are there to be begun.
+    /// Takes a piece to the barrier of the current phase. If the barrier opens, the team adds the phase's writes to its store,
+    /// and the members of the next phase can be begun.
     ///
-    /// If an allocation for the next phase fails, the team is failed: the phase that opened was its last one.
+    /// # Errors
+    ///
+    /// `AllocError` if an allocation for the next phase fails. The team is then failed: the phase that opened was its last one.
+    ///
+    /// # Memory
+    ///
+    /// It allocates the jobs and the barrier of the next phase.
     pub fn arrive(&mut self, piece: Piece<'p>) -> Result<Arrival<'p>, AllocError>
         ensures { MovesOn self.old piece.entry result self.new }
     {
@@ -216,11 +237,15 @@ impl<'p> Team<'p> {
         }
     }
 
-    /// What `arrive` does with a piece whose place is known: that of its job, which must be open. No jobs are compared.
+    /// What `arrive` does with a piece whose slot is known: the slot of its job, which must be open. No jobs are compared.
     ///
     /// # Errors
     ///
     /// `AllocError` if an allocation fails.
+    ///
+    /// # Memory
+    ///
+    /// It allocates as `arrive` does.
     pub fn keep(&mut self, piece: Piece<'p>) -> Result<Arrival<'p>, AllocError>
         requires own { IsPlaceOf self.old.barrier piece.job.place piece.job }
         requires open { IsMarked self.old.barrier piece.job.place Open }
@@ -236,7 +261,7 @@ impl<'p> Team<'p> {
         }
     }
 
-    // What `arrive` does with a piece. Where it is known that the phase's jobs start from the store of the piece's job, that isn't
+    // What `arrive` does with a piece. If the phase's jobs are known to start from the store of the piece's job, stores aren't
     // compared.
     pub(crate) fn take_in(
         &mut self,
@@ -253,7 +278,7 @@ impl<'p> Team<'p> {
         }
     }
 
-    // Whether the piece of the job is still to come, where the phase's jobs start from its store.
+    // Whether the piece of the job is awaited, if the phase's jobs start from its store.
     fn waits_for(&self, job: &Job) -> bool
         requires { StartsFrom self.now job.now.store }
         ensures { IsTrue result → IsPlaceOf self.now.barrier job.now.place job.now × IsMarked self.now.barrier job.now.place Open }
@@ -264,7 +289,7 @@ impl<'p> Team<'p> {
         }
     }
 
-    // Goes on after the phase that runs has opened, and wrote this.
+    // Goes on after the current phase has opened, with these writes.
     fn go_on(&mut self, written: &Overlay) -> Result<(), AllocError>
         requires full { IsFull self.old.barrier }
         requires phase { self.old.opened < phases_in self.old.nested }
@@ -292,15 +317,15 @@ impl<'p> Team<'p> {
         }
     }
 
-    /// Whether the place is there in the phase that runs, and its piece is still to come.
+    /// Whether the slot at this index exists in the current phase and waits for its piece.
     pub fn is_open(&self, place: u8) -> bool
         ensures { IsTrue result ↔ IsMarked self.now.barrier place Open }
     {
         self.barrier.is_free(place)
     }
 
-    /// Reports that an allocation failed for the piece of a place. The place must be open. The team is then failed, and no member
-    /// of a later phase begins. The team keeps no note of the place, and its other places still take pieces.
+    /// Reports that an allocation failed for the piece at an index. Its slot must be open. The team is then failed, and no
+    /// member of a later phase begins. The team doesn't record the index, and its other slots still take pieces.
     pub fn fail(&mut self, place: u8)
         requires { IsMarked self.old.barrier place Open }
         ensures { self.new ≡ failed_team self.old }
@@ -322,8 +347,15 @@ impl<'p> Team<'p> {
         self.failed || self.opened == self.nested.phases()
     }
 
-    /// What the whole construct writes: each cell with its last value. The team must be over; if it is failed, the result
-    /// is an allocation failure.
+    /// What the whole construct writes: each cell with its last value. The team must be over.
+    ///
+    /// # Errors
+    ///
+    /// `AllocError` if the team is failed, or an allocation fails.
+    ///
+    /// # Memory
+    ///
+    /// It allocates the overlay.
     pub fn take_all(self) -> Result<Overlay, AllocError>
         requires { IsOver self }
         ensures failed { self.entry.failed ≡ true → IsErr result }
@@ -337,7 +369,7 @@ impl<'p> Team<'p> {
     }
 }
 
-// Puts what a phase wrote on the store that the phases before it left.
+// Adds the writes of a phase to the store that the earlier phases left.
 fn lay_phase(nested: &Nested, phase: u8, store: &mut MarkedStore, written: &Overlay)
     requires fit { IsFitNest (nested_of nested.now) }
     requires phase { phase < phases_in nested.now }
@@ -354,7 +386,7 @@ struct Phase<'p> {
     unbegun: VecDeque<TeamWork<'p>>,
 }
 
-// The phase that comes after as many, over the store that these left.
+// The phase after this many, over the store that they left.
 fn phase_of<'p>(
     alloc: Global,
     nested: &Nested<'p>,

@@ -1,9 +1,9 @@
-//! What a team has its harts run.
+//! The work of a team for its harts.
 use array_jobs::Job;
 use contexts::Paused;
 use step_eval::StepMachine;
 
-/// What a hart takes up of a team.
+/// What a hart takes from a team.
 #[derive(Drop)]
 pub enum TeamWork<'p> {
     /// A member that hasn't begun its phase.

@@ -1,4 +1,4 @@
--- One hart runs the jobs of a construct phase after phase, and in each in the order of their places.
+-- One hart runs the jobs of a construct phase after phase, and within a phase in the order of their indices.
 use Rattle.std.specs.Prelude.{◌≡◌, ℕ, zero, suc, ◌+◌, ◌<◌, ◌≤◌, List, [], ◌∷◌, ◌++◌, length, Option, None, Some, slice_get}
 use Rattle.transfer_table.specs.Plan.{Plan, IsPlan, IsSite, parent}
 use Rattle.transfer_table.specs.Entry.{unregisters, skips_over}
@@ -11,17 +11,17 @@ use Rattle.site_parts.specs.Parts.{IsConstructPart}
 use Rattle.machine_accounts.specs.Machines.{IsFreshJob, IsRunJob, IsFreshConstruct, IsRunNested}
 use Rattle.machine_accounts.specs.Serving.{IsServing}
 
--- The job, if there is one, before the others that are done.
+-- The job, if there is one, before the other done jobs.
 abbrev pub with_job : Option JobTree → List JobTree → List JobTree
 with_job None done = done
 with_job (Some job) done = job ∷ done
 
--- The first so many of these jobs, the last one first, and behind them those before.
+-- The first so many of these jobs, the last one first, followed by those before.
 abbrev pub upto : List JobTree → List JobTree → ℕ → List JobTree
 upto before jobs zero = before
 upto before jobs (suc k) = with_job (slice_get jobs k) (upto before jobs k)
 
--- The jobs of a phase, over the store that the phases before it leave.
+-- The jobs of a phase, over the store that the earlier phases leave.
 abbrev pub phase_jobs : NestedTree → ℕ → List JobTree
 phase_jobs nested phase = jobs_in nested phase (store_before nested phase)
 
@@ -31,11 +31,11 @@ jobs_before nested zero = []
 jobs_before nested (suc phase) =
     upto (jobs_before nested phase) (phase_jobs nested phase) (length (phase_jobs nested phase))
 
--- Those, and the first so many of this one.
+-- All jobs of the phases before this one, and the first so many of this one.
 abbrev pub done_at : NestedTree → ℕ → ℕ → List JobTree
 done_at nested phase k = upto (jobs_before nested phase) (phase_jobs nested phase) k
 
--- While a construct is served at its site, all phases before this one and so many jobs of this one were run since the entries
+-- A construct is served at its site: all phases before this one and so many jobs of this one have run since the entries
 -- `start`, the last of which registered it.
 pub record HasServed (p : Plan) (around : ℕ) (start es : List Entry) (nested : NestedTree)
     (phase k : ℕ) : Type 0 where
@@ -45,21 +45,21 @@ pub record HasServed (p : Plan) (around : ℕ) (start es : List Entry) (nested :
   pub fit : IsFitNest nested
   pub served : IsServing p start es nested (done_at nested phase k)
 
--- A construct with whose sites nothing was done is registered, and none of its jobs was run yet.
+-- A construct with fresh sites is registered, and none of its jobs has run.
 abbrev pub ServingStarts : Type 0
 ServingStarts = (p : Plan) (outer : ℕ) (es : List Entry) (hart : ℕ) (nested : NestedTree)
     → IsPlan p → IsFitNest nested → IsFreshConstruct p outer es nested →
     let start = es ++ Register hart nested.site ∷ [] in
     HasServed p nested.site start start nested 0 0
 
--- Nothing was done yet with the sites of the job whose turn it is.
+-- The sites of the job whose turn it is are fresh.
 abbrev pub NextJobsAreFresh : Type 0
 NextJobsAreFresh = (p : Plan) (around : ℕ) (start es : List Entry) (nested : NestedTree)
     (phase k : ℕ) (job : JobTree)
     → phase < phases_of nested.construct → slice_get (phase_jobs nested phase) k ≡ Some job
     → HasServed p around start es nested phase k → IsFreshJob p around es job
 
--- With that job run it is the turn of the one after it.
+-- When that job has run, it is the turn of the job after it.
 abbrev pub NextJobsAreDone : Type 0
 NextJobsAreDone = (p : Plan) (around : ℕ) (start es es' : List Entry) (nested : NestedTree)
     (phase k : ℕ) (job : JobTree)
@@ -67,19 +67,19 @@ NextJobsAreDone = (p : Plan) (around : ℕ) (start es es' : List Entry) (nested 
     → HasServed p around start es nested phase k → IsRunJob p es es' job
     → HasServed p around start es' nested phase (suc k)
 
--- Behind the last job of a phase comes the next phase.
+-- After the last job of a phase comes the next phase.
 abbrev pub PhasesTurn : Type 0
 PhasesTurn = (p : Plan) (around : ℕ) (start es : List Entry) (nested : NestedTree) (phase k : ℕ)
     → length (phase_jobs nested phase) ≤ k → HasServed p around start es nested phase k
     → HasServed p around start es nested (suc phase) 0
 
--- Behind the last phase each child of the construct's site is gone or skipped, so the site may be unregistered.
+-- After the last phase, each child of the construct's site is gone or skipped, so the site may be unregistered.
 abbrev pub ServedHaveEnded : Type 0
 ServedHaveEnded = (p : Plan) (around : ℕ) (start es : List Entry) (nested : NestedTree)
     → IsPlan p → HasServed p around start es nested (phases_of nested.construct) 0
     → (c : ℕ) → IsSite p c → parent p c ≡ around → 1 ≤ unregisters c es + skips_over p c es
 
--- With that the construct was run.
+-- With the unregister, the construct has run.
 abbrev pub ServedAreRun : Type 0
 ServedAreRun = (p : Plan) (before es : List Entry) (hart : ℕ) (nested : NestedTree)
     → IsPlan p

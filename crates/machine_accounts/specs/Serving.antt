@@ -16,7 +16,7 @@ use Rattle.site_parts.specs.Parts.{IsConstructPart}
 use Rattle.piece_accounts.specs.Constructs.{IsServed, IsJobOf}
 use Rattle.machine_accounts.specs.Machines.{IsFreshJob, IsRunJob, IsFreshConstruct, IsRunNested}
 
--- The last of the entries `start` registered the construct, and since then these of its jobs were run.
+-- The last of the entries `start` registered the construct, and these of its jobs have run since.
 abbrev pub IsServing : Plan → List Entry → List Entry → NestedTree → List JobTree → Type 0
 IsServing p start es nested done =
     IsServed p start es (arrays_of nested.arrays) (nested.site + 1)
@@ -31,14 +31,14 @@ abbrev pub HaveAllJobs : NestedTree → List JobTree → Type 0
 HaveAllJobs nested done = (phase : ℕ) → phase < phases_of nested.construct → (job : JobTree)
     → IsMember job (jobs_in nested phase (store_before nested phase)) → IsMember job done
 
--- A construct with whose sites nothing was done is registered, and none of its jobs was run yet.
+-- A construct with fresh sites is registered, and none of its jobs has run.
 abbrev pub ConstructsOpen : Type 0
 ConstructsOpen = (p : Plan) (around : ℕ) (es : List Entry) (hart : ℕ) (nested : NestedTree)
     → IsPlan p → IsFreshConstruct p around es nested →
     let start = es ++ Register hart nested.site ∷ [] in
     IsServing p start start nested []
 
--- Nothing was done yet with the sites of a job that wasn't run.
+-- The sites of a job that hasn't run are fresh.
 abbrev pub JobsAreFresh : Type 0
 JobsAreFresh = (p : Plan) (start es : List Entry) (nested : NestedTree) (done : List JobTree)
     (job : JobTree)
@@ -48,14 +48,14 @@ JobsAreFresh = (p : Plan) (start es : List Entry) (nested : NestedTree) (done : 
     → IsServing p start es nested done → AreJobsOf nested done
     → IsJobOf nested job → (IsMember job done → ⊥) → IsFreshJob p nested.site es job
 
--- With the job run it is one more of those that were.
+-- When a job has run, it is one more of those that have.
 abbrev pub JobsAreDone : Type 0
 JobsAreDone = (p : Plan) (start es es' : List Entry) (nested : NestedTree) (done : List JobTree)
     (job : JobTree)
     → IsFitNest nested → IsServing p start es nested done → IsJobOf nested job
     → IsRunJob p es es' job → IsServing p start es' nested (job ∷ done)
 
--- When all jobs were run, each child of the construct's site is gone or skipped, so the site may be unregistered.
+-- When all jobs have run, each child of the construct's site is gone or skipped, so the site may be unregistered.
 abbrev pub ChildrenHaveEnded : Type 0
 ChildrenHaveEnded = (p : Plan) (around : ℕ) (start es : List Entry) (nested : NestedTree)
     (done : List JobTree)
@@ -63,7 +63,7 @@ ChildrenHaveEnded = (p : Plan) (around : ℕ) (start es : List Entry) (nested : 
     → IsServing p start es nested done → HaveAllJobs nested done
     → (c : ℕ) → IsSite p c → parent p c ≡ nested.site → 1 ≤ unregisters c es + skips_over p c es
 
--- With that the construct was run.
+-- With the unregister, the construct has run.
 abbrev pub ConstructsEnd : Type 0
 ConstructsEnd = (p : Plan) (before es : List Entry) (hart : ℕ) (nested : NestedTree)
     (done : List JobTree)

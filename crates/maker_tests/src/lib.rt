@@ -1,4 +1,4 @@
-//! Tests of the programs that are made from numbers, by public calls alone.
+//! Tests of generated programs, by public calls alone.
 #![tactic(auto)]
 
 #[cfg(test)]

@@ -1,4 +1,4 @@
-//! Made programs: their text, their arrays and their sites.
+//! Generated programs: their text, their arrays and their sites.
 ghost use Rattle.std.specs.Prelude.{◌≤◌};
 
 use array_eval::{run_one, write_arrays};
@@ -19,7 +19,7 @@ fn a_made_program_is_its_text(rt: HostRuntime) -> Result<(), Fail> {
     Ok(())
 }
 
-// What a made program comes to: its cells, their sum, and its sites.
+// The summary of a generated program: its cells, their sum, and its sites.
 #[derive(Drop)]
 struct Summary {
     cells: u64,
@@ -43,7 +43,7 @@ fn outcome(alloc: Global, seed: u64, size: u8) -> Result<Summary, Fail>
     })
 }
 
-// How many numbers a text has, none of them negative, and their sum.
+// The number of numbers in a text, none of them negative, and their sum.
 fn numbers(text: &[u8]) -> (u64, u64) {
     let (mut count, mut sum, mut number) = (0u64, 0u64, 0u64);
     for &byte in text {
@@ -64,7 +64,7 @@ fn numbers(text: &[u8]) -> (u64, u64) {
 #[test]
 fn seed_7_at_sizes_16_and_1(rt: HostRuntime) -> Result<(), Fail> {
     let large = outcome(rt.alloc(), 7, 16)?;
-    // A line has a space more than cells, that before its `=`.
+    // Why 3 more: each array line has one more space than cells, the one before its `=`.
     assert_eq!(rt; large.cells, 528 + 3);
     assert_eq!(rt; large.sum, 85_920_000);
     assert_eq!(rt; large.sites, 82);

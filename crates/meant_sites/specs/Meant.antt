@@ -1,4 +1,4 @@
--- The accounts of a program's sites: where parts of its plan stand, and what is complete.
+-- The accounts of a program's sites: the parts of its plan, and the law of complete journals.
 use Rattle.std.specs.Prelude.{◌≡◌, ℕ, ◌+◌, ◌<◌, false, List, ◌++◌, length, IsTrue}
 use Rattle.transfer_table.specs.Plan.{Plan, IsPlan, site_count}
 use Rattle.transfer_table.specs.Table.{TableState}
@@ -10,7 +10,7 @@ use Rattle.array_meaning.specs.Plans.{plan_of, AreInside, AreOutside}
 use Rattle.array_meaning.specs.Choices.{has_no_site_under_if}
 use Rattle.array_meaning.specs.Entered.{entered_of}
 
--- From the site s on the plan has the parents of a part inside the site `around`, and no site behind it is inside the part.
+-- From site s on, the plan has the parents of a part inside the site `around`, and no later site is inside the part.
 pub record HasPartFrom (p : Plan) (around s : ℕ) (part : List ℕ) : Type 0 where
   pub before : List ℕ
   pub after : List ℕ
@@ -25,19 +25,19 @@ abbrev pub PartsAreSpans : Type 0
 PartsAreSpans = (p : Plan) (around s : ℕ) (part : List ℕ) → HasPartFrom p around s part
     → IsSpan p around s (length part)
 
--- The whole program is such a part, inside the base.
+-- The whole program is such a part inside the base.
 abbrev pub ProgramsAreParts : Type 0
 ProgramsAreParts = (program : ProgramTree) (p : Plan) → p.parents ≡ plan_of program
     → HasPartFrom p 0 1 (plan_of program)
 
--- A legal list at whose end each site of a program is over as the meaning enters it is complete.
+-- A legal list is complete if at its end each site of a program has ended as the meaning enters it.
 abbrev pub EnteredIsComplete : Type 0
 EnteredIsComplete = (program : ProgramTree) (p : Plan) (es : List Entry) (t : TableState)
     → p.parents ≡ plan_of program → IsPlan p → Reaches p es t
     → AreOverAs p es 1 (entered_of program)
     → IsComplete p (entered_of program) es
 
--- Of each site of a program's plan it is told whether the meaning enters it.
+-- There is a flag for each site of a program's plan, whether the meaning enters the site.
 abbrev pub EverySiteIsTold : Type 0
 EverySiteIsTold = (program : ProgramTree) (p : Plan) → p.parents ≡ plan_of program
     → length (entered_of program) ≡ site_count p

@@ -1,7 +1,9 @@
-//! The accounts of a program's sites: its parts' sites are whole subtrees of the plan, and where each site is over as the
-//! meaning enters it, the journal is complete.
+//! The accounts of a program's sites. The sites of each part of the program are whole subtrees of the plan. If each site has
+//! ended as the meaning enters it (unregistered if entered, otherwise skipped), the journal is complete.
 //!
-//! The crate holds definitions and laws. No code here runs: each function's contract is a law, and its body is empty.
+//! The crate holds definitions and laws. No code here runs: each function's contract is a law, and its body is empty. Begin
+//! with `specs/Meant.antt`; `site_accounts` has the definitions of accounts, and the tests of `entered_tests` show which sites
+//! programs enter.
 #![tactic(auto)]
 
 ghost use Rattle.meant_sites.specs.Meant.{PartsAreSpans, ProgramsAreParts, EnteredIsComplete, EverySiteIsTold, AllSitesAreEntered};
@@ -16,12 +18,12 @@ pub fn programs_are_parts()
     ensures { ProgramsAreParts }
 {}
 
-/// A legal list at whose end each site of a program is over as the meaning enters it is complete.
+/// A legal list is complete if at its end each site of a program has ended as the meaning enters it.
 pub fn entered_is_complete()
     ensures { EnteredIsComplete }
 {}
 
-/// Of each site of a program's plan it is told whether the meaning enters it.
+/// There is a flag for each site of a program's plan, whether the meaning enters the site.
 pub fn every_site_is_told()
     ensures { EverySiteIsTold }
 {}

@@ -14,7 +14,7 @@ use Rattle.open_board.specs.declared.seat.OpenSeat.{OpenSeat}
 use Rattle.open_board.specs.declared.ending.NotEnded.{NotEnded}
 use Rattle.open_board.specs.declared.ending.NotEnded.TheVariants.{WrongCount, OutOfOrder, InSite}
 
--- The view of the seat at place h of the list.
+-- The view of the seat at index h of the list.
 abbrev pub view_at : List OpenSeat → ℕ → OpenSeat → View
 view_at qs h d = (slice_index_or qs h d).seat.me.0
 
@@ -39,12 +39,12 @@ pub record HasFinished (p : Size) (qs : List OpenSeat) : Type 0 where
   pub at_base : (h : ℕ) → h < p.harts → table.stacks h ≡ []
   pub no_site : (x : ℕ) → (table.rows x).live ≡ false
 
--- Hart n's seat stands at place n, and that hart is at the base.
+-- The seat at index n is hart n's, and that hart is at the base.
 abbrev pub IsHomeAgain : List OpenSeat → ℕ → Type 0
 IsHomeAgain qs n = (d : OpenSeat) → ((view_at qs n d).hart ≡ n) × ((view_at qs n d).stack ≡ [])
 
--- Why the board can't end: the count of seats isn't the count of harts, or the first place whose seat is another hart's, or whose
--- hart is in a site, which is named.
+-- Why the board can't end: the count of seats isn't the count of harts, or the first index whose seat is another hart's, or
+-- whose hart is in a site.
 abbrev pub CantEnd : Size → List OpenSeat → NotEnded → Type 0
 CantEnd p qs WrongCount = length qs ≢ p.harts
 CantEnd p qs (OutOfOrder place hart) = (length qs ≡ p.harts) × (place < p.harts) × ((n : ℕ) → n < place → IsHomeAgain qs n)
@@ -54,21 +54,21 @@ CantEnd p qs (InSite hart site) = (length qs ≡ p.harts) × (hart < p.harts) ×
 
 -- ---- between the steps of an end
 
--- the seats of the harts from 1 on
+-- The seats of the harts from 1 on.
 abbrev pub AreOthers : TableId → Size → List OpenSeat → Type 0
 AreOthers z p qs = (i : ℕ) (d : OpenSeat) → i < length qs
     → ((slice_index_or qs i d).seat.table_id ≡ z) × ((view_at qs i d).size ≡ p)
     × ((view_at qs i d).hart ≡ i + 1) × ((view_at qs i d).stack ≡ [])
 
--- the rule holds of the words and the views as they were when they were given up, and the seat's view is among these
+-- The invariant holds of the words and the views at their end, and the seat's view is among these.
 abbrev pub HasLast : Size → OpenSeat → Type 0
 HasLast p q = (s : State (Unit {0}) View) × Stands p s × (get_elem? s.views q.seat.id ≡ some q.seat.me.0)
 
--- the view has taken in hart h, which had this view
+-- The view has joined hart h, which had this view.
 pub record HasOne (v : View) (h : ℕ) (w : View) : Type 0 where
   pub at : ℕ
   pub one : get_elem? v.ended at ≡ some record { hart = h; mine = w.mine }
 
--- the view has taken in each of the seats from the n-th on
+-- The view has joined each of the seats from the n-th on.
 abbrev pub HasFrom : View → List OpenSeat → ℕ → Type 0
 HasFrom v qs n = (i : ℕ) (d : OpenSeat) → n ≤ i → i < length qs → HasOne v (i + 1) (view_at qs i d)

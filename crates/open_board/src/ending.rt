@@ -14,13 +14,13 @@ use crate::seat::OpenSeat;
 pub enum NotEnded {
     /// There are more seats than harts, or fewer.
     WrongCount,
-    /// The seat at this place of the list is another hart's. Places count from 0.
+    /// The seat at this index of the list, from 0, is another hart's.
     OutOfOrder { place: usize, hart: u8 },
     /// The hart is in this site, as its home or as a guest.
     InSite { hart: u8, site: u16 },
 }
 
-/// The board didn't end. The board and the seats are as they were.
+/// The board didn't end. The board and the seats come back unchanged.
 #[derive(Drop)]
 pub struct EndRefused {
     pub board: OpenBoard,
@@ -43,13 +43,13 @@ impl OpenBoard {
         finish(self, first);
     }
 
-    /// Ends the board as `end` does, if `seats` has one seat for each hart, in the order of the harts'
-    /// numbers, and each hart is at the base. That each is a seat of this board is the only precondition.
+    /// Ends the board as `end` does, if `seats` has one seat for each hart, in the order of the harts' numbers, and each hart
+    /// is at the base. Its only precondition is that each is a seat of this board.
     ///
     /// # Errors
     ///
-    /// `EndRefused` gives the board and the seats back, with the first reason found: the count of the seats
-    /// is tested first, then each seat in turn.
+    /// `EndRefused`, with the board, the seats and the first reason found: the call tests the count of the seats first, then
+    /// each seat in turn.
     pub fn checked_end(self, seats: Vec<OpenSeat>) -> Result<(), EndRefused>
         requires of { All (IsOf self) seats.items }
         ensures ended { IfOk result (λ _. (vec_len seats ≡ self.size.harts)
@@ -94,7 +94,7 @@ fn why_not(board: &OpenBoard, seats: &[OpenSeat]) -> Option<NotEnded>
     None
 }
 
-// The first seat takes in all others.
+// Joins all other seats into the first.
 fn gather_all(board: &OpenBoard, first: &mut OpenSeat, mut seats: Vec<OpenSeat>)
     requires board { IsOf board.now first.old }
     requires first { (first.old.seat.me.0.hart ≡ 0) × (first.old.seat.me.0.stack ≡ []) }
@@ -109,7 +109,7 @@ fn gather_all(board: &OpenBoard, first: &mut OpenSeat, mut seats: Vec<OpenSeat>)
     }
 }
 
-// The first seat takes in another hart's.
+// Joins another hart's seat into the first.
 fn gather(board: &OpenBoard, first: &mut OpenSeat, other: OpenSeat)
     requires of { IsOf board.now first.old × IsOf board.now other }
     requires first { first.old.seat.me.0.hart ≡ 0 }

@@ -58,6 +58,7 @@ new_feed bytes most failing = record {
   faults = 0;
 }
 
+-- a sink with this room that was never called
 abbrev pub new_tray : ℕ → ℕ → List ℕ → Tray
 new_tray room most failing = record {
   taken = [];

@@ -1,6 +1,7 @@
 -- What contracts see of a source in memory that fails at listed calls.
 use Rattle.std.specs.Prelude.{ℕ, List}
 
+-- a source in memory that fails at listed calls
 pub record Feed : Type 0 where
   -- the bytes that are left
   pub left : List ℕ

@@ -27,15 +27,15 @@ abbrev pub IsAtEnd : Option (List ℕ) → Type 0
 IsAtEnd None = Unit {0}
 IsAtEnd (Some left) = left ≡ []
 
--- what one read did: the bytes left and the count of faults before it, the buffer and the answer after it, and the
--- bytes left and the count then
+-- the effect of one read: the bytes left and the count of faults before it, the buffer and the result after it, and the bytes
+-- left and the count then
 abbrev pub Reads : Option (List ℕ) → ℕ → List ℕ → Fill → Option (List ℕ) → ℕ → Type 0
 Reads left faults buf (fill.Got count) left' faults' =
     (1 ≤ count) × (count ≤ length buf) × Gives left (take count buf) left'
 Reads left faults buf fill.End left' faults' = Gives left [] left' × IsAtEnd left'
 Reads left faults buf fill.Failed left' faults' = Rose faults faults' × Gives left [] left'
 
--- the stream that a sink writes to, where it tells what it holds, took what the sink took, and nothing with a fault
+-- the stream of a sink, if it shows what it holds, took what the sink took, and nothing after a fault
 abbrev pub PutInto : Option (List ℕ) → List ℕ → Put → Option (List ℕ) → Type 0
 PutInto None piece answer after = Unit {0}
 PutInto (Some before) piece answer None = ⊥

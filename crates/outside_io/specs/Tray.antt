@@ -1,6 +1,7 @@
 -- What contracts see of a sink in memory that fails at listed calls and where it is full.
 use Rattle.std.specs.Prelude.{ℕ, List}
 
+-- a sink in memory that fails at listed calls and when it is full
 pub record Tray : Type 0 where
   -- the bytes that it has taken, and how many it takes in all
   pub taken : List ℕ

@@ -1,5 +1,5 @@
 //! A source and a sink in memory that fail at listed calls.
-ghost use Rattle.std.specs.Prelude.{◌≡◌, ◌<◌, ◌≤◌, ℕ, Bool, List, length, take, Option, Some, IfOk};
+ghost use Rattle.std.specs.Prelude.{◌≡◌, ◌<◌, ◌≤◌, ℕ, Bool, List, length, Some, IfOk};
 ghost use Rattle.outside_io.specs.Outside.{Reads, Writes};
 ghost use Rattle.outside_io.specs.Failing.{is_listed, feed_fill, fed, tray_put, laid_in, new_feed, new_tray};
 
@@ -38,7 +38,8 @@ impl Model for MemSource {
 }
 
 impl MemSource {
-    /// A source of these bytes that gives at most `most` of them a call, and fails at the calls with these numbers, counted from 1.
+    /// A source of these bytes that gives at most `most` of them a call, and fails at the calls with these numbers, counted
+    /// from 1.
     ///
     /// # Errors
     ///
@@ -136,8 +137,8 @@ impl Model for MemSink {
 }
 
 impl MemSink {
-    /// An empty sink with room for so many bytes. It takes at most `most` bytes a call, and fails at the calls with these numbers,
-    /// counted from 1.
+    /// An empty sink with room for so many bytes. It takes at most `most` bytes a call, and fails at the calls with these
+    /// numbers, counted from 1.
     ///
     /// # Errors
     ///

@@ -1,4 +1,7 @@
 //! Sources and sinks of bytes, over streams and in memory, and the trait `Gate`, a hook before each piece of work.
+//!
+//! The top call of `lithe_call` reads its input from a `Source` and writes its output to a `Sink`, so that its contract covers
+//! programs and tests alike. Begin with `Source` in `source.rt` and `Sink` in `sink.rt`; `src/tests.rt` has examples.
 #![tactic(auto)]
 
 mod failing;

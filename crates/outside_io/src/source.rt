@@ -21,8 +21,8 @@ pub trait Source {
     /// The count of its failures.
     ghost faults: { Self → ℕ };
 
-    /// Moves bytes to the front of the buffer. It reports the end only if no byte is left, and fails only if the count of failures
-    /// rose in this call.
+    /// Moves bytes to the front of the buffer. It reports the end only if no byte is left, and fails only if the count of
+    /// failures rose in this call.
     fn read(&mut self, buf: &mut [u8]) -> Fill
         requires { 0 < length buf.old }
         ensures count { faults self.old ≤ faults self.new }

@@ -31,6 +31,10 @@ impl SureSource {
     /// # Errors
     ///
     /// `AllocError` if the allocation of the copy fails.
+    ///
+    /// # Memory
+    ///
+    /// It allocates a copy of the bytes.
     pub fn new(alloc: Global, bytes: &[u8]) -> Result<SureSource, AllocError>
         ensures { IfOk result (λ source. source ≡ bytes.now) }
     {
@@ -41,7 +45,7 @@ impl SureSource {
     }
 }
 
-// Copies as much as fits from the front of `rest` to the front of `buf`, and returns how much.
+/// Copies as many bytes of `rest` into `buf` as both have, and returns their number.
 pub fn fill(buf: &mut [u8], rest: &[u8]) -> usize
     requires room { 0 < length buf.old }
     requires some { 0 < length rest.now }

@@ -1,4 +1,4 @@
-//! The sources and sinks by their answers.
+//! The sources and sinks by their results.
 use crate::{
     Fill, Gate, MemSink, MemSource, OpenGate, Put, Sink, Source, StdSink, StdSource, SureSink,
     SureSource,

@@ -6,12 +6,12 @@ use std::env;
 use std::io::{Error, ErrorKind};
 use std::rt::Env;
 
-/// Why the words can't be had.
+/// Why the words can't be read.
 #[derive(Clone, Copy, Debug, PartialEq, Eq, Drop)]
 pub enum NoWords {
     /// A word isn't UTF-8, so the words are no form.
     NotText,
-    /// Want of memory.
+    /// An allocation failed.
     NoMemory,
 }
 
@@ -44,6 +44,14 @@ impl<T: Drop> From<AllocFailed<T>> for NoWords {
 }
 
 /// The words of the command line, without the program's name.
+///
+/// # Errors
+///
+/// `NoWords::NoMemory` if an allocation fails. `NoWords::NotText` if a word isn't UTF-8.
+///
+/// # Memory
+///
+/// It allocates the words.
 pub fn words_of<R: Env + AllocGlobal>(rt: &R) -> Result<Vec<String>, NoWords> {
     let mut words = Vec::new(rt.alloc());
     for word in env::args(rt)? {

@@ -1,18 +1,14 @@
 -- A picture has the verdict of its output, and no input has two.
-use Rattle.std.proofs.Common.{◌≡◌, ◌∙◌, ◌⊎◌, ◌<◌, ℕ, List, length, Option, Some, None, Result, Ok, Err, IfOk, IfErr, refl, sym, ap, subst, inl, inr, arith}
-use Rattle.std.proofs.lemmas.Option.{same_Some}
-use Rattle.transfer_table.specs.Plan.{Plan}
+use Rattle.std.proofs.Common.{◌≡◌, ◌∙◌, ◌⊎◌, ◌<◌, ℕ, List, length, Some, None, Result, Ok, Err, refl, sym, ap, subst, inl, inr, arith}
 use Rattle.array_tree.specs.Trees.{ProgramTree}
 use Rattle.array_lang.proofs.OneProgram.{one_text}
-use Rattle.array_meaning.specs.Bounds.{most_bytes}
 use Rattle.journal_text.specs.Reading.{and_then}
 use Rattle.journal_text.specs.declared.fault.TextFault.{TextFault}
 use Rattle.run_audit.specs.declared.verdict.Verdict.{Verdict}
 use Rattle.run_audit.specs.declared.verdict.Verdict.TheVariants as verdict
 use Rattle.run_picture.specs.declared.picture.Form.{Form}
 use Rattle.run_picture.specs.Picture.{Pictured, picture_by}
-use Rattle.lithe_call.specs.Auditing.{HasParts, found_in, status_by}
-use Rattle.lithe_call.specs.Faults.{SpellNothing, IsRefused}
+use Rattle.lithe_call.specs.Auditing.{found_in, status_by}
 use Rattle.lithe_call.specs.Output.{EndsWith}
 use Rattle.lithe_call.specs.Programs.{table_plan}
 use Rattle.lithe_call.specs.declared.status.Status.{Status}
@@ -21,7 +17,7 @@ use Rattle.lithe_call.proofs.Endings.{parts_meet, same_parts, refused_ends}
 use Rattle.picture_call.specs.declared.runner.Runner.{Runner}
 use Rattle.picture_call.specs.declared.runner.Runner.TheVariants.{Run, Tally, Pipe}
 use Rattle.picture_call.specs.Causes.{AreNoText, AreRefused, HasNoText, HasRefused, IsLong}
-use Rattle.picture_call.specs.Pictures.{AreDrawn, AreJudged, EndsAs, HasPicture, IsJudged, SpellRun, command_of}
+use Rattle.picture_call.specs.Pictures.{AreDrawn, AreJudged, HasPicture, IsJudged, SpellRun, command_of, teams_of}
 
 -- what goes on from a verdict and keeps it comes of that verdict
 kept : (f : Verdict → Pictured) (picture : Pictured) (found : Result Verdict TextFault) → ((v : Verdict) → (f v).verdict ≡ v)
@@ -34,7 +30,7 @@ is_judged : (form : Form) (runner : Runner) (harts : ℕ) (picture : Pictured) (
 is_judged form runner harts picture first second are = record {
   program = are.program;
   input = are.input;
-  found = kept (λ v. picture_by form are.program (table_plan are.program harts) second v) picture (found_in harts are.program second) (λ v. refl) are.drawn;
+  found = kept (λ v. picture_by form (teams_of runner) are.program (table_plan are.program harts) second v) picture (found_in harts are.program second) (λ v. refl) are.drawn;
 }
 
 pub drawn_judged : (form : Form) (runner : Runner) (harts : ℕ) (bytes : List ℕ) (picture : Pictured) → HasPicture form runner harts bytes picture

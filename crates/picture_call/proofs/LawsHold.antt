@@ -1,8 +1,7 @@
 -- How pictures stand to the commands of `lithe`.
-use Rattle.std.proofs.Common.{◌≡◌, ◌≤◌, ℕ, List, length, Ok, refl, inl, inr}
+use Rattle.std.proofs.Common.{◌≤◌, ℕ, List, length, refl, inl, inr}
 use Rattle.transfer_table.specs.Plan.{IsPlan}
 use Rattle.transfer_table.proofs.Plans.{is_plan}
-use Rattle.command_words.specs.declared.command.Command.TheVariants.{Audit}
 use Rattle.array_tree.specs.Trees.{ProgramTree}
 use Rattle.array_meaning.specs.Entered.{entered_of}
 use Rattle.array_meaning.specs.Plans.{plan_of, sites_in}

@@ -1,5 +1,5 @@
 -- From the faults of the steps to those of the whole.
-use Rattle.std.proofs.Common.{◌≡◌, ◌∙◌, ◌⊎◌, ◌≤◌, ℕ, List, length, Option, Some, None, Result, Ok, Err, IfOk, IfErr, OnOk, refl, sym, ap, subst, inl, inr}
+use Rattle.std.proofs.Common.{◌≡◌, ◌∙◌, ◌⊎◌, ◌≤◌, ℕ, List, length, Some, None, Result, Ok, Err, IfOk, IfErr, OnOk, refl, sym, ap, subst, inl, inr}
 use Rattle.transfer_table.specs.Plan.{Plan}
 use Rattle.array_tree.specs.Trees.{ProgramTree}
 use Rattle.array_lang.specs.Spelled.{Spells}
@@ -15,6 +15,7 @@ use Rattle.array_meaning.specs.Entered.{entered_of}
 use Rattle.array_eval.specs.ArrayText.{array_text}
 use Rattle.journal_text.specs.Seen.{Reads}
 use Rattle.run_audit.specs.Audit.{audit_of}
+use Rattle.journal_picture.specs.declared.shape.Kind.{Kind}
 use Rattle.run_picture.specs.Picture.{Pictured, picture_of}
 use Rattle.run_picture.specs.declared.picture.Form.{Form}
 use Rattle.lithe_call.specs.Faults.{IsNoRun, TellsUntallied, TellsUnpiped}
@@ -27,8 +28,8 @@ use Rattle.lithe_call.proofs.Tallying.{untallied_line}
 use Rattle.lithe_call.proofs.Piping.{unpiped_line}
 use Rattle.picture_call.specs.declared.runner.Runner.{Runner}
 use Rattle.picture_call.specs.declared.runner.Runner.TheVariants.{Run, Tally, Pipe}
-use Rattle.picture_call.specs.Causes.{AreRefused, HaveNoPicture, IsRefusedBy, TellsNoOutput, TellsNoPicture}
-use Rattle.picture_call.specs.Pictures.{AreDrawn, IsRunBy}
+use Rattle.picture_call.specs.Causes.{AreRefused, HaveNoPicture, TellsNoOutput, TellsNoPicture}
+use Rattle.picture_call.specs.Pictures.{AreDrawn, IsRunBy, teams_of}
 
 -- a text that spells no program has no picture
 pub no_run_no_picture : (runner : Runner) (harts : ℕ) (first second : List ℕ) (why : Fault) → IsNoRun (λ bytes line. AreRefused runner harts line bytes second) first why
@@ -109,10 +110,10 @@ plan_no_picture (Ok x) runner harts program plan output same run tells = tt
 plan_no_picture (Err why) runner harts program plan output same run tells =
     output_no_picture runner harts program output why run (subst (λ (p : Plan). TellsNoOutput p program output why) same tells)
 
-pub plan_picture : {X : Type 0} (result : Result X Fault) (seen : X → Pictured) (form : Form) (harts : ℕ) (program : ProgramTree) (plan : Plan) (output : List ℕ) → plan ≡ table_plan program harts
-    → IfOk result (λ x. picture_of form program plan output ≡ Ok (seen x)) → IfOk result (λ x. picture_of form program (table_plan program harts) output ≡ Ok (seen x))
-plan_picture (Ok x) seen form harts program plan output same is = subst (λ (p : Plan). picture_of form program p output ≡ Ok (seen x)) same is
-plan_picture (Err why) seen form harts program plan output same is = tt
+pub plan_picture : {X : Type 0} (result : Result X Fault) (seen : X → Pictured) (form : Form) (teams : Kind) (harts : ℕ) (program : ProgramTree) (plan : Plan) (output : List ℕ) → plan ≡ table_plan program harts
+    → IfOk result (λ x. picture_of form teams program plan output ≡ Ok (seen x)) → IfOk result (λ x. picture_of form teams program (table_plan program harts) output ≡ Ok (seen x))
+plan_picture (Ok x) seen form teams harts program plan output same is = subst (λ (p : Plan). picture_of form teams program p output ≡ Ok (seen x)) same is
+plan_picture (Err why) seen form teams harts program plan output same is = tt
 
 pub plan_runs : {X : Type 0} (result : Result X Fault) (runner : Runner) (harts : ℕ) (program : ProgramTree) → IsRunBy runner harts program → OnOk result (IsRunBy runner harts program)
 plan_runs (Ok x) runner harts program is = is
@@ -139,7 +140,7 @@ read_found same wanted text.Memory reads real = absurd (real refl)
 module _ {X : Type 0} (seen : X → Pictured) (form : Form) (runner : Runner) (harts : ℕ) (first second : List ℕ) (program : ProgramTree)
     (short : length first ≤ 65536) (spelled : Spells first program) where
   pub drawn_of : (result : Result X Fault) → OnOk result (IsRunBy runner harts program)
-      → IfOk result (λ x. picture_of form program (table_plan program harts) second ≡ Ok (seen x))
+      → IfOk result (λ x. picture_of form (teams_of runner) program (table_plan program harts) second ≡ Ok (seen x))
       → IfOk result (λ x. AreDrawn form runner harts (seen x) first second)
   drawn_of (Ok x) run drawn = record { program = program; input = record { short = short; spelled = spelled; run = run }; drawn = drawn }
   drawn_of (Err why) run drawn = tt

@@ -1,5 +1,5 @@
 -- The three ways in which a call ends: with a fault, with a picture that the sink took in part, and with one that it took whole.
-use Rattle.std.proofs.Common.{◌≡◌, ◌≢◌, ◌∙◌, ◌⊎◌, ℕ, List, length, Option, Some, None, Result, Ok, Err, IfOk, IfErr, sym, ap, subst, refl, inl, inr, arith}
+use Rattle.std.proofs.Common.{◌≡◌, ◌≢◌, ◌∙◌, ◌⊎◌, ℕ, List, Option, Some, None, Result, Ok, Err, IfOk, IfErr, sym, ap, subst, refl, inl, inr, arith}
 use Rattle.std.proofs.lemmas.Option.{same_Some}
 use Rattle.outside_io.specs.Outside.{Rose, Appends}
 use Rattle.run_audit.specs.Parts.{most_audited}

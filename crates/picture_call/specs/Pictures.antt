@@ -8,6 +8,8 @@ use Rattle.command_words.specs.declared.command.Command.{Command}
 use Rattle.command_words.specs.declared.command.Command.TheVariants as command
 use Rattle.run_audit.specs.Parts.{most_audited}
 use Rattle.run_audit.specs.declared.verdict.Verdict.{Verdict}
+use Rattle.journal_picture.specs.declared.shape.Kind.{Kind}
+use Rattle.journal_picture.specs.Kinds.{pipe, team}
 use Rattle.run_picture.specs.declared.picture.Form.{Form}
 use Rattle.run_picture.specs.Picture.{Pictured, picture_of}
 use Rattle.lithe_call.specs.declared.status.Status.{Status}
@@ -25,6 +27,12 @@ abbrev pub command_of : Runner → ℕ → Command
 command_of Run harts = command.Run harts
 command_of Tally harts = command.Tally harts
 command_of Pipe harts = command.Pipe harts
+
+-- The kind of the schedulers of its teams.
+abbrev pub teams_of : Runner → Kind
+teams_of Run = team
+teams_of Tally = team
+teams_of Pipe = pipe
 
 -- The command runs this program on so many harts: it is accepted, may be tallied, or may be piped.
 abbrev pub IsRunBy : Runner → ℕ → ProgramTree → Type 0
@@ -58,7 +66,7 @@ EndsAs runner harts bytes status = (length bytes ≤ most_audited)
 pub record AreDrawn (form : Form) (runner : Runner) (harts : ℕ) (picture : Pictured) (first second : List ℕ) : Type 0 where
   pub program : ProgramTree
   pub input : SpellRun runner harts first program
-  pub drawn : picture_of form program (table_plan program harts) second ≡ Ok picture
+  pub drawn : picture_of form (teams_of runner) program (table_plan program harts) second ≡ Ok picture
 
 -- These bytes have this picture.
 abbrev pub HasPicture : Form → Runner → ℕ → List ℕ → Pictured → Type 0

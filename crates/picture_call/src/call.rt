@@ -1,5 +1,5 @@
 //! The call for pictures: from the words and the input to the picture and the status.
-ghost use Rattle.std.specs.Prelude.{◌≡◌, ◌≤◌, map, string_bytes, None, IfOk, IfErr};
+ghost use Rattle.std.specs.Prelude.{◌≡◌, map, string_bytes, None, IfOk, IfErr};
 ghost use Rattle.lithe_call.specs.declared.status.Status.{Status};
 ghost use Rattle.lithe_call.specs.Auditing.{status_by};
 ghost use Rattle.lithe_call.specs.FaultOf.{status_of};

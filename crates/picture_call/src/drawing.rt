@@ -9,13 +9,14 @@ ghost use Rattle.run_picture.specs.Picture.{picture_of};
 ghost use Rattle.run_picture.specs.Seen.{picture_seen};
 ghost use Rattle.lithe_call.specs.Programs.{table_plan};
 ghost use Rattle.picture_call.specs.Causes.{HasNoPicture, HaveNoPicture, TellsNoOutput, TellsNoPicture};
-ghost use Rattle.picture_call.specs.Pictures.{AreDrawn, HasPicture, IsRunBy};
+ghost use Rattle.picture_call.specs.Pictures.{AreDrawn, HasPicture, IsRunBy, teams_of};
 
 use crate::asking::Wanted;
 use crate::runner::Runner;
 use array_lang::parse;
 use array_tree::Program;
 use disjoint_check::check;
+use journal_picture::Kind;
 use lithe_call::{Fault, MOST_BYTES, crossing_fault, refusal, syntax_fault, text_fault, with_rows};
 use pipe_walk::pipe_check;
 use run_audit::parts_of;
@@ -69,8 +70,8 @@ fn picture_by(
     requires some_hart { 1 ≤ wanted.harts }
     requires few_harts { wanted.harts ≤ 16 }
     ensures runs { OnOk result (IsRunBy wanted.runner wanted.harts (program_of program.now)) }
-    ensures drawn { IfOk result (λ picture. picture_of wanted.form (program_of program.now)
-        (table_plan (program_of program.now) wanted.harts) output.now ≡ Ok (picture_seen picture)) }
+    ensures drawn { IfOk result (λ picture. picture_of wanted.form
+        (teams_of wanted.runner) (program_of program.now) (table_plan (program_of program.now) wanted.harts) output.now ≡ Ok (picture_seen picture)) }
     ensures fault { IfErr result
         (TellsNoPicture wanted.runner wanted.harts (program_of program.now) output.now) }
 {
@@ -93,8 +94,8 @@ fn of_run(
     requires some_hart { 1 ≤ harts }
     requires few_harts { harts ≤ 16 }
     ensures runs { OnOk result (IsRunBy Runner.Run harts (program_of program.now)) }
-    ensures drawn { IfOk result (λ picture. picture_of form (program_of program.now)
-        (table_plan (program_of program.now) harts) output.now ≡ Ok (picture_seen picture)) }
+    ensures drawn { IfOk result (λ picture. picture_of form (teams_of Runner.Run)
+        (program_of program.now) (table_plan (program_of program.now) harts) output.now ≡ Ok (picture_seen picture)) }
     ensures fault { IfErr result
         (TellsNoPicture Runner.Run harts (program_of program.now) output.now) }
 {
@@ -102,7 +103,7 @@ fn of_run(
         Ok(accepted) => accepted,
         Err(fault) => return Err(refusal(alloc, program, fault)),
     };
-    by_plan(alloc, form, program, accepted.plan(), output)
+    by_plan(alloc, form, Runner::Run, program, accepted.plan(), output)
 }
 
 // The picture of an output of `tally`: the program with rows has the plan of the given one.
@@ -118,8 +119,8 @@ fn of_tally(
     requires some_hart { 1 ≤ harts }
     requires few_harts { harts ≤ 16 }
     ensures runs { OnOk result (IsRunBy Runner.Tally harts (program_of program.now)) }
-    ensures drawn { IfOk result (λ picture. picture_of form (program_of program.now)
-        (table_plan (program_of program.now) harts) output.now ≡ Ok (picture_seen picture)) }
+    ensures drawn { IfOk result (λ picture. picture_of form (teams_of Runner.Tally)
+        (program_of program.now) (table_plan (program_of program.now) harts) output.now ≡ Ok (picture_seen picture)) }
     ensures fault { IfErr result
         (TellsNoPicture Runner.Tally harts (program_of program.now) output.now) }
 {
@@ -128,7 +129,7 @@ fn of_tally(
         Ok(accepted) => accepted,
         Err(fault) => return Err(refusal(alloc, &rows, fault)),
     };
-    by_plan(alloc, form, program, accepted.plan(), output)
+    by_plan(alloc, form, Runner::Tally, program, accepted.plan(), output)
 }
 
 // The picture of an output of `pipe`.
@@ -143,8 +144,8 @@ fn of_pipe(
     requires some_hart { 1 ≤ harts }
     requires few_harts { harts ≤ 16 }
     ensures runs { OnOk result (IsRunBy Runner.Pipe harts (program_of program.now)) }
-    ensures drawn { IfOk result (λ picture. picture_of form (program_of program.now)
-        (table_plan (program_of program.now) harts) output.now ≡ Ok (picture_seen picture)) }
+    ensures drawn { IfOk result (λ picture. picture_of form (teams_of Runner.Pipe)
+        (program_of program.now) (table_plan (program_of program.now) harts) output.now ≡ Ok (picture_seen picture)) }
     ensures fault { IfErr result
         (TellsNoPicture Runner.Pipe harts (program_of program.now) output.now) }
 {
@@ -155,13 +156,14 @@ fn of_pipe(
     if let Err(fault) = pipe_check(alloc, &accepted) {
         return Err(crossing_fault(alloc, program, fault));
     }
-    by_plan(alloc, form, program, accepted.plan(), output)
+    by_plan(alloc, form, Runner::Pipe, program, accepted.plan(), output)
 }
 
-// The picture by the program's plan.
+// The picture by the program's plan, of an output of this command.
 fn by_plan(
     alloc: Global,
     form: Form,
+    runner: Runner,
     program: &Program,
     plan: &Plan,
     output: &[u8],
@@ -169,12 +171,22 @@ fn by_plan(
     requires short { length output.now ≤ most_audited }
     requires sized { AreSized (arrays_of (declarations_of program.now.arrays)) }
     requires parents { plan.now.parents ≡ plan_of (program_of program.now) }
-    ensures drawn { IfOk result (λ picture. picture_of form (program_of program.now) plan.now
-        output.now ≡ Ok (picture_seen picture)) }
+    ensures drawn { IfOk result (λ picture. picture_of form (teams_of runner)
+        (program_of program.now) plan.now output.now ≡ Ok (picture_seen picture)) }
     ensures fault { IfErr result (TellsNoOutput plan.now (program_of program.now) output.now) }
 {
-    match picture_of(alloc, form, program, plan, output) {
+    match picture_of(alloc, form, teams_of(runner), program, plan, output) {
         Ok(picture) => Ok(picture),
         Err(fault) => Err(text_fault(alloc, fault)),
+    }
+}
+
+// The kind of the schedulers of teams.
+fn teams_of(runner: Runner) -> Kind
+    ensures { result ≡ teams_of runner }
+{
+    match runner {
+        Runner::Run | Runner::Tally => Kind::TEAM,
+        Runner::Pipe => Kind::PIPE,
     }
 }

@@ -50,11 +50,11 @@ fn is_cut_off_at(alloc: Global, call: u32) -> Result<bool, AllocError>
 
 #[test]
 fn an_output_may_fail_at_each_call(rt: HostRuntime) -> Result<(), Fail> {
-    // 14 calls take the 690 bytes.
-    for call in 1..15u32 {
+    // 17 calls take the 841 bytes.
+    for call in 1..18u32 {
         assert!(rt; is_cut_off_at(rt.alloc(), call)?);
     }
-    let served = serve_writing(rt.alloc(), 15)?;
+    let served = serve_writing(rt.alloc(), 18)?;
     assert!(rt; served.is(Status::Done, FIRST_TEXT, b""));
     assert!(rt; Status::ReadFault.number() == 6 && Status::WriteFault.number() == 7);
     Ok(())

@@ -5,7 +5,7 @@ use std::alloc::{AllocError, Global};
 use std::test::Fail;
 
 const FIRST_SVG: &[u8] =
-    b"<svg xmlns='http://www.w3.org/2000/svg' version='1.1' width='700' height='390' viewBox='0 0 700 390' font-family='Helvetica, Arial, sans-serif' font-size='11' text-anchor='middle'>
+    b"<svg xmlns='http://www.w3.org/2000/svg' version='1.1' width='700' height='462' viewBox='0 0 700 462' font-family='Helvetica, Arial, sans-serif' font-size='11' text-anchor='middle'>
 <rect width='100%' height='100%' fill='#ffffff'/>
 <text x='16' y='30' font-size='19' font-weight='bold' text-anchor='start'>Lithe, harts 2, sites 1, entries 5</text>
 <text x='56' y='72' text-anchor='start'>entries in order, not time</text>
@@ -14,13 +14,13 @@ const FIRST_SVG: &[u8] =
 <text x='88' y='279'>the program's body</text>
 <rect x='216' y='268' width='24' height='14' fill='#e3e6e9' stroke='#9aa4ad'><title>an idle hart</title></rect>
 <text x='248' y='279'>an idle hart</text>
-<rect x='336' y='268' width='24' height='14' fill='#cfe3f8' stroke='#2c5d8f'><title>a pool (par)</title></rect>
-<text x='368' y='279'>a pool (par)</text>
-<rect x='456' y='268' width='24' height='14' fill='#fbe3bd' stroke-dasharray='4 2' stroke='#8a5a12'><title>a team</title></rect>
-<text x='488' y='279'>a team</text>
+<rect x='336' y='268' width='24' height='14' fill='#cfe3f8' stroke='#2c5d8f'><title>a site</title></rect>
+<text x='368' y='279'>a site</text>
+<rect x='416' y='268' width='24' height='14' fill='#cfe3f8' stroke-dasharray='4 2' stroke='#2c5d8f'><title>a site of phases</title></rect>
+<text x='448' y='279'>a site of phases</text>
 <rect x='556' y='268' width='24' height='14' fill='#f6b3b9' stroke='#b00020'><title>a missed wish</title></rect>
 <text x='588' y='279'>a missed wish</text>
-<text x='56' y='300'>higher: deeper in the tree. a missed wish: a child of the base has an unmet wish while a hart is idle.</text>
+<text x='56' y='300'>higher and darker: deeper in the tree. a missed wish: a child of the base has an unmet wish while a hart is idle.</text>
 <text x='56' y='318'>+1: the home requests a hart. 1 unmet: a wish that no hart met. skip: a site that isn't entered.</text>
 </g>
 <text x='28' y='150' font-size='13' font-weight='bold'>h0</text>
@@ -75,6 +75,9 @@ const FIRST_SVG: &[u8] =
 <text x='428' y='233'>1</text>
 <text y='350' font-weight='bold'><tspan x='86'>requested</tspan><tspan x='146'>met</tspan><tspan x='196'>unmet</tspan><tspan x='266'>most guests</tspan><tspan x='366'>entries inside</tspan><tspan x='426' text-anchor='start'>site</tspan></text>
 <text y='368'><tspan x='86'>1</tspan><tspan x='146'>1</tspan><tspan x='196'>0</tspan><tspan x='266'>1</tspan><tspan x='366'>3</tspan><tspan x='426' text-anchor='start'>s1, pool, line 3, home h0</tspan></text>
+<text y='404' font-weight='bold'><tspan x='86'>entries made</tspan><tspan x='166'>stays</tspan><tspan x='246'>sites visited</tspan><tspan x='306' text-anchor='start'>hart</tspan></text>
+<text y='422'><tspan x='86'>3</tspan><tspan x='166'>3</tspan><tspan x='246'>1</tspan><tspan x='306' text-anchor='start'>h0</tspan></text>
+<text y='440'><tspan x='86'>2</tspan><tspan x='166'>3</tspan><tspan x='246'>1</tspan><tspan x='306' text-anchor='start'>h1</tspan></text>
 <text x='16' y='52' font-size='14' text-anchor='start'>legal 5
 </text>
 </svg>
@@ -150,14 +153,19 @@ idl     0     1     1
      1     1     0     1     3      s3 team, line 5, home h0
      1     0     1     0     2      s4 pool, line 9, home h1
 
+  made stays sites  hart
+     9     7     3  h0
+     7     7     3  h1
+
 reg registers a site, req requests harts, unreg unregisters the site
 unm unmet wishes, idl idle harts, ! a child of the base has an unmet wish while a hart is idle
 of sites: req requested harts, met and unmet wishes, guest most guests at once, made entries inside
+of harts: made entries, stays with those in the base, sites visited, each once
 legal 16
 ";
 
 const NESTED_SVG: &[u8] =
-    b"<svg xmlns='http://www.w3.org/2000/svg' version='1.1' width='1336' height='444' viewBox='0 0 1336 444' font-family='Helvetica, Arial, sans-serif' font-size='11' text-anchor='middle'>
+    b"<svg xmlns='http://www.w3.org/2000/svg' version='1.1' width='1336' height='516' viewBox='0 0 1336 516' font-family='Helvetica, Arial, sans-serif' font-size='11' text-anchor='middle'>
 <rect width='100%' height='100%' fill='#ffffff'/>
 <text x='16' y='30' font-size='19' font-weight='bold' text-anchor='start'>Lithe, harts 2, sites 4, entries 16</text>
 <text x='56' y='72' text-anchor='start'>entries in order, not time</text>
@@ -166,13 +174,13 @@ const NESTED_SVG: &[u8] =
 <text x='88' y='279'>the program's body</text>
 <rect x='216' y='268' width='24' height='14' fill='#e3e6e9' stroke='#9aa4ad'><title>an idle hart</title></rect>
 <text x='248' y='279'>an idle hart</text>
-<rect x='336' y='268' width='24' height='14' fill='#cfe3f8' stroke='#2c5d8f'><title>a pool (par)</title></rect>
-<text x='368' y='279'>a pool (par)</text>
-<rect x='456' y='268' width='24' height='14' fill='#fbe3bd' stroke-dasharray='4 2' stroke='#8a5a12'><title>a team</title></rect>
-<text x='488' y='279'>a team</text>
+<rect x='336' y='268' width='24' height='14' fill='#cfe3f8' stroke='#2c5d8f'><title>a site</title></rect>
+<text x='368' y='279'>a site</text>
+<rect x='416' y='268' width='24' height='14' fill='#cfe3f8' stroke-dasharray='4 2' stroke='#2c5d8f'><title>a site of phases</title></rect>
+<text x='448' y='279'>a site of phases</text>
 <rect x='556' y='268' width='24' height='14' fill='#f6b3b9' stroke='#b00020'><title>a missed wish</title></rect>
 <text x='588' y='279'>a missed wish</text>
-<text x='56' y='300'>higher: deeper in the tree. a missed wish: a child of the base has an unmet wish while a hart is idle.</text>
+<text x='56' y='300'>higher and darker: deeper in the tree. a missed wish: a child of the base has an unmet wish while a hart is idle.</text>
 <text x='56' y='318'>+1: the home requests a hart. 1 unmet: a wish that no hart met. skip: a site that isn't entered.</text>
 </g>
 <text x='28' y='150' font-size='13' font-weight='bold'>h0</text>
@@ -247,11 +255,11 @@ const NESTED_SVG: &[u8] =
 <text x='92' y='153'>base</text>
 <rect x='128' y='136' width='144' height='14' fill='#cfe3f8' stroke='#2c5d8f'><title>h0 in s1, pool, line 2, from entry 0 to entry 2</title></rect>
 <text x='200' y='147'>s1 pool</text>
-<rect x='272' y='130' width='360' height='14' fill='#f6c987' stroke-dasharray='4 2' stroke='#8a5a12'><title>h0 in s2, team, line 5, from entry 2 to entry 7</title></rect>
+<rect x='272' y='130' width='360' height='14' fill='#9fc8f0' stroke-dasharray='4 2' stroke='#2c5d8f'><title>h0 in s2, team, line 5, from entry 2 to entry 7</title></rect>
 <text x='452' y='141'>s2 team</text>
 <rect x='632' y='136' width='72' height='14' fill='#cfe3f8' stroke='#2c5d8f'><title>h0 in s1, pool, line 2, from entry 7 to entry 8</title></rect>
 <text x='668' y='147'>s1 pool</text>
-<rect x='704' y='130' width='360' height='14' fill='#f6c987' stroke-dasharray='4 2' stroke='#8a5a12'><title>h0 in s3, team, line 5, from entry 8 to entry 13</title></rect>
+<rect x='704' y='130' width='360' height='14' fill='#9fc8f0' stroke-dasharray='4 2' stroke='#2c5d8f'><title>h0 in s3, team, line 5, from entry 8 to entry 13</title></rect>
 <text x='884' y='141'>s3 team</text>
 <rect x='1064' y='136' width='144' height='14' fill='#cfe3f8' stroke='#2c5d8f'><title>h0 in s1, pool, line 2, from entry 13 to entry 15</title></rect>
 <text x='1136' y='147'>s1 pool</text>
@@ -265,7 +273,7 @@ const NESTED_SVG: &[u8] =
 <text x='632' y='185'>s4 pool</text>
 <rect x='776' y='180' width='144' height='14' fill='#cfe3f8' stroke='#2c5d8f'><title>h1 in s1, pool, line 2, from entry 9 to entry 11</title></rect>
 <text x='848' y='191'>s1 pool</text>
-<rect x='920' y='174' width='72' height='14' fill='#f6c987' stroke-dasharray='4 2' stroke='#8a5a12'><title>h1 in s3, team, line 5, from entry 11 to entry 12</title></rect>
+<rect x='920' y='174' width='72' height='14' fill='#9fc8f0' stroke-dasharray='4 2' stroke='#2c5d8f'><title>h1 in s3, team, line 5, from entry 11 to entry 12</title></rect>
 <text x='956' y='185'>s3 team</text>
 <rect x='992' y='180' width='144' height='14' fill='#cfe3f8' stroke='#2c5d8f'><title>h1 in s1, pool, line 2, from entry 12 to entry 14</title></rect>
 <text x='1064' y='191'>s1 pool</text>
@@ -318,6 +326,9 @@ const NESTED_SVG: &[u8] =
 <text y='386'><tspan x='86'>1</tspan><tspan x='146'>0</tspan><tspan x='196'>1</tspan><tspan x='266'>0</tspan><tspan x='366'>2</tspan><tspan x='426' text-anchor='start'>s2, team, line 5, in s1, home h0</tspan></text>
 <text y='404'><tspan x='86'>1</tspan><tspan x='146'>1</tspan><tspan x='196'>0</tspan><tspan x='266'>1</tspan><tspan x='366'>3</tspan><tspan x='426' text-anchor='start'>s3, team, line 5, in s1, home h0</tspan></text>
 <text y='422'><tspan x='86'>1</tspan><tspan x='146'>0</tspan><tspan x='196'>1</tspan><tspan x='266'>0</tspan><tspan x='366'>2</tspan><tspan x='426' text-anchor='start'>s4, pool, line 9, in s1, home h1</tspan></text>
+<text y='458' font-weight='bold'><tspan x='86'>entries made</tspan><tspan x='166'>stays</tspan><tspan x='246'>sites visited</tspan><tspan x='306' text-anchor='start'>hart</tspan></text>
+<text y='476'><tspan x='86'>9</tspan><tspan x='166'>7</tspan><tspan x='246'>3</tspan><tspan x='306' text-anchor='start'>h0</tspan></text>
+<text y='494'><tspan x='86'>7</tspan><tspan x='166'>7</tspan><tspan x='246'>3</tspan><tspan x='306' text-anchor='start'>h1</tspan></text>
 <text x='16' y='52' font-size='14' text-anchor='start'>legal 16
 </text>
 </svg>
@@ -366,9 +377,14 @@ idl     1     1     1     1     1     1
      0     0     0     0     0      s3 team, line 5, skipped
      0     0     0     0     0      s4 pool, line 9, skipped
 
+  made stays sites  hart
+     5     3     1  h0
+     0     1     0  h1
+
 reg registers a site, req requests harts, unreg unregisters the site
 unm unmet wishes, idl idle harts, ! a child of the base has an unmet wish while a hart is idle
 of sites: req requested harts, met and unmet wishes, guest most guests at once, made entries inside
+of harts: made entries, stays with those in the base, sites visited, each once
 at the end: s2 was skipped, but the program enters it
 illegal: entry 5, s2 is skipped
 ";
@@ -403,15 +419,20 @@ idl     1     1    !1    !1
      0     0     0     0     0      s3 team, line 5, not entered
      0     0     0     0     0      s4 pool, line 9, not entered
 
+  made stays sites  hart
+     3     3     2  h0
+     0     1     0  h1
+
 reg registers a site, req requests harts, unreg unregisters the site
 unm unmet wishes, idl idle harts, ! a child of the base has an unmet wish while a hart is idle
 of sites: req requested harts, met and unmet wishes, guest most guests at once, made entries inside
+of harts: made entries, stays with those in the base, sites visited, each once
 entry 3: h1 register s4: the hart is in s0, not in s1
 illegal: entry 3, owner is s0
 ";
 
 const ILLEGAL_SVG: &[u8] =
-    b"<svg xmlns='http://www.w3.org/2000/svg' version='1.1' width='700' height='444' viewBox='0 0 700 444' font-family='Helvetica, Arial, sans-serif' font-size='11' text-anchor='middle'>
+    b"<svg xmlns='http://www.w3.org/2000/svg' version='1.1' width='700' height='516' viewBox='0 0 700 516' font-family='Helvetica, Arial, sans-serif' font-size='11' text-anchor='middle'>
 <rect width='100%' height='100%' fill='#ffffff'/>
 <text x='16' y='30' font-size='19' font-weight='bold' text-anchor='start'>Lithe, harts 2, sites 4, entries 3</text>
 <text x='56' y='72' text-anchor='start'>entries in order, not time</text>
@@ -420,13 +441,13 @@ const ILLEGAL_SVG: &[u8] =
 <text x='88' y='279'>the program's body</text>
 <rect x='216' y='268' width='24' height='14' fill='#e3e6e9' stroke='#9aa4ad'><title>an idle hart</title></rect>
 <text x='248' y='279'>an idle hart</text>
-<rect x='336' y='268' width='24' height='14' fill='#cfe3f8' stroke='#2c5d8f'><title>a pool (par)</title></rect>
-<text x='368' y='279'>a pool (par)</text>
-<rect x='456' y='268' width='24' height='14' fill='#fbe3bd' stroke-dasharray='4 2' stroke='#8a5a12'><title>a team</title></rect>
-<text x='488' y='279'>a team</text>
+<rect x='336' y='268' width='24' height='14' fill='#cfe3f8' stroke='#2c5d8f'><title>a site</title></rect>
+<text x='368' y='279'>a site</text>
+<rect x='416' y='268' width='24' height='14' fill='#cfe3f8' stroke-dasharray='4 2' stroke='#2c5d8f'><title>a site of phases</title></rect>
+<text x='448' y='279'>a site of phases</text>
 <rect x='556' y='268' width='24' height='14' fill='#f6b3b9' stroke='#b00020'><title>a missed wish</title></rect>
 <text x='588' y='279'>a missed wish</text>
-<text x='56' y='300'>higher: deeper in the tree. a missed wish: a child of the base has an unmet wish while a hart is idle.</text>
+<text x='56' y='300'>higher and darker: deeper in the tree. a missed wish: a child of the base has an unmet wish while a hart is idle.</text>
 <text x='56' y='318'>+1: the home requests a hart. 1 unmet: a wish that no hart met. skip: a site that isn't entered.</text>
 </g>
 <text x='28' y='150' font-size='13' font-weight='bold'>h0</text>
@@ -449,7 +470,7 @@ const ILLEGAL_SVG: &[u8] =
 <text x='92' y='153'>base</text>
 <rect x='128' y='136' width='144' height='14' fill='#cfe3f8' stroke='#2c5d8f'><title>h0 in s1, pool, line 2, from entry 0 to entry 2</title></rect>
 <text x='200' y='147'>s1 pool</text>
-<rect x='272' y='130' width='72' height='14' fill='#f6c987' stroke-dasharray='4 2' stroke='#8a5a12'><title>h0 in s2, team, line 5, from entry 2 to the end</title></rect>
+<rect x='272' y='130' width='72' height='14' fill='#9fc8f0' stroke-dasharray='4 2' stroke='#2c5d8f'><title>h0 in s2, team, line 5, from entry 2 to the end</title></rect>
 <text x='308' y='141'>s2 team</text>
 <rect x='56' y='186' width='288' height='14' fill='#e3e6e9' stroke='#9aa4ad'><title>h1 in base, idle, from the start to the end</title></rect>
 <text x='200' y='197'>base</text>
@@ -472,6 +493,9 @@ const ILLEGAL_SVG: &[u8] =
 <text y='386'><tspan x='86'>0</tspan><tspan x='146'>0</tspan><tspan x='196'>0</tspan><tspan x='266'>0</tspan><tspan x='366'>0</tspan><tspan x='426' text-anchor='start'>s2, team, line 5, in s1, home h0, not ended</tspan></text>
 <text y='404'><tspan x='86'>0</tspan><tspan x='146'>0</tspan><tspan x='196'>0</tspan><tspan x='266'>0</tspan><tspan x='366'>0</tspan><tspan x='426' text-anchor='start'>s3, team, line 5, in s1, not entered</tspan></text>
 <text y='422'><tspan x='86'>0</tspan><tspan x='146'>0</tspan><tspan x='196'>0</tspan><tspan x='266'>0</tspan><tspan x='366'>0</tspan><tspan x='426' text-anchor='start'>s4, pool, line 9, in s1, not entered</tspan></text>
+<text y='458' font-weight='bold'><tspan x='86'>entries made</tspan><tspan x='166'>stays</tspan><tspan x='246'>sites visited</tspan><tspan x='306' text-anchor='start'>hart</tspan></text>
+<text y='476'><tspan x='86'>3</tspan><tspan x='166'>3</tspan><tspan x='246'>2</tspan><tspan x='306' text-anchor='start'>h0</tspan></text>
+<text y='494'><tspan x='86'>0</tspan><tspan x='166'>1</tspan><tspan x='246'>0</tspan><tspan x='306' text-anchor='start'>h1</tspan></text>
 <text x='16' y='52' font-size='14' text-anchor='start'>illegal: entry 3, owner is s0
 </text>
 </svg>
@@ -501,9 +525,14 @@ idl     1
 
    req   met unmet guest  made  base
 
+  made stays sites  hart
+     0     1     0  h0
+     0     1     0  h1
+
 reg registers a site, req requests harts, unreg unregisters the site
 unm unmet wishes, idl idle harts, ! a child of the base has an unmet wish while a hart is idle
 of sites: req requested harts, met and unmet wishes, guest most guests at once, made entries inside
+of harts: made entries, stays with those in the base, sites visited, each once
 illegal: line 1 differs
 ";
 
@@ -533,9 +562,14 @@ idl     1     1
    req   met unmet guest  made  base
      0     0     0     0     0    s1 pool, line 1, home h0, not ended
 
+  made stays sites  hart
+     1     2     1  h0
+     0     1     0  h1
+
 reg registers a site, req requests harts, unreg unregisters the site
 unm unmet wishes, idl idle harts, ! a child of the base has an unmet wish while a hart is idle
 of sites: req requested harts, met and unmet wishes, guest most guests at once, made entries inside
+of harts: made entries, stays with those in the base, sites visited, each once
 entry 1: h1 enter s1: no wish
 illegal: line 1 differs
 ";
@@ -558,9 +592,13 @@ idl     0
 
    req   met unmet guest  made  base
 
+  made stays sites  hart
+     0     1     0  h0
+
 reg registers a site, req requests harts, unreg unregisters the site
 unm unmet wishes, idl idle harts, ! a child of the base has an unmet wish while a hart is idle
 of sites: req requested harts, met and unmet wishes, guest most guests at once, made entries inside
+of harts: made entries, stays with those in the base, sites visited, each once
 legal 0
 ";
 

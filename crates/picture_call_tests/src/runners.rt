@@ -52,9 +52,14 @@ idl     1     1     1
    req   met unmet guest  made  base
      0     0     0     0     1    s1 pool, line 3, home h0
 
+  made stays sites  hart
+     2     3     1  h0
+     0     1     0  h1
+
 reg registers a site, req requests harts, unreg unregisters the site
 unm unmet wishes, idl idle harts, ! a child of the base has an unmet wish while a hart is idle
 of sites: req requested harts, met and unmet wishes, guest most guests at once, made entries inside
+of harts: made entries, stays with those in the base, sites visited, each once
 illegal: line 1 differs
 ";
 
@@ -107,11 +112,40 @@ unm     0     0     1     0     0     0
 idl     1     1    !1     0     1     1
 
    req   met unmet guest  made  base
-     1     1     0     1     3    s1 team, line 3, home h0
+     1     1     0     1     3    s1 pipe, line 3, home h0
+
+  made stays sites  hart
+     3     3     1  h0
+     2     3     1  h1
 
 reg registers a site, req requests harts, unreg unregisters the site
 unm unmet wishes, idl idle harts, ! a child of the base has an unmet wish while a hart is idle
 of sites: req requested harts, met and unmet wishes, guest most guests at once, made entries inside
+of harts: made entries, stays with those in the base, sites visited, each once
+legal 5
+";
+
+// The same picture of an output of `run` or `tally`, whose scheduler is a team.
+const TEAM_TEXT: &[u8] = b"    entry     0     1     2     3     4
+            reg   req enter yield unreg
+             h0  h0+1    h1    h1    h0
+             s1    s1    s1    s1    s1
+h0   base    s1    s1    s1    s1  base
+h1   base  base  base    s1  base  base
+unm     0     0     1     0     0     0
+idl     1     1    !1     0     1     1
+
+   req   met unmet guest  made  base
+     1     1     0     1     3    s1 team, line 3, home h0
+
+  made stays sites  hart
+     3     3     1  h0
+     2     3     1  h1
+
+reg registers a site, req requests harts, unreg unregisters the site
+unm unmet wishes, idl idle harts, ! a child of the base has an unmet wish while a hart is idle
+of sites: req requested harts, met and unmet wishes, guest most guests at once, made entries inside
+of harts: made entries, stays with those in the base, sites visited, each once
 legal 5
 ";
 
@@ -137,15 +171,15 @@ transfers 5
 #[test]
 fn an_output_of_pipe_is_drawn(rt: HostRuntime) -> Result<(), Fail> {
     serve(&rt, OF_PIPE, PIPE, Status::Done, PIPE_TEXT, b"")?;
-    serve(&rt, OF_RUN, PIPE, Status::Done, PIPE_TEXT, b"")
+    serve(&rt, OF_RUN, PIPE, Status::Done, TEAM_TEXT, b"")
 }
 
 #[test]
 fn pipe_refuses_what_run_and_tally_take(rt: HostRuntime) -> Result<(), Fail> {
     let line = b"refused: crossing on a[4] at line 3\n";
     serve(&rt, OF_PIPE, CROSSING, Status::Refused, b"", line)?;
-    serve(&rt, OF_RUN, CROSSING, Status::Done, PIPE_TEXT, b"")?;
-    serve(&rt, OF_TALLY, CROSSING, Status::Done, PIPE_TEXT, b"")
+    serve(&rt, OF_RUN, CROSSING, Status::Done, TEAM_TEXT, b"")?;
+    serve(&rt, OF_TALLY, CROSSING, Status::Done, TEAM_TEXT, b"")
 }
 
 // What `tally` refuses: a statement that is no add, a name that it needs, an overlap on an array that isn't accumulating; what

@@ -42,9 +42,14 @@ idl     1     1    !1     0     1     1
    req   met unmet guest  made  base
      1     1     0     1     3    s1 pool, line 3, home h0
 
+  made stays sites  hart
+     3     3     1  h0
+     2     3     1  h1
+
 reg registers a site, req requests harts, unreg unregisters the site
 unm unmet wishes, idl idle harts, ! a child of the base has an unmet wish while a hart is idle
 of sites: req requested harts, met and unmet wishes, guest most guests at once, made entries inside
+of harts: made entries, stays with those in the base, sites visited, each once
 legal 5
 ";
 

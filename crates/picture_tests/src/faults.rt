@@ -155,11 +155,13 @@ const CASES: [Case; 14] = [
 
 const SHAPES: [Shape; 2] = [
     Shape {
-        kind: Kind::Pool,
+        kind: Kind::POOL,
+        phased: false,
         line: 3,
     },
     Shape {
-        kind: Kind::Team,
+        kind: Kind::TEAM,
+        phased: true,
         line: 4,
     },
 ];

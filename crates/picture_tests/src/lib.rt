@@ -4,6 +4,8 @@
 #[cfg(test)]
 mod faults;
 #[cfg(test)]
+mod kinds;
+#[cfg(test)]
 mod longest;
 #[cfg(test)]
 mod many;
@@ -11,5 +13,7 @@ mod many;
 mod pictures;
 #[cfg(test)]
 mod stays;
+#[cfg(test)]
+mod travels;
 #[cfg(test)]
 mod visits;

@@ -36,7 +36,8 @@ fn longest(alloc: Global, harts: u8, sites: u16) -> Result<Vec<Entry>, AllocErro
 // Each of so many sites is a pool of the first line.
 fn shapes(alloc: Global, sites: u16) -> Result<Vec<Shape>, AllocError> {
     vec![in alloc; Shape {
-        kind: Kind::Pool,
+        kind: Kind::POOL,
+        phased: false,
         line: 1
     }; sites as usize]
 }
@@ -73,7 +74,7 @@ fn the_longest_journal_of_four_harts_is_drawn_in_32_rows(rt: HostRuntime) -> Res
         &list,
         b"legal 45045\n",
     )?;
-    let fits = text.len() == 1_271_116 && rectangles(&text) == 6_522;
+    let fits = text.len() == 1_271_915 && rectangles(&text) == 6_522;
     assert!(rt; fits);
     Ok(())
 }
@@ -94,7 +95,7 @@ fn the_longest_journal_of_sixteen_harts_is_drawn_in_32_rows(rt: HostRuntime) -> 
         &list,
         b"legal 65518\n",
     )?;
-    let fits = text.len() == 1_560_351 && rectangles(&text) == 7_616;
+    let fits = text.len() == 1_562_949 && rectangles(&text) == 7_616;
     assert!(rt; fits);
     Ok(())
 }
@@ -110,6 +111,6 @@ fn the_longest_journal_as_text(rt: HostRuntime) -> Result<(), Fail> {
     let all = all(alloc, 4095)?;
     assert_eq!(rt; all.len(), plan.sites() as usize);
     let text = text_picture(alloc, &plan, &all, &shapes, &list, b"legal 45045\n")?;
-    assert_eq!(rt; text.len(), 3_280_815);
+    assert_eq!(rt; text.len(), 3_281_012);
     Ok(())
 }

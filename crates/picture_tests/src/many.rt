@@ -4,7 +4,8 @@ use std::test::Fail;
 use transfer_table::{Entry, Plan};
 
 const POOL: [Shape; 1] = [Shape {
-    kind: Kind::Pool,
+    kind: Kind::POOL,
+    phased: false,
     line: 3,
 }];
 
@@ -47,9 +48,28 @@ idl    15    15   !15    14    15    15
    req   met unmet guest  made  base
      1     1     0     1     3    s1 pool, line 3, home h0
 
+  made stays sites  hart
+     3     3     1  h0
+     0     1     0  h1
+     0     1     0  h2
+     0     1     0  h3
+     0     1     0  h4
+     0     1     0  h5
+     0     1     0  h6
+     0     1     0  h7
+     0     1     0  h8
+     0     1     0  h9
+     2     3     1  h10
+     0     1     0  h11
+     0     1     0  h12
+     0     1     0  h13
+     0     1     0  h14
+     0     1     0  h15
+
 reg registers a site, req requests harts, unreg unregisters the site
 unm unmet wishes, idl idle harts, ! a child of the base has an unmet wish while a hart is idle
 of sites: req requested harts, met and unmet wishes, guest most guests at once, made entries inside
+of harts: made entries, stays with those in the base, sites visited, each once
 legal 5
 ";
 

@@ -15,9 +15,14 @@ idl     1     1    !1     0     1     1
    req   met unmet guest  made  base
      1     1     0     1     3    s1 pool, line 3, home h0
 
+  made stays sites  hart
+     3     3     1  h0
+     2     3     1  h1
+
 reg registers a site, req requests harts, unreg unregisters the site
 unm unmet wishes, idl idle harts, ! a child of the base has an unmet wish while a hart is idle
 of sites: req requested harts, met and unmet wishes, guest most guests at once, made entries inside
+of harts: made entries, stays with those in the base, sites visited, each once
 legal 5
 ";
 
@@ -36,9 +41,14 @@ idl     1     1    !1    !1    !1     0     0     0     0     0     1     1
      1     0     1     0     2      s2 team, line 6, home h0
      1     0     1     0     2      s3 pool, line 10, home h1
 
+  made stays sites  hart
+     6     5     2  h0
+     5     5     2  h1
+
 reg registers a site, req requests harts, unreg unregisters the site
 unm unmet wishes, idl idle harts, ! a child of the base has an unmet wish while a hart is idle
 of sites: req requested harts, met and unmet wishes, guest most guests at once, made entries inside
+of harts: made entries, stays with those in the base, sites visited, each once
 legal 11
 ";
 
@@ -56,9 +66,14 @@ idl     1     1     1     1     1
      0     0     0     0     0      s2 team, line 6, skipped
      0     0     0     0     0      s3 pool, line 10, skipped
 
+  made stays sites  hart
+     4     3     1  h0
+     0     1     0  h1
+
 reg registers a site, req requests harts, unreg unregisters the site
 unm unmet wishes, idl idle harts, ! a child of the base has an unmet wish while a hart is idle
 of sites: req requested harts, met and unmet wishes, guest most guests at once, made entries inside
+of harts: made entries, stays with those in the base, sites visited, each once
 at the end: s2 was skipped, but the program enters it
 illegal: entry 4, s2 is skipped
 ";
@@ -77,9 +92,14 @@ idl     1     1     1     1     1
      0     0     0     0     0      s2 team, line 6, skipped
      0     0     0     0     0      s3 pool, line 10, skipped
 
+  made stays sites  hart
+     4     3     1  h0
+     0     1     0  h1
+
 reg registers a site, req requests harts, unreg unregisters the site
 unm unmet wishes, idl idle harts, ! a child of the base has an unmet wish while a hart is idle
 of sites: req requested harts, met and unmet wishes, guest most guests at once, made entries inside
+of harts: made entries, stays with those in the base, sites visited, each once
 legal 4
 ";
 
@@ -97,15 +117,20 @@ idl     1     1    !1    !1
      0     0     0     0     0      s2 team, line 6, home h0, not ended
      0     0     0     0     0      s3 pool, line 10, not entered
 
+  made stays sites  hart
+     3     3     2  h0
+     0     1     0  h1
+
 reg registers a site, req requests harts, unreg unregisters the site
 unm unmet wishes, idl idle harts, ! a child of the base has an unmet wish while a hart is idle
 of sites: req requested harts, met and unmet wishes, guest most guests at once, made entries inside
+of harts: made entries, stays with those in the base, sites visited, each once
 entry 3: h1 register s3: the hart is in s0, not in s1
 illegal: entry 3, owner is s0
 ";
 
 const FIRST_SVG: &[u8] =
-    b"<svg xmlns='http://www.w3.org/2000/svg' version='1.1' width='700' height='390' viewBox='0 0 700 390' font-family='Helvetica, Arial, sans-serif' font-size='11' text-anchor='middle'>
+    b"<svg xmlns='http://www.w3.org/2000/svg' version='1.1' width='700' height='462' viewBox='0 0 700 462' font-family='Helvetica, Arial, sans-serif' font-size='11' text-anchor='middle'>
 <rect width='100%' height='100%' fill='#ffffff'/>
 <text x='16' y='30' font-size='19' font-weight='bold' text-anchor='start'>Lithe, harts 2, sites 1, entries 5</text>
 <text x='56' y='72' text-anchor='start'>entries in order, not time</text>
@@ -114,13 +139,13 @@ const FIRST_SVG: &[u8] =
 <text x='88' y='279'>the program's body</text>
 <rect x='216' y='268' width='24' height='14' fill='#e3e6e9' stroke='#9aa4ad'><title>an idle hart</title></rect>
 <text x='248' y='279'>an idle hart</text>
-<rect x='336' y='268' width='24' height='14' fill='#cfe3f8' stroke='#2c5d8f'><title>a pool (par)</title></rect>
-<text x='368' y='279'>a pool (par)</text>
-<rect x='456' y='268' width='24' height='14' fill='#fbe3bd' stroke-dasharray='4 2' stroke='#8a5a12'><title>a team</title></rect>
-<text x='488' y='279'>a team</text>
+<rect x='336' y='268' width='24' height='14' fill='#cfe3f8' stroke='#2c5d8f'><title>a site</title></rect>
+<text x='368' y='279'>a site</text>
+<rect x='416' y='268' width='24' height='14' fill='#cfe3f8' stroke-dasharray='4 2' stroke='#2c5d8f'><title>a site of phases</title></rect>
+<text x='448' y='279'>a site of phases</text>
 <rect x='556' y='268' width='24' height='14' fill='#f6b3b9' stroke='#b00020'><title>a missed wish</title></rect>
 <text x='588' y='279'>a missed wish</text>
-<text x='56' y='300'>higher: deeper in the tree. a missed wish: a child of the base has an unmet wish while a hart is idle.</text>
+<text x='56' y='300'>higher and darker: deeper in the tree. a missed wish: a child of the base has an unmet wish while a hart is idle.</text>
 <text x='56' y='318'>+1: the home requests a hart. 1 unmet: a wish that no hart met. skip: a site that isn't entered.</text>
 </g>
 <text x='28' y='150' font-size='13' font-weight='bold'>h0</text>
@@ -175,13 +200,16 @@ const FIRST_SVG: &[u8] =
 <text x='428' y='233'>1</text>
 <text y='350' font-weight='bold'><tspan x='86'>requested</tspan><tspan x='146'>met</tspan><tspan x='196'>unmet</tspan><tspan x='266'>most guests</tspan><tspan x='366'>entries inside</tspan><tspan x='426' text-anchor='start'>site</tspan></text>
 <text y='368'><tspan x='86'>1</tspan><tspan x='146'>1</tspan><tspan x='196'>0</tspan><tspan x='266'>1</tspan><tspan x='366'>3</tspan><tspan x='426' text-anchor='start'>s1, pool, line 3, home h0</tspan></text>
+<text y='404' font-weight='bold'><tspan x='86'>entries made</tspan><tspan x='166'>stays</tspan><tspan x='246'>sites visited</tspan><tspan x='306' text-anchor='start'>hart</tspan></text>
+<text y='422'><tspan x='86'>3</tspan><tspan x='166'>3</tspan><tspan x='246'>1</tspan><tspan x='306' text-anchor='start'>h0</tspan></text>
+<text y='440'><tspan x='86'>2</tspan><tspan x='166'>3</tspan><tspan x='246'>1</tspan><tspan x='306' text-anchor='start'>h1</tspan></text>
 <text x='16' y='52' font-size='14' text-anchor='start'>legal 5
 </text>
 </svg>
 ";
 
 const NESTED_SVG: &[u8] =
-    b"<svg xmlns='http://www.w3.org/2000/svg' version='1.1' width='976' height='426' viewBox='0 0 976 426' font-family='Helvetica, Arial, sans-serif' font-size='11' text-anchor='middle'>
+    b"<svg xmlns='http://www.w3.org/2000/svg' version='1.1' width='976' height='498' viewBox='0 0 976 498' font-family='Helvetica, Arial, sans-serif' font-size='11' text-anchor='middle'>
 <rect width='100%' height='100%' fill='#ffffff'/>
 <text x='16' y='30' font-size='19' font-weight='bold' text-anchor='start'>Lithe, harts 2, sites 3, entries 11</text>
 <text x='56' y='72' text-anchor='start'>entries in order, not time</text>
@@ -190,13 +218,13 @@ const NESTED_SVG: &[u8] =
 <text x='88' y='279'>the program's body</text>
 <rect x='216' y='268' width='24' height='14' fill='#e3e6e9' stroke='#9aa4ad'><title>an idle hart</title></rect>
 <text x='248' y='279'>an idle hart</text>
-<rect x='336' y='268' width='24' height='14' fill='#cfe3f8' stroke='#2c5d8f'><title>a pool (par)</title></rect>
-<text x='368' y='279'>a pool (par)</text>
-<rect x='456' y='268' width='24' height='14' fill='#fbe3bd' stroke-dasharray='4 2' stroke='#8a5a12'><title>a team</title></rect>
-<text x='488' y='279'>a team</text>
+<rect x='336' y='268' width='24' height='14' fill='#cfe3f8' stroke='#2c5d8f'><title>a site</title></rect>
+<text x='368' y='279'>a site</text>
+<rect x='416' y='268' width='24' height='14' fill='#cfe3f8' stroke-dasharray='4 2' stroke='#2c5d8f'><title>a site of phases</title></rect>
+<text x='448' y='279'>a site of phases</text>
 <rect x='556' y='268' width='24' height='14' fill='#f6b3b9' stroke='#b00020'><title>a missed wish</title></rect>
 <text x='588' y='279'>a missed wish</text>
-<text x='56' y='300'>higher: deeper in the tree. a missed wish: a child of the base has an unmet wish while a hart is idle.</text>
+<text x='56' y='300'>higher and darker: deeper in the tree. a missed wish: a child of the base has an unmet wish while a hart is idle.</text>
 <text x='56' y='318'>+1: the home requests a hart. 1 unmet: a wish that no hart met. skip: a site that isn't entered.</text>
 </g>
 <text x='28' y='150' font-size='13' font-weight='bold'>h0</text>
@@ -251,7 +279,7 @@ const NESTED_SVG: &[u8] =
 <text x='92' y='153'>base</text>
 <rect x='128' y='136' width='144' height='14' fill='#cfe3f8' stroke='#2c5d8f'><title>h0 in s1, pool, line 4, from entry 0 to entry 2</title></rect>
 <text x='200' y='147'>s1 pool</text>
-<rect x='272' y='130' width='432' height='14' fill='#f6c987' stroke-dasharray='4 2' stroke='#8a5a12'><title>h0 in s2, team, line 6, from entry 2 to entry 8</title></rect>
+<rect x='272' y='130' width='432' height='14' fill='#9fc8f0' stroke-dasharray='4 2' stroke='#2c5d8f'><title>h0 in s2, team, line 6, from entry 2 to entry 8</title></rect>
 <text x='488' y='141'>s2 team</text>
 <rect x='704' y='136' width='144' height='14' fill='#cfe3f8' stroke='#2c5d8f'><title>h0 in s1, pool, line 4, from entry 8 to entry 10</title></rect>
 <text x='776' y='147'>s1 pool</text>
@@ -303,13 +331,16 @@ const NESTED_SVG: &[u8] =
 <text y='368'><tspan x='86'>1</tspan><tspan x='146'>1</tspan><tspan x='196'>0</tspan><tspan x='266'>1</tspan><tspan x='366'>5</tspan><tspan x='426' text-anchor='start'>s1, pool, line 4, home h0</tspan></text>
 <text y='386'><tspan x='86'>1</tspan><tspan x='146'>0</tspan><tspan x='196'>1</tspan><tspan x='266'>0</tspan><tspan x='366'>2</tspan><tspan x='426' text-anchor='start'>s2, team, line 6, in s1, home h0</tspan></text>
 <text y='404'><tspan x='86'>1</tspan><tspan x='146'>0</tspan><tspan x='196'>1</tspan><tspan x='266'>0</tspan><tspan x='366'>2</tspan><tspan x='426' text-anchor='start'>s3, pool, line 10, in s1, home h1</tspan></text>
+<text y='440' font-weight='bold'><tspan x='86'>entries made</tspan><tspan x='166'>stays</tspan><tspan x='246'>sites visited</tspan><tspan x='306' text-anchor='start'>hart</tspan></text>
+<text y='458'><tspan x='86'>6</tspan><tspan x='166'>5</tspan><tspan x='246'>2</tspan><tspan x='306' text-anchor='start'>h0</tspan></text>
+<text y='476'><tspan x='86'>5</tspan><tspan x='166'>5</tspan><tspan x='246'>2</tspan><tspan x='306' text-anchor='start'>h1</tspan></text>
 <text x='16' y='52' font-size='14' text-anchor='start'>legal 11
 </text>
 </svg>
 ";
 
 const FAULTY_SVG: &[u8] =
-    b"<svg xmlns='http://www.w3.org/2000/svg' version='1.1' width='700' height='426' viewBox='0 0 700 426' font-family='Helvetica, Arial, sans-serif' font-size='11' text-anchor='middle'>
+    b"<svg xmlns='http://www.w3.org/2000/svg' version='1.1' width='700' height='498' viewBox='0 0 700 498' font-family='Helvetica, Arial, sans-serif' font-size='11' text-anchor='middle'>
 <rect width='100%' height='100%' fill='#ffffff'/>
 <text x='16' y='30' font-size='19' font-weight='bold' text-anchor='start'>Lithe, harts 2, sites 3, entries 3</text>
 <text x='56' y='72' text-anchor='start'>entries in order, not time</text>
@@ -318,13 +349,13 @@ const FAULTY_SVG: &[u8] =
 <text x='88' y='279'>the program's body</text>
 <rect x='216' y='268' width='24' height='14' fill='#e3e6e9' stroke='#9aa4ad'><title>an idle hart</title></rect>
 <text x='248' y='279'>an idle hart</text>
-<rect x='336' y='268' width='24' height='14' fill='#cfe3f8' stroke='#2c5d8f'><title>a pool (par)</title></rect>
-<text x='368' y='279'>a pool (par)</text>
-<rect x='456' y='268' width='24' height='14' fill='#fbe3bd' stroke-dasharray='4 2' stroke='#8a5a12'><title>a team</title></rect>
-<text x='488' y='279'>a team</text>
+<rect x='336' y='268' width='24' height='14' fill='#cfe3f8' stroke='#2c5d8f'><title>a site</title></rect>
+<text x='368' y='279'>a site</text>
+<rect x='416' y='268' width='24' height='14' fill='#cfe3f8' stroke-dasharray='4 2' stroke='#2c5d8f'><title>a site of phases</title></rect>
+<text x='448' y='279'>a site of phases</text>
 <rect x='556' y='268' width='24' height='14' fill='#f6b3b9' stroke='#b00020'><title>a missed wish</title></rect>
 <text x='588' y='279'>a missed wish</text>
-<text x='56' y='300'>higher: deeper in the tree. a missed wish: a child of the base has an unmet wish while a hart is idle.</text>
+<text x='56' y='300'>higher and darker: deeper in the tree. a missed wish: a child of the base has an unmet wish while a hart is idle.</text>
 <text x='56' y='318'>+1: the home requests a hart. 1 unmet: a wish that no hart met. skip: a site that isn't entered.</text>
 </g>
 <text x='28' y='150' font-size='13' font-weight='bold'>h0</text>
@@ -347,7 +378,7 @@ const FAULTY_SVG: &[u8] =
 <text x='92' y='153'>base</text>
 <rect x='128' y='136' width='144' height='14' fill='#cfe3f8' stroke='#2c5d8f'><title>h0 in s1, pool, line 4, from entry 0 to entry 2</title></rect>
 <text x='200' y='147'>s1 pool</text>
-<rect x='272' y='130' width='72' height='14' fill='#f6c987' stroke-dasharray='4 2' stroke='#8a5a12'><title>h0 in s2, team, line 6, from entry 2 to the end</title></rect>
+<rect x='272' y='130' width='72' height='14' fill='#9fc8f0' stroke-dasharray='4 2' stroke='#2c5d8f'><title>h0 in s2, team, line 6, from entry 2 to the end</title></rect>
 <text x='308' y='141'>s2 team</text>
 <rect x='56' y='186' width='288' height='14' fill='#e3e6e9' stroke='#9aa4ad'><title>h1 in base, idle, from the start to the end</title></rect>
 <text x='200' y='197'>base</text>
@@ -369,13 +400,16 @@ const FAULTY_SVG: &[u8] =
 <text y='368'><tspan x='86'>1</tspan><tspan x='146'>0</tspan><tspan x='196'>1</tspan><tspan x='266'>0</tspan><tspan x='366'>2</tspan><tspan x='426' text-anchor='start'>s1, pool, line 4, home h0, not ended</tspan></text>
 <text y='386'><tspan x='86'>0</tspan><tspan x='146'>0</tspan><tspan x='196'>0</tspan><tspan x='266'>0</tspan><tspan x='366'>0</tspan><tspan x='426' text-anchor='start'>s2, team, line 6, in s1, home h0, not ended</tspan></text>
 <text y='404'><tspan x='86'>0</tspan><tspan x='146'>0</tspan><tspan x='196'>0</tspan><tspan x='266'>0</tspan><tspan x='366'>0</tspan><tspan x='426' text-anchor='start'>s3, pool, line 10, in s1, not entered</tspan></text>
+<text y='440' font-weight='bold'><tspan x='86'>entries made</tspan><tspan x='166'>stays</tspan><tspan x='246'>sites visited</tspan><tspan x='306' text-anchor='start'>hart</tspan></text>
+<text y='458'><tspan x='86'>3</tspan><tspan x='166'>3</tspan><tspan x='246'>2</tspan><tspan x='306' text-anchor='start'>h0</tspan></text>
+<text y='476'><tspan x='86'>0</tspan><tspan x='166'>1</tspan><tspan x='246'>0</tspan><tspan x='306' text-anchor='start'>h1</tspan></text>
 <text x='16' y='52' font-size='14' text-anchor='start'>illegal: entry 3, owner is s0
 </text>
 </svg>
 ";
 
 const SKIPPED_SVG: &[u8] =
-    b"<svg xmlns='http://www.w3.org/2000/svg' version='1.1' width='700' height='426' viewBox='0 0 700 426' font-family='Helvetica, Arial, sans-serif' font-size='11' text-anchor='middle'>
+    b"<svg xmlns='http://www.w3.org/2000/svg' version='1.1' width='700' height='498' viewBox='0 0 700 498' font-family='Helvetica, Arial, sans-serif' font-size='11' text-anchor='middle'>
 <rect width='100%' height='100%' fill='#ffffff'/>
 <text x='16' y='30' font-size='19' font-weight='bold' text-anchor='start'>Lithe, harts 2, sites 3, entries 4</text>
 <text x='56' y='72' text-anchor='start'>entries in order, not time</text>
@@ -384,13 +418,13 @@ const SKIPPED_SVG: &[u8] =
 <text x='88' y='279'>the program's body</text>
 <rect x='216' y='268' width='24' height='14' fill='#e3e6e9' stroke='#9aa4ad'><title>an idle hart</title></rect>
 <text x='248' y='279'>an idle hart</text>
-<rect x='336' y='268' width='24' height='14' fill='#cfe3f8' stroke='#2c5d8f'><title>a pool (par)</title></rect>
-<text x='368' y='279'>a pool (par)</text>
-<rect x='456' y='268' width='24' height='14' fill='#fbe3bd' stroke-dasharray='4 2' stroke='#8a5a12'><title>a team</title></rect>
-<text x='488' y='279'>a team</text>
+<rect x='336' y='268' width='24' height='14' fill='#cfe3f8' stroke='#2c5d8f'><title>a site</title></rect>
+<text x='368' y='279'>a site</text>
+<rect x='416' y='268' width='24' height='14' fill='#cfe3f8' stroke-dasharray='4 2' stroke='#2c5d8f'><title>a site of phases</title></rect>
+<text x='448' y='279'>a site of phases</text>
 <rect x='556' y='268' width='24' height='14' fill='#f6b3b9' stroke='#b00020'><title>a missed wish</title></rect>
 <text x='588' y='279'>a missed wish</text>
-<text x='56' y='300'>higher: deeper in the tree. a missed wish: a child of the base has an unmet wish while a hart is idle.</text>
+<text x='56' y='300'>higher and darker: deeper in the tree. a missed wish: a child of the base has an unmet wish while a hart is idle.</text>
 <text x='56' y='318'>+1: the home requests a hart. 1 unmet: a wish that no hart met. skip: a site that isn't entered.</text>
 </g>
 <text x='28' y='150' font-size='13' font-weight='bold'>h0</text>
@@ -437,6 +471,9 @@ const SKIPPED_SVG: &[u8] =
 <text y='368'><tspan x='86'>0</tspan><tspan x='146'>0</tspan><tspan x='196'>0</tspan><tspan x='266'>0</tspan><tspan x='366'>3</tspan><tspan x='426' text-anchor='start'>s1, pool, line 4, home h0</tspan></text>
 <text y='386'><tspan x='86'>0</tspan><tspan x='146'>0</tspan><tspan x='196'>0</tspan><tspan x='266'>0</tspan><tspan x='366'>0</tspan><tspan x='426' text-anchor='start'>s2, team, line 6, in s1, skipped</tspan></text>
 <text y='404'><tspan x='86'>0</tspan><tspan x='146'>0</tspan><tspan x='196'>0</tspan><tspan x='266'>0</tspan><tspan x='366'>0</tspan><tspan x='426' text-anchor='start'>s3, pool, line 10, in s1, skipped</tspan></text>
+<text y='440' font-weight='bold'><tspan x='86'>entries made</tspan><tspan x='166'>stays</tspan><tspan x='246'>sites visited</tspan><tspan x='306' text-anchor='start'>hart</tspan></text>
+<text y='458'><tspan x='86'>4</tspan><tspan x='166'>3</tspan><tspan x='246'>1</tspan><tspan x='306' text-anchor='start'>h0</tspan></text>
+<text y='476'><tspan x='86'>0</tspan><tspan x='166'>1</tspan><tspan x='246'>0</tspan><tspan x='306' text-anchor='start'>h1</tspan></text>
 <text x='16' y='52' font-size='14' text-anchor='start'>legal 4
 </text>
 </svg>
@@ -501,21 +538,25 @@ const FAULTY: [Entry; 5] = [
 ];
 
 const ONE: [Shape; 1] = [Shape {
-    kind: Kind::Pool,
+    kind: Kind::POOL,
+    phased: false,
     line: 3,
 }];
 
 const THREE: [Shape; 3] = [
     Shape {
-        kind: Kind::Pool,
+        kind: Kind::POOL,
+        phased: false,
         line: 4,
     },
     Shape {
-        kind: Kind::Team,
+        kind: Kind::TEAM,
+        phased: true,
         line: 6,
     },
     Shape {
-        kind: Kind::Pool,
+        kind: Kind::POOL,
+        phased: false,
         line: 10,
     },
 ];

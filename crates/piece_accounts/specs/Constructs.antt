@@ -16,18 +16,18 @@ use Rattle.step_eval.specs.Phases.{store_before}
 use Rattle.site_passes.specs.Entering.{work_entered}
 use Rattle.piece_accounts.specs.Piece.{IsRunConstruct}
 
--- The sites of a job are over as it enters them.
+-- The sites of a job have ended as it enters them.
 abbrev pub IsOverJob : Plan → List Entry → Arrays → JobTree → Type 0
 IsOverJob p es arrays job =
     AreOverAs p es job.first (work_entered arrays job.work job.vars job.store)
 
--- So are those of each job of a phase, over the store that the phases before it leave.
+-- The sites of each job of a phase have ended so, over the store that the earlier phases leave.
 abbrev pub IsOverPhase : Plan → List Entry → NestedTree → ℕ → Type 0
 IsOverPhase p es nested phase = (job : JobTree)
     → IsMember job (jobs_in nested phase (store_before nested phase))
     → IsOverJob p es (arrays_of nested.arrays) job
 
--- Where the construct's own site came and went, and each phase is over, the construct's sites are over as it enters them.
+-- If the construct's own site came and went, and each phase has ended, the construct's sites have ended as it enters them.
 abbrev pub ConstructsAreOver : Type 0
 ConstructsAreOver =
     (p : Plan) (es : List Entry) (nested : NestedTree) → HaveCells (arrays_of nested.arrays)
@@ -46,7 +46,7 @@ IsInside x (job ∷ more) =
 abbrev pub LiesIn : ℕ → ℕ → JobTree → Type 0
 LiesIn s n job = 0 < sites_of job.work → (s ≤ job.first) × (job.first + sites_of job.work ≤ s + n)
 
--- Of n sites from s on, of which those inside the jobs that are done are over, and the others are fresh.
+-- Of n sites from s on, those inside the jobs that are done have ended, and the others are fresh.
 pub record IsServed (p : Plan) (start es : List Entry) (arrays : Arrays) (s n : ℕ)
     (done : List JobTree) : Type 0 where
   pub over : (job : JobTree) → IsMember job done → IsOverJob p es arrays job
@@ -54,12 +54,12 @@ pub record IsServed (p : Plan) (start es : List Entry) (arrays : Arrays) (s n : 
   pub grown : HasGrown p start es
   pub outside : KeepsOutside p start es s n
 
--- At first none is done.
+-- Fresh sites are served so, with no job done.
 abbrev pub ServingBegins : Type 0
 ServingBegins = (p : Plan) (es : List Entry) (arrays : Arrays) (s n : ℕ) → AreFresh p es s n
     → IsServed p es es arrays s n []
 
--- The sites of a job are fresh that are inside none that is done.
+-- The sites of a job that is not done, and has none of the done jobs' sites, are fresh.
 abbrev pub OtherJobsAreFresh : Type 0
 OtherJobsAreFresh =
     (p : Plan) (start es : List Entry) (arrays : Arrays) (s n : ℕ) (done : List JobTree)
@@ -68,7 +68,7 @@ OtherJobsAreFresh =
     → ((x : ℕ) → job.first ≤ x → x < job.first + sites_of job.work → IsInside x done → ⊥)
     → AreFresh p es job.first (sites_of job.work)
 
--- And with that job run it is one more that is done.
+-- When that job has run, it is done.
 abbrev pub ServingGoesOn : Type 0
 ServingGoesOn =
     (p : Plan) (start es es' : List Entry) (arrays : Arrays) (s n : ℕ) (done : List JobTree)
@@ -78,8 +78,8 @@ ServingGoesOn =
     → KeepsOutside p es es' job.first (sites_of job.work)
     → IsServed p start es' arrays s n (job ∷ done)
 
--- A construct whose sites were fresh was registered, served until each job of its phases was done, and unregistered: its sites
--- are over as it enters them, and nothing else was touched.
+-- A construct with fresh sites was registered, served until each job of its phases was done, and unregistered: its sites have
+-- ended as it enters them, and no other site was touched.
 abbrev pub ServedConstructsAreRun : Type 0
 ServedConstructsAreRun =
     (p : Plan) (before es : List Entry) (hart : ℕ) (nested : NestedTree) (done : List JobTree) →
@@ -93,7 +93,7 @@ ServedConstructsAreRun =
     → IsRunConstruct p before (es ++ Unregister hart s ∷ []) s n
     (statement_entered arrays nested.construct nested.vars nested.store)
 
--- It is a job of one of the construct's phases.
+-- The job is a job of one of the construct's phases.
 pub record IsJobOf (nested : NestedTree) (job : JobTree) : Type 0 where
   pub phase : ℕ
   pub small : phase < phases_of nested.construct
@@ -107,11 +107,12 @@ pub record HasOwnSites (nested : NestedTree) (job : JobTree) : Type 0 where
       → other.first ≤ x → x < other.first + sites_of other.work
       → other ≡ job
 
+-- Each job of a fit construct has sites of its own.
 abbrev pub JobsHaveOwnSites : Type 0
 JobsHaveOwnSites = (nested : NestedTree) → IsFitNest nested → (job : JobTree) → IsJobOf nested job
     → HasOwnSites nested job
 
--- So while a construct is served the sites of each job that isn't done are fresh.
+-- So while a construct is served, the sites of each job that isn't done are fresh.
 abbrev pub JobsNotDoneAreFresh : Type 0
 JobsNotDoneAreFresh =
     (p : Plan) (start es : List Entry) (nested : NestedTree) (done : List JobTree) (job : JobTree) →

@@ -1,58 +1,61 @@
-//! The account of a machine that runs a job on a hart alone: from fresh sites to sites that are over as the job enters them.
+//! The account of a machine that runs a job on a single hart: from fresh sites (neither registered nor skipped) to sites that
+//! have ended as the job enters them.
 //!
-//! The crate holds definitions and laws. No code here runs: each function's contract is a law, and its body is empty.
+//! The crate holds definitions and laws. No code here runs: each function's contract is a law, and its body is empty. Begin
+//! with `specs/Piece.antt`; `site_accounts` has the accounts of a plan, and the tests of `lithe_tests` run programs whose
+//! journals the laws are about.
 #![tactic(auto)]
 
 ghost use Rattle.piece_accounts.specs.Piece.{AccountsBegin, AccountsStep, AccountsPassConstructs, NextConstructsAreFresh, NextPassesAreFresh, AccountsEnd};
 ghost use Rattle.piece_accounts.specs.Constructs.{ConstructsAreOver, ServingBegins, OtherJobsAreFresh, ServingGoesOn, ServedConstructsAreRun, JobsHaveOwnSites, JobsNotDoneAreFresh};
 
-/// A machine that is made of a job whose sites are fresh is accounted.
+/// A machine that is made of a job with fresh sites has an account.
 pub fn accounts_begin()
     ensures { AccountsBegin }
 {}
 
-/// So it is after a step that hands out no construct, once the hart skipped what it was told.
+/// It has an account after a step that hands out no construct, once the hart has skipped the sites of the step.
 pub fn accounts_step()
     ensures { AccountsStep }
 {}
 
-/// And behind a construct, once it was run.
+/// It has an account after a construct, once the construct has run.
 pub fn accounts_pass_constructs()
     ensures { AccountsPassConstructs }
 {}
 
-/// The sites of a construct that is next are fresh.
+/// The sites of the next construct are fresh.
 pub fn next_constructs_are_fresh()
     ensures { NextConstructsAreFresh }
 {}
 
-/// At the end all sites of the job are over as they are meant.
+/// At the end all sites of the job have ended as they are meant to.
 pub fn accounts_end()
     ensures { AccountsEnd }
 {}
 
-/// Where a construct's own site came and went, and each job of its phases is over as it enters its sites, the construct is over
-/// as it enters its own.
+/// If a construct's own site came and went, and each job of its phases has ended as it enters its sites, the construct has
+/// ended as it enters its own.
 pub fn constructs_are_over()
     ensures { ConstructsAreOver }
 {}
 
-/// While a construct is served, no job is done at first.
+/// When a construct begins to be served, no job is done.
 pub fn serving_begins()
     ensures { ServingBegins }
 {}
 
-/// The sites of a job are fresh that are inside none that is done.
+/// The sites of a job that has none of the done jobs' sites are fresh.
 pub fn other_jobs_are_fresh()
     ensures { OtherJobsAreFresh }
 {}
 
-/// With that job run it is one more that is done.
+/// When that job has run, it is done.
 pub fn serving_goes_on()
     ensures { ServingGoesOn }
 {}
 
-/// A construct that is registered, served until all its jobs are done, and unregistered is over as it enters its sites.
+/// A construct that is registered, served until all its jobs are done, and unregistered has ended as it enters its sites.
 pub fn served_constructs_are_run()
     ensures { ServedConstructsAreRun }
 {}
@@ -62,12 +65,12 @@ pub fn jobs_have_own_sites()
     ensures { JobsHaveOwnSites }
 {}
 
-/// So while a construct is served the sites of each job that isn't done are fresh.
+/// So while a construct is served, the sites of each job that isn't done are fresh.
 pub fn jobs_not_done_are_fresh()
     ensures { JobsNotDoneAreFresh }
 {}
 
-/// The sites of a span that a hart is told of are fresh.
+/// The sites of a span that a hart has to skip are fresh.
 pub fn next_passes_are_fresh()
     ensures { NextPassesAreFresh }
 {}

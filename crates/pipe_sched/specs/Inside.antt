@@ -1,4 +1,4 @@
--- What only private contracts and proofs need: the places of a pipeline with what they hold.
+-- Definitions for private contracts and proofs only: the slots of a pipeline with their contents.
 use Rattle.std.specs.Prelude.{◌≡◌, ◌↔◌, ℕ, zero, suc, ◌+◌, ◌-◌, ◌*◌, ◌%◌, ◌<◌, ◌≤◌, List, [], ◌∷◌, ◌++◌, true, map, length, slice_get, slice_index_or, get_or, Some}
 use Rattle.array_tree.specs.Trees.{statement_of}
 use Rattle.array_meaning.specs.Stores.{Store, Write}
@@ -13,7 +13,7 @@ use Rattle.pipe_sched.specs.Slots.{Mark, Waiting, Barred, Out, Filled, Lost, IsA
 use Rattle.phase_order.specs.Pipes.{written_before}
 use Rattle.pipe_sched.specs.Pipes.{IsJobAt}
 
--- The mark of a slot is what became of its piece, without the contents.
+-- The mark of a slot: its state without the contents.
 abbrev pub mark_of : Slot → Mark
 mark_of slot.Waiting = Waiting
 mark_of slot.Barred = Barred
@@ -21,7 +21,7 @@ mark_of (slot.Out job) = Out
 mark_of (slot.Filled job written) = Filled
 mark_of (slot.Lost job) = Lost
 
--- The slot was handed out with this job.
+-- The slot's piece was handed out with this job.
 abbrev pub HasJob : Slot → JobParts → Type 0
 HasJob slot.Waiting job = ⊥
 HasJob slot.Barred job = ⊥
@@ -37,7 +37,8 @@ failed_slot (slot.Out job) = slot.Lost job
 failed_slot (slot.Filled job written) = slot.Filled job written
 failed_slot (slot.Lost job) = slot.Lost job
 
--- The slot is right: if it was handed out, its job is that of member j in phase k, and it is filled with what this job writes.
+-- A right slot: if its piece was handed out, its job is the job of member j in phase k, and it is filled with the writes of
+-- this job.
 abbrev pub IsRight : NestedTree → ℕ → ℕ → Slot → Type 0
 IsRight nested j k slot.Waiting = Unit {0}
 IsRight nested j k slot.Barred = Unit {0}
@@ -46,11 +47,11 @@ IsRight nested j k (slot.Filled job written) =
     IsJobAt nested j k (job_of job) × (written.pairs ≡ piece_of_job (job_of job))
 IsRight nested j k (slot.Lost job) = IsJobAt nested j k (job_of job)
 
--- All that come before a piece that was handed out are filled.
+-- All pieces that come before a piece that was handed out are filled.
 abbrev pub AreInOrder : ℕ → List Mark → Type 0
 AreInOrder phases marks = (j k : ℕ) (mark : Mark) → IsAt phases marks j k mark → is_begun mark ≡ true → IsClear phases marks j k
 
--- What the type keeps of a construct and the places of its pieces.
+-- The invariant of a construct and the slots of its pieces.
 pub record IsKept (nested : NestedParts) (slots : List Slot) : Type 0 where
   pub team : kind_of (statement_of nested.construct) ≡ Some kind.Team
   pub fit : IsFitNest (nested_of nested)
@@ -59,12 +60,12 @@ pub record IsKept (nested : NestedParts) (slots : List Slot) : Type 0 where
       slice_get slots (j * phases_in nested + k) ≡ Some own → IsRight (nested_of nested) j k own
   pub order : AreInOrder (phases_in nested) (map mark_of slots)
 
--- For each member the first phase of which no piece was handed out: just those before it are begun.
+-- For each member the first phase whose piece was not handed out: exactly the phases before it are begun.
 abbrev pub AreNext : ℕ → List Mark → List ℕ → Type 0
 AreNext phases marks next = (j k : ℕ) (mark : Mark) → IsAt phases marks j k mark
     → (is_begun mark ≡ true) ↔ (k < get_or next j 0)
 
--- What the type keeps of these beside the places.
+-- The invariant of these numbers and the slots.
 pub record IsHeld (nested : NestedParts) (slots : List Slot) (next : List ℕ) : Type 0 where
   pub kept : IsKept nested slots
   pub members : length next ≡ members_in nested
@@ -78,18 +79,18 @@ AreSettled slots = (i : ℕ) (own : Slot) → slice_get slots i ≡ Some own →
 abbrev pub HaveFailed : List Slot → Type 0
 HaveFailed slots = (i : ℕ) × (own : Slot) × (slice_get slots i ≡ Some own) × (is_failed (mark_of own) ≡ true)
 
--- A place has this mark.
+-- The mark at an index.
 abbrev pub mark_at : List Slot → ℕ → Mark
 mark_at slots i = mark_of (slice_index_or slots i slot.Barred)
 
--- The piece at a place waits, and the two are filled that come right before it: that of the same member in the phase before, and
+-- The piece at an index waits, and the two pieces right before it are filled: that of the same member in the phase before, and
 -- that of the member below in the same phase.
 pub record LooksReady (phases : ℕ) (slots : List Slot) (i : ℕ) : Type 0 where
   pub waits : mark_at slots i ≡ Waiting
   pub earlier : 0 < i % phases → mark_at slots (i - 1) ≡ Filled
   pub below : phases ≤ i → mark_at slots (i - phases) ≡ Filled
 
--- What a place holds of what its piece writes.
+-- The writes in a slot.
 abbrev pub written_in : Slot → List Write
 written_in slot.Waiting = []
 written_in slot.Barred = []
@@ -97,7 +98,7 @@ written_in (slot.Out job) = []
 written_in (slot.Filled job written) = written.pairs
 written_in (slot.Lost job) = []
 
--- What the job of a place started from.
+-- The store from which the job of a slot started.
 abbrev pub started_from : Slot → Store
 started_from slot.Waiting = []
 started_from slot.Barred = []
@@ -105,18 +106,18 @@ started_from (slot.Out job) = job.store
 started_from (slot.Filled job written) = job.store
 started_from (slot.Lost job) = job.store
 
--- What the predecessors of member j in phase k wrote, and then its own piece.
+-- The writes of the predecessors of member j in phase k, followed by its own piece.
 abbrev pub written_with : List (List (List Write)) → ℕ → ℕ → List Write
 written_with rows j k = written_before rows j k ++ get_or (get_or rows k []) j []
 
--- What the first members have of a phase.
+-- The writes of the first members in a phase.
 abbrev pub column : ℕ → List Slot → ℕ → ℕ → List (List Write)
 column phases slots phase zero = []
 column phases slots phase (suc members) =
     column phases slots phase members
     ++ written_in (slice_index_or slots (members * phases + phase) slot.Barred) ∷ []
 
--- What the first members have of the first phases.
+-- The writes of the first members in the first phases.
 abbrev pub columns : ℕ → List Slot → ℕ → ℕ → List (List (List Write))
 columns phases slots members zero = []
 columns phases slots members (suc upto) =

@@ -1,4 +1,4 @@
--- The pieces of a pipeline: their jobs, and how they are handed out and come back.
+-- The pieces of a pipeline: their jobs, how they are handed out, and how they come back.
 use Rattle.std.specs.Prelude.{◌≡◌, ℕ, List, [], ◌∷◌, slice_get, Option, Some, None, Result, Ok, Err, true}
 use Rattle.array_meaning.specs.Stores.{Store, Write, arrays_of, after}
 use Rattle.array_jobs.specs.Jobs.{JobParts, JobTree, job_of}
@@ -10,16 +10,16 @@ use Rattle.phase_order.specs.Crossings.{HasNoCrossing}
 use Rattle.phase_order.specs.Pipes.{written_before, piped}
 use Rattle.pipe_sched.specs.Slots.{Mark, Out, Filled, PipeParts, IsMarked, IsDue, NoneIsDue, is_begun, marked_pipe, failed_pipe}
 
--- This is what the pieces of a construct write in a pipeline, phase after phase.
+-- The writes of the pieces of a construct in a pipeline, phase after phase.
 abbrev pub piped_writes : NestedTree → List (List (List Write))
 piped_writes nested =
     piped (arrays_of nested.arrays) (rounds_of nested.construct nested.vars) nested.store
 
--- The pieces that come before that of member j in phase k leave this store.
+-- The store that the predecessors of member j in phase k leave.
 abbrev pub piped_store : NestedTree → ℕ → ℕ → Store
 piped_store nested j k = after (written_before (piped_writes nested) j k) nested.store
 
--- The job is that of member j in phase k: it starts from that store.
+-- The job of member j in phase k: it starts from that store.
 abbrev pub IsJobAt : NestedTree → ℕ → ℕ → JobTree → Type 0
 IsJobAt nested j k job = slice_get (jobs_in nested k (piped_store nested j k)) j ≡ Some job
 
@@ -28,21 +28,21 @@ abbrev pub IsUncrossed : NestedTree → Type 0
 IsUncrossed nested =
     HasNoCrossing (arrays_of nested.arrays) (rounds_of nested.construct nested.vars)
 
--- The job was handed out: it is that of the member and the phase that it names, and this piece was handed out.
+-- The job was handed out: it is the job of the member and the phase that it names, and that piece was handed out.
 pub record WasHandedOut (pipe : PipeParts) (job : JobParts) : Type 0 where
   pub mark : Mark
   pub marked : IsMarked pipe job.place job.phase mark
   pub begun : is_begun mark ≡ true
   pub own : IsJobAt (nested_of pipe.nested) job.place job.phase (job_of job)
 
--- What is handed out is the piece that is due, with its job: that of the member and the phase that the job names.
+-- The pipeline hands out the piece that is due, with its job.
 pub record HandsOut (before : PipeParts) (job : JobParts) (after : PipeParts) : Type 0 where
   pub due : IsDue before job.place job.phase
   pub own : IsJobAt (nested_of before.nested) job.place job.phase (job_of job)
   pub marked : after ≡ marked_pipe before job.place job.phase Out
   pub out : IsMarked after job.place job.phase Out
 
--- The pipeline hands this out and is this afterwards. It hands out nothing only if no piece is due.
+-- A relation of the pipeline, the job handed out, and the pipeline afterwards. It hands out no job only if no piece is due.
 abbrev pub GivesDue : PipeParts → Option JobParts → PipeParts → Type 0
 GivesDue before (Some job) after = HandsOut before job after
 GivesDue before None after = NoneIsDue before × (after ≡ before)

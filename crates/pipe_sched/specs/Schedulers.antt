@@ -12,7 +12,7 @@ use Rattle.pipe_sched.specs.declared.work.PipeWork.TheVariants.{Begin, Ready}
 use Rattle.pipe_sched.specs.Slots.{PipeParts, NoneIsDue, phases_in, members_in, new_pipe}
 use Rattle.pipe_sched.specs.Pipes.{HandsOut, FailWhenDue}
 
--- Contracts see these parts of a pipe: its pieces, and what it has for harts beside them.
+-- The parts of a pipe that contracts see: its pieces, and its lists for harts.
 pub record SchedulerParts : Type 0 where
   pub state : PipeParts
   pub agenda : AgendaParts PipeWork
@@ -41,14 +41,14 @@ roomy_scheduler nested wishes = record {
 abbrev pub new_scheduler : NestedParts → SchedulerParts
 new_scheduler nested = roomy_scheduler nested MOST_WISHES
 
--- The oldest context that is ready goes on.
+-- The oldest ready context goes on.
 abbrev pub GoesOn : SchedulerParts → Next PipeWork → SchedulerParts → Type 0
 GoesOn before (Run work) after =
     TakesReady before.agenda work after.agenda × (after ≡ with_agenda before after.agenda)
 GoesOn before (Lend child) after = ⊥
 GoesOn before Nothing after = ⊥
 
--- The piece that is due is begun. Where none is, the hart is lent to the child of the oldest wish.
+-- The piece that is due begins. If none is due, the hart is lent to the child of the oldest wish.
 abbrev pub BeginsDue : SchedulerParts → Next PipeWork → SchedulerParts → Type 0
 BeginsDue before (Run (Begin job)) after =
     HandsOut before.state job after.state × (after ≡ with_state before after.state)
@@ -58,7 +58,7 @@ BeginsDue before (Lend child) after =
     × (after ≡ with_agenda before after.agenda)
 BeginsDue before Nothing after = NoneIsDue before.state × IsIdle before.agenda × (after ≡ before)
 
--- Where no context is ready, pieces that are due fail one after another if an allocation fails, and then the call returns.
+-- If no context is ready, pieces that are due fail one after another if an allocation fails, and then the call returns.
 pub record AnswersDue (before : SchedulerParts) (next : Next PipeWork)
     (after : SchedulerParts) : Type 0 where
   pub none_ready : before.agenda.ready ≡ []
@@ -67,7 +67,7 @@ pub record AnswersDue (before : SchedulerParts) (next : Next PipeWork)
   pub fail : FailWhenDue before.state failed left
   pub answer : BeginsDue (with_state before left) next after
 
--- The call `enter` of a pipe gives what its lists have.
+-- The result of `enter` of a pipe, by its lists.
 abbrev pub Answers : SchedulerParts → Next PipeWork → SchedulerParts → Type 0
 Answers before next after = GoesOn before next after ⊎ AnswersDue before next after
 

@@ -1,11 +1,11 @@
--- What became of the pieces of a `team`: one for each member in each phase.
+-- The state of the pieces of a `team`: one for each member in each phase.
 use Rattle.std.specs.Prelude.{◌≡◌, ◌⊎◌, ℕ, ◌+◌, ◌*◌, ◌/◌, ◌%◌, ◌<◌, ◌≤◌, nat_le, ◌&&◌, Bool, true, false, if◌then◌else◌, List, [], ◌∷◌, replicate, slice_get, slice_set, Some}
 use Rattle.array_tree.specs.Trees.{statement_of}
 use Rattle.step_eval.specs.Nests.{NestedParts, phases_of}
 use Rattle.step_eval.specs.Shapes.{members_of}
 
--- A piece waits until it is handed out, and then it is out until it is filled with what it writes, or lost by an allocation
--- failure. One that comes after a piece that failed is barred: it is never handed out.
+-- The state of a piece. It waits until it is handed out. Then it is out until it is filled with its writes, or lost by an
+-- allocation failure. A piece that comes after a failed one is barred: it is never handed out.
 pub data Mark : Type 0 where
   Waiting : Mark
   Barred : Mark
@@ -13,40 +13,40 @@ pub data Mark : Type 0 where
   Filled : Mark
   Lost : Mark
 
--- Contracts see these parts of a pipeline: its construct, and what became of each piece, member by member and then by phase.
+-- The parts of a pipeline that contracts see: its construct, and the state of each piece, member by member and then by phase.
 pub record PipeParts : Type 0 where
   pub nested : NestedParts
   pub marks : List Mark
 
--- How many phases a construct has, and how many members.
+-- The number of phases of a construct.
 abbrev pub phases_in : NestedParts → ℕ
 phases_in nested = phases_of (statement_of nested.construct)
 
--- The number of members is that of the construct.
+-- The number of members of a construct.
 abbrev pub members_in : NestedParts → ℕ
 members_in nested = members_of (statement_of nested.construct)
 
--- Member j is marked so in phase k, where marks are those of so many phases.
+-- Member j has this mark in phase k, if marks are those of so many phases.
 abbrev pub IsAt : ℕ → List Mark → ℕ → ℕ → Mark → Type 0
 IsAt phases marks j k mark = (k < phases) × (slice_get marks (j * phases + k) ≡ Some mark)
 
 -- The piece of member i in phase h comes before that of member j in phase k: neither its member nor its phase is higher, and
--- it is another one.
+-- the pieces differ.
 pub record ComesBefore (i h j k : ℕ) : Type 0 where
   pub member : i ≤ j
   pub phase : h ≤ k
   pub other : (i < j) ⊎ (h < k)
 
--- All that come before the piece are filled.
+-- All pieces that come before this one are filled.
 abbrev pub IsClear : ℕ → List Mark → ℕ → ℕ → Type 0
 IsClear phases marks j k = (i h : ℕ) → ComesBefore i h j k → IsAt phases marks i h Filled
 
--- The piece waits, and all that come before it are filled.
+-- The piece waits, and all pieces that come before it are filled.
 pub record IsReady (phases : ℕ) (marks : List Mark) (j k : ℕ) : Type 0 where
   pub waits : IsAt phases marks j k Waiting
   pub clear : IsClear phases marks j k
 
--- The piece is the first of those that are ready, by member and then by phase.
+-- The piece is the first ready one, by member and then by phase.
 pub record IsFirst (phases : ℕ) (marks : List Mark) (j k : ℕ) : Type 0 where
   pub ready : IsReady phases marks j k
   pub least : (i h : ℕ) → IsReady phases marks i h → (j < i) ⊎ ((j ≡ i) × (k ≤ h))
@@ -63,7 +63,7 @@ IsDue pipe j k = IsFirst (phases_in pipe.nested) pipe.marks j k
 abbrev pub NoneIsDue : PipeParts → Type 0
 NoneIsDue pipe = (j k : ℕ) → ¬ IsReady (phases_in pipe.nested) pipe.marks j k
 
--- A piece has begun if it was handed out, whatever became of it since.
+-- A piece has begun if it was handed out, for any later state.
 abbrev pub is_begun : Mark → Bool
 is_begun Waiting = false
 is_begun Barred = false
@@ -102,13 +102,13 @@ new_pipe nested = record {
   marks = replicate (members_in nested * phases_in nested) Waiting;
 }
 
--- Member j is marked so in phase k, in place of what it was.
+-- The pipeline with this mark for member j in phase k.
 abbrev pub marked_pipe : PipeParts → ℕ → ℕ → Mark → PipeParts
 marked_pipe pipe j k mark = record pipe {
   marks = slice_set pipe.marks (j * phases_in pipe.nested + k) mark;
 }
 
--- A failure of a piece, or of one that comes before it, leaves this mark.
+-- The mark of a piece after it, or a piece before it, has failed.
 abbrev pub failed_mark : Mark → Mark
 failed_mark Waiting = Barred
 failed_mark Barred = Barred
@@ -116,11 +116,11 @@ failed_mark Out = Lost
 failed_mark Filled = Filled
 failed_mark Lost = Lost
 
--- The test decides whether a place is that of member j or a higher one, in phase k or a later one.
+-- The test decides whether an index belongs to member j or a higher one, in phase k or a later one.
 abbrev pub follows : ℕ → ℕ → ℕ → ℕ → Bool
 follows phases j k place = nat_le j (place / phases) && nat_le k (place % phases)
 
--- The elements from this place on are changed whose place passes.
+-- The list with a change of each element whose index passes the test, from this index on.
 abbrev pub changed_where : {A : Type 0} → (ℕ → Bool) → (A → A) → ℕ → List A → List A
 changed_where test change place [] = []
 changed_where test change place (x ∷ more) =
@@ -136,7 +136,7 @@ failed_pipe pipe j k = record pipe {
 abbrev pub MayFail : PipeParts → ℕ → ℕ → Type 0
 MayFail pipe j k = IsMarked pipe j k Out ⊎ IsDue pipe j k
 
--- From this piece on all have failed.
+-- From this piece on, all pieces have failed.
 abbrev pub FailsFrom : PipeParts → ℕ → ℕ → Type 0
 FailsFrom pipe j k = (i h : ℕ) (mark : Mark) → j ≤ i → k ≤ h → IsMarked pipe i h mark
     → is_failed mark ≡ true

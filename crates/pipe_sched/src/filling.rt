@@ -1,4 +1,4 @@
-//! Pieces that come back, and pieces that fail for lack of memory.
+//! Pieces that come back, and pieces that fail because an allocation failed.
 ghost use Rattle.std.specs.Prelude.{◌≡◌, ◌↔◌, ◌<◌, IsTrue};
 ghost use Rattle.pipe_sched.specs.Slots.{Out, Filled, IsMarked, IsDue, MayFail, marked_pipe, failed_pipe, changed_where, follows, FailsFrom};
 ghost use Rattle.pipe_sched.specs.Pipes.{Deposits, WasHandedOut};
@@ -10,7 +10,7 @@ use array_jobs::{Job, Piece};
 use join_book::Deposit;
 
 impl<'p> PipeState<'p> {
-    /// Keeps a piece at the place of its job.
+    /// Puts a piece into the slot of its job.
     pub fn deposit(&mut self, piece: Piece<'p>) -> Deposit<'p>
         ensures { Deposits self.old piece.entry result self.new }
     {
@@ -24,8 +24,8 @@ impl<'p> PipeState<'p> {
         Deposit::Kept
     }
 
-    /// Reports that a piece failed. It must be handed out and not filled or failed, or the one that is due. Each piece
-    /// that comes after it fails too, and no other.
+    /// Reports that a piece failed. It must be handed out and neither filled nor failed, or it must be due. Each piece that
+    /// comes after it fails too, and no other.
     pub fn fail(&mut self, member: u8, phase: u8)
         requires { MayFail self.old member phase }
         ensures same { self.new ≡ failed_pipe self.old member phase }
@@ -40,7 +40,7 @@ impl<'p> PipeState<'p> {
         );
     }
 
-    // Whether the piece is out, or is the one that is due.
+    // Whether the piece is out, or is due.
     pub(crate) fn may_fail(&self, member: u8, phase: u8) -> bool
         ensures { IsTrue result ↔ MayFail self.now member phase }
     {
@@ -74,7 +74,7 @@ impl<'p> PipeState<'p> {
         }
     }
 
-    // Whether the piece of a member in a phase is the one that is due.
+    // Whether the piece of a member in a phase is due.
     fn is_due(&self, member: u8, phase: u8) -> bool
         ensures { IsTrue result ↔ IsDue self.now member phase }
     {

@@ -14,29 +14,30 @@ use sched_api::{Call, Next, Scheduler};
 use std::marker::PhantomData;
 use std::sync::Wait;
 
-/// How many times a hart that finds nothing snoozes inside one call of `enter`, at most, before it returns Nothing.
+/// The greatest number of snoozes of a hart that finds nothing inside one call of `enter`, before it returns `Nothing`.
 ///
 /// Why: a guest that leaves while pieces are out doesn't come back, since the wish that it met is spent.
 const SNOOZES: u32 = 100;
 
-/// One hart's hand on a shared pipe. Its calls do what those of `Pipe` do, under the lock, for which each may wait but `site`
-/// and the callbacks that change no list. Once the pipe is handed out, `enter` returns Nothing and `unblock` gives its context
-/// back.
+/// One hart's hand on a shared pipe. Its calls do what those of `Pipe` do, under the lock. Each call may block, except `site`
+/// and the callbacks that change no list. Once the pipe is handed out, `enter` returns `Nothing` and `unblock` returns its
+/// context.
 ///
-/// Where `enter` finds nothing and the pipe isn't full, it snoozes, a bounded number of times, until the pipe shows beside the
+/// If `enter` finds nothing and the pipe isn't full, it snoozes, a bounded number of times, until the pipe shows beside the
+/// lock that it has something for a hart. Then it takes the lock again.
 /// lock that it has something for a hart, and looks again.
 #[derive(Drop)]
 pub struct PipeHand<'a, 'p, R> {
     /// The pipe.
     pub shared: &'a SharedPipe<'p>,
-    /// What this hand found under the lock.
+    /// The looks of this hand under the lock.
     pub looks: Looks,
-    /// The runtime by which it waits.
+    /// The runtime on which it blocks.
     pub of: PhantomData<R>,
 }
 
 impl<'a, 'p, R> PipeHand<'a, 'p, R> {
-    /// A hand on the pipe. It doesn't wait.
+    /// A hand on the pipe. Does not block.
     pub fn new(shared: &'a SharedPipe<'p>) -> PipeHand<'a, 'p, R>
         ensures { result.shared ≡ shared.entry }
     {
@@ -49,7 +50,7 @@ impl<'a, 'p, R> PipeHand<'a, 'p, R> {
 }
 
 impl<'a, 'p, R: Wait + 'a> PipeHand<'a, 'p, R> {
-    /// What `deposit` of the pipe does. Where the pipe was handed out, each piece is a Stranger.
+    /// What `deposit` of the pipe does. If the pipe was handed out, each piece is a `Stranger`.
     pub fn deposit(&self, rt: &R, piece: Piece<'p>) -> Deposit<'p>
         ensures { GivesBack piece.entry result }
     {
@@ -62,16 +63,15 @@ impl<'a, 'p, R: Wait + 'a> PipeHand<'a, 'p, R> {
         answer
     }
 
-    /// What `fail` of the pipe does. Where the piece isn't handed out, or is filled or failed, and isn't the one that is due, it
-    /// does nothing.
+    /// What `fail` of the pipe does. It does nothing if the piece isn't handed out and isn't due, or is filled or failed.
     pub fn fail(&self, rt: &R, member: u8, phase: u8) {
         let mut kept = self.shared.kept().lock(rt);
         under_lock::fail(&mut kept, member, phase);
         self.shared.shown().show_full(&kept);
     }
 
-    /// Whether every piece of the pipe is filled or failed. One that was handed out is full. The lock isn't taken as long as it
-    /// isn't shown beside it.
+    /// Whether every piece of the pipe is filled or failed. A pipe that was handed out counts as full. It takes the lock only
+    /// if the flag beside the lock shows a full pipe.
     pub fn is_full(&self, rt: &R) -> bool {
         if !self.shared.shown().is_full() {
             return false;
@@ -82,7 +82,7 @@ impl<'a, 'p, R: Wait + 'a> PipeHand<'a, 'p, R> {
         }
     }
 
-    /// Whether some piece of the pipe is failed. It is false where the pipe was handed out.
+    /// Whether some piece of the pipe is failed; false if the pipe was handed out.
     pub fn has_failed(&self, rt: &R) -> bool {
         match self.shared.kept().lock(rt).as_ref() {
             Some(pipe) => pipe.has_failed(),
@@ -90,7 +90,7 @@ impl<'a, 'p, R: Wait + 'a> PipeHand<'a, 'p, R> {
         }
     }
 
-    /// Hands the pipe out, once. None exactly where it was handed out before, or isn't full. A None changes nothing.
+    /// Hands the pipe out, once. `None` exactly if it was handed out before, or isn't full; nothing changes then.
     pub fn take_out(&self, rt: &R) -> Option<Pipe<'p>>
         ensures { IfSome result (λ pipe. IsFull pipe.state) }
     {
@@ -98,7 +98,7 @@ impl<'a, 'p, R: Wait + 'a> PipeHand<'a, 'p, R> {
         under_lock::take_full(&mut kept)
     }
 
-    // Looks under the lock for what the pipe has for the hart.
+    // Looks under the lock for the pipe's action for the hart.
     fn look(&mut self, rt: &R) -> Next<PipeWork<'p>>
         ensures { AnswersHand self.old result self.new }
     {
@@ -118,7 +118,7 @@ impl<'a, 'p, R: Wait + 'a> Scheduler for PipeHand<'a, 'p, R> {
 
     ghost site_of = { λ hand. hand.shared.now.site };
 
-    // Nothing is known of what the lock has but what a look of the call found.
+    // Why: contracts know of the lock-protected pipe only what a look of the call found.
     ghost answers = { λ before next after. AnswersHand before next after };
 
     ghost hears = { λ before _ after. after ≡ before };

@@ -16,13 +16,17 @@ use std::alloc::AllocError;
 use step_eval::job_at;
 
 impl<'p> PipeState<'p> {
-    /// Hands out the piece that is due: of those that wait and after none that isn't filled, the one of the lowest member, and
-    /// of its phases the first. It is None exactly where there is none. The job starts from the construct's store with what
-    /// the pieces wrote that come before it.
+    /// Hands out the piece that is due: of the waiting pieces whose predecessors are all filled, the one of the lowest member,
+    /// and of its phases the first. `None` exactly if no piece is due. The job starts from the construct's store with the
+    /// writes of the pieces that come before it.
     ///
     /// # Errors
     ///
     /// `AllocError` if an allocation fails.
+    ///
+    /// # Memory
+    ///
+    /// It allocates a store.
     pub fn next(&mut self) -> Result<Option<Job<'p>>, AllocError>
         ensures { Gives self.old result self.new }
     {
@@ -32,7 +36,7 @@ impl<'p> PipeState<'p> {
         }
     }
 
-    // What `next` hands out, where a piece that is due fails if an allocation does, and the next one is asked for.
+    // The same as `next`, but a piece that is due fails if an allocation fails, and then the next one is tried.
     pub(crate) fn next_or_fail(&mut self) -> Option<Job<'p>>
         ensures { GivesAfterFailing self.old result self.new }
     {
@@ -69,15 +73,15 @@ impl<'p> PipeState<'p> {
         }
     }
 
-    // How many pieces became due where the piece of this member in this phase was filled: only the member's next piece and the
-    // next member's of the phase can.
+    // The number of pieces that become due when the piece of this member in this phase is filled: only the member's next piece
+    // and the next member's in this phase can.
     pub(crate) fn count_due_after(&self, member: u8, phase: u8) -> u8 {
         let own = self.looks_ready(member, phase.saturating_add(1));
         let above = self.looks_ready(member.saturating_add(1), phase);
         u8::from(own).saturating_add(u8::from(above))
     }
 
-    // Whether there is the piece of a member in a phase, and it looks ready.
+    // Whether the piece of a member in a phase exists and looks ready.
     fn looks_ready(&self, member: u8, phase: u8) -> bool {
         let phases = usize::from(self.nested.phases());
         let place = usize::from(member) * phases + usize::from(phase);
@@ -86,7 +90,7 @@ impl<'p> PipeState<'p> {
             && looks_ready(&self.slots, phases, place)
     }
 
-    // The job of a piece before which all are filled.
+    // The job of a piece whose predecessors are all filled.
     fn due_job(&self, member: u8, phase: u8) -> Result<Job<'p>, AllocError>
         requires { IsReady (phases_in self.now.nested) self.now.marks member phase }
         ensures own { IfOk result (λ job. IsJobAt (nested_of self.now.nested) member phase (job_of job)) }
@@ -97,8 +101,8 @@ impl<'p> PipeState<'p> {
         job_at(self.alloc, &self.nested, phase, member, &store)
     }
 
-    // The store that the pieces leave that come before this one. After what the same member's piece leaves in the phase before,
-    // that is what the lower members wrote in this phase.
+    // The store that the pieces before this one leave: the store that the same member's piece leaves in the phase before, with
+    // the writes of the lower members in this phase.
     fn store_before(&self, member: u8, phase: u8) -> Result<Store, AllocError>
         requires { IsReady (phases_in self.now.nested) self.now.marks member phase }
         ensures { IfOk result (λ store. store ≡ piped_store (nested_of self.now.nested) member phase) }
@@ -135,7 +139,7 @@ impl<'p> PipeState<'p> {
         store.to_store(self.alloc)
     }
 
-    // The store that a piece leaves where it is filled: what its job started from, with what it wrote.
+    // The store that a filled piece leaves: the store from which its job started, with its writes.
     fn store_after(&self, member: u8, phase: u8) -> Result<MarkedStore, AllocError>
         requires { IsMarked self.now member phase Filled }
         ensures { IfOk result (λ store. store.cells
@@ -146,7 +150,7 @@ impl<'p> PipeState<'p> {
         self.slots[place].store_left(self.alloc)
     }
 
-    // Keeps that a piece was handed out with this job.
+    // Records that a piece was handed out with this job.
     fn hand_out(&mut self, member: u8, phase: u8, job: Job<'p>)
         requires ready { IsReady (phases_in self.old.nested) self.old.marks member phase }
         requires own { IsJobAt (nested_of self.old.nested) member phase (job_of job) }
@@ -159,7 +163,7 @@ impl<'p> PipeState<'p> {
     }
 }
 
-// The first place that looks ready, if there is one. Of each member only the first piece can be that wasn't handed out.
+// The first index that looks ready, if there is one. Of each member, only the first piece that wasn't handed out can be ready.
 fn first_ready(slots: &[Slot], phases: usize, next: &[u8]) -> Option<usize>
     requires phases { 0 < phases }
     requires places { length slots.now ≡ length next.now * phases }
@@ -177,7 +181,7 @@ fn first_ready(slots: &[Slot], phases: usize, next: &[u8]) -> Option<usize>
     None
 }
 
-// The place of a member in a phase, if there is this phase and the place looks ready.
+// The index of a member in a phase, if the phase exists and the piece looks ready.
 fn ready_place(slots: &[Slot], phases: usize, member: usize, phase: usize) -> Option<usize>
     requires phases { 0 < phases }
     requires row { member * phases + phases ≤ length slots.now }
@@ -195,8 +199,8 @@ fn ready_place(slots: &[Slot], phases: usize, member: usize, phase: usize) -> Op
     Some(place)
 }
 
-// Whether the piece at a place waits, and those are filled that come right before it. Two neighbours decide, since all before a
-// filled place are filled.
+// Whether the piece at an index waits, and the two right before it are filled. Why two neighbours decide: all pieces before a
+// filled one are filled.
 fn looks_ready(slots: &[Slot], phases: usize, place: usize) -> bool
     requires phases { 0 < phases }
     requires there { place < length slots.now }

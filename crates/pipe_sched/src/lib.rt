@@ -1,10 +1,10 @@
-//! The state of a pipeline: members of a `team` that overtake one another.
+//! Pipelines: the scheduler of a `team` whose members overtake one another.
 //!
-//! No member waits at a barrier. It goes on to its next phase as soon as it has done its own and the members below it have
-//! done that next phase. The state has which piece is due, and has what came of each. A `Pipe` is the scheduler over it, for
-//! one hart. Harts share a `SharedPipe`, each by hands of its own.
+//! No member waits at a barrier. A member goes on to its next phase as soon as it has done its own and the members below it
+//! have done that next phase. The state knows which piece is due, and the state of each piece. A `Pipe` is the scheduler over
+//! it, for one hart. Harts share a `SharedPipe`, each by a hand of its own.
 //!
-//! Begin with `PipeState` in `state.rt` and `handing.rt`; the tests of `pipe_tests` run pipes by one hart and by threads.
+//! Begin with `PipeState` in `state.rt` and `handing.rt`; the tests of `pipe_tests` run pipes with one hart and with threads.
 #![tactic(auto)]
 
 mod filling;

@@ -1,4 +1,4 @@
-//! What a hand on a pipe finds under the lock.
+//! The looks of a hand on a pipe under the lock.
 ghost use Rattle.std.specs.Prelude.{◌≡◌, Some};
 ghost use Rattle.pipe_sched.specs.Hands.{Sees, found_in, found_by, AnswersUnder};
 
@@ -6,23 +6,22 @@ use crate::pipe::Pipe;
 use crate::work::PipeWork;
 use sched_api::{Next, Scheduler};
 
-/// What a look under the lock of a pipe found.
+/// The result of a look under the lock of a pipe.
 #[derive(Clone, Copy, Debug, PartialEq, Drop)]
 pub enum Found {
     /// The pipe was handed out before.
     HandedOut,
     /// No context was ready, no piece was due, and no child wished for a hart.
     NoneLeft,
-    /// A context that was ready.
+    /// A ready context.
     Ready,
-    /// No context that was ready, and the piece of this member in this phase, which was due.
+    /// No ready context, and the piece of this member in this phase, which was due.
     Due(u8, u8),
-    /// Neither, and the wish of this child.
+    /// No ready context, no due piece, and the wish of this child.
     Wish(u16),
 }
 
-/// How often a hand looked under the lock of its pipe, up to the last number, and what it found there last. Only a look
-/// changes it.
+/// The number of looks of a hand under the lock of its pipe, and the result of the last one. Only a look changes it.
 #[derive(Drop)]
 pub struct Looks {
     count: u64,
@@ -38,7 +37,7 @@ impl Looks {
         }
     }
 
-    // A further look, which found this.
+    // One more look, with this result.
     fn note(&mut self, found: Found)
         ensures { Sees self.old found self.new }
     {
@@ -46,7 +45,7 @@ impl Looks {
         self.last = Some(found);
     }
 
-    /// What the pipe has for a hart.
+    /// The pipe's action for a hart.
     pub(crate) fn enter<'p>(&mut self, kept: &mut Option<Pipe<'p>>) -> Next<PipeWork<'p>>
         ensures sees { Sees self.old (found_by kept.old result) self.new }
         ensures answers { AnswersUnder kept.old result kept.new }
@@ -61,7 +60,7 @@ impl Looks {
     }
 }
 
-// What a pipe has for a hart that gets this.
+// The result of a look that returned this action.
 fn found_of(next: &Next<PipeWork>) -> Found
     ensures { result ≡ found_in next.now }
 {

@@ -1,4 +1,4 @@
-//! Merging what pieces wrote.
+//! Merging the writes of pieces.
 ghost use Rattle.std.specs.Prelude.{◌≡◌, ◌*◌, ◌<◌, ◌≤◌, IfOk, IsErr, length};
 ghost use Rattle.array_eval.specs.Traces.{fresh, noted_all};
 ghost use Rattle.step_eval.specs.Nests.{nested_of, nested_writes};
@@ -14,8 +14,16 @@ use std::alloc::{AllocError, Global};
 use step_eval::Nested;
 
 impl<'p> PipeState<'p> {
-    /// What the whole construct writes where no two of its pieces cross, each cell with its last value, in whatever order the
-    /// pieces came. Every piece must be filled or failed; where one has failed, the result is an allocation failure.
+    /// What the whole construct writes if no two of its pieces cross: each cell with its last value. The pieces may have come
+    /// in any order. Every piece must be filled or failed.
+    ///
+    /// # Errors
+    ///
+    /// `AllocError` if a piece has failed, or an allocation fails.
+    ///
+    /// # Memory
+    ///
+    /// It allocates a store and the overlay.
     pub fn take_all(self) -> Result<Overlay, AllocError>
         requires { IsFull self }
         ensures failed { HasFailed self.entry → IsErr result }
@@ -34,7 +42,7 @@ impl<'p> PipeState<'p> {
     }
 }
 
-// The store before a construct, of which no cell is written yet.
+// The store before a construct, no cell of which is marked.
 pub(crate) fn fresh_store(alloc: Global, nested: &Nested) -> Result<MarkedStore, AllocError>
     ensures { IfOk result (λ store. store ≡ fresh nested.now.store) }
 {
@@ -48,7 +56,7 @@ pub(crate) fn first_store(nested: &Nested) -> Result<Store, AllocError>
     nested.store.copy()
 }
 
-// Merges what the first members wrote in the first phases: phase after phase, and member after member.
+// Merges the writes of the first members in the first phases: phase after phase, and member after member.
 pub(crate) fn merge_phases(
     slots: &[Slot],
     phases: usize,
@@ -65,7 +73,7 @@ pub(crate) fn merge_phases(
     }
 }
 
-// Merges what the first members wrote in a phase, member after member.
+// Merges the writes of the first members in a phase, member after member.
 pub(crate) fn merge_phase(
     slots: &[Slot],
     phases: usize,

@@ -1,8 +1,7 @@
 //! Pipes.
 ghost use Rattle.std.specs.Prelude.{◌≡◌, ◌↔◌, IsTrue, IfOk, IsErr, Some};
 ghost use Rattle.sched_api.specs.declared.hearing.Told.{Told};
-ghost use Rattle.sched_api.specs.Calls.{registered_told, unregistered_told, requested_told, yielded_told, blocked_told};
-ghost use Rattle.sched_api.specs.Wishes.{with_wishes, without_child};
+ghost use Rattle.sched_api.specs.Wishes.{with_wishes};
 ghost use Rattle.array_tree.specs.Trees.{statement_of};
 ghost use Rattle.step_eval.specs.declared.shape.Kind.TheVariants as kind;
 ghost use Rattle.step_eval.specs.Nests.{nested_of, nested_writes, IsFitNest};
@@ -23,7 +22,7 @@ use std::marker::Model;
 use step_eval::Nested;
 use work_agenda::{Agenda, MOST_WISHES};
 
-/// What a callback of a pipe gives.
+/// The receipt of a callback of a pipe.
 #[derive(Drop)]
 pub struct PipeHeard {
     told: Told,
@@ -45,7 +44,7 @@ impl Hearing for PipeHeard {
     }
 }
 
-// Only callbacks call it.
+// Only callbacks call this function.
 pub(crate) fn heard(call: Call, child: u16, count: u8) -> PipeHeard
     ensures { result ≡ record { call = call; child = child; count = count } }
 {
@@ -54,15 +53,15 @@ pub(crate) fn heard(call: Call, child: u16, count: u8) -> PipeHeard
     }
 }
 
-/// The scheduler of one `team` whose members overtake one another. It has the state of its pieces, the contexts that are
-/// ready to go on, and the wishes of its children.
+/// The scheduler of one `team` whose members overtake one another. It has the state of its pieces, the contexts that are ready
+/// to go on, and the wishes of its children.
 ///
-/// Of the calls of `Scheduler`, `enter` allocates: the store from which a piece starts. A piece that is due and finds none
-/// fails there, and the next one is asked for.
+/// Of the calls of `Scheduler`, `enter` allocates the store from which a piece starts. If that fails, the piece that is due
+/// fails, and the next one is tried.
 #[derive(Drop)]
 pub struct Pipe<'p> {
     state: PipeState<'p>,
-    // Its list of contexts that aren't begun stays empty: the state hands them out.
+    // Its list of contexts that aren't begun stays empty: the state hands out pieces.
     agenda: Agenda<PipeWork<'p>>,
 }
 
@@ -88,7 +87,14 @@ impl<'p> Model for Pipe<'p> {
 impl<'p> Pipe<'p> {
     /// A pipe of which no piece was handed out. The construct must be a `team`.
     ///
-    /// It makes the room for wishes and for one ready context of each piece. Beside it only `enter` and `take_all` allocate.
+    /// # Errors
+    ///
+    /// `AllocError` if an allocation fails.
+    ///
+    /// # Memory
+    ///
+    /// It allocates the room for wishes, and for one ready context of each piece. Of the other calls only `enter` and
+    /// `take_all` allocate.
     pub fn new(alloc: Global, nested: Nested<'p>) -> Result<Pipe<'p>, AllocError>
         requires { kind_of (statement_of nested.construct) ≡ Some kind.Team }
         ensures { IfOk result (λ pipe. pipe ≡ new_scheduler nested.entry) }
@@ -97,6 +103,14 @@ impl<'p> Pipe<'p> {
     }
 
     /// The pipe that `new` makes, with room for `wishes` wishes. A wish beyond the room is dropped.
+    ///
+    /// # Errors
+    ///
+    /// `AllocError` if an allocation fails.
+    ///
+    /// # Memory
+    ///
+    /// It allocates as `new` does.
     pub fn with_wishes(
         alloc: Global,
         nested: Nested<'p>,
@@ -105,7 +119,7 @@ impl<'p> Pipe<'p> {
         requires { kind_of (statement_of nested.construct) ≡ Some kind.Team }
         ensures { IfOk result (λ pipe. pipe ≡ roomy_scheduler nested.entry wishes) }
     {
-        // A look at a field tells what the type of a construct keeps.
+        // Why: reading a field makes the construct's invariant known.
         let _site = nested.site;
         let room = usize::from(nested.members()) * usize::from(nested.phases());
         let unbegun = VecDeque::new(alloc);
@@ -122,7 +136,7 @@ impl<'p> Pipe<'p> {
         self.state.nested()
     }
 
-    /// Keeps a piece at the place of its job.
+    /// Puts a piece into the slot of its job.
     pub fn deposit(&mut self, piece: Piece<'p>) -> Deposit<'p>
         ensures state { Deposits self.old.state piece.entry result self.new.state }
         ensures rest { self.new ≡ with_state self.old self.new.state }
@@ -130,8 +144,8 @@ impl<'p> Pipe<'p> {
         self.state.deposit(piece)
     }
 
-    /// Reports that a piece failed. It must be handed out and not filled or failed, or the one that is due. Each piece
-    /// that comes after it fails too, and no other.
+    /// Reports that a piece failed. It must be handed out and neither filled nor failed, or it must be due. Each piece that
+    /// comes after it fails too, and no other.
     pub fn fail(&mut self, member: u8, phase: u8)
         requires { MayFail self.old.state member phase }
         ensures same { self.new ≡ with_state self.old (failed_pipe self.old.state member phase) }
@@ -140,15 +154,15 @@ impl<'p> Pipe<'p> {
         self.state.fail(member, phase);
     }
 
-    // Whether the piece is handed out and not filled or failed, or is the one that is due.
+    // Whether the piece is handed out and neither filled nor failed, or is due.
     pub(crate) fn may_fail(&self, member: u8, phase: u8) -> bool
         ensures { IsTrue result ↔ MayFail self.now.state member phase }
     {
         self.state.may_fail(member, phase)
     }
 
-    // How many pieces became due where the piece of this member in this phase was filled: only the member's next piece and the
-    // next member's of the phase can.
+    // The number of pieces that become due when the piece of this member in this phase is filled: only the member's next piece
+    // and the next member's in this phase can.
     pub(crate) fn count_due_after(&self, member: u8, phase: u8) -> u8 {
         self.state.count_due_after(member, phase)
     }
@@ -167,8 +181,16 @@ impl<'p> Pipe<'p> {
         self.state.has_failed()
     }
 
-    /// What the whole construct writes where no two of its pieces cross, each cell with its last value, in whatever order the
-    /// pieces came. Every piece must be filled or failed; where one has failed, the result is an allocation failure.
+    /// What the whole construct writes if no two of its pieces cross: each cell with its last value. The pieces may have come
+    /// in any order. Every piece must be filled or failed.
+    ///
+    /// # Errors
+    ///
+    /// `AllocError` if a piece has failed, or an allocation fails.
+    ///
+    /// # Memory
+    ///
+    /// It allocates a store and the overlay.
     pub fn take_all(self) -> Result<Overlay, AllocError>
         requires { IsFull self.state }
         ensures failed { HasFailed self.entry.state → IsErr result }

@@ -8,8 +8,8 @@ use std::marker::Model;
 use std::sync::Mutex;
 use step_eval::Nested;
 
-/// A pipe that harts share until it is handed out. Beside the lock stand its construct, which never changes, and what the pipe
-/// showed when its lock was held last.
+/// A pipe that harts share until it is handed out. Beside the lock are its construct, which never changes, and the state that
+/// the pipe showed at the end of the last call under the lock.
 #[derive(Drop)]
 pub struct SharedPipe<'p> {
     lock: Mutex<Option<Pipe<'p>>>,
@@ -31,11 +31,11 @@ impl<'p> Model for SharedPipe<'p> {
 }
 
 impl<'p> SharedPipe<'p> {
-    /// Puts the pipe behind a lock, and a copy of its construct beside it.
+    /// Puts the pipe under a lock, and a copy of its construct beside it.
     ///
     /// # Errors
     ///
-    /// `AllocError` if an allocation fails.
+    /// `AllocError`, as the contract allows. This implementation does not allocate.
     pub fn new(_alloc: Global, pipe: Pipe<'p>) -> Result<SharedPipe<'p>, AllocError>
         ensures { IfOk result (λ shared. shared ≡ pipe.entry.state.nested) }
     {
@@ -48,19 +48,19 @@ impl<'p> SharedPipe<'p> {
         })
     }
 
-    /// The copy of the pipe's construct, with the variables and the store before it. It doesn't wait.
+    /// The copy of the pipe's construct, with the variables and the store before it. Does not block.
     pub fn nested(&self) -> &Nested<'p>
         ensures { result.now ≡ self.now }
     {
         &self.nested
     }
 
-    // The lock, with the pipe behind it until that is handed out.
+    // The lock, with the pipe under it until that is handed out.
     pub(crate) fn kept(&self) -> &Mutex<Option<Pipe<'p>>> {
         &self.lock
     }
 
-    // What the pipe showed when its lock was held last.
+    // The state that the pipe showed at the end of the last call under the lock.
     pub(crate) fn shown(&self) -> &Shown {
         &self.shown
     }

@@ -1,4 +1,4 @@
-//! Places for pieces.
+//! Slots for pieces.
 ghost use Rattle.std.specs.Prelude.{◌≡◌, ◌↔◌, IsTrue, IfOk};
 ghost use Rattle.array_meaning.specs.Stores.{after};
 ghost use Rattle.pipe_sched.specs.Slots.{Waiting, Out, Filled, is_settled, is_failed};
@@ -9,18 +9,18 @@ use array_jobs::Job;
 use std::alloc::{AllocError, Global};
 use std::mem;
 
-// What became of the piece of one member in one phase.
+// The state of the piece of one member in one phase.
 #[derive(Debug, Drop)]
 pub(crate) enum Slot<'p> {
-    // It hasn't been handed out.
+    // The piece hasn't been handed out.
     Waiting,
-    // It never will be, since one that must come before it failed.
+    // The piece will never be handed out, since a piece before it failed.
     Barred,
-    // It was handed out with this job.
+    // The piece was handed out with this job.
     Out(Job<'p>),
-    // What the job writes.
+    // The piece is done, with the job's writes.
     Filled(Job<'p>, Overlay),
-    // It was handed out and failed.
+    // The piece was handed out and failed.
     Lost(Job<'p>),
 }
 
@@ -62,7 +62,7 @@ impl<'p> Slot<'p> {
         }
     }
 
-    // Whether it was handed out with an equal job.
+    // Whether the piece was handed out with an equal job.
     pub(crate) fn has_job(&self, job: &Job) -> bool
         ensures { IsTrue result ↔ HasJob self.now job.now }
     {
@@ -72,7 +72,7 @@ impl<'p> Slot<'p> {
         }
     }
 
-    // The store that its piece leaves where it is filled: what the job started from, with what it wrote.
+    // The store that a filled piece leaves: the store from which the job started, with its writes.
     pub(crate) fn store_left(&self, alloc: Global) -> Result<MarkedStore, AllocError>
         requires { mark_of self.now ≡ Filled }
         ensures { IfOk result (λ store. store.cells ≡ after (written_in self.now) (started_from self.now)) }
@@ -87,7 +87,7 @@ impl<'p> Slot<'p> {
         }
     }
 
-    // Its piece, or one that must come before it, found no memory.
+    // An allocation failed for the piece, or for a piece that comes before it.
     pub(crate) fn fail(&mut self)
         ensures { self.new ≡ failed_slot self.old }
     {

@@ -1,4 +1,4 @@
-//! Pipelines as one owner has them. The state knows no table, no port and no scheduler.
+//! Pipelines of one owner. The state knows no table, no port and no scheduler.
 ghost use Rattle.std.specs.Prelude.{◌≡◌, ◌↔◌, IsTrue, IfOk, IfSome, IfNone, Some, replicate};
 ghost use Rattle.array_tree.specs.Trees.{statement_of};
 ghost use Rattle.step_eval.specs.declared.shape.Kind.TheVariants as kind;
@@ -13,18 +13,18 @@ use std::alloc::{AllocError, Global};
 use std::marker::Model;
 use step_eval::Nested;
 
-/// The state of the pipeline of one `team`: for each member in each phase a place for its piece.
+/// The state of the pipeline of one `team`: for each member in each phase a slot for its piece.
 ///
-/// A piece comes after those of the members up to its own in the phases up to its own. Contracts see the construct and what
-/// became of each piece. The type keeps that a piece was handed out only after all that come before it were filled, that its
-/// job starts from what these wrote, and that a place is filled with what its own job writes.
+/// A piece comes after those of the members up to its own in the phases up to its own. Contracts see the construct and the
+/// state of each piece. The type's invariant: a piece was handed out only after all that come before it were filled, its job
+/// starts from their writes, and a slot is filled with the writes of its own job.
 #[derive(Debug, Drop)]
 pub struct PipeState<'p> {
     pub(crate) alloc: Global,
     pub(crate) nested: Nested<'p>,
-    // Member by member, and then by phase: so the first slot that is due is that of the lowest member.
+    // Slots member by member, and then by phase. So the first due slot is that of the lowest member.
     pub(crate) slots: Vec<Slot<'p>>,
-    // For each member the first phase of which no piece was handed out.
+    // For each member the first phase whose piece was not handed out.
     pub(crate) next: Vec<u8>,
 }
 
@@ -49,7 +49,13 @@ impl<'p> Model for PipeState<'p> {
 impl<'p> PipeState<'p> {
     /// A pipeline of which no piece was handed out. The construct must be a `team`.
     ///
-    /// Of the calls below only `next` and `take_all` allocate.
+    /// # Errors
+    ///
+    /// `AllocError` if an allocation fails.
+    ///
+    /// # Memory
+    ///
+    /// It allocates a slot for each piece and a number for each member. Of the calls below only `next` and `take_all` allocate.
     pub fn new(alloc: Global, nested: Nested<'p>) -> Result<PipeState<'p>, AllocError>
         requires { kind_of (statement_of nested.construct) ≡ Some kind.Team }
         ensures { IfOk result (λ pipe. pipe ≡ new_pipe nested.entry) }
@@ -89,7 +95,7 @@ impl<'p> PipeState<'p> {
         some_failed(&self.slots)
     }
 
-    // The place of a member in a phase, if there is one.
+    // The slot of a member in a phase, if there is one.
     pub(crate) fn slot_at(&self, member: u8, phase: u8) -> Option<&Slot<'p>>
         ensures some { IfSome result (λ own. IsMarked self.now member phase (mark_of own.now)
             × IsRight (nested_of self.now.nested) member phase own.now) }
@@ -107,7 +113,7 @@ impl<'p> PipeState<'p> {
     }
 }
 
-// So many places of pieces that wait.
+// So many slots of waiting pieces.
 fn waiting_slots<'p>(alloc: Global, count: usize) -> Result<Vec<Slot<'p>>, AllocError>
     ensures { IfOk result (λ slots. slots.items ≡ replicate count slot.Waiting) }
 {
@@ -120,7 +126,7 @@ fn waiting_slots<'p>(alloc: Global, count: usize) -> Result<Vec<Slot<'p>>, Alloc
 
 // Whether each piece is filled or failed.
 //
-// Why from the last place on: its piece comes after all others, so until they are settled the first look decides.
+// Why from the last slot on: its piece comes after all others, so until they are settled the first comparison decides.
 fn are_settled(slots: &[Slot]) -> bool
     ensures { IsTrue result ↔ AreSettled slots.now }
 {

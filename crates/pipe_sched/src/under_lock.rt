@@ -1,4 +1,4 @@
-//! What a hand does with the pipe that its lock has until it is handed out.
+//! The calls of a hand on the lock-protected pipe, until the pipe is handed out.
 ghost use Rattle.std.specs.Prelude.{◌≡◌, IfErr};
 ghost use Rattle.sched_api.specs.Calls.{unregistered_told, requested_told};
 ghost use Rattle.pipe_sched.specs.Hands.{DepositsUnder, FailsUnder, HearsUnder, TakesUnder, TakesFull};
@@ -9,7 +9,7 @@ use array_jobs::Piece;
 use join_book::Deposit;
 use sched_api::{Call, Scheduler};
 
-// Keeps a piece at the place of its job.
+// Puts a piece into the slot of its job.
 pub(crate) fn deposit<'p>(kept: &mut Option<Pipe<'p>>, piece: Piece<'p>) -> Deposit<'p>
     ensures { DepositsUnder kept.old piece.entry result kept.new }
 {
@@ -30,7 +30,7 @@ pub(crate) fn fail(kept: &mut Option<Pipe>, member: u8, phase: u8)
     }
 }
 
-// Takes the pipe where it is full.
+// Takes the pipe if it is full.
 pub(crate) fn take_full<'p>(kept: &mut Option<Pipe<'p>>) -> Option<Pipe<'p>>
     ensures { TakesFull kept.old result kept.new }
 {
@@ -52,7 +52,7 @@ pub(crate) fn unregister(kept: &mut Option<Pipe>, child: u16) -> PipeHeard
     }
 }
 
-// A child asks for harts.
+// A child requests harts.
 pub(crate) fn request(kept: &mut Option<Pipe>, child: u16, count: u8) -> PipeHeard
     ensures told { result ≡ requested_told child count }
     ensures hears { HearsUnder kept.old (requested_told child count) kept.new }

@@ -1,9 +1,9 @@
-//! What a pipe has its harts run.
+//! The work of a pipe for its harts.
 use array_jobs::Job;
 use contexts::Paused;
 use step_eval::StepMachine;
 
-/// What a hart takes up of a pipe.
+/// What a hart takes from a pipe.
 #[derive(Drop)]
 pub enum PipeWork<'p> {
     /// A piece that hasn't begun.

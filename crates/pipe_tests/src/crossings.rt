@@ -11,21 +11,21 @@ const CROSSED_LAST: &[u8] = b"array a[8]; array b[8];
     team i in 0..8 by 3 { a[i] = i; } barrier { b[i] = a[i]; } barrier { b[i] = a[(i + 1) % 8]; }
     }";
 
-// A stencil whose members are uneven, and read what lies below them.
+// A stencil whose members are uneven, and read the cells below their own.
 const UNEVEN: &[u8] = b"array a[8]; array b[8];
     team i in 1..8 by 3 { a[i] = i; } barrier { b[i] = a[i - 1] + a[i]; }";
 
-// A wavefront of eight members with much to do, so that its text is looked at: what they touch are stretches apart.
+// A wavefront of eight members with much to do, so that its text is analysed: they touch stretches that are apart.
 const LONG_WAVE: &[u8] = b"array a[9]; array b[9]; array c[9];
     team i in 1..9 by 8 { for j in 0..90 { a[i] = a[i] + j; } }
     barrier { b[i] = a[i - 1]; if i < 5 { for j in 0..90 { b[i] = b[i] * 3 + j; } } }
     barrier { c[i] = a[i] + b[i - 1]; for j in 0..90 { c[i] = c[i] - j; } }";
 
-// A stencil with many turns, whose three members are uneven and read what lies below them.
+// A stencil with many turns, whose three members are uneven and read the cells below their own.
 const LONG_UNEVEN: &[u8] = b"array a[200]; array b[200];
     team i in 1..200 by 3 { a[i] = i; } barrier { b[i] = a[i - 1] + a[i]; } barrier { b[i] = b[i] + a[0]; }";
 
-// Two members, the one with the even cells and the other with the odd ones, whose stretches aren't apart.
+// Two members, one with the even cells and the other with the odd ones, whose stretches aren't apart.
 const INTERLEAVED: &[u8] = b"array a[200];
     team i in 0..200 by 2 { a[i % 100 * 2 + i / 100] = i; } barrier { a[i % 100 * 2 + i / 100] = i + 1; }";
 
@@ -33,11 +33,11 @@ const INTERLEAVED: &[u8] = b"array a[200];
 const UNTOLD: &[u8] = b"array a[200]; array b[200];
     team i in 0..200 by 4 { a[i] = i; } barrier { b[i % (i - i + 200)] = a[i]; }";
 
-// Four members of fifty cells each, which read a cell above in the last phase, and only the last of them one below.
+// Four members of fifty cells each. They read a cell above in the last phase, and only the last of them a cell below.
 const LONG_CROSSED_LAST: &[u8] = b"array a[200]; array b[200];
     team i in 0..200 by 4 { a[i] = i; } barrier { b[i] = a[i]; } barrier { b[i] = a[(i + 1) % 200]; }";
 
-// What the check answers.
+// The result of the check.
 fn checked(alloc: Global, text: &[u8]) -> Result<Result<(), PipeFault>, Fail> {
     let program = parsed(alloc, text)?;
     let accepted = accepted(alloc, &program)?;

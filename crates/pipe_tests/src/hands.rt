@@ -15,7 +15,7 @@ pub fn shared_pipe<'p>(alloc: Global, program: &'p Program) -> Result<SharedPipe
     Ok(SharedPipe::new(alloc, pipe_of(alloc, program)?)?)
 }
 
-// What a test looks at.
+// The checks of the tests.
 #[derive(Clone, Copy)]
 enum Look {
     Whole,
@@ -73,7 +73,7 @@ fn holds<R: Wait>(rt: &R, alloc: Global, look: Look) -> Result<bool, Fail> {
     holds_of_pipe(rt, &shared, alloc, &jobs, look)
 }
 
-// Begins the piece that is due and fills it.
+// Begins the piece that is due, and fills it.
 fn fill_next<'a, 'p, R: Wait + 'a>(
     rt: &'a R,
     hand: &mut PipeHand<'a, 'p, R>,
@@ -88,7 +88,7 @@ fn stays<'a, 'p, R: Wait + 'a>(rt: &'a R, hand: &PipeHand<'a, 'p, R>) -> bool {
     hand.take_out(rt).is_none()
 }
 
-// Hands a pipe out; whether it gives all that its pieces wrote.
+// Hands a pipe out. Returns whether it has the writes of all its pieces.
 fn gives_all<'a, 'p, R: Wait + 'a>(rt: &'a R, hand: &PipeHand<'a, 'p, R>) -> bool {
     match hand.take_out(rt) {
         Some(pipe) => gives(pipe, &BOTH_STEPS),
@@ -96,7 +96,7 @@ fn gives_all<'a, 'p, R: Wait + 'a>(rt: &'a R, hand: &PipeHand<'a, 'p, R>) -> boo
     }
 }
 
-// Runs a pipe to its end. Whether it was full at the end alone, and gives all that its pieces wrote.
+// Runs a pipe to its end. Returns whether it was full only at the end, and has the writes of all its pieces.
 fn runs_whole<'a, 'p, R: Wait + 'a>(
     rt: &'a R,
     hand: &mut PipeHand<'a, 'p, R>,
@@ -119,7 +119,7 @@ fn a_hand_runs_a_pipe_to_its_end(rt: HostRuntime) -> Result<(), Fail> {
     Ok(())
 }
 
-// What a hart finds where the first member has done its first phase, a context is ready, and child 5 wishes for a hart.
+// What a hart finds if the first member has done its first phase, a context is ready, and child 5 wishes for a hart.
 const ALL_KINDS: &[Answer] = &[
     Answer::GoesOn,
     Answer::Begins(0, 1),
@@ -128,7 +128,7 @@ const ALL_KINDS: &[Answer] = &[
     Answer::Nothing,
 ];
 
-// Whether the first member overtakes, after a context that is ready and before a wish.
+// Whether the first member overtakes, after a ready context and before a wish.
 fn overtakes<'a, 'p, R: Wait + 'a>(
     rt: &'a R,
     hand: &mut PipeHand<'a, 'p, R>,
@@ -155,7 +155,7 @@ fn state<'a, 'p, R: Wait + 'a>(rt: &'a R, hand: &PipeHand<'a, 'p, R>) -> (bool, 
     (hand.has_failed(rt), hand.is_full(rt))
 }
 
-// Tries to fail a piece that isn't due, then the one that is. Whether the pipe was failed and full at the end alone.
+// Tries to fail a piece that isn't due, then the one that is. Returns whether the pipe was failed and full only at the end.
 fn fails<'a, 'p, R: Wait + 'a>(rt: &'a R, hand: &PipeHand<'a, 'p, R>) -> bool {
     hand.fail(rt, 0, 1);
     let goes_on = state(rt, hand) == (false, false);
@@ -164,7 +164,7 @@ fn fails<'a, 'p, R: Wait + 'a>(rt: &'a R, hand: &PipeHand<'a, 'p, R>) -> bool {
     goes_on && ends
 }
 
-// Fails a pipe and hands it out. Whether it gives nothing.
+// Fails a pipe and hands it out. Returns whether it has no writes.
 fn hands_out_failed<'a, 'p, R: Wait + 'a>(rt: &'a R, hand: &PipeHand<'a, 'p, R>) -> bool {
     if !fails(rt, hand) {
         return false;
@@ -175,7 +175,7 @@ fn hands_out_failed<'a, 'p, R: Wait + 'a>(rt: &'a R, hand: &PipeHand<'a, 'p, R>)
     }
 }
 
-// Fails a pipe, hands it out, and looks again. Whether it gives nothing, and is full and not failed from then on.
+// Fails a pipe, hands it out, and checks again. Returns whether it has no writes, and is full and not failed from then on.
 fn is_handed_out_once<'a, 'p, R: Wait + 'a>(rt: &'a R, hand: &PipeHand<'a, 'p, R>) -> bool {
     let nothing = hands_out_failed(rt, hand);
     hand.fail(rt, 0, 0);
@@ -201,7 +201,7 @@ fn is_stranger<'a, 'p, R: Wait + 'a>(
     Ok(outcome_of(hand.deposit(rt, piece)) == Came::Stranger)
 }
 
-// Hands a pipe out. Whether it then has nothing for a hart, no room for a context, and no place for a piece.
+// Hands a pipe out. Returns whether it then has nothing for a hart, no room for a context, and no slot for a piece.
 fn leaves_nothing<'a, 'p, R: Wait + 'a>(
     rt: &'a R,
     hand: &mut PipeHand<'a, 'p, R>,
@@ -221,7 +221,7 @@ fn nothing_is_left_of_a_pipe_that_is_handed_out(rt: HostRuntime) -> Result<(), F
     Ok(())
 }
 
-// Whether a hand tells its site, and each call that a scheduler hears, before and after its pipe is handed out.
+// Whether a hand returns its site, and receipts with each call that a scheduler gets, before and after its pipe is handed out.
 fn tells_all<'a, 'p, R: Wait + 'a>(rt: &'a R, hand: &mut PipeHand<'a, 'p, R>) -> bool {
     let shape = (hand.site(), hand.shared.nested().members()) == (1, 3);
     let before = tells(hand, rt) == TOLD;

@@ -1,4 +1,4 @@
-//! What a hart finds that enters a pipe, or its hand on one.
+//! What a hart finds when it enters a pipe, or its hand on one.
 use array_eval::Overlay;
 use array_jobs::{Job, Piece, piece_of};
 use array_tree::Program;
@@ -15,7 +15,7 @@ use step_eval::Kind;
 pub enum Answer {
     /// The piece of this member in this phase, which hasn't begun.
     Begins(u8, u8),
-    /// A context that is ready.
+    /// A ready context.
     GoesOn,
     /// The wish of this site.
     Lends(u16),
@@ -24,6 +24,10 @@ pub enum Answer {
 }
 
 /// The pipe of a program that begins with a `team`.
+///
+/// # Errors
+///
+/// A failure of the test if the program begins with no `team`, or an allocation fails.
 pub fn pipe_of<'p>(alloc: Global, program: &'p Program) -> Result<Pipe<'p>, Fail> {
     let nested = first_construct(alloc, program)?;
     match nested.kind() {
@@ -32,7 +36,7 @@ pub fn pipe_of<'p>(alloc: Global, program: &'p Program) -> Result<Pipe<'p>, Fail
     }
 }
 
-// What `enter` gives.
+// The result of `enter`.
 fn answer_of(next: Next<PipeWork>) -> Answer {
     match next {
         Next::Run(PipeWork::Begin(job)) => Answer::Begins(job.place, job.phase),
@@ -42,7 +46,7 @@ fn answer_of(next: Next<PipeWork>) -> Answer {
     }
 }
 
-/// Whether a hart finds this again and again.
+/// Whether a hart finds this, one after another.
 pub fn finds<'p, S: Scheduler<Ctx = PipeWork<'p>>>(
     scheduler: &mut S,
     hold: S::Hold,
@@ -56,7 +60,11 @@ pub fn finds<'p, S: Scheduler<Ctx = PipeWork<'p>>>(
     true
 }
 
-/// The piece that is begun next, run to its end.
+/// The piece that begins next, run to its end.
+///
+/// # Errors
+///
+/// A failure of the test if no piece begins, or an allocation fails.
 pub fn next_piece<'p, S: Scheduler<Ctx = PipeWork<'p>>>(
     scheduler: &mut S,
     hold: S::Hold,
@@ -68,7 +76,11 @@ pub fn next_piece<'p, S: Scheduler<Ctx = PipeWork<'p>>>(
     }
 }
 
-/// Puts a context back, with a machine for the first of the jobs; whether there was room.
+/// Puts a context back, with a machine for the first of the jobs. Returns whether there was room.
+///
+/// # Errors
+///
+/// A failure of the test if there is no job, or an allocation fails.
 pub fn puts_back<'p, S: Scheduler<Ctx = PipeWork<'p>>>(
     scheduler: &mut S,
     hold: S::Hold,
@@ -79,7 +91,11 @@ pub fn puts_back<'p, S: Scheduler<Ctx = PipeWork<'p>>>(
     Ok(scheduler.unblock(hold, PipeWork::Ready(context)).is_ok())
 }
 
-/// A piece must have been kept.
+/// Checks that a piece was kept.
+///
+/// # Errors
+///
+/// A failure of the test if it wasn't.
 pub fn kept(deposit: Deposit) -> Result<(), Fail> {
     match deposit {
         Deposit::Kept => Ok(()),
@@ -87,7 +103,7 @@ pub fn kept(deposit: Deposit) -> Result<(), Fail> {
     }
 }
 
-// What a pipe gives that is full. A failed one, and one that isn't full, give nothing.
+// The writes of a full pipe. A failed pipe, and one that isn't full, return none.
 fn taken(pipe: Pipe) -> Option<Overlay> {
     if !pipe.is_full() {
         return None;
@@ -95,7 +111,7 @@ fn taken(pipe: Pipe) -> Option<Overlay> {
     pipe.take_all().ok()
 }
 
-/// Whether a pipe is full and gives these writes.
+/// Whether a pipe is full and has these writes.
 pub fn gives(pipe: Pipe, expected: &[(u16, i64)]) -> bool {
     match taken(pipe) {
         Some(written) => written.pairs() == expected,
@@ -103,7 +119,7 @@ pub fn gives(pipe: Pipe, expected: &[(u16, i64)]) -> bool {
     }
 }
 
-/// Whether a pipe is full, has failed, and gives nothing.
+/// Whether a pipe is full, has failed, and has no writes.
 pub fn gives_nothing(pipe: Pipe) -> bool {
     let failed = pipe.is_full() && pipe.has_failed();
     let nothing = taken(pipe).is_none();

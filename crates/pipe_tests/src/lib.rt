@@ -1,6 +1,6 @@
 //! Tests of pipelines: the check of crossings, the state of a pipeline, and its scheduler, by itself and through hands.
 //!
-//! They stand apart since a crate is proved a second time with its tests.
+//! Why a crate of its own: a crate is proved a second time with its tests.
 #![tactic(auto)]
 
 #[cfg(test)]

@@ -7,13 +7,13 @@ use sched_api::Scheduler;
 use std::alloc::Global;
 use std::test::Fail;
 
-// Begins the piece that is due and fills it.
+// Begins the piece that is due, and fills it.
 fn fill_next(alloc: Global, pipe: &mut Pipe) -> Result<(), Fail> {
     let piece = next_piece(pipe, (), alloc)?;
     kept(pipe.deposit(piece))
 }
 
-// What a hart finds where the first member has done its first phase.
+// What a hart finds if the first member has done its first phase.
 const SECOND_PIECES: &[Answer] = &[Answer::Begins(0, 1), Answer::Begins(1, 0), Answer::Nothing];
 
 #[test]
@@ -40,7 +40,7 @@ fn a_hart_runs_a_pipe_to_its_end(rt: HostRuntime) -> Result<(), Fail> {
     Ok(())
 }
 
-// What a hart finds of a ready context, the first piece and a wish.
+// What a hart finds: a ready context, the first piece and a wish.
 const ALL_KINDS: &[Answer] = &[
     Answer::GoesOn,
     Answer::Begins(0, 0),

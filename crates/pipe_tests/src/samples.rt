@@ -1,9 +1,9 @@
 //! Programs whose members may overtake.
-/// A `team` of three members with two phases, of which no two pieces cross.
+/// A `team` of three members with two phases, without a crossing of two pieces.
 pub const TWO_STEPS: &[u8] = b"array a[6]; array b[6];
     team i in 0..6 by 3 { a[i] = i + 1; } barrier { b[i] = a[i / 2] * 10; }";
 
-/// What its pieces write.
+/// The writes of its pieces.
 pub const BOTH_STEPS: [(u16, i64); 12] = [
     (0, 1),
     (1, 2),
@@ -19,6 +19,6 @@ pub const BOTH_STEPS: [(u16, i64); 12] = [
     (11, 30),
 ];
 
-/// A wavefront: each member goes on from what the one below it left.
+/// A wavefront: each member goes on from the cell that the member below it wrote.
 pub const WAVEFRONT: &[u8] = b"array a[4]; array b[4]; array c[4];
     team i in 1..4 by 3 { a[i] = i; } barrier { b[i] = a[i - 1] + a[i]; } barrier { c[i] = b[i - 1] * 2 + b[i]; }";

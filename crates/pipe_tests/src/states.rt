@@ -52,7 +52,7 @@ fn fill<'p>(state: &mut PipeState<'p>, piece: Piece<'p>) -> Result<(), Fail> {
     }
 }
 
-// Hands out the piece that is due and fills it.
+// Hands out the piece that is due, and fills it.
 fn fill_next<'p>(alloc: Global, state: &mut PipeState<'p>) -> Result<(), Fail> {
     let piece = next_piece(alloc, state)?;
     fill(state, piece)
@@ -66,7 +66,7 @@ fn has_written(state: PipeState, expected: &[(u16, i64)]) -> Result<bool, Fail> 
     Ok(state.take_all()?.pairs() == expected)
 }
 
-// Whether a full pipeline answers want of memory.
+// Whether a full pipeline returns an allocation failure.
 fn has_failed(state: PipeState) -> Result<bool, Fail> {
     if !state.is_full() {
         return Err(Fail::new("the pipeline isn't full"));
@@ -74,7 +74,7 @@ fn has_failed(state: PipeState) -> Result<bool, Fail> {
     Ok(state.take_all().is_err())
 }
 
-// The piece that it hands out finds no memory.
+// Fails the piece that it hands out.
 fn fail_next(state: &mut PipeState) -> Result<(), Fail> {
     match state.next()? {
         Some(job) => {

@@ -46,7 +46,7 @@ struct Runner<'x, 'p> {
     shared: &'x SharedPipe<'p>,
 }
 
-// All harts do so at once.
+// All harts run at once.
 fn run_by_all<'x, 'p: 'x, R: Threads + Wait + Sync>(
     rt: &'x R,
     alloc: Global,
@@ -70,7 +70,7 @@ fn run_by_two<'x, 'p: 'x, R: Threads + Wait + Sync>(
     run_by_all(rt, alloc, runners.as_mut_slice());
 }
 
-// Hands a pipe out; whether it gives all that its pieces wrote.
+// Hands a pipe out. Returns whether it has the writes of all its pieces.
 fn gives_all<'x, 'p: 'x, R: Wait>(rt: &'x R, shared: &'x SharedPipe<'p>) -> bool {
     let hand = PipeHand::new(shared);
     match hand.take_out(rt) {
@@ -79,7 +79,7 @@ fn gives_all<'x, 'p: 'x, R: Wait>(rt: &'x R, shared: &'x SharedPipe<'p>) -> bool
     }
 }
 
-// Whether a pipe that two harts run gives all that its pieces write.
+// Whether a pipe that two harts run has the writes of all its pieces.
 fn is_run_whole<R: Threads + Wait + Sync>(rt: &R, alloc: Global) -> Result<bool, Fail> {
     let program = parsed(alloc, TWO_STEPS)?;
     let shared = shared_pipe(alloc, &program)?;

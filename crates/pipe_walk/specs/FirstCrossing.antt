@@ -14,16 +14,16 @@ abbrev pub IsFaultOf : ProgramTree → PipeFault → Type 0
 IsFaultOf program (Crossing line cell) = IsFirstCrossing program line cell
 IsFaultOf program Memory = Unit {0}
 
--- A site's fault has its construct's line, and the least cell on which two of its pieces cross.
+-- The fault of a site: its construct's line, and the least cell on which two of its pieces cross.
 abbrev pub site_crossing : Arrays → Site → Option PipeFault
 site_crossing arrays site =
     option_map (Crossing site.line) (crossing arrays (cells_of arrays) site.rounds)
 
--- The result is the fault of the first of the sites that has one.
+-- The fault of the first of the sites that has one.
 abbrev pub first_crossing : Arrays → List Site → Option PipeFault
 first_crossing arrays [] = None
 first_crossing arrays (site ∷ more) = option_or (site_crossing arrays site) (first_crossing arrays more)
 
--- The result is what was found, or else the first crossing of sites.
+-- An earlier fault, or else the first crossing of sites.
 abbrev pub or_crossing : Arrays → List Site → Option PipeFault → Option PipeFault
 or_crossing arrays sites found = option_or found (first_crossing arrays sites)

@@ -1,5 +1,5 @@
--- What only proofs need: how the walk marks what members do, and what it keeps of the phases before; and the bounds of members
--- without a walk. No public clause speaks of it, so a reader of what a crossing is needs none of it.
+-- Definitions for proofs only: how the walk marks the touches of members, and what it keeps of the earlier phases; and the
+-- bounds of members without a walk. No public clause uses them, so a reader of crossings needs none of them.
 pub mod Members
 pub mod Owners
 pub mod Tables

@@ -11,10 +11,17 @@ use array_eval::{Layout, Scope};
 use disjoint_check::Accepted;
 use std::alloc::Global;
 
-/// Whether the members of each `team` of a program may go on without waiting for one another: at no site two pieces cross.
+/// Checks whether the members of each `team` of a program may go on without waiting for one another: at no site do two pieces
+/// cross.
 ///
-/// The fault is the line of the first site at which two pieces cross, and the least cell on which they do. An allocation failure
-/// may be returned at any time.
+/// # Errors
+///
+/// The line of the first site at which two pieces cross, and the least cell on which they do. `PipeFault::Memory` if an
+/// allocation fails, at any time.
+///
+/// # Memory
+///
+/// It allocates the walk's tables.
 pub fn pipe_check(alloc: Global, accepted: &Accepted) -> Result<(), PipeFault>
     ensures ok { OnOk result (HasNoCrossings (program_of accepted.now.program)) }
     ensures fault { IfErr result (IsFaultOf (program_of accepted.now.program)) }

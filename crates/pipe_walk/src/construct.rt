@@ -52,16 +52,21 @@ fn construct_crossing(
     }
 }
 
-/// Whether no two pieces of a construct cross, with the variables around it. Those of a `par` don't.
+/// Whether no two pieces of a construct cross, with the variables around it. The pieces of a `par` never cross.
 ///
 /// # Errors
 ///
 /// `AllocError` if an allocation fails.
+///
+/// # Memory
+///
+/// It allocates the walk's tables.
 pub fn uncrossed(alloc: Global, nested: &Nested) -> Result<bool, AllocError>
     ensures { IfOk result (λ clear. IsTrue clear ↔ HasNoCrossing (arrays_of (declarations_of nested.now.arrays))
         (rounds_of (statement_of nested.now.construct) nested.now.vars)) }
 {
-    // It has a piece, whose job keeps that the arrays are in their limits.
+    // Why: the construct has a piece, whose job's invariant puts the arrays in their limits. Reading its phases makes that
+    // known.
     let _phases = nested.phases();
     let _members = nested.members();
     let crossing = construct_crossing(alloc, nested.arrays, nested.construct, &nested.vars)?;

@@ -20,7 +20,7 @@ use array_tree::{Block, Blocks, Name};
 use std::alloc::{AllocError, Global};
 use touch_bounds::{Ranges, branches_pay, phase_pays};
 
-// Marks what the members of a `team` do in one phase.
+// Marks the cells that the members of a `team` touch in one phase.
 fn mark_members<'s>(
     layout: &Layout,
     phase: &'s Block,
@@ -51,7 +51,7 @@ fn mark_members<'s>(
     }
 }
 
-// Walks through the phases of a `team`, and keeps on which cells two of its pieces cross.
+// Walks through the phases of a `team`, and keeps the cells on which two of its pieces cross.
 fn walk_phases<'s>(
     layout: &Layout,
     phases: &'s Blocks,
@@ -88,8 +88,8 @@ fn least_crossed(layout: &Layout, table: &Table) -> Option<u16>
     None
 }
 
-// Whether it pays to look at the texts of phases twice for each member, before so many turns are walked through: if turns are
-// many, or if each has much to do.
+// Whether analysing the texts of phases twice for each member is worth its time, before a walk through so many turns: if there
+// are many turns, or each has much to do.
 fn looking_pays(phases: &Blocks, turns: u64, members: u64) -> bool {
     if turns >= members && branches_pay(phases) {
         return true;
@@ -102,8 +102,8 @@ fn looking_pays(phases: &Blocks, turns: u64, members: u64) -> bool {
     true
 }
 
-// Whether no two pieces of a `team` are seen to cross, so that nothing needs to be walked through. A member alone is crossed by
-// none, nor are the pieces of one phase.
+// Whether the text shows that no two pieces of a `team` cross, so that no walk is needed. A single member crosses nothing, and
+// the pieces of one phase don't cross.
 fn is_seen_clear<'s>(
     alloc: Global,
     layout: &Layout,
@@ -150,8 +150,8 @@ fn walked_crossing<'s>(
     least_crossed(layout, table)
 }
 
-/// The least cell on which two pieces of a `team` cross. Where the text shows that there is none, nothing is walked through.
-/// A loop around the `team` takes one look a turn.
+/// The least cell on which two pieces of a `team` cross. It doesn't walk if the text shows that there is none. In a loop around
+/// the `team` it analyses the text once a turn.
 pub(crate) fn crossing_in<'s>(
     alloc: Global,
     layout: &Layout,
@@ -174,12 +174,16 @@ pub(crate) fn crossing_in<'s>(
     walked_crossing(layout, phases, var, low, high, members, scope, table)
 }
 
-/// The least cell on which two pieces cross of a `team` of so many members, if it has these phases and the variables of this
-/// scope around it.
+/// The least cell on which two pieces cross of a `team` of so many members, with these phases and the variables of this scope
+/// around it.
 ///
 /// # Errors
 ///
 /// `AllocError` if an allocation fails.
+///
+/// # Memory
+///
+/// It allocates the walk's tables.
 pub fn crossing_of<'s>(
     alloc: Global,
     layout: &Layout,

@@ -1,12 +1,12 @@
-//! Which cells the pieces of a construct touch, phase after phase, and whether two pieces cross: then its members must
-//! wait for one another, and a pipeline won't do.
+//! The check for pipelines: which cells the pieces of a construct touch, phase after phase, and whether two pieces cross. If
+//! two cross, the members must wait for one another, and a pipeline would be wrong.
 //!
-//! Where the text shows that no two pieces cross, by the stretches of cells that each member can touch, nothing is walked
-//! through. Elsewhere a walk marks for each cell the lowest and the highest member that reads it in a phase, and those that
-//! change it. So each phase costs its walk and one pass over the cells.
+//! If the text shows that no two pieces cross, by the stretches of cells that each member can touch, there is no walk.
+//! Otherwise a walk marks for each cell the lowest and the highest member that reads it in a phase, and those that change it.
+//! So each phase costs its walk and one pass over the cells.
 //!
-//! `lithe pipe` calls `pipe_check` before a run, and a home calls `uncrossed` before it opens a pipe. Begin with `pipe_check` in
-//! `check.rt`; the tests of `pipe_tests` check programs that cross and programs that don't.
+//! `lithe pipe` calls `pipe_check` before a run, and a home calls `uncrossed` before it opens a pipe. Begin with `pipe_check`
+//! in `check.rt`; the tests of `pipe_tests` check programs that cross and programs that don't.
 #![tactic(auto)]
 
 mod check;

@@ -1,4 +1,4 @@
-//! The walk that marks what a member does in a phase.
+//! The walk that marks the cells that a member touches in a phase.
 ghost use Rattle.std.specs.Prelude.{◌≡◌, true, false};
 ghost use Rattle.array_tree.specs.Trees.{expression_of, statement_of, sequence_of, sequences_of};
 ghost use Rattle.array_meaning.specs.Work.{statement_work, sequence_work, branches_work, phases_work, loop};
@@ -11,7 +11,7 @@ use crate::touch::Touch;
 use array_eval::{Layout, NoCells, Scope, evaluate, is_dynamic};
 use array_tree::{Block, Blocks, Expr, Name, Stmt};
 
-// Marks what a member does by an index of an array.
+// Marks the cells that an index of an array touches.
 fn mark_index(
     layout: &Layout,
     member: usize,
@@ -55,7 +55,7 @@ fn mark_reads(layout: &Layout, member: usize, scope: &Scope, expr: &Expr, table:
     }
 }
 
-// Marks what a member does in a block: whatever is on either side of an `if`, and in whatever order it may run.
+// Marks the cells that a member touches in a block: both sides of each `if`, and its branches and phases in any order.
 #[cycle(mark)]
 fn mark_block<'s>(
     layout: &Layout,
@@ -72,7 +72,7 @@ fn mark_block<'s>(
     }
 }
 
-// The same of a statement.
+// The same for a statement.
 #[cycle(mark)]
 fn mark_statement<'s>(
     layout: &Layout,
@@ -123,7 +123,7 @@ fn mark_statement<'s>(
     }
 }
 
-/// The same of a block for each number from low to before high.
+/// The same for a block for each number from low to before high.
 #[cycle(mark)]
 pub(crate) fn mark_loop<'s>(
     layout: &Layout,
@@ -149,7 +149,7 @@ pub(crate) fn mark_loop<'s>(
     }
 }
 
-// The same of the branches of a `par` inside the piece.
+// The same for the branches of a `par` inside the piece.
 #[cycle(mark)]
 fn mark_branches<'s>(
     layout: &Layout,
@@ -166,7 +166,7 @@ fn mark_branches<'s>(
     }
 }
 
-// The same of the phases of a `team` inside the piece.
+// The same for the phases of a `team` inside the piece.
 #[cycle(mark)]
 fn mark_phases<'s>(
     layout: &Layout,

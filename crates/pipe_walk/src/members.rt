@@ -2,7 +2,7 @@
 ghost use Rattle.std.specs.Prelude.{◌≡◌};
 ghost use Rattle.pipe_walk.specs.Inside.Members.{joined_members, starts_below, last_of};
 
-/// Which members of a `team` did something: none, or some of those from the first to the last.
+/// The members of a `team` that read or changed a cell: none, or some from the first to the last.
 #[derive(Clone, Copy, PartialEq, Eq, Debug, Drop)]
 pub(crate) enum Members {
     Nobody,
@@ -10,7 +10,7 @@ pub(crate) enum Members {
 }
 
 impl Members {
-    /// The members of one set or another.
+    /// The members of both sets.
     pub(crate) fn with(self, other: Members) -> Members
         ensures { result ≡ joined_members self other }
     {
@@ -40,7 +40,7 @@ impl Members {
         }
     }
 
-    /// The last of them; 0 also where there is none, since no member is below member 0.
+    /// The last of them; 0 also if there is none, since no member is below member 0.
     pub(crate) fn last(self) -> usize
         ensures { result ≡ last_of self }
     {

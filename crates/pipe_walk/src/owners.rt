@@ -1,11 +1,11 @@
-//! Which array a cell belongs to.
+//! The array that a cell belongs to.
 ghost use Rattle.std.specs.Prelude.{◌≡◌, ◌++◌, IfOk, OnOk, replicate};
 ghost use Rattle.pipe_walk.specs.Inside.Owners.{owners_from};
 
 use array_eval::Layout;
 use std::alloc::{AllocError, Global};
 
-/// For each cell the place of its array among the arrays.
+/// For each cell the index of its array among the arrays.
 pub(crate) fn owners_of(alloc: Global, layout: &Layout) -> Result<Vec<usize>, AllocError>
     ensures { IfOk result (λ owners. owners.items ≡ owners_from 0 layout.now) }
 {

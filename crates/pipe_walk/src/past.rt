@@ -1,11 +1,11 @@
-//! What phases did to a cell.
+//! The touches of a cell in earlier phases.
 ghost use Rattle.std.specs.Prelude.{◌≡◌};
 ghost use Rattle.pipe_walk.specs.Inside.Tables.{passed};
 
 use crate::touch::Touch;
 
-/// What the phases before did to a cell: the highest member that touched it and the highest that changed it, 0 where there
-/// is none; and whether two pieces crossed on it.
+/// The past of a cell in the earlier phases: the highest member that touched it and the highest that changed it, 0 if there is
+/// none; and whether two pieces crossed on it.
 #[derive(Clone, Copy, PartialEq, Eq, Debug, Drop)]
 pub(crate) struct Past {
     pub(crate) toucher: usize,
@@ -13,7 +13,7 @@ pub(crate) struct Past {
     pub(crate) crossed: bool,
 }
 
-/// No phase was before.
+/// The past of a cell without an earlier phase.
 pub(crate) const NO_PAST: Past = Past {
     toucher: 0,
     changer: 0,
@@ -21,7 +21,7 @@ pub(crate) const NO_PAST: Past = Past {
 };
 
 impl Past {
-    /// With one more phase, in which this is done to the cell.
+    /// This past with one more phase, in which the cell has this touch.
     pub(crate) fn then(self, touch: Touch) -> Past
         ensures { result ≡ passed self touch }
     {

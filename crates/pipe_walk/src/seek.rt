@@ -1,4 +1,4 @@
-//! The walk that looks for a crossing of two pieces of a site.
+//! The walk that searches a crossing of two pieces of a site.
 ghost use Rattle.std.specs.Prelude.{◌≡◌};
 ghost use Rattle.std.specs.Option.{option_or};
 ghost use Rattle.array_tree.specs.Trees.{statement_of, sequence_of, sequences_of};
@@ -15,7 +15,7 @@ use array_tree::{Block, Blocks, Name, Stmt};
 use site_counts::sites_in_block;
 use std::alloc::Global;
 
-// Keeps the crossing of a `team` itself, unless something was found before.
+// Keeps the crossing of a `team` itself, unless an earlier one was found.
 fn keep_team<'s>(
     alloc: Global,
     layout: &Layout,
@@ -45,7 +45,7 @@ fn keep_team<'s>(
     }
 }
 
-/// Keeps the first crossing of the sites of a block, in the order of the plan, unless something was found before.
+/// Keeps the first crossing of the sites of a block, in the order of the plan, unless an earlier one was found.
 #[cycle(seek)]
 pub(crate) fn seek_block<'s>(
     alloc: Global,
@@ -66,7 +66,7 @@ pub(crate) fn seek_block<'s>(
     }
 }
 
-// The same of a statement.
+// The same for a statement.
 #[cycle(seek)]
 fn seek_statement<'s>(
     alloc: Global,
@@ -126,8 +126,8 @@ fn seek_statement<'s>(
     }
 }
 
-// The same of a block for each number from low to before high. One that enters no site is passed over, however many turns
-// it has.
+// The same for a block for each number from low to before high. It passes over a loop that enters no site, for any number of
+// turns.
 #[cycle(seek)]
 fn seek_loop<'s>(
     alloc: Global,
@@ -159,7 +159,7 @@ fn seek_loop<'s>(
     }
 }
 
-// The same of the branches of a `par`.
+// The same for the branches of a `par`.
 #[cycle(seek)]
 fn seek_branches<'s>(
     alloc: Global,
@@ -180,7 +180,7 @@ fn seek_branches<'s>(
     }
 }
 
-// The same of the phases of a `team`.
+// The same for the phases of a `team`.
 #[cycle(seek)]
 fn seek_phases<'s>(
     alloc: Global,

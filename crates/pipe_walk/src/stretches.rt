@@ -13,14 +13,14 @@ use array_tree::{Block, Blocks, Name};
 use std::alloc::Global;
 use touch_bounds::{Interval, Ranges, Stretch, Touch, UNTOUCHED, tell_block};
 
-// Whether both stretches have a cell.
+// Whether the stretches have a common cell.
 fn meet(one: Stretch, other: Stretch) -> bool
     ensures { IsTrue result ↔ ((cell : ℕ) × Includes one cell × Includes other cell) }
 {
     one.from.max(other.from) < one.to.min(other.to)
 }
 
-// Whether one writes what the other touches.
+// Whether one writes a cell that the other touches.
 fn clash(one: Touch, other: Touch) -> bool
     ensures { IsTrue result ↔ DoClash one other }
 {
@@ -43,7 +43,7 @@ fn are_clear(layout: &Layout, one: &[Touch], other: &[Touch]) -> bool
     true
 }
 
-// Records a block that is run for each number from `low` to before `high`, and so any turns of it. The result is whether all is
+// Records a block that runs for each number from `low` to before `high`, and so for any turns of it. Returns whether all is
 // known.
 fn tell_turns<'s>(
     layout: &Layout,
@@ -74,8 +74,9 @@ fn tell_turns<'s>(
     tell_block(layout, body, &turns, touches)
 }
 
-// Whether the turns of a member in a phase, from `start` to before `end`, are known, and to keep clear of what those above it
-// did in the phases before. If so, what they do in this one, up to before `last`, is recorded besides.
+// Whether the touches of a member's turns in a phase, from `start` to before `end`, are known, and clash with none of the
+// earlier phases' touches by the members above it. If so, it also records the touches of their turns in this phase, up to
+// before `last`.
 fn phase_is_clear<'s>(
     layout: &Layout,
     phase: &'s Block,
@@ -108,7 +109,8 @@ fn phase_is_clear<'s>(
     tell_turns(layout, phase, var, end, last, ranges, above)
 }
 
-// Whether a member is seen to keep clear, in each phase, of what those above it did in the phases before.
+// Whether the text shows that a member's touches clash, in each phase, with none of the earlier phases' touches by the members
+// above it.
 fn member_is_clear<'s>(
     layout: &Layout,
     phases: &'s Blocks,
@@ -140,7 +142,7 @@ fn member_is_clear<'s>(
     true
 }
 
-// Whether each member is seen to do so.
+// Whether the text shows that of each member.
 fn each_is_clear<'s>(
     layout: &Layout,
     phases: &'s Blocks,
@@ -168,12 +170,13 @@ fn each_is_clear<'s>(
     true
 }
 
-/// Whether no two pieces of a `team` are seen to cross, whatever values the variables have between their bounds: what each
-/// member touches in a phase, array by array, is a stretch into which none above it wrote in the phases before, and it writes
-/// into none that those touched. Where it isn't seen, or an allocation fails, it may yet be so.
+/// Whether the text shows that no two pieces of a `team` cross, for any values of the variables between their bounds. For each
+/// member and phase, array by array, the member touches a stretch into which no member above it wrote in the earlier phases,
+/// and writes into no stretch that such a member touched. If the result is false, they may still not cross, or an allocation
+/// failed.
 ///
-/// It costs the text of the phases twice for each member, however many turns there are: for a member all those above it are taken
-/// together as one range of turns.
+/// The time is twice the text of the phases for each member, for any number of turns: for each member, all members above it are
+/// taken together as one range of turns.
 pub(crate) fn members_are_clear<'s>(
     alloc: Global,
     layout: &Layout,

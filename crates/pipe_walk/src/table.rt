@@ -1,4 +1,4 @@
-//! What pieces do, cell by cell and array by array.
+//! The touches of pieces, cell by cell and array by array.
 ghost use Rattle.std.specs.Prelude.{◌≡◌, ◌<◌, IfOk, length, slice_set};
 ghost use Rattle.pipe_walk.specs.Inside.Members.{touch_in};
 ghost use Rattle.pipe_walk.specs.Inside.Tables.{added, cleared, passed, touch_at, past_in, IsFor, IsSettled};
@@ -10,17 +10,17 @@ use array_eval::Layout;
 use std::alloc::{AllocError, Global};
 use std::marker::Model;
 
-/// What the pieces of a phase do, and what the phases before did. A static index touches a cell, and a dynamic one all cells
-/// of an array by one mark.
+/// The touches of a phase's pieces, and of the earlier phases. A static index marks a cell, and a dynamic one all cells of an
+/// array by one mark.
 #[derive(Debug, Drop)]
 pub(crate) struct Table {
-    // For each cell: what static indexes do in the phase at hand.
+    // For each cell, the touches by static indexes in the current phase.
     cells: Vec<Touch>,
-    // For each array: what dynamic indexes do in it.
+    // For each array, the touches by dynamic indexes in the current phase.
     everywhere: Vec<Touch>,
-    // For each cell: what the phases before did.
+    // For each cell, its past in the earlier phases.
     past: Vec<Past>,
-    // For each cell the place of its array.
+    // For each cell, the index of its array.
     owners: Vec<usize>,
 }
 
@@ -32,7 +32,7 @@ impl Model for Table {
     ghost view = { λ table. record { cells = table.cells.items; everywhere = table.everywhere.items; past = table.past.items; owners = table.owners.items } };
 }
 
-// What was done at a place of a list, nothing behind its end.
+// The touch at an index of a list; none after its end.
 fn touch_in(list: &[Touch], place: usize) -> Touch
     ensures { result ≡ touch_in list.now place }
 {
@@ -42,7 +42,7 @@ fn touch_in(list: &[Touch], place: usize) -> Touch
     }
 }
 
-// Adds what is done at a place, if it is there.
+// Adds a touch at an index, if it exists.
 fn add(list: &mut [Touch], place: usize, more: Touch)
     ensures { list.new ≡ added place more list.old }
 {
@@ -65,7 +65,7 @@ impl Table {
         })
     }
 
-    /// Begins a construct, of which no phase was before.
+    /// Begins a construct, without an earlier phase.
     pub(crate) fn clear(&mut self)
         ensures { self.new ≡ cleared self.old }
     {
@@ -74,21 +74,21 @@ impl Table {
         self.past.fill(NO_PAST);
     }
 
-    /// Adds what is done to a cell by a static index.
+    /// Adds the touch of a cell by a static index.
     pub(crate) fn touch_cell(&mut self, cell: usize, more: Touch)
         ensures { self.new ≡ record self.old { cells = added cell more self.old.cells } }
     {
         add(&mut self.cells, cell, more);
     }
 
-    /// Adds what is done to all cells of an array by a dynamic index.
+    /// Adds the touch of all cells of an array by a dynamic index.
     pub(crate) fn touch_array(&mut self, number: usize, more: Touch)
         ensures { self.new ≡ record self.old { everywhere = added number more self.old.everywhere } }
     {
         add(&mut self.everywhere, number, more);
     }
 
-    // What is done to a cell in the phase at hand.
+    // The touches of a cell in the current phase.
     fn touch_at(&self, cell: usize) -> Touch
         ensures { result ≡ touch_at self.now cell }
     {
@@ -99,7 +99,7 @@ impl Table {
         touch_in(&self.cells, cell).with(touch_in(&self.everywhere, owner))
     }
 
-    // Puts what is done to a cell in the phase at hand to what was done before.
+    // Adds the touches of a cell in the current phase to its past.
     fn settle_cell(&mut self, cell: usize)
         requires { cell < length self.old.past }
         ensures { self.new ≡ record self.old {
@@ -110,7 +110,7 @@ impl Table {
         self.past[cell] = self.past[cell].then(touch);
     }
 
-    /// Ends the phase at hand.
+    /// Ends the current phase.
     pub(crate) fn settle(&mut self)
         ensures { IsSettled self.old self.new }
     {

@@ -1,10 +1,10 @@
-//! What members do to something.
+//! Touches of cells by members.
 ghost use Rattle.std.specs.Prelude.{◌≡◌};
 ghost use Rattle.pipe_walk.specs.Inside.Members.{joined, touch_by};
 
 use crate::members::Members;
 
-/// Which members of a phase read something, and which changed it.
+/// The members of a phase that read a cell, and those that changed it.
 #[derive(Clone, Copy, PartialEq, Eq, Debug, Drop)]
 pub(crate) struct Touch {
     pub(crate) read: Members,
@@ -18,7 +18,7 @@ pub(crate) const UNTOUCHED: Touch = Touch {
 };
 
 impl Touch {
-    /// What a member does that changes it, or else reads it.
+    /// The touch of a member that changes a cell, or else reads it.
     pub(crate) fn by(member: usize, writes: bool) -> Touch
         ensures { result ≡ touch_by member writes }
     {
@@ -39,7 +39,7 @@ impl Touch {
         }
     }
 
-    /// What was done here or there.
+    /// The touches of both.
     pub(crate) fn with(self, other: Touch) -> Touch
         ensures { result ≡ joined self other }
     {

@@ -7,7 +7,7 @@ use Rattle.array_jobs.specs.Works.{sites_of}
 use Rattle.array_jobs.specs.Jobs.{JobTree}
 use Rattle.step_eval.specs.Nests.{NestedTree, phases_of, jobs_in, is_construct}
 
--- So many numbers from this one on.
+-- The n numbers from this one on.
 abbrev pub numbers_from : ℕ → ℕ → List ℕ
 numbers_from first zero = []
 numbers_from first (suc n) = first ∷ numbers_from (first + 1) n
@@ -17,15 +17,16 @@ abbrev pub sites_of_jobs : List JobTree → List ℕ
 sites_of_jobs [] = []
 sites_of_jobs (job ∷ more) = numbers_from job.first (sites_of job.work) ++ sites_of_jobs more
 
--- The sites inside the jobs of so many phases from this one on, phase after phase, each over a store of its own.
+-- The sites inside the jobs of so many phases from this one on, phase after phase, each phase over a store of its own.
 abbrev pub sites_of_phases : NestedTree → (ℕ → Store) → ℕ → ℕ → List ℕ
 sites_of_phases nested stores phase zero = []
 sites_of_phases nested stores phase (suc n) =
     sites_of_jobs (jobs_in nested phase (stores phase))
     ++ sites_of_phases nested stores (phase + 1) n
 
--- The site of a construct, followed by those inside the jobs of all its phases, are as many numbers as it has sites,
--- from its own on, each once. So a number inside is a site of exactly one job of exactly one phase, and no job has another.
+-- The site of a construct, followed by the sites inside the jobs of all its phases, are consecutive numbers from the
+-- construct's own on, each once, as many as the construct has sites. So a number inside is a site of exactly one job of exactly
+-- one phase.
 abbrev pub JobsHaveTheSitesInside : Type 0
 JobsHaveTheSitesInside = (nested : NestedTree) (stores : ℕ → Store) →
     IsTrue (is_construct nested.construct) → IsTrue (statement_has_right_ranges nested.construct) →

@@ -1,28 +1,29 @@
-//! How the numbers of sites are tied to the plan: from the works that a machine has still to run to the construct that it
-//! hands out, and from a construct to the jobs of its pieces.
+//! The numbers of sites and the plan: from the remaining works of a machine to the construct that it hands out, and from a
+//! construct to the jobs of its pieces.
 //!
-//! The crate holds definitions and laws. No code here runs: each function's contract is a law, and its body is empty.
+//! The crate holds definitions and laws. No code here runs: each function's contract is a law, and its body is empty. Begin
+//! with `specs/Planned.antt`; `step_eval` has machines and jobs, and the tests of `job_tests` compare their numbers.
 #![tactic(auto)]
 
 ghost use Rattle.planned_sites.specs.Planned.{WorksStayPlanned, ConstructsArePlanned, JobsArePlanned, JobsAreNumberedAbove, StepsRaiseNumbers};
 ghost use Rattle.planned_sites.specs.Numbers.{JobsHaveTheSitesInside};
 
-/// A step leaves a machine's works planned.
+/// After a step, the plan has the sites of a machine's works.
 pub fn works_stay_planned()
     ensures { WorksStayPlanned }
 {}
 
-/// The construct that is next has its site inside the one around by the plan, and the sites inside it follow.
+/// The plan has the site of the next construct inside the site around, followed by the sites inside it.
 pub fn constructs_are_planned()
     ensures { ConstructsArePlanned }
 {}
 
-/// The sites inside a construct stand where the jobs of its pieces say.
+/// The plan has the sites inside a construct at the numbers of its pieces' jobs.
 pub fn jobs_are_planned()
     ensures { JobsArePlanned }
 {}
 
-/// The sites inside a job of a construct are numbered above the construct's own.
+/// The sites inside a job of a construct have greater numbers than the construct's own.
 pub fn jobs_are_numbered_above()
     ensures { JobsAreNumberedAbove }
 {}

@@ -20,7 +20,7 @@ pub fn shared_pool<'p>(alloc: Global, program: &'p Program) -> Result<SharedPool
     Ok(SharedPool::new(alloc, pool_of(alloc, program)?)?)
 }
 
-// The rows of a hart that is alone.
+// The deque of a single hart.
 pub fn own_rows(alloc: Global) -> Result<HartRows, Fail>
     ensures { IfOk result (λ rows. 0 < rows.harts) }
 {
@@ -31,7 +31,7 @@ pub fn own_rows(alloc: Global) -> Result<HartRows, Fail>
     }
 }
 
-/// What a test looks at.
+/// The checks of the tests.
 #[derive(Clone, Copy)]
 pub enum Look {
     Answers,
@@ -70,7 +70,7 @@ pub fn holds<R: Wait>(rt: &R, alloc: Global, look: Look) -> Result<bool, Fail> {
     holds_of(rt, &mut hand, alloc, look)
 }
 
-// Puts the jobs up for all harts; whether the hand was the home's, and its row had room.
+// Offers the jobs to all harts. Returns whether the hand was the home's, and its deque had room.
 pub fn is_offered<'a, R: Wait + 'a>(rt: &'a R, hand: &mut PoolHand<'a, '_, '_, R>) -> bool {
     let room = hand.rows.room(hand.level) as usize;
     if hand.rows.hart() != hand.home || room < hand.shared.jobs().len() {
@@ -89,16 +89,16 @@ pub fn deposited<'a, 'p, R: Wait + 'a>(
     outcome_of(hand.deposit(rt, piece))
 }
 
-// What a hart finds of both pieces, and nothing else.
+// What a hart finds: both pieces, and then nothing.
 const PIECES: &[Answer] = &[Answer::Begins(0), Answer::Begins(1), Answer::Nothing];
 
-// What it finds of a wish for two harts.
+// What it finds: a wish for two harts.
 const WISHES: &[Answer] = &[Answer::Lends(2), Answer::Lends(2), Answer::Nothing];
 
-// What it finds where there is nothing.
+// What it finds if there is nothing.
 const NOTHING: &[Answer] = &[Answer::Nothing];
 
-// Child 2 asks for two harts, then for one more, and leaves. Whether its first wish alone is met, after the pieces.
+// Child 2 requests two harts, then one more, and leaves. Returns whether its first wish alone is met, after the pieces.
 fn pieces_go_first<'a, R: Wait + 'a>(rt: &'a R, hand: &mut PoolHand<'a, '_, '_, R>) -> bool {
     let offered = is_offered(rt, hand);
     let whole = finds(hand, rt, PIECES);
@@ -122,7 +122,7 @@ fn a_hand_answers_as_the_pool_does(rt: HostRuntime) -> Result<(), Fail> {
     Ok(())
 }
 
-// What a hart finds of two contexts and both pieces.
+// What a hart finds: two contexts and both pieces.
 const CONTEXTS_THEN_PIECES: &[Answer] = &[
     Answer::GoesOn,
     Answer::GoesOn,
@@ -130,7 +130,7 @@ const CONTEXTS_THEN_PIECES: &[Answer] = &[
     Answer::Begins(1),
 ];
 
-// Puts three contexts back. Whether there was room for two, and they go before the pieces.
+// Puts three contexts back. Returns whether there was room for two, and they go before the pieces.
 fn contexts_go_first<'a, R: Wait + 'a>(
     rt: &'a R,
     hand: &mut PoolHand<'a, '_, '_, R>,
@@ -159,17 +159,17 @@ fn shared_with_ready<'p>(alloc: Global, program: &'p Program) -> Result<SharedPo
     Ok(SharedPool::new(alloc, pool)?)
 }
 
-// What a hart finds of a context and both pieces.
+// What a hart finds: a context and both pieces.
 const CONTEXT_THEN_PIECES: &[Answer] = &[Answer::GoesOn, Answer::Begins(0), Answer::Begins(1)];
 
-// Puts the jobs up. Whether a context that was ready goes before them.
+// Offers the jobs. Returns whether a ready context goes before them.
 fn context_goes_first<'a, R: Wait + 'a>(rt: &'a R, hand: &mut PoolHand<'a, '_, '_, R>) -> bool {
     let offered = is_offered(rt, hand);
     let found = finds(hand, rt, CONTEXT_THEN_PIECES);
     offered && found
 }
 
-// The same of one that was ready before its pool was shared.
+// The same for a context that was ready before its pool was shared.
 fn ready_goes_first<R: Wait>(rt: &R, alloc: Global) -> Result<bool, Fail> {
     let program = parsed(alloc, TWO_BRANCHES)?;
     let shared = shared_with_ready(alloc, &program)?;
@@ -184,7 +184,7 @@ fn a_context_that_was_ready_before_goes_first(rt: HostRuntime) -> Result<(), Fai
     Ok(())
 }
 
-// Hands the pool out, if it can be; whether it has failed and gives nothing.
+// Hands the pool out, if it can be. Returns whether it has failed and returns no writes.
 fn handed_out<'a, R: Wait + 'a>(rt: &'a R, hand: &PoolHand<'a, '_, '_, R>) -> Option<bool> {
     match hand.take_out(rt) {
         Some(pool) => Some(gives_nothing(pool)),
@@ -192,7 +192,7 @@ fn handed_out<'a, R: Wait + 'a>(rt: &'a R, hand: &PoolHand<'a, '_, '_, R>) -> Op
     }
 }
 
-// Hands the pool out; whether it gives the writes of both branches.
+// Hands the pool out. Returns whether its writes are those of both branches.
 fn hands_out_both<'a, R: Wait + 'a>(rt: &'a R, hand: &PoolHand<'a, '_, '_, R>) -> bool {
     match hand.take_out(rt) {
         Some(pool) => gives_both(pool),
@@ -200,7 +200,7 @@ fn hands_out_both<'a, R: Wait + 'a>(rt: &'a R, hand: &PoolHand<'a, '_, '_, R>) -
     }
 }
 
-// Brings the piece of a place, of a pool that isn't handed out before. What comes of it.
+// Brings the piece of an index, to a pool that isn't handed out. Returns the result.
 fn brought<'a, R: Wait + 'a>(
     rt: &'a R,
     hand: &PoolHand<'a, '_, '_, R>,
@@ -214,7 +214,7 @@ fn brought<'a, R: Wait + 'a>(
     Ok(deposited(rt, hand, piece))
 }
 
-// Brings the pieces of places 1, 1 and 0. Whether each of them is kept once.
+// Brings the pieces 1, 1 and 0. Returns whether each of them is kept once.
 fn keeps_each_once<'a, R: Wait + 'a>(
     rt: &'a R,
     hand: &PoolHand<'a, '_, '_, R>,
@@ -226,7 +226,7 @@ fn keeps_each_once<'a, R: Wait + 'a>(
     Ok(second == Came::Kept && again == Came::Double && first == Came::Kept)
 }
 
-// Fills a pool and hands it out. Whether it gives the writes of both branches, and isn't handed out again.
+// Fills a pool and hands it out. Returns whether its writes are those of both branches, and it isn't handed out again.
 fn is_handed_out_once<'a, R: Wait + 'a>(
     rt: &'a R,
     hand: &PoolHand<'a, '_, '_, R>,
@@ -244,12 +244,13 @@ fn a_full_pool_is_handed_out_once(rt: HostRuntime) -> Result<(), Fail> {
     Ok(())
 }
 
-// Whether a place of the pool has failed, and whether it is full.
+// Whether a piece of the pool has failed, and whether the pool is full.
 fn state<'a, R: Wait + 'a>(rt: &'a R, hand: &PoolHand<'a, '_, '_, R>) -> (bool, bool) {
     (hand.has_failed(rt), hand.is_full(rt))
 }
 
-// Tries to fail a place twice, and one that isn't there, then fails the other. Whether the pool was full at the end alone.
+// Tries to fail a piece twice, and one that doesn't exist, then fails the other. Returns whether the pool was full only at the
+// end.
 fn failed<'a, R: Wait + 'a>(rt: &'a R, hand: &PoolHand<'a, '_, '_, R>) -> bool {
     for place in [0, 0, 2] {
         hand.fail(rt, place);
@@ -270,7 +271,7 @@ fn is_stranger<'a, R: Wait + 'a>(
     Ok(deposited(rt, hand, piece) == Came::Stranger)
 }
 
-// Whether a context is given back.
+// Whether a context is returned.
 fn is_given_back<'a, R: Wait + 'a>(
     rt: &'a R,
     hand: &mut PoolHand<'a, '_, '_, R>,
@@ -280,7 +281,7 @@ fn is_given_back<'a, R: Wait + 'a>(
     Ok(!unblocked(hand, rt, context))
 }
 
-// Whether a pool that was handed out takes nothing more.
+// Whether a pool that was handed out takes nothing.
 fn takes_nothing<'a, R: Wait + 'a>(
     rt: &'a R,
     hand: &mut PoolHand<'a, '_, '_, R>,
@@ -293,7 +294,7 @@ fn takes_nothing<'a, R: Wait + 'a>(
     Ok(stranger && back && over)
 }
 
-// Offers, fails and hands out a pool. Whether it then has nothing and takes nothing.
+// Offers, fails and hands out a pool. Returns whether it then has nothing and takes nothing.
 fn leaves_nothing<'a, R: Wait + 'a>(
     rt: &'a R,
     hand: &mut PoolHand<'a, '_, '_, R>,
@@ -314,7 +315,7 @@ fn nothing_is_left_of_a_pool_that_is_handed_out(rt: HostRuntime) -> Result<(), F
     Ok(())
 }
 
-// Whether a hand tells each call that a scheduler hears.
+// Whether a hand's receipts have each call that a scheduler gets.
 fn tells_each<S: Scheduler>(scheduler: &mut S, hold: S::Hold) -> bool {
     tells(scheduler, hold) == TOLD
 }

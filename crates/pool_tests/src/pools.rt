@@ -12,7 +12,7 @@ use std::alloc::Global;
 use std::test::Fail;
 use step_eval::StepMachine;
 
-/// What `enter` of a pool gives: a piece is told by its place.
+/// The result of `enter` of a pool, with a piece's index.
 pub fn answer_of(next: Next<PoolWork>) -> Answer {
     match next {
         Next::Run(PoolWork::Begin(job)) => Answer::Begins(job.place),
@@ -27,7 +27,7 @@ pub fn entered<'p, S: Scheduler<Ctx = PoolWork<'p>>>(scheduler: &mut S, hold: S:
     answer_of(scheduler.enter(hold))
 }
 
-/// Whether a hart finds this again and again.
+/// Whether a hart finds this, one after another.
 pub fn finds<'p, S: Scheduler<Ctx = PoolWork<'p>>>(
     scheduler: &mut S,
     hold: S::Hold,
@@ -41,7 +41,7 @@ pub fn finds<'p, S: Scheduler<Ctx = PoolWork<'p>>>(
     true
 }
 
-/// Puts a context back; whether there was room.
+/// Puts a context back. Returns whether there was room.
 pub fn unblocked<'p, S: Scheduler<Ctx = PoolWork<'p>>>(
     scheduler: &mut S,
     hold: S::Hold,
@@ -53,7 +53,7 @@ pub fn unblocked<'p, S: Scheduler<Ctx = PoolWork<'p>>>(
     }
 }
 
-// Puts three contexts back; whether there was room for each.
+// Puts three contexts back. Returns whether there was room for each.
 fn put_back<'p, S: Scheduler<Ctx = PoolWork<'p>>>(
     scheduler: &mut S,
     hold: S::Hold,
@@ -98,7 +98,7 @@ fn bring<'p>(
     Ok(outcome_of(pool.deposit(piece)))
 }
 
-// What a full pool gives. A failed one, and one that isn't full, give nothing.
+// The writes of a full pool. A failed pool, and one that isn't full, return none.
 fn taken(pool: Pool) -> Option<Overlay> {
     if !pool.is_full() {
         return None;
@@ -114,21 +114,21 @@ fn is_of_both(overlay: Option<Overlay>) -> bool {
     }
 }
 
-/// Whether a pool is full, hasn't failed, and gives the writes of both branches.
+/// Whether a pool is full, hasn't failed, and returns the writes of both branches.
 pub fn gives_both(pool: Pool) -> bool {
     let failed = pool.has_failed();
     let both = is_of_both(taken(pool));
     both && !failed
 }
 
-/// Whether a pool has failed and gives nothing.
+/// Whether a pool has failed and returns no writes.
 pub fn gives_nothing(pool: Pool) -> bool {
     let failed = pool.has_failed();
     let nothing = taken(pool).is_none();
     failed && nothing
 }
 
-// What a test looks at.
+// The checks of the tests.
 #[derive(Clone, Copy)]
 enum Look {
     PiecesFirst,
@@ -150,7 +150,7 @@ fn holds_of<'p>(
     }
 }
 
-// Whether it holds of a pool of the two branches.
+// The same for a pool of the two branches.
 fn holds(alloc: Global, look: Look) -> Result<bool, Fail> {
     let program = parsed(alloc, TWO_BRANCHES)?;
     let mut pool = pool_of(alloc, &program)?;
@@ -158,7 +158,7 @@ fn holds(alloc: Global, look: Look) -> Result<bool, Fail> {
     holds_of(&mut pool, alloc, &copies, look)
 }
 
-// What a hart finds of two pieces and a wish for two harts.
+// What a hart finds: two pieces and a wish for two harts.
 const PIECES_THEN_WISHES: &[Answer] = &[
     Answer::Begins(0),
     Answer::Begins(1),
@@ -167,7 +167,7 @@ const PIECES_THEN_WISHES: &[Answer] = &[
     Answer::Nothing,
 ];
 
-// Child 2 asks for two harts. Whether the pool tells so, and its pieces go before that wish.
+// Child 2 requests two harts. Returns whether the pool's receipt has that, and its pieces go before that wish.
 fn pieces_go_first(pool: &mut Pool) -> bool {
     let told = pool.request((), 2, 2).told();
     let tells = told.call == Call::Requested && told.child == 2 && told.count == 2;
@@ -181,7 +181,7 @@ fn pieces_go_before_wishes(rt: HostRuntime) -> Result<(), Fail> {
     Ok(())
 }
 
-// What a hart finds of two pieces and one wish.
+// What a hart finds: two pieces and one wish.
 const PIECES_THEN_ONE_WISH: &[Answer] = &[
     Answer::Begins(0),
     Answer::Begins(1),
@@ -199,10 +199,10 @@ fn a_wish_beyond_the_room_is_dropped(rt: HostRuntime) -> Result<(), Fail> {
     Ok(())
 }
 
-// What a hart finds of two contexts and two pieces, as far as the first piece.
+// What a hart finds: two contexts and the first of two pieces.
 const CONTEXTS_THEN_PIECE: &[Answer] = &[Answer::GoesOn, Answer::GoesOn, Answer::Begins(0)];
 
-// Whether a pool tells that a context waits at a mutex.
+// Whether a pool's receipt has that a context waits at a mutex.
 fn tells_of_block(pool: &mut Pool) -> bool {
     let told = pool.block(()).told();
     told.call == Call::Blocked && told.child == 0 && told.count == 0
@@ -249,7 +249,7 @@ fn a_full_pool_gives_the_writes_of_all(rt: HostRuntime) -> Result<(), Fail> {
     Ok(())
 }
 
-// The place of the job that is taken as the last one.
+// Takes the last job. Returns its index.
 fn last_taken(pool: &mut Pool, place: usize) -> Option<u8> {
     match pool.take_last(place) {
         Some(job) => Some(job.place),
@@ -257,7 +257,7 @@ fn last_taken(pool: &mut Pool, place: usize) -> Option<u8> {
     }
 }
 
-// Whether the last job alone is taken, and by its place.
+// Whether only the last job is taken, and by its index.
 fn is_taken_by_place(pool: &mut Pool, other: usize, last: usize, place: u8) -> bool {
     let none = last_taken(pool, other).is_none();
     let taken = last_taken(pool, last) == Some(place);
@@ -274,7 +274,7 @@ fn is_none_ready(pool: &mut Pool) -> bool {
     pool.take_ready().is_none()
 }
 
-// Puts a context back. Whether it is the one that is taken as ready.
+// Puts a context back. Returns whether it is the one that is taken as ready.
 fn is_taken_when_ready<'p>(
     pool: &mut Pool<'p>,
     alloc: Global,

@@ -1,4 +1,4 @@
-//! Pools whose codes stand in rows.
+//! Pools whose piece indices are in deques.
 ghost use Rattle.std.specs.Prelude.{◌≡◌, ◌<◌, IfOk};
 
 use crate::hands::{Look, holds, is_offered, shared_pool};
@@ -11,29 +11,29 @@ use std::alloc::Global;
 use std::sync::Wait;
 use std::test::Fail;
 
-// Puts a code into the hart's own row, if it has room.
+// Pushes a code onto the hart's own deque, if it has room.
 fn put<R>(hand: &mut PoolHand<'_, '_, '_, R>, code: u32) {
     if 0 < hand.rows.room(hand.level) {
         hand.rows.push(hand.level, code);
     }
 }
 
-// Puts two codes into the hart's own row, if it has room.
+// Pushes two codes onto the hart's own deque, if it has room.
 fn put_both<R>(hand: &mut PoolHand<'_, '_, '_, R>, first: u32, second: u32) {
     put(hand, first);
     put(hand, second);
 }
 
-// What a hart finds of the second piece, and nothing else.
+// What a hart finds: the second piece, and then nothing.
 const LAST_PIECE: &[Answer] = &[Answer::Begins(1), Answer::Nothing];
 
-/// Whether codes of other jobs are let go, and such of jobs that are begun.
+/// Whether codes of other jobs are dropped, and codes of jobs that are begun.
 pub fn lets_go<'a, R: Wait + 'a>(rt: &'a R, hand: &mut PoolHand<'a, '_, '_, R>) -> bool {
     let offered = is_offered(rt, hand);
-    // The one is of site 5, the other of a place that the pool doesn't have.
+    // Why these codes: one is of site 5, the other of a piece that the pool doesn't have.
     put_both(hand, 320, 66);
     let first = entered(hand, rt) == Answer::Begins(0);
-    // Those of jobs that are begun.
+    // The codes of jobs that are begun.
     put_both(hand, 64, 64);
     let last = finds(hand, rt, LAST_PIECE);
     offered && first && last
@@ -45,7 +45,7 @@ fn a_code_of_no_job_of_the_pool_is_let_go(rt: HostRuntime) -> Result<(), Fail> {
     Ok(())
 }
 
-/// Of a pool of two jobs that weren't offered: whether the first comes from under the lock, and the other by its code.
+/// For a pool of two jobs that weren't offered: whether the first comes from under the lock, and the other by its code.
 pub fn takes_both_ways<'a, R: Wait + 'a>(rt: &'a R, hand: &mut PoolHand<'a, '_, '_, R>) -> bool {
     let locked = entered(hand, rt) == Answer::Begins(0);
     let before = hand.rows.room(1) == 16_384;
@@ -61,7 +61,7 @@ fn jobs_that_are_not_offered_are_handed_out_under_the_lock(rt: HostRuntime) -> R
     Ok(())
 }
 
-// The rows of two harts.
+// The deques of two harts.
 fn rows_of_two(alloc: Global) -> Result<(HartRows, HartRows), Fail>
     ensures { IfOk result (λ both. (0 < both.0.harts) × (0 < both.1.harts)) }
 {
@@ -75,7 +75,7 @@ fn rows_of_two(alloc: Global) -> Result<(HartRows, HartRows), Fail>
     }
 }
 
-// What a hart finds by a hand that it makes for this one use, on a pool of hart 0 at level 1.
+// What a hart finds by a hand for this one use, on a pool of hart 0 at level 1.
 fn found_once<'a, R: Wait + 'a>(rt: &'a R, shared: &'a SharedPool, rows: &mut HartRows) -> Answer
     requires { 0 < rows.old.harts }
     ensures { rows.new.harts ≡ rows.old.harts }
@@ -84,7 +84,7 @@ fn found_once<'a, R: Wait + 'a>(rt: &'a R, shared: &'a SharedPool, rows: &mut Ha
     answer_of(hand.enter(rt))
 }
 
-// The home offers; the guest steals the first code, and the home pops the last.
+// The home offers. The guest steals the first code, and the home pops the last.
 fn is_shared_out<'a, R: Wait + 'a>(
     rt: &'a R,
     shared: &'a SharedPool,
@@ -101,7 +101,7 @@ fn is_shared_out<'a, R: Wait + 'a>(
     offered && steals && pops && none && nothing
 }
 
-// The same by the rows of two harts.
+// The same with the deques of two harts.
 fn is_shared_by_two<'x, R: Wait>(
     rt: &'x R,
     alloc: Global,

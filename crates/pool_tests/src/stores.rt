@@ -11,10 +11,10 @@ use std::sync::Wait;
 use std::test::Fail;
 use step_eval::{Found, Nested, StepMachine, jobs_of};
 
-// The same two branches, after a write of another cell: their jobs differ from the others in one cell of the store alone.
+// The same two branches, after a write of another cell: their jobs differ from the others only in one cell of the store.
 const AFTER_A_WRITE: &[u8] = b"array a[4]; a[3] = 1; par { { a[0] = 1; } { a[1] = 2; } }";
 
-// The construct behind that write.
+// The construct after that write.
 fn construct<'p>(alloc: Global, program: &'p Program) -> Result<Nested<'p>, Fail> {
     let accepted = accepted(alloc, program)?;
     let mut machine = StepMachine::new(alloc, body_job(alloc, accepted.program())?)?;
@@ -27,13 +27,13 @@ fn construct<'p>(alloc: Global, program: &'p Program) -> Result<Nested<'p>, Fail
 // The piece of its second branch.
 fn second_piece<'p>(alloc: Global, program: &'p Program) -> Result<Piece<'p>, Fail> {
     let nested = construct(alloc, program)?;
-    // A look at its phases tells that it is a construct that is handed out.
+    // Why: reading its phases makes the construct's invariant known.
     let _phases = nested.phases();
     let jobs = jobs_of(alloc, &nested, 0, &nested.store)?;
     piece_at(alloc, &jobs, 1)
 }
 
-// Deposits it, then the piece of the pool's own second job, then it again. What came of them.
+// Deposits that piece, then the piece of the pool's own second job, then that piece again. Returns the results.
 fn deposits<'a, 'p, R: Wait + 'a>(
     rt: &'a R,
     hand: &PoolHand<'a, '_, 'p, R>,
@@ -46,7 +46,7 @@ fn deposits<'a, 'p, R: Wait + 'a>(
     Ok([first, own, last])
 }
 
-// Whether a hand tells it from the pool's own, whose place it leaves open.
+// Whether a hand distinguishes it from the pool's own piece, whose slot it leaves open.
 fn is_told_by_a_hand<R: Wait>(rt: &R, alloc: Global) -> Result<bool, Fail> {
     let program = parsed(alloc, TWO_BRANCHES)?;
     let other = parsed(alloc, AFTER_A_WRITE)?;
@@ -71,7 +71,7 @@ fn has_another_second(pool: &Pool, own: &[Job]) -> bool {
     }
 }
 
-// Puts it into a pool twice. Whether it is kept once, with its job.
+// Puts it into a pool twice. Returns whether it is kept once, with its job.
 fn is_put_in<'p>(pool: &mut Pool<'p>, alloc: Global, other: &'p Program) -> Result<bool, Fail> {
     let own = copy_jobs(alloc, pool.jobs())?;
     let first = outcome_of(pool.put(second_piece(alloc, other)?));
@@ -79,7 +79,7 @@ fn is_put_in<'p>(pool: &mut Pool<'p>, alloc: Global, other: &'p Program) -> Resu
     Ok(first == Came::Kept && again == Came::Double && has_another_second(pool, &own))
 }
 
-// The same of a pool of the two branches.
+// The same for a pool of the two branches.
 fn brings_its_job(alloc: Global) -> Result<bool, Fail> {
     let program = parsed(alloc, TWO_BRANCHES)?;
     let other = parsed(alloc, AFTER_A_WRITE)?;

@@ -41,7 +41,7 @@ fn stencil(alloc: Global, size: u8, p: u8, q: u8, r: u8) -> Result<Program, Allo
     })
 }
 
-// The grid, the grid of the sweep that is under way, and the sums of the rows.
+// The grid, the grid of the current sweep, and the sums of the rows.
 fn arrays(alloc: Global, size: u8) -> Result<Arrays, AllocError>
     requires { size ≤ 40 }
     ensures { IfOk result (λ arrays. declarations_of arrays ≡ declared (codes "g") (size * size)
@@ -93,7 +93,7 @@ fn times(alloc: Global, left: Expr, right: u8) -> Result<Expr, AllocError>
     binary(alloc, Op::Mul, left, number(right))
 }
 
-// A coordinate moved on round an edge.
+// A coordinate moved by `by`, around the edge.
 fn moved(alloc: Global, size: u8, coordinate: Expr, by: u8) -> Result<Expr, AllocError>
     ensures { IfOk result (λ e. expression_of e ≡ moved size (expression_of coordinate) by) }
 {
@@ -145,7 +145,7 @@ fn set_cell(alloc: Global, size: u8, array: &[u8], value: Expr) -> Result<Stmt, 
     assign(alloc, array, index, value)
 }
 
-// The cell of the grid that is so many columns further on, and so many rows.
+// The cell of the grid that is so many columns and rows further on.
 fn cell_beside(alloc: Global, size: u8, by: u8) -> Result<Expr, AllocError>
     ensures { IfOk result (λ e. expression_of e
         ≡ cell_at size (codes "g") row_number (moved size column_number by)) }
@@ -205,7 +205,7 @@ fn taken_over(alloc: Global, size: u8) -> Result<Stmt, AllocError>
     rows(alloc, 0, size, 4, columns(alloc, 0, size, set)?)
 }
 
-// The grid at first.
+// The initial grid.
 fn sown(alloc: Global, size: u8, p: u8, q: u8, r: u8) -> Result<Stmt, AllocError>
     ensures { IfOk result (λ s. statement_of s ≡ sown size p q r) }
 {

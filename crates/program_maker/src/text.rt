@@ -16,6 +16,10 @@ use std::alloc::{AllocError, Global};
 /// # Errors
 ///
 /// `AllocError` if an allocation fails.
+///
+/// # Memory
+///
+/// It allocates the tree and the text.
 pub fn made_text(alloc: Global, seed: u64, size: u8) -> Result<Vec<u8>, AllocError>
     requires some { 1 ≤ size }
     requires few { size ≤ 40 }

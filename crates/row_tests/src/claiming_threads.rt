@@ -1,4 +1,4 @@
-//! Two harts on threads that claim the members of one row.
+//! Two harts on threads that claim the members of one claim counter.
 ghost use Rattle.std.specs.Prelude.{◌≡◌, ◌<◌, length, map};
 ghost use Rattle.claim_words.specs.Seats.{AreAll, IsOf, kin};
 
@@ -24,7 +24,7 @@ fn claim_all(table: &ClaimTable, taken: &Taken, seat: &mut ClaimSeat)
     }
 }
 
-// All do so at once.
+// Both harts claim at once.
 fn play<R: Threads + Wait + Sync>(
     rt: &R,
     table: &ClaimTable,

@@ -6,7 +6,7 @@ use claim_words::laws::claimed;
 use claim_words::{ClaimSeat, ClaimTable, Claimed};
 use std::test::Fail;
 
-// The members of a row are claimed from the lowest on, by whichever seat.
+// The members of a claim counter are claimed from the lowest on, by either seat.
 fn are_claimed_in_order(table: &ClaimTable, one: &mut ClaimSeat, other: &mut ClaimSeat) -> bool
     requires of { IsOf table.now (kin one.old) × IsOf table.now (kin other.old) }
     requires rows { length table.now.counts.items ≡ 3 }
@@ -18,7 +18,7 @@ fn are_claimed_in_order(table: &ClaimTable, one: &mut ClaimSeat, other: &mut Cla
     first && second && none && table.claim(other, 0) == Claimed::NoneLeft { shown: 2 }
 }
 
-// Rows don't touch one another, and a row may have no member.
+// Claim counters are independent of one another, and one may have no member.
 fn are_rows_apart(table: &ClaimTable, one: &mut ClaimSeat, other: &mut ClaimSeat) -> bool
     requires of { IsOf table.now (kin one.old) × IsOf table.now (kin other.old) }
     requires rows { length table.now.counts.items ≡ 3 }

@@ -1,6 +1,6 @@
-//! Tests of the rows from which harts steal and of the claims of members, on one thread and by two harts on threads.
+//! Tests of the deques from which harts steal, and of the claims of members, on one thread and by two harts on threads.
 //!
-//! They stand apart since a crate is proved a second time with its tests.
+//! Why a crate of its own: a crate is proved a second time with its tests.
 #![tactic(auto)]
 
 #[cfg(test)]

@@ -1,11 +1,11 @@
-//! What tests do with the rows of all harts.
+//! Moves on the deques of all harts.
 ghost use Rattle.std.specs.Prelude.{◌≡◌, ◌<◌, length, map};
 ghost use Rattle.deque_rows.specs.Rows.{IsLevel, AreAll, kin};
 
 use deque_rows::{HartRows, Stolen};
 use std::sync::Wait;
 
-// Puts codes into one's own row, as far as it has room.
+// Pushes codes onto a hart's own deque, as far as it has room.
 pub fn put(rows: &mut HartRows, level: u8, codes: &[u32])
     requires { IsLevel level }
     ensures { kin rows.new ≡ kin rows.old }
@@ -17,7 +17,7 @@ pub fn put(rows: &mut HartRows, level: u8, codes: &[u32])
     }
 }
 
-// A hart puts codes into its row.
+// A hart pushes codes onto its deque.
 pub fn put_at(rows: &mut [HartRows], hart: usize, level: u8, codes: &[u32])
     requires { IsLevel level × (hart < length rows.old) }
     ensures { map kin rows.new ≡ map kin rows.old }
@@ -25,7 +25,7 @@ pub fn put_at(rows: &mut [HartRows], hart: usize, level: u8, codes: &[u32])
     put(&mut rows[hart], level, codes);
 }
 
-// A hart pops from its row.
+// A hart pops from its deque.
 pub fn pop_at(rows: &mut [HartRows], hart: usize, level: u8) -> Option<u32>
     requires { IsLevel level × (hart < length rows.old) }
     ensures { map kin rows.new ≡ map kin rows.old }
@@ -33,7 +33,7 @@ pub fn pop_at(rows: &mut [HartRows], hart: usize, level: u8) -> Option<u32>
     rows[hart].pop(level)
 }
 
-// A hart steals from a row.
+// A hart steals from a deque.
 pub fn steal_at<R: Wait>(rt: &R, rows: &mut [HartRows], thief: usize, hart: u8, level: u8) -> Stolen
     requires all { AreAll (map kin rows.old) }
     requires row { IsLevel level × (hart < length rows.old) }

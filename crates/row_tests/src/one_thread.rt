@@ -1,4 +1,4 @@
-//! The rows of two harts on one thread.
+//! The deques of two harts on one thread.
 ghost use Rattle.std.specs.Prelude.{◌≡◌, ◌≤◌, length, map};
 ghost use Rattle.deque_rows.specs.Rows.{AreAll, kin};
 
@@ -22,7 +22,7 @@ fn are_ends_kept<R: Wait>(rt: &R, rows: &mut [HartRows]) -> bool
     took && none == Stolen::Empty && pop_at(rows, 0, 1) == None
 }
 
-// Rows of other levels and of other harts are rows of their own, and a hart may steal from its own row.
+// The deques of other levels and of other harts are separate, and a hart may steal from its own deque.
 fn are_rows_apart<R: Wait>(rt: &R, rows: &mut [HartRows]) -> bool
     requires { AreAll (map kin rows.old) × (length rows.old ≡ 2) }
     ensures { map kin rows.new ≡ map kin rows.old }
@@ -35,7 +35,7 @@ fn are_rows_apart<R: Wait>(rt: &R, rows: &mut [HartRows]) -> bool
     bare && own && other && pop_at(rows, 0, 2) == Some(21) && pop_at(rows, 1, 3) == Some(31)
 }
 
-// Whether each hart has its number, and its rows have so much room.
+// Whether each hart has its number, and its deques have so much room.
 fn have_room(rows: &[HartRows], level: u8, room: [u32; 2]) -> bool
     requires { (1 ≤ level) × (level ≤ 3) × (length rows.now ≡ 2) }
 {
@@ -54,7 +54,7 @@ fn the_home_pops_the_last_and_a_guest_steals_the_first(rt: HostRuntime) -> Resul
     Ok(())
 }
 
-// A row with room for three codes takes the first three of four, and no other for one that was popped.
+// A deque with room for three codes takes the first three of four, and no other one after a pop.
 fn is_filled(rows: &mut [HartRows]) -> bool
     requires { length rows.old ≡ 2 }
     ensures { map kin rows.new ≡ map kin rows.old }

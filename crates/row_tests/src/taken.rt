@@ -1,10 +1,10 @@
-//! What harts on threads took, by numbers.
+//! The numbers that harts on threads took.
 use std::sync::atomic::{AtomicU64, Ordering};
 
-/// How many numbers there are, from 0 on.
+/// The numbers are those from 0 to before this one.
 pub const NUMBERS: u8 = 64;
 
-// Which numbers were taken, as bits, and how many.
+// The numbers that were taken, as bits, and how many.
 #[derive(Drop)]
 pub struct Taken {
     numbers: AtomicU64,
@@ -12,6 +12,7 @@ pub struct Taken {
 }
 
 impl Taken {
+    /// No number.
     pub fn new() -> Taken {
         Taken {
             numbers: AtomicU64::new(0),
@@ -19,6 +20,7 @@ impl Taken {
         }
     }
 
+    /// Notes that a number was taken.
     pub fn note(&self, number: u64) {
         self.numbers
             .fetch_or(1 << (number % u64::from(NUMBERS)), Ordering::SeqCst);

@@ -14,7 +14,7 @@ use std::thread::{Threads, for_each_mut};
 /// The codes are the numbers below this one.
 const CODES: u32 = NUMBERS as u32;
 
-/// How often the thief tries.
+/// The number of the thief's tries.
 const TRIES: u32 = 4096;
 
 // The home pushes each code, and pops every third time.
@@ -31,7 +31,7 @@ fn be_home(taken: &Taken, home: &mut HartRows)
     }
 }
 
-// The guest steals what it finds.
+// The guest steals the codes that it finds.
 fn be_guest<R: Wait>(rt: &R, taken: &Taken, guest: &mut HartRows)
     requires { 0 < guest.old.harts }
     ensures { kin guest.new ≡ kin guest.old }
@@ -54,7 +54,7 @@ fn take_part<R: Wait>(rt: &R, taken: &Taken, rows: &mut HartRows, hart: usize)
     }
 }
 
-// Both do so at once.
+// Both harts do so at once.
 fn play<R: Threads + Wait + Sync>(rt: &R, taken: &Taken, rows: &mut [HartRows])
     requires { AreAll (map kin rows.old) }
     ensures { map kin rows.new ≡ map kin rows.old }
@@ -66,7 +66,7 @@ fn play<R: Threads + Wait + Sync>(rt: &R, taken: &Taken, rows: &mut [HartRows])
     for_each_mut(rt, rows, 2, &go);
 }
 
-// One thread takes what is left.
+// One thread takes the rest.
 fn take_rest<R: Wait>(rt: &R, taken: &Taken, rows: &mut [HartRows])
     requires { AreAll (map kin rows.old) × (length rows.old ≡ 2) }
     ensures { map kin rows.new ≡ map kin rows.old }
@@ -81,7 +81,7 @@ fn take_rest<R: Wait>(rt: &R, taken: &Taken, rows: &mut [HartRows])
     }
 }
 
-// Whether two harts take each code once. Then the account of their rows is settled.
+// Whether two harts take each code once. Then the account of their deques is settled.
 fn is_shared_out<R: Threads + Wait + Sync>(rt: &R, alloc: Global) -> Result<bool, Fail> {
     let taken = Taken::new();
     let mut all = rows(alloc, 2)?;

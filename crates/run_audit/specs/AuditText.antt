@@ -10,7 +10,7 @@ use Rattle.journal_text.specs.declared.fault.TextFault.TheVariants as fault
 use Rattle.run_audit.specs.declared.verdict.Verdict.{Verdict}
 use Rattle.run_audit.specs.declared.verdict.Verdict.TheVariants as verdict
 
--- Each refusal of an entry has its words.
+-- The words of each refusal of an entry.
 abbrev pub refusal_text : NotAdmitted → List ℕ
 refusal_text refusal.NoSuchHart = codes "no such hart"
 refusal_text refusal.NoSuchSite = codes "no such site"
@@ -25,14 +25,14 @@ refusal_text (refusal.HartInside hart) = codes "h" ++ decimal hart ++ codes " is
 refusal_text (refusal.ChildLeft site) = codes "s" ++ decimal site ++ codes " is left"
 refusal_text refusal.NoCount = codes "count is 0"
 
--- Each cause of a fault has its words.
+-- The words of each cause of a fault.
 abbrev pub cause_text : Why → List ℕ
 cause_text (Refused refused) = refusal_text refused
 cause_text (Unfinished site) = codes "s" ++ decimal site ++ codes " is unfinished"
 cause_text (Unmeant site true) = codes "s" ++ decimal site ++ codes " isn't skipped"
 cause_text (Unmeant site false) = codes "s" ++ decimal site ++ codes " is skipped"
 
--- A verdict has this line.
+-- The line of a verdict.
 abbrev pub verdict_text : Verdict → List ℕ
 verdict_text (verdict.Legal entries) = codes "legal " ++ decimal entries ++ 10 ∷ []
 verdict_text (verdict.Differs line) =
@@ -40,7 +40,7 @@ verdict_text (verdict.Differs line) =
 verdict_text (verdict.Illegal found) =
     codes "illegal: entry " ++ decimal found.place ++ codes ", " ++ cause_text found.why ++ 10 ∷ []
 
--- A fault of the second part has this line; an allocation failure has none.
+-- The line of a fault of the second part; none for an allocation failure.
 abbrev pub text_fault_text : TextFault → List ℕ
 text_fault_text (fault.BadLine line) =
     codes "syntax: bad line " ++ decimal line ++ codes " after %%" ++ 10 ∷ []

@@ -1,4 +1,4 @@
--- What contracts see of compared array lines.
+-- The view that contracts have of compared array lines.
 use Rattle.std.specs.Prelude.{ℕ, ◌≤◌}
 use Rattle.journal_text.specs.Reading.{lines_of}
 use Rattle.journal_text.specs.declared.fault.TextFault.{TextFault}
@@ -6,7 +6,7 @@ use Rattle.journal_text.specs.declared.fault.TextFault.TheVariants.{BadLine, Bad
 use Rattle.run_audit.specs.declared.auditing.ArrayLines.{ArrayLines}
 use Rattle.run_audit.specs.Audit.{Compared}
 
--- Contracts see compared array lines with the rest of the text cut into lines.
+-- The view that contracts have of compared array lines, with the rest of the text cut into lines.
 abbrev pub compared_seen : ArrayLines → Compared
 compared_seen found = record {
   differs = found.differs;
@@ -14,7 +14,7 @@ compared_seen found = record {
   rest = lines_of found.rest.now;
 }
 
--- A fault that has a line has one up to this.
+-- The line of a fault is at most this, if it has a line.
 abbrev pub IsWithin : ℕ → TextFault → Type 0
 IsWithin most (BadLine line) = line ≤ most
 IsWithin most (BadNumber line) = line ≤ most

@@ -19,11 +19,19 @@ use journal_text::{TextFault, cut_line, read_entries};
 use std::alloc::{AllocError, Global};
 use transfer_table::{Entries, Plan, first_fault};
 
-/// The verdict on an output of at most 4,194,304 bytes for the program, or the first fault of its text.
+/// The verdict on an output of at most 4,194,304 bytes for the program.
 ///
-/// A fault behind the array lines has its line in the output.
-/// The array lines are compared first, as bytes, and then the journal is checked, by the sites that are meant to be entered:
-/// a truth value for each site, that of site `s` at place `s - 1`.
+/// It compares the array lines first, as bytes. Then it checks the journal by the sites that are meant to be entered: `meant`
+/// has a flag for each site, at index `s - 1` for site `s`.
+///
+/// # Errors
+///
+/// The first error of the output's text after the array lines, with its line in the output. `TextFault::Memory` if an
+/// allocation fails.
+///
+/// # Memory
+///
+/// It allocates the array lines and the journal.
 pub fn audit(
     alloc: Global,
     accepted: &Accepted<'_>,
@@ -60,7 +68,7 @@ pub fn audit_by(
     audit_against(alloc, plan, meant, &wanted, output)
 }
 
-// The array lines of the program, by the one-thread evaluator. So a verdict needs no harts.
+// The array lines of the program, by the one-thread evaluator. Why: a verdict then needs no harts.
 fn wanted_lines(alloc: Global, program: &Program) -> Result<Vec<u8>, AllocError>
     requires { AreSized (arrays_of (declarations_of program.now.arrays)) }
     ensures { IfOk result (λ text. text.items ≡ array_text (program_of program.now)
@@ -70,7 +78,7 @@ fn wanted_lines(alloc: Global, program: &Program) -> Result<Vec<u8>, AllocError>
     write_arrays(alloc, program, &store)
 }
 
-// The verdict by the array lines that are wanted.
+// The verdict by the wanted array lines.
 fn audit_against(
     alloc: Global,
     plan: &Plan,
@@ -87,7 +95,7 @@ fn audit_against(
     audited(alloc, plan, meant, &found)
 }
 
-/// What comes of the array lines: the first that differs, how many there are, and what stands behind them.
+/// The result of comparing array lines: the first line that differs, their number, and the text after them.
 #[derive(Clone, Copy)]
 pub struct ArrayLines<'t> {
     pub differs: Option<u32>,
@@ -120,7 +128,7 @@ fn compared<'t>(wanted: &[u8], output: &'t [u8]) -> Result<ArrayLines<'t>, TextF
     })
 }
 
-// The first line that differs, where this line is compared last.
+// The first line that differs, if this line is compared last.
 fn first_difference(differs: Option<u32>, line: u32, wanted: &[u8], found: &[u8]) -> Option<u32>
     ensures { result ≡ earliest differs line wanted.now found.now }
 {
@@ -130,7 +138,7 @@ fn first_difference(differs: Option<u32>, line: u32, wanted: &[u8], found: &[u8]
     }
 }
 
-// The verdict on compared lines and the journal behind them.
+// The verdict on compared lines and the journal after them.
 fn audited(
     alloc: Global,
     plan: &Plan,
@@ -148,7 +156,7 @@ fn audited(
     }
 }
 
-// The fault as the output's lines are counted.
+// The fault, with its line counted in the output.
 fn told_behind(fault: TextFault, lines: u32) -> TextFault
     requires few { lines ≤ most_audited }
     requires within { IsWithin (most_audited + 1) fault }
@@ -161,7 +169,7 @@ fn told_behind(fault: TextFault, lines: u32) -> TextFault
     }
 }
 
-// The verdict on the entries, where the array lines are read.
+// The verdict on the entries, after the array lines were read.
 fn verdict(
     alloc: Global,
     plan: &Plan,

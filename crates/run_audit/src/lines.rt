@@ -12,6 +12,10 @@ use transfer_table::{NotAdmitted, Why};
 /// # Errors
 ///
 /// `AllocError` if an allocation fails.
+///
+/// # Memory
+///
+/// It allocates the line.
 pub fn verdict_line(alloc: Global, verdict: Verdict) -> Result<Vec<u8>, AllocError>
     ensures { IfOk result (λ line. line.items ≡ verdict_text verdict) }
 {
@@ -67,7 +71,15 @@ fn add_refusal(line: &mut String, refusal: NotAdmitted) -> Result<(), AllocError
     }
 }
 
-/// The line that reports a fault of the second part, which isn't an allocation failure.
+/// The line that reports an error of the output's text. The fault must not be `Memory`.
+///
+/// # Errors
+///
+/// `AllocError` if an allocation fails.
+///
+/// # Memory
+///
+/// It allocates the line.
 pub fn text_fault_line(alloc: Global, fault: TextFault) -> Result<Vec<u8>, AllocError>
     requires { fault ≢ TextFault.Memory }
     ensures { IfOk result (λ line. line.items ≡ text_fault_text fault) }

@@ -5,8 +5,7 @@ ghost use Rattle.run_audit.specs.Parts.{parts_of};
 
 use journal_text::cut_line;
 
-/// What stands before the first line that is exactly `%%` and ends by a newline, and what stands behind it, if there is
-/// such a line.
+/// The texts before and after the first line that is exactly `%%` and ends in a newline, if there is such a line.
 pub fn parts_of(text: &[u8]) -> Option<(&[u8], &[u8])>
     ensures { option_map (λ parts. (parts.0.now, parts.1.now)) result ≡ parts_of text.now }
 {

@@ -4,6 +4,7 @@ use Rattle.array_tree.specs.Trees.{Statement, Assign, For, If, Par, Team, Sequen
 use Rattle.array_meaning.specs.Work.{span}
 use Rattle.array_meaning.specs.Plans.{sites_in, statement_sites_in, branches_sites_in, plan_of}
 use Rattle.array_meaning.proofs.PlanLemmas.{sequence_length}
+use Rattle.journal_picture.specs.declared.shape.Kind.{Kind}
 use Rattle.journal_picture.specs.declared.shape.Shape.{Shape}
 use Rattle.run_picture.specs.Shapes.{turns_of, statement_shapes, sequence_shapes, branches_shapes, phases_shapes, shapes_of}
 
@@ -23,27 +24,27 @@ turns_length zero k body is = omega arith
 turns_length (suc n) k body is = length-append body (turns_of n body) ∙ grind (arith, is, turns_length n k body is)
 
 mutual
-  statement_count : (s : Statement) → length (statement_shapes s) ≡ statement_sites_in s
-  statement_count (Assign line array index value) = refl
-  statement_count (For line var low high body) = turns_length (span low high) (sites_in body) (sequence_shapes body) (sequence_count body)
-  statement_count (If line cond t e) = length-append (sequence_shapes t) (sequence_shapes e) ∙ omega (arith, sequence_count t, sequence_count e)
-  statement_count (Par line branches) = omega (arith, branches_count branches)
-  statement_count (Team line var low high members phases) = omega (arith, phases_count phases (span low high))
+  statement_count : (teams : Kind) (s : Statement) → length (statement_shapes teams s) ≡ statement_sites_in s
+  statement_count teams (Assign line array index value) = refl
+  statement_count teams (For line var low high body) = turns_length (span low high) (sites_in body) (sequence_shapes teams body) (sequence_count teams body)
+  statement_count teams (If line cond t e) = length-append (sequence_shapes teams t) (sequence_shapes teams e) ∙ omega (arith, sequence_count teams t, sequence_count teams e)
+  statement_count teams (Par line branches) = omega (arith, branches_count teams branches)
+  statement_count teams (Team line var low high members phases) = omega (arith, phases_count teams phases (span low high))
 
-  sequence_count : (s : Sequence) → length (sequence_shapes s) ≡ sites_in s
-  sequence_count ended = refl
-  sequence_count (followed first rest) = length-append (statement_shapes first) (sequence_shapes rest) ∙ omega (arith, statement_count first, sequence_count rest)
+  sequence_count : (teams : Kind) (s : Sequence) → length (sequence_shapes teams s) ≡ sites_in s
+  sequence_count teams ended = refl
+  sequence_count teams (followed first rest) = length-append (statement_shapes teams first) (sequence_shapes teams rest) ∙ omega (arith, statement_count teams first, sequence_count teams rest)
 
-  branches_count : (s : Sequences) → length (branches_shapes s) ≡ branches_sites_in s
-  branches_count no_more = refl
-  branches_count (beside first rest) = length-append (sequence_shapes first) (branches_shapes rest) ∙ omega (arith, sequence_count first, branches_count rest)
+  branches_count : (teams : Kind) (s : Sequences) → length (branches_shapes teams s) ≡ branches_sites_in s
+  branches_count teams no_more = refl
+  branches_count teams (beside first rest) = length-append (sequence_shapes teams first) (branches_shapes teams rest) ∙ omega (arith, sequence_count teams first, branches_count teams rest)
 
-  phases_count : (s : Sequences) (n : ℕ) → length (phases_shapes s n) ≡ n * branches_sites_in s
-  phases_count no_more n = omega arith
-  phases_count (beside first rest) n =
-      length-append (turns_of n (sequence_shapes first)) (phases_shapes rest n)
-      ∙ grind (arith, turns_length n (sites_in first) (sequence_shapes first) (sequence_count first), phases_count rest n)
+  phases_count : (teams : Kind) (s : Sequences) (n : ℕ) → length (phases_shapes teams s n) ≡ n * branches_sites_in s
+  phases_count teams no_more n = omega arith
+  phases_count teams (beside first rest) n =
+      length-append (turns_of n (sequence_shapes teams first)) (phases_shapes teams rest n)
+      ∙ grind (arith, turns_length n (sites_in first) (sequence_shapes teams first) (sequence_count teams first), phases_count teams rest n)
 
 -- a program has a shape for each site of its plan
-pub shape_count : (program : ProgramTree) → length (shapes_of program) ≡ length (plan_of program)
-shape_count program = sequence_count program.body ∙ sym (sequence_length program.body 0 1)
+pub shape_count : (teams : Kind) (program : ProgramTree) → length (shapes_of teams program) ≡ length (plan_of program)
+shape_count teams program = sequence_count teams program.body ∙ sym (sequence_length program.body 0 1)

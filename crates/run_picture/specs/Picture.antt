@@ -12,6 +12,7 @@ use Rattle.array_eval.specs.ArrayText.{array_text}
 use Rattle.run_audit.specs.Audit.{audit_of}
 use Rattle.run_audit.specs.AuditText.{verdict_text}
 use Rattle.run_audit.specs.declared.verdict.Verdict.{Verdict}
+use Rattle.journal_picture.specs.declared.shape.Kind.{Kind}
 use Rattle.journal_picture.specs.declared.shape.Shape.{Shape}
 use Rattle.journal_picture.specs.TextPicture.{text_picture}
 use Rattle.journal_picture.specs.SvgPicture.{svg_picture}
@@ -49,14 +50,14 @@ abbrev pub pictured : Form → Plan → List Bool → List Shape → Verdict →
 pictured form plan meant shapes verdict list =
     record { verdict = verdict; text = drawn_in form plan meant shapes list (verdict_text verdict) }
 
-abbrev pub picture_by : Form → ProgramTree → Plan → List ℕ → Verdict → Pictured
-picture_by form program plan output verdict =
-    pictured form plan (entered_of program) (shapes_of program) verdict
+abbrev pub picture_by : Form → Kind → ProgramTree → Plan → List ℕ → Verdict → Pictured
+picture_by form teams program plan output verdict =
+    pictured form plan (entered_of program) (shapes_of teams program) verdict
     (entries_behind plan (length program.arrays) output)
 
--- The verdict of the audit on an output of a program's run by this plan, and the picture of the output's journal; or the first
+-- The verdict of the audit on an output of a program's run by this plan, with schedulers of this kind for its teams, and the picture of the output's journal; or the first
 -- fault of the output's text, as the audit tells it.
-abbrev pub picture_of : Form → ProgramTree → Plan → List ℕ → Result Pictured TextFault
-picture_of form program plan output =
-    and_then (λ verdict. Ok (picture_by form program plan output verdict))
+abbrev pub picture_of : Form → Kind → ProgramTree → Plan → List ℕ → Result Pictured TextFault
+picture_of form teams program plan output =
+    and_then (λ verdict. Ok (picture_by form teams program plan output verdict))
     (audit_of plan (entered_of program) (array_text program (final_store program)) output)

@@ -1,10 +1,11 @@
--- The shapes of the sites of a program, in the order of its plan: the kind of the scheduler, and the line of
--- the construct. Bounds are literals, so no store is needed.
-use Rattle.std.specs.Prelude.{ℕ, zero, suc, List, [], ◌∷◌, ◌++◌}
+-- The shapes of the sites of a program, in the order of its plan: the kind of the scheduler, whether it has phases, and the line of
+-- the construct. Bounds are literals, so no store is needed. The schedulers of `team` constructs are of the kind `teams`.
+use Rattle.std.specs.Prelude.{ℕ, zero, suc, true, false, List, [], ◌∷◌, ◌++◌}
 use Rattle.array_tree.specs.Trees.{Statement, Assign, For, If, Par, Team, Sequence, ended, followed, Sequences, no_more, beside, ProgramTree}
 use Rattle.array_meaning.specs.Work.{span}
-use Rattle.journal_picture.specs.declared.shape.Kind.TheVariants as kind
+use Rattle.journal_picture.specs.declared.shape.Kind.{Kind}
 use Rattle.journal_picture.specs.declared.shape.Shape.{Shape}
+use Rattle.journal_picture.specs.Kinds.{pool}
 
 -- those of so many turns
 abbrev pub turns_of : ℕ → List Shape → List Shape
@@ -13,29 +14,29 @@ turns_of (suc n) body = body ++ turns_of n body
 
 -- A construct comes before those inside it.
 abbrev mutual
-  pub statement_shapes : Statement → List Shape
-  statement_shapes (Assign line array index value) = []
-  statement_shapes (For line var low high body) = turns_of (span low high) (sequence_shapes body)
-  statement_shapes (If line cond then_block else_block) =
-      sequence_shapes then_block ++ sequence_shapes else_block
-  statement_shapes (Par line branches) =
-      record { kind = kind.Pool; line = line } ∷ branches_shapes branches
-  statement_shapes (Team line var low high members phases) =
-      record { kind = kind.Team; line = line } ∷ phases_shapes phases (span low high)
+  pub statement_shapes : Kind → Statement → List Shape
+  statement_shapes teams (Assign line array index value) = []
+  statement_shapes teams (For line var low high body) = turns_of (span low high) (sequence_shapes teams body)
+  statement_shapes teams (If line cond then_block else_block) =
+      sequence_shapes teams then_block ++ sequence_shapes teams else_block
+  statement_shapes teams (Par line branches) =
+      record { kind = pool; phased = false; line = line } ∷ branches_shapes teams branches
+  statement_shapes teams (Team line var low high members phases) =
+      record { kind = teams; phased = true; line = line } ∷ phases_shapes teams phases (span low high)
 
-  pub sequence_shapes : Sequence → List Shape
-  sequence_shapes ended = []
-  sequence_shapes (followed first rest) = statement_shapes first ++ sequence_shapes rest
+  pub sequence_shapes : Kind → Sequence → List Shape
+  sequence_shapes teams ended = []
+  sequence_shapes teams (followed first rest) = statement_shapes teams first ++ sequence_shapes teams rest
 
-  pub branches_shapes : Sequences → List Shape
-  branches_shapes no_more = []
-  branches_shapes (beside first rest) = sequence_shapes first ++ branches_shapes rest
+  pub branches_shapes : Kind → Sequences → List Shape
+  branches_shapes teams no_more = []
+  branches_shapes teams (beside first rest) = sequence_shapes teams first ++ branches_shapes teams rest
 
   -- each phase has so many iterations
-  pub phases_shapes : Sequences → ℕ → List Shape
-  phases_shapes no_more iterations = []
-  phases_shapes (beside first rest) iterations =
-      turns_of iterations (sequence_shapes first) ++ phases_shapes rest iterations
+  pub phases_shapes : Kind → Sequences → ℕ → List Shape
+  phases_shapes teams no_more iterations = []
+  phases_shapes teams (beside first rest) iterations =
+      turns_of iterations (sequence_shapes teams first) ++ phases_shapes teams rest iterations
 
-abbrev pub shapes_of : ProgramTree → List Shape
-shapes_of program = sequence_shapes program.body
+abbrev pub shapes_of : Kind → ProgramTree → List Shape
+shapes_of teams program = sequence_shapes teams program.body

@@ -17,7 +17,7 @@ ghost use Rattle.run_picture.specs.Seen.{picture_seen};
 use crate::shapes::shapes_of;
 use array_tree::Program;
 use entered_sites::entered;
-use journal_picture::{Shape, svg_picture, text_picture};
+use journal_picture::{Kind, Shape, svg_picture, text_picture};
 use journal_text::{TextFault, cut_line, read_entries};
 use run_audit::{Verdict, audit_by, verdict_line};
 use std::alloc::{AllocError, Global};
@@ -42,11 +42,14 @@ pub struct Picture {
 /// The picture of the journal of an output of at most 4,194,304 bytes, with the verdict on the output, or the first fault of its
 /// text, as `audit` returns it. A journal that isn't legal is drawn up to its first fault, which is marked.
 ///
+/// The schedulers of the program's teams are of the kind `teams`.
+///
 /// Each array of the program must have a cell, and all at most 4,096; the plan's sites must be the program's.
 #[tactic(auto, using(crate::proofs::Reading::stop))]
 pub fn picture_of(
     alloc: Global,
     form: Form,
+    teams: Kind,
     program: &Program,
     plan: &Plan,
     output: &[u8],
@@ -55,14 +58,14 @@ pub fn picture_of(
     requires sized { AreSized (arrays_of (declarations_of program.now.arrays)) }
     requires parents { plan.now.parents ≡ plan_of (program_of program.now) }
     ensures picture { Reads picture_seen
-        (picture_of form (program_of program.now) plan.now output.now) result }
+        (picture_of form teams (program_of program.now) plan.now output.now) result }
     ensures verdict { Reads (λ picture. picture.verdict) (audit_of plan.now
         (entered_of (program_of program.now)) (array_text (program_of program.now)
         (final_store (program_of program.now))) output.now) result }
 {
     let entered = entered_by_plan(alloc, program, plan)?;
     let verdict = verdict_on(alloc, program, plan, &entered, output)?;
-    let picture = picture_by(alloc, form, program, plan, &entered, verdict, output)?;
+    let picture = picture_by(alloc, form, teams, program, plan, &entered, verdict, output)?;
     Ok(picture)
 }
 
@@ -99,6 +102,7 @@ fn verdict_on(
 fn picture_by(
     alloc: Global,
     form: Form,
+    teams: Kind,
     program: &Program,
     plan: &Plan,
     entered: &[bool],
@@ -110,11 +114,11 @@ fn picture_by(
     requires entered { entered.now ≡ entered_of (program_of program.now) }
     requires each { length entered.now ≡ site_count plan.now }
     ensures { IfOk result (λ picture. picture_seen picture ≡ picture_by form
-        (program_of program.now) plan.now output.now verdict) }
+        teams (program_of program.now) plan.now output.now verdict) }
 {
     let arrays = program.arrays.declarations.len();
     let list = entries_behind(alloc, plan, arrays, output)?;
-    let shapes = shapes_of(alloc, program)?;
+    let shapes = shapes_of(alloc, teams, program)?;
     pictured(
         alloc,
         form,

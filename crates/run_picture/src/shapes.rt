@@ -8,32 +8,46 @@ use array_tree::{Block, Blocks, Program, Stmt};
 use journal_picture::{Kind, Shape};
 use std::alloc::{AllocError, Global};
 
-/// The shapes of the sites of a program, in the order of its plan.
-pub(crate) fn shapes_of(alloc: Global, program: &Program) -> Result<Vec<Shape>, AllocError>
-    ensures { IfOk result (λ shapes. shapes.items ≡ shapes_of (program_of program.now)) }
+/// The shapes of the sites of a program, in the order of its plan. The schedulers of its teams are of this kind.
+pub(crate) fn shapes_of(
+    alloc: Global,
+    teams: Kind,
+    program: &Program,
+) -> Result<Vec<Shape>, AllocError>
+    ensures { IfOk result (λ shapes. shapes.items ≡ shapes_of teams (program_of program.now)) }
 {
     let mut shapes = Vec::new(alloc);
-    add_block(alloc, &program.body, &mut shapes)?;
+    add_block(alloc, teams, &program.body, &mut shapes)?;
     Ok(shapes)
 }
 
 // Adds those of a block.
 #[cycle(shapes)]
-fn add_block(alloc: Global, block: &Block, shapes: &mut Vec<Shape>) -> Result<(), AllocError>
+fn add_block(
+    alloc: Global,
+    teams: Kind,
+    block: &Block,
+    shapes: &mut Vec<Shape>,
+) -> Result<(), AllocError>
     ensures { OnOk result (shapes.new.items ≡ shapes.old.items
-        ++ sequence_shapes (sequence_of block.now)) }
+        ++ sequence_shapes teams (sequence_of block.now)) }
 {
     for statement in &block.statements {
-        add_statement(alloc, statement, shapes)?;
+        add_statement(alloc, teams, statement, shapes)?;
     }
     Ok(())
 }
 
 // The same of a statement: a construct comes before those inside it.
 #[cycle(shapes)]
-fn add_statement(alloc: Global, statement: &Stmt, shapes: &mut Vec<Shape>) -> Result<(), AllocError>
+fn add_statement(
+    alloc: Global,
+    teams: Kind,
+    statement: &Stmt,
+    shapes: &mut Vec<Shape>,
+) -> Result<(), AllocError>
     ensures { OnOk result (shapes.new.items ≡ shapes.old.items
-        ++ statement_shapes (statement_of statement.now)) }
+        ++ statement_shapes teams (statement_of statement.now)) }
 {
     match statement {
         Stmt::Assign { .. } => Ok(()),
@@ -42,21 +56,22 @@ fn add_statement(alloc: Global, statement: &Stmt, shapes: &mut Vec<Shape>) -> Re
             high,
             body,
             ..
-        } => add_turns(alloc, body, span(*low, *high), shapes),
+        } => add_turns(alloc, teams, body, span(*low, *high), shapes),
         Stmt::If {
             then_block,
             else_block,
             ..
         } => {
-            add_block(alloc, then_block, shapes)?;
-            add_block(alloc, else_block, shapes)
+            add_block(alloc, teams, then_block, shapes)?;
+            add_block(alloc, teams, else_block, shapes)
         }
         Stmt::Par { line, branches } => {
             shapes.push(Shape {
-                kind: Kind::Pool,
+                kind: Kind::POOL,
+                phased: false,
                 line: *line,
             })?;
-            add_branches(alloc, branches, shapes)
+            add_branches(alloc, teams, branches, shapes)
         }
         Stmt::Team {
             line,
@@ -66,22 +81,28 @@ fn add_statement(alloc: Global, statement: &Stmt, shapes: &mut Vec<Shape>) -> Re
             ..
         } => {
             shapes.push(Shape {
-                kind: Kind::Team,
+                kind: teams,
+                phased: true,
                 line: *line,
             })?;
-            add_phases(alloc, phases, span(*low, *high), shapes)
+            add_phases(alloc, teams, phases, span(*low, *high), shapes)
         }
     }
 }
 
 // The same of the branches of a `par`.
 #[cycle(shapes)]
-fn add_branches(alloc: Global, branches: &Blocks, shapes: &mut Vec<Shape>) -> Result<(), AllocError>
+fn add_branches(
+    alloc: Global,
+    teams: Kind,
+    branches: &Blocks,
+    shapes: &mut Vec<Shape>,
+) -> Result<(), AllocError>
     ensures { OnOk result (shapes.new.items ≡ shapes.old.items
-        ++ branches_shapes (sequences_of branches.now)) }
+        ++ branches_shapes teams (sequences_of branches.now)) }
 {
     for branch in &branches.blocks {
-        add_block(alloc, branch, shapes)?;
+        add_block(alloc, teams, branch, shapes)?;
     }
     Ok(())
 }
@@ -90,15 +111,16 @@ fn add_branches(alloc: Global, branches: &Blocks, shapes: &mut Vec<Shape>) -> Re
 #[cycle(shapes)]
 fn add_phases(
     alloc: Global,
+    teams: Kind,
     phases: &Blocks,
     iterations: u64,
     shapes: &mut Vec<Shape>,
 ) -> Result<(), AllocError>
     ensures { OnOk result (shapes.new.items ≡ shapes.old.items
-        ++ phases_shapes (sequences_of phases.now) iterations) }
+        ++ phases_shapes teams (sequences_of phases.now) iterations) }
 {
     for phase in &phases.blocks {
-        add_turns(alloc, phase, iterations, shapes)?;
+        add_turns(alloc, teams, phase, iterations, shapes)?;
     }
     Ok(())
 }
@@ -107,15 +129,16 @@ fn add_phases(
 #[cycle(shapes)]
 fn add_turns(
     alloc: Global,
+    teams: Kind,
     body: &Block,
     turns: u64,
     shapes: &mut Vec<Shape>,
 ) -> Result<(), AllocError>
     ensures { OnOk result (shapes.new.items ≡ shapes.old.items
-        ++ turns_of turns (sequence_shapes (sequence_of body.now))) }
+        ++ turns_of turns (sequence_shapes teams (sequence_of body.now))) }
 {
     let mut once = Vec::new(alloc);
-    add_block(alloc, body, &mut once)?;
+    add_block(alloc, teams, body, &mut once)?;
     add_times(&once, turns, shapes)
 }
 

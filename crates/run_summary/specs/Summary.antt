@@ -1,4 +1,4 @@
--- The four lines that tell what a run came to.
+-- The four lines of a run's summary.
 use Rattle.std.specs.Prelude.{ℕ, ℤ, pos, ◌+ℤ◌, List, [], ◌∷◌, ◌++◌, codes, length, count_by}
 use Rattle.std.specs.Fmt.{decimal, signed_decimal}
 use Rattle.std.specs.Int.{int_wrap, w64}
@@ -7,19 +7,20 @@ use Rattle.transfer_table.specs.Entry.{is_register}
 use Rattle.transfer_table.specs.declared.entry.Entry.{Entry}
 use Rattle.array_meaning.specs.Stores.{Store}
 
--- the sum of the cells, as it is and as a number of 64 bits
+-- The sum of the cells, as a whole number.
 abbrev pub whole_sum : Store → ℤ
 whole_sum [] = pos 0
 whole_sum (value ∷ more) = value +ℤ whole_sum more
 
+-- The sum of the cells, wrapped to 64 bits.
 abbrev pub sum_of : Store → ℤ
 sum_of store = int_wrap w64 (whole_sum store)
 
--- a line of a word and a number's text
+-- A line of a word and a number's text.
 abbrev pub line_of : List ℕ → List ℕ → List ℕ
 line_of word number = word ++ number ++ 10 ∷ []
 
--- how many cells there are, their sum, how many sites, and how many of the entries register one
+-- The lines of the number of cells, their sum, the number of sites, and how many of the entries register one.
 abbrev pub summary_text : Plan → Store → List Entry → List ℕ
 summary_text plan store list =
     line_of (codes "cells ") (decimal (length store))

@@ -1,4 +1,4 @@
-//! What a run comes to, in four lines.
+//! The four lines of a run's summary.
 ghost use Rattle.std.specs.Prelude.{◌≡◌, ◌≤◌, IfOk, length, count_by};
 ghost use Rattle.array_tree.specs.Trees.{declarations_of};
 ghost use Rattle.array_meaning.specs.Bounds.{most_cells};
@@ -12,10 +12,18 @@ use array_tree::Program;
 use std::alloc::{AllocError, Global};
 use transfer_table::{Entry, Plan};
 
-/// The lines that tell how many cells the program has, the sum of what the store has in them, how many sites the plan has,
-/// and how many of the entries register one. The sum wraps.
+/// The lines of a summary: the number of the program's cells, the sum of their values in the store, the number of the plan's
+/// sites, and how many of the entries register one. The sum wraps.
 ///
-/// Each array must have a cell, and all at most 4,096; the store must have one value per cell.
+/// Each array must have a cell, and all arrays together at most 4,096. The store must have one value for each cell.
+///
+/// # Errors
+///
+/// `AllocError` if an allocation fails.
+///
+/// # Memory
+///
+/// It allocates the text.
 pub fn write_summary(
     alloc: Global,
     program: &Program,
@@ -39,7 +47,7 @@ pub fn write_summary(
     Ok(text.into_bytes())
 }
 
-// The sum of so many cells, which are all.
+// The sum of all cells, of which there are so many.
 fn sum(store: &Store, cells: usize) -> i64
     requires whole { cells ≡ length store.now }
     requires few { cells ≤ most_cells }
@@ -59,7 +67,7 @@ fn added(sum: i64, value: i64) -> i64
     sum.wrapping_add(value)
 }
 
-// How many of the entries register a site.
+// The number of entries that register a site.
 fn registers(list: &[Entry]) -> usize
     ensures { result ≡ count_by is_register list.now }
 {

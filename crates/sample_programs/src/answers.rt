@@ -3,12 +3,12 @@
 use join_book::Deposit;
 use sched_api::{Call, Hearing, Scheduler, Told};
 
-/// What a hart finds that enters a scheduler.
+/// What a hart finds when it enters a scheduler.
 #[derive(Clone, Copy, Debug, PartialEq, Eq)]
 pub enum Answer {
-    /// The job at this place, which hasn't begun.
+    /// The job at this index, which hasn't begun.
     Begins(u8),
-    /// A context that is ready.
+    /// A ready context.
     GoesOn,
     /// The wish of this site.
     Lends(u16),
@@ -16,18 +16,18 @@ pub enum Answer {
     Nothing,
 }
 
-/// What comes of a deposit.
+/// The result of a deposit.
 #[derive(Clone, Copy, Debug, PartialEq, Eq)]
 pub enum Came {
     /// The piece is kept.
     Kept,
-    /// Its place was filled or failed.
+    /// The piece's slot was filled or failed.
     Double,
-    /// No place has its job.
+    /// No slot has the piece's job.
     Stranger,
 }
 
-/// The same by a deposit's result, without the piece that it gives back.
+/// The result of a deposit, without the piece that it returns.
 pub fn outcome_of(deposit: Deposit) -> Came {
     match deposit {
         Deposit::Kept => Came::Kept,
@@ -36,7 +36,7 @@ pub fn outcome_of(deposit: Deposit) -> Came {
     }
 }
 
-/// What the receipts of a scheduler have of its callbacks, each made once: child 3 registers, asks for a hart, gives it back and
+/// The receipts of a scheduler's callbacks, each called once: child 3 registers, requests a hart, gives it back and
 /// unregisters, and a context waits at a mutex.
 pub fn tells<S: Scheduler>(scheduler: &mut S, hold: S::Hold) -> [Told; 5] {
     [
@@ -48,7 +48,7 @@ pub fn tells<S: Scheduler>(scheduler: &mut S, hold: S::Hold) -> [Told; 5] {
     ]
 }
 
-/// What the receipts of each scheduler have.
+/// The callbacks of each scheduler's receipts.
 pub const TOLD: [Told; 5] = [
     Told {
         call: Call::Registered,

@@ -11,7 +11,11 @@ use std::alloc::Global;
 use std::test::Fail;
 use step_eval::{Found, Nested, StepMachine, jobs_of};
 
-/// The construct that an accepted program begins with, as its machine hands it out. It fails where there is none.
+/// The construct with which an accepted program begins, as its machine hands it out.
+///
+/// # Errors
+///
+/// A failure of the test if the program begins with no construct, isn't accepted, or an allocation fails.
 pub fn first_construct<'p>(alloc: Global, program: &'p Program) -> Result<Nested<'p>, Fail> {
     let accepted = accepted(alloc, program)?;
     let mut machine = StepMachine::new(alloc, body_job(alloc, accepted.program())?)?;
@@ -22,16 +26,24 @@ pub fn first_construct<'p>(alloc: Global, program: &'p Program) -> Result<Nested
 }
 
 /// The jobs of the first phase of that construct.
+///
+/// # Errors
+///
+/// As `first_construct`.
 pub fn first_jobs<'p>(alloc: Global, program: &'p Program) -> Result<Vec<Job<'p>>, Fail>
     ensures { IfOk result (λ jobs. IsGroup (map job_of jobs.items)) }
 {
     let nested = first_construct(alloc, program)?;
-    // Reading its phases makes the invariant of a construct known.
+    // Why: reading its phases makes the construct's invariant known.
     let _phases = nested.phases();
     Ok(jobs_of(alloc, &nested, 0, &nested.store)?)
 }
 
-/// The piece of the job at a place of the list. It fails where there is none.
+/// The piece of the job at an index of the list.
+///
+/// # Errors
+///
+/// A failure of the test if the list has no such index, or an allocation fails.
 pub fn piece_at<'p>(alloc: Global, jobs: &[Job<'p>], place: usize) -> Result<Piece<'p>, Fail> {
     match jobs.get(place) {
         Some(job) => Ok(piece_of(alloc, job.copy()?)?),
@@ -39,7 +51,11 @@ pub fn piece_at<'p>(alloc: Global, jobs: &[Job<'p>], place: usize) -> Result<Pie
     }
 }
 
-/// A context that waits, with a machine for the first of the jobs. It fails where there is none.
+/// A context that waits, with a machine for the first of the jobs.
+///
+/// # Errors
+///
+/// A failure of the test if there is no job, or an allocation fails.
 pub fn waiting<'p>(alloc: Global, jobs: &[Job<'p>]) -> Result<Paused<StepMachine<'p>>, Fail> {
     let Some(job) = jobs.first() else {
         return Err(Fail::new("no job"));

@@ -1,7 +1,7 @@
-//! Small programs for the tests of schedulers, with their constructs, jobs and pieces. What the tests of books, pools and teams
-//! share is proved once here.
+//! Small programs for the tests of schedulers, with their constructs, jobs and pieces. Why here: the code that the tests of
+//! books, pools and teams share is proved once.
 //!
-//! What goes wrong is a test's failure: a text that spells no program, one that isn't accepted, or an allocation failure.
+//! Each error is a failure of the test: a text that spells no program, a program that isn't accepted, or an allocation failure.
 //!
 //! Begin with `programs.rt`, which has the texts; the tests of `pool_tests` and `team_tests` use all of it.
 #![tactic(auto)]

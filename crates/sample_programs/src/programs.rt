@@ -1,4 +1,4 @@
-//! The programs, and what their parts write: each cell with its number.
+//! The programs, and the writes of their parts: each cell with its number.
 
 use array_lang::parse;
 use array_tree::Program;
@@ -9,20 +9,20 @@ use std::test::Fail;
 /// A `par` of two branches.
 pub const TWO_BRANCHES: &[u8] = b"array a[4]; par { { a[0] = 1; } { a[1] = 2; } }";
 
-/// What both branches write.
+/// The writes of both branches.
 pub const BOTH_BRANCHES: [(u16, i64); 2] = [(0, 1), (1, 2)];
 
 /// A `team` of three members with two phases.
 pub const TWO_PHASES: &[u8] = b"array a[6]; array b[6];
     team i in 0..6 by 3 { a[i] = i + 1; } barrier { b[i] = a[5 - i]; }";
 
-/// What its first phase writes.
+/// The writes of its first phase.
 pub const FIRST_PHASE: [(u16, i64); 6] = [(0, 1), (1, 2), (2, 3), (3, 4), (4, 5), (5, 6)];
 
-/// What its second phase writes.
+/// The writes of its second phase.
 pub const SECOND_PHASE: [(u16, i64); 6] = [(6, 6), (7, 5), (8, 4), (9, 3), (10, 2), (11, 1)];
 
-/// What both phases write.
+/// The writes of both phases.
 pub const BOTH_PHASES: [(u16, i64); 12] = [
     (0, 1),
     (1, 2),
@@ -38,7 +38,11 @@ pub const BOTH_PHASES: [(u16, i64); 12] = [
     (11, 1),
 ];
 
-/// The program of a text of at most 65,536 bytes. It fails where the text spells none.
+/// The program of a text of at most 65,536 bytes.
+///
+/// # Errors
+///
+/// A failure of the test if the text is longer or spells no program, or an allocation fails.
 pub fn parsed(alloc: Global, text: &[u8]) -> Result<Program, Fail> {
     if text.len() > 65_536 {
         return Err(Fail::new("a longer text than any program's"));
@@ -46,7 +50,11 @@ pub fn parsed(alloc: Global, text: &[u8]) -> Result<Program, Fail> {
     Ok(parse(alloc, text)?)
 }
 
-/// The program as an accepted one, on one hart. It fails where it isn't accepted.
+/// The program as an accepted one, on one hart.
+///
+/// # Errors
+///
+/// A failure of the test if the program isn't accepted, or an allocation fails.
 pub fn accepted<'p>(alloc: Global, program: &'p Program) -> Result<Accepted<'p>, Fail> {
     Ok(check(alloc, program, 1)?)
 }

@@ -1,4 +1,4 @@
--- What the calls that move a hart come to.
+-- The results of the calls that move a hart.
 use Rattle.std.specs.Prelude.{◌≡◌, ◌≢◌, ℕ, true, false, Result, Ok, Err}
 use Rattle.hart_port.specs.Count.{Rose}
 use Rattle.hart_port.specs.PortView.{PortView, Registers, entered}
@@ -12,24 +12,28 @@ use Rattle.sched_api.specs.declared.scheduler.Next.{Next}
 use Rattle.sched_api.specs.declared.scheduler.Lent.{Lent}
 use Rattle.sched_api.specs.declared.scheduler.Lent.TheVariants.{Inside, NotWanted, Moved}
 
--- what each callback says
+-- The callback that each call makes.
 abbrev pub registered_told : ℕ → Told
 registered_told child = record { call = Registered; child = child; count = 0 }
 
+-- The callback of an unregister.
 abbrev pub unregistered_told : ℕ → Told
 unregistered_told child = record { call = Unregistered; child = child; count = 0 }
 
+-- The callback of a request for count harts.
 abbrev pub requested_told : ℕ → ℕ → Told
 requested_told child count = record { call = Requested; child = child; count = count }
 
+-- The callback of a yield.
 abbrev pub yielded_told : ℕ → Told
 yielded_told child = record { call = Yielded; child = child; count = 0 }
 
+-- The callback of a wait at a mutex.
 abbrev pub blocked_told : Told
 blocked_told = record { call = Blocked; child = 0; count = 0 }
 
--- Of a register with a parent: the port's register was done and the parent heard of the child, or the port was refused and
--- the parent is as it was. A hart that shares the table with no other one is refused only at a site that it registered.
+-- A register with a parent: the port made the register and called the parent's callback, or the port refused it and the parent
+-- is unchanged. A port that shares the table with no other hart refuses only a site that it registered.
 abbrev pub IsHeard : {S H : Type 0} → (H → Told) → (S → Told → S → Type 0) → ℕ → PortView → S
     → Result H Taken → PortView → S → Type 0
 IsHeard told hears child view parent (Ok heard) view' parent' =
@@ -38,8 +42,8 @@ IsHeard told hears child view parent (Ok heard) view' parent' =
 IsHeard told hears child view parent (Err taken) view' parent' =
     Registers view child (Err taken) view' × (parent' ≡ parent)
 
--- Of a try to enter a child: the hart is inside and was answered by the child, or the port was refused and the child is as it
--- was.
+-- A try to enter a child: the hart is inside and the child returned its next action, or the port refused and the child is
+-- unchanged.
 abbrev pub Lends : {S C : Type 0} → (S → Next C → S → Type 0) → ℕ → PortView → S → Lent C
     → PortView → S → Type 0
 Lends answers site view child (Inside next) view' child' =
@@ -49,17 +53,18 @@ Lends answers site view child (NotWanted shown) view' child' =
 Lends answers site view child (Moved read found) view' child' =
     (view' ≡ view) × (is_wanted read ≡ true) × (read ≢ found) × (child' ≡ child)
 
--- what the port answered to the register, and to the try to enter
+-- The result of the register alone, without the receipt.
 abbrev pub claim_of : {H : Type 0} → Result H Taken → Result (Unit {0}) Taken
 claim_of (Ok heard) = Ok tt
 claim_of (Err taken) = Err taken
 
+-- The result of the try to enter alone, without the child's next action.
 abbrev pub try_of : {C : Type 0} → Lent C → Entered
 try_of (Inside next) = tried.Inside
 try_of (NotWanted shown) = tried.NotWanted shown
 try_of (Moved read found) = tried.Moved read found
 
--- Of a try to enter a child: the port's count of refusals rose unless the hart is inside.
+-- After a try to enter a child, the port's count of refusals rose unless the hart is inside.
 abbrev pub RoseUnlessLent : {C : Type 0} → Lent C → ℕ → ℕ → Type 0
 RoseUnlessLent (Inside next) before after = after ≡ before
 RoseUnlessLent (NotWanted shown) before after = Rose before after

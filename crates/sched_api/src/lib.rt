@@ -1,8 +1,11 @@
-//! What schedulers hear and answer, and the calls that move a hart between a parent and its child.
+//! The interface of schedulers, and the calls that move a hart between a parent and its child.
 //!
-//! A scheduler gets a callback when a child of it registers, unregisters, asks for harts or gives one back,
-//! and when a context of it waits; `enter` says what a hart that comes to it does next. Of the six
-//! calls, five make the port's transfer and the callback that belongs to it, and one only asks.
+//! A scheduler gets a callback when a child registers, unregisters, requests harts or gives one back, and when a context waits
+//! at a mutex. Its `enter` returns the next action of a hart that comes to it. Of the six calls in `primitives.rt`, five make
+//! the port's transfer and the callback that belongs to it; `sched_reenter` only calls `enter`.
+//!
+//! Begin with the trait `Scheduler` in `scheduler.rt`. `base_sched` and `turn_sched` are schedulers of this interface, and
+//! `src/tests.rt` has an example.
 #![tactic(auto)]
 
 mod hearing;

@@ -1,4 +1,4 @@
-//! The six calls. Five make the port's transfer and the callback that belongs to it; `sched_reenter` only asks.
+//! The six calls. Five make the port's transfer and the callback that belongs to it; `sched_reenter` only calls `enter`.
 ghost use Rattle.std.specs.Prelude.{◌≡◌, ◌<◌, false};
 ghost use Rattle.transfer_table.specs.Plan.{IsSite, parent as parent_of};
 ghost use Rattle.hart_port.specs.Count.{RoseIfErr};
@@ -8,7 +8,11 @@ ghost use Rattle.sched_api.specs.Calls.{IsHeard, Lends, RoseUnlessLent, claim_of
 use crate::scheduler::{Lent, Next, Scheduler};
 use hart_port::{Entered, Port, Taken};
 
-/// Registers the site, and calls the parent. Where the site is taken, the parent isn't called.
+/// Registers the site, and calls the parent.
+///
+/// # Errors
+///
+/// `Taken` if the site was claimed. The parent is then not called.
 pub fn sched_register<P: Port, S: Scheduler>(
     port: &mut P,
     ph: P::Hold,
@@ -29,7 +33,7 @@ pub fn sched_register<P: Port, S: Scheduler>(
     Ok(parent.register(sh, site))
 }
 
-/// Asks for `count` harts for the site, and calls the parent.
+/// Requests `count` harts for the site, and calls the parent.
 pub fn sched_request<P: Port, S: Scheduler>(
     port: &mut P,
     ph: P::Hold,
@@ -92,8 +96,8 @@ pub fn sched_yield<P: Port, S: Scheduler>(
     parent.yielded(sh, child)
 }
 
-/// Tries to enter the child's site, and asks the child what to do next. Where the hart isn't inside,
-/// the child isn't asked.
+/// Tries to enter the child's site, and returns the child's next action for the hart. If the hart isn't inside, the child isn't
+/// called.
 pub fn sched_enter<P: Port, S: Scheduler>(
     port: &mut P,
     ph: P::Hold,
@@ -117,7 +121,7 @@ pub fn sched_enter<P: Port, S: Scheduler>(
     }
 }
 
-/// Asks the scheduler that the hart is in what to do next.
+/// The next action of the scheduler that the hart is in.
 pub fn sched_reenter<S: Scheduler>(current: &mut S, sh: S::Hold) -> Next<S::Ctx>
     ensures does { S.answers current.old result current.new }
     ensures site { S.site_of current.new ≡ S.site_of current.old }

@@ -1,4 +1,4 @@
-//! Schedulers, as a hart finds them.
+//! Schedulers, as a hart calls them.
 ghost use Rattle.std.specs.Prelude.{◌≡◌, ℕ, Result, IfErr};
 ghost use Rattle.sched_api.specs.declared.hearing.Told.{Told};
 ghost use Rattle.sched_api.specs.declared.scheduler.Next.{Next};
@@ -6,34 +6,34 @@ ghost use Rattle.sched_api.specs.Calls.{registered_told, unregistered_told, requ
 
 use crate::hearing::{Hearing, Told};
 
-/// What a hart does next.
+/// The next action of a hart.
 #[derive(Clone, Copy, Debug, PartialEq, Eq, Drop)]
 pub enum Next<C> {
-    /// It runs this context.
+    /// The hart runs this context.
     Run(C),
-    /// It tries to enter the child of this site.
+    /// The hart tries to enter the child of this site.
     Lend(u16),
-    /// There is nothing to do.
+    /// The scheduler has nothing for the hart to do.
     Nothing,
 }
 
-/// What came of a try to enter a child.
+/// The result of a try to enter a child.
 #[derive(Clone, Copy, Debug, PartialEq, Eq, Drop)]
 pub enum Lent<C> {
-    /// The hart is in the child, which says what it does next.
+    /// The hart is in the child, which returned its next action.
     Inside(Next<C>),
-    /// The site word, which is shown, wants no hart.
+    /// The site word `shown` wants no hart.
     NotWanted { shown: u64 },
-    /// The word read wants a hart, but at the exchange another one was found.
+    /// The word `read` wants a hart, but the exchange found another word, `found`.
     Moved { read: u64, found: u64 },
 }
 
-/// One hart's hand on one scheduler. No call allocates, but `enter` of a pipe's hand.
+/// One hart's hand on one scheduler. No call allocates, except `enter` of a pipe's hand.
 pub trait Scheduler {
-    /// What a call needs of the runtime.
+    /// What a call needs from the runtime.
     type Hold: Copy;
 
-    /// What a callback gives.
+    /// The receipt of a callback.
     type Heard: Hearing;
 
     /// The contexts that the scheduler runs.
@@ -42,13 +42,13 @@ pub trait Scheduler {
     /// The scheduler's site.
     ghost site_of: { Self → ℕ };
 
-    /// Of a scheduler, what `enter` answers there, and the scheduler afterwards.
+    /// A relation of a scheduler, the result of `enter`, and the scheduler afterwards.
     ghost answers: { Self → Next Self.Ctx → Self → Type 0 };
 
-    /// A scheduler, the callback that it gets, and the scheduler afterwards.
+    /// A relation of a scheduler, the callback that it gets, and the scheduler afterwards.
     ghost hears: { Self → Told → Self → Type 0 };
 
-    /// Of a scheduler, a context that waits no longer, the answer, and the scheduler afterwards.
+    /// A relation of a scheduler, a context that waits no longer, the result, and the scheduler afterwards.
     ghost takes: { Self → Self.Ctx → Result (Unit {0}) Self.Ctx → Self → Type 0 };
 
     /// The scheduler's site; 0 is the base.
@@ -61,13 +61,13 @@ pub trait Scheduler {
         ensures hears { hears self.old (registered_told child) self.new }
         ensures site { site_of self.new ≡ site_of self.old };
 
-    /// A child has unregistered. Its wishes are met no more.
+    /// A child has unregistered. The scheduler drops the child's wishes.
     fn unregister(&mut self, hold: Self::Hold, child: u16) -> Self::Heard
         ensures told { Self.Heard.heard result ≡ unregistered_told child }
         ensures hears { hears self.old (unregistered_told child) self.new }
         ensures site { site_of self.new ≡ site_of self.old };
 
-    /// A child asks for `count` harts. A wish may stay unmet.
+    /// A child requests `count` harts. A wish may stay unmet.
     fn request(&mut self, hold: Self::Hold, child: u16, count: u8) -> Self::Heard
         ensures told { Self.Heard.heard result ≡ requested_told child count }
         ensures hears { hears self.old (requested_told child count) self.new }
@@ -79,7 +79,7 @@ pub trait Scheduler {
         ensures hears { hears self.old (yielded_told child) self.new }
         ensures site { site_of self.new ≡ site_of self.old };
 
-    /// What a hart that comes to the scheduler does next.
+    /// The next action of a hart that comes to the scheduler.
     fn enter(&mut self, hold: Self::Hold) -> Next<Self::Ctx>
         ensures does { answers self.old result self.new }
         ensures site { site_of self.new ≡ site_of self.old };
@@ -90,7 +90,11 @@ pub trait Scheduler {
         ensures hears { hears self.old (blocked_told) self.new }
         ensures site { site_of self.new ≡ site_of self.old };
 
-    /// A context waits no longer. It is taken, as `takes` says, or that very context is handed back.
+    /// A context waits no longer. The scheduler takes it, as `takes` states.
+    ///
+    /// # Errors
+    ///
+    /// The context itself if the scheduler doesn't take it.
     fn unblock(&mut self, hold: Self::Hold, c: Self::Ctx) -> Result<(), Self::Ctx>
         ensures back { IfErr result (λ back. back ≡ c) }
         ensures takes { takes self.old c result self.new }

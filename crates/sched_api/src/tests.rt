@@ -28,7 +28,7 @@ fn heard(call: Call, child: u16, count: u8) -> Note
     }
 }
 
-// Counts how often it was asked.
+// Counts the calls of `enter`.
 #[derive(Drop)]
 struct Idle {
     site: u16,

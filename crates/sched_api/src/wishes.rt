@@ -7,8 +7,8 @@ use std::alloc::{AllocError, Global};
 use std::collections::VecDeque;
 use std::marker::Model;
 
-/// The wishes of a scheduler's children for harts, the oldest first: a child's site for each hart
-/// that it asked for and that wasn't lent to it. There is room for a fixed number of them.
+/// The wishes of a scheduler's children for harts, the oldest first: a child's site for each hart that the child requested and
+/// didn't get. There is room for a fixed number of wishes.
 #[derive(Drop)]
 pub struct Wishes {
     sites: VecDeque<u16>,
@@ -28,7 +28,15 @@ impl Model for Wishes {
 }
 
 impl Wishes {
-    /// No wish, with room for so many.
+    /// An empty list of wishes, with room for `room` of them.
+    ///
+    /// # Errors
+    ///
+    /// `AllocError` if an allocation fails.
+    ///
+    /// # Memory
+    ///
+    /// It allocates the room. No other call allocates.
     pub fn new(alloc: Global, room: usize) -> Result<Wishes, AllocError>
         ensures { IfOk result (λ w. w ≡ record { sites = []; room = room }) }
     {
@@ -38,7 +46,7 @@ impl Wishes {
         })
     }
 
-    /// Puts the child last, `count` times. A wish beyond the room is dropped. It takes no memory.
+    /// Appends `count` wishes of the child. A wish beyond the room is dropped. Does not allocate.
     pub fn add(&mut self, child: u16, count: u8)
         ensures { self.new ≡ with_wishes self.old child count }
     {
@@ -62,14 +70,14 @@ impl Wishes {
         self.sites.is_empty()
     }
 
-    /// Takes all wishes of the child.
+    /// Removes all wishes of the child.
     pub fn remove(&mut self, child: u16)
         ensures { self.new ≡ without_child self.old child }
     {
         self.sites.retain(|site| *site != child);
     }
 
-    /// Takes all wishes and leaves no room.
+    /// Removes all wishes and the room.
     pub fn close(&mut self)
         ensures { self.new ≡ no_wishes }
     {
@@ -78,7 +86,7 @@ impl Wishes {
     }
 }
 
-// Pushes the site so many times. There is room.
+// Appends the site `times` times. There is room.
 fn push_times(sites: &mut VecDeque<u16>, site: u16, times: usize)
     requires { deque_len sites.old + times ≤ deque_capacity sites.old }
     ensures items { sites.new.items ≡ sites.old.items ++ replicate times site }

@@ -9,7 +9,7 @@ use std::sync::Wait;
 use std::test::Fail;
 use std::thread::Threads;
 
-// What came of an arrival: whether it opened with the writes of the first phase, else whether the piece was kept.
+// The result of an arrival: whether it opened with the writes of the first phase, or else whether the piece was kept.
 fn outcome_of(arrival: Arrival) -> Result<bool, bool> {
     match arrival {
         Arrival::Opened(written) => Ok(written.pairs() == FIRST_PHASE.as_slice()),

@@ -21,7 +21,7 @@ fn bring<'p>(
     Ok(outcome_of(book.deposit(piece)))
 }
 
-// What a full book gives.
+// The writes of a full book.
 fn taken(book: Book) -> Result<Overlay, Fail> {
     if !book.is_full() {
         return Err(Fail::new("it isn't full"));
@@ -29,12 +29,12 @@ fn taken(book: Book) -> Result<Overlay, Fail> {
     Ok(book.take_all()?)
 }
 
-// Whether a full book has a failed place and gives nothing.
+// Whether a full book has a failed slot and no writes.
 fn gives_nothing(book: Book) -> bool {
     book.is_full() && book.has_failed() && book.take_all().is_err()
 }
 
-// Marks a place whose piece found no memory. Whether it was open.
+// Marks a slot as failed. Returns whether it was open.
 fn fail(book: &mut Book, place: u8) -> bool {
     if !book.is_open(place) {
         return false;
@@ -59,7 +59,7 @@ fn keeps_each_once<'p>(book: &mut Book<'p>, alloc: Global, jobs: &[Job<'p>]) -> 
     )
 }
 
-// Whether a full book gives the writes of both branches.
+// Whether a full book has the writes of both branches.
 fn gives_both(book: Book) -> Result<bool, Fail> {
     Ok(taken(book)?.pairs() == BOTH_BRANCHES.as_slice())
 }
@@ -90,7 +90,7 @@ fn a_piece_of_another_job_is_a_stranger(rt: HostRuntime) -> Result<(), Fail> {
     Ok(())
 }
 
-// Whether a place that has failed takes no piece, while the other one does.
+// Whether a failed slot takes no piece, while the other one does.
 fn fails_at_one<'p>(book: &mut Book<'p>, alloc: Global, jobs: &[Job<'p>]) -> Result<bool, Fail> {
     Ok(
         fail(book, 1)

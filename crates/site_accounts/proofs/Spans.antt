@@ -2,11 +2,11 @@
 use Rattle.std.proofs.Common.{◌≡◌, ℕ, zero, suc, ◌+◌, ◌<◌, ◌≤◌, Bool, true, false, cond, ◌==◌, if◌then◌else◌, List, [], ◌∷◌, ◌++◌, All, refl, sym, ap, subst, ◌∙◌, arith, append-nil, append_assoc}
 use Rattle.std.proofs.lemmas.List.Sums.{sum_by-append}
 use Rattle.std.proofs.lemmas.List.Elements.{All-head, All-tail}
-use Rattle.transfer_table.specs.Plan.{Plan, IsPlan, IsSite, parent}
-use Rattle.transfer_table.specs.Entry.{site_of, is_skip, is_register, registers, skips_over}
+use Rattle.transfer_table.specs.Plan.{Plan, IsPlan}
+use Rattle.transfer_table.specs.Entry.{site_of, is_skip, is_register, registers}
 use Rattle.transfer_table.specs.declared.entry.Entry.{Entry}
 use Rattle.transfer_table.specs.declared.entry.Entry.TheVariants.{Register, Request, Enter, Yield, Unregister, Skip}
-use Rattle.site_accounts.specs.Accounts.{HasGrown, IsUntouched, KeepsOutside, AreFresh, IsSpan}
+use Rattle.site_accounts.specs.Accounts.{HasGrown, KeepsOutside, IsSpan}
 use Rattle.site_accounts.specs.Laws.{FreshSpansAreSkipped}
 use Rattle.site_accounts.proofs.Algebra.{kept_joins}
 use Rattle.site_accounts.proofs.Touches.{entries_touch_little, spans_are_skipped_by_their_tops}

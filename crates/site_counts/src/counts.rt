@@ -1,4 +1,4 @@
-//! How many sites a block has, and how many pieces they have.
+//! The number of a block's sites, and of their pieces.
 //!
 //! Why two functions of one form, for sites and for pieces: a common one would need a parameter with a contract, and would lose
 //! the recursion over the text.
@@ -12,8 +12,8 @@ ghost use Rattle.site_counts.specs.Capped.{capped};
 use array_eval::span;
 use array_tree::{Block, Blocks, Stmt};
 
-/// How many sites a block has. Here and below the greatest number of 64 bits stands for all above it. What is
-/// never entered isn't looked into.
+/// The number of a block's sites. Here and below, the greatest number of 64 bits also stands for all greater numbers. The count
+/// doesn't visit loops without a turn.
 #[cycle(sites)]
 pub fn sites_in_block(block: &Block) -> u64
     ensures { result ≡ capped (sites_in (sequence_of block.now)) }
@@ -25,7 +25,7 @@ pub fn sites_in_block(block: &Block) -> u64
     sites
 }
 
-/// How many sites a loop has that runs a block for each number from `low` to before `high`.
+/// The number of sites of a loop that runs a block for each number from `low` to before `high`.
 #[cycle(sites)]
 pub fn sites_in_turns(low: i64, high: i64, body: &Block) -> u64
     ensures { result ≡ capped (span low high * sites_in (sequence_of body.now)) }
@@ -38,7 +38,7 @@ pub fn sites_in_turns(low: i64, high: i64, body: &Block) -> u64
     }
 }
 
-/// How many sites a statement has.
+/// The number of a statement's sites.
 #[cycle(sites)]
 pub fn sites_in_statement(statement: &Stmt) -> u64
     ensures { result ≡ capped (statement_sites_in (statement_of statement.now)) }
@@ -73,7 +73,7 @@ pub fn sites_in_statement(statement: &Stmt) -> u64
     }
 }
 
-// How many sites branches or phases enter, each once.
+// The number of sites that branches or phases enter, each once.
 #[cycle(sites)]
 fn sites_among(blocks: &Blocks) -> u64
     ensures { result ≡ capped (branches_sites_in (sequences_of blocks.now)) }
@@ -85,7 +85,7 @@ fn sites_among(blocks: &Blocks) -> u64
     sites
 }
 
-/// How many pieces the sites of a block have.
+/// The number of pieces of a block's sites.
 #[cycle(pieces)]
 pub fn pieces_in_block(block: &Block) -> u64
     ensures { result ≡ capped (pieces_in (sequence_of block.now)) }
@@ -97,7 +97,7 @@ pub fn pieces_in_block(block: &Block) -> u64
     pieces
 }
 
-// The same of a statement: a construct has its own pieces, and those of the sites inside it.
+// The same for a statement: a construct has its own pieces, and those of the sites inside it.
 #[cycle(pieces)]
 fn pieces_in_statement(statement: &Stmt) -> u64
     ensures { result ≡ capped (statement_pieces_in (statement_of statement.now)) }
@@ -133,7 +133,7 @@ fn pieces_in_statement(statement: &Stmt) -> u64
     }
 }
 
-// The same of branches or phases, each once.
+// The same for branches or phases, each once.
 #[cycle(pieces)]
 fn pieces_among(blocks: &Blocks) -> u64
     ensures { result ≡ capped (branches_pieces_in (sequences_of blocks.now)) }
@@ -145,14 +145,14 @@ fn pieces_among(blocks: &Blocks) -> u64
     pieces
 }
 
-/// How many blocks stand beside one another.
+/// The number of branches or phases.
 pub fn count_of(blocks: &Blocks) -> usize
     ensures { result ≡ count_of (sequences_of blocks.now) }
 {
     blocks.blocks.len()
 }
 
-// So many times a number.
+// A number, multiplied by so many turns.
 #[tactic(auto, using(crate::proofs::Capped::capped_product))]
 fn times(turns: u64, number: u64) -> u64
     ensures { (each : ℕ) → number ≡ capped each → result ≡ capped (turns * each) }
@@ -160,7 +160,7 @@ fn times(turns: u64, number: u64) -> u64
     turns.saturating_mul(number)
 }
 
-// The pieces of a team of so many members and phases, with so many inside each turn of all phases.
+// The pieces of a team with so many members and phases, and with so many pieces inside each turn of all phases.
 fn pieces_of_team(members: u64, phases: u64, turns: u64, inside: u64) -> u64
     ensures { (each : ℕ) → inside ≡ capped each
         → result ≡ capped (members * phases + turns * each) }

@@ -1,4 +1,4 @@
-//! How many sites a block has, and how many pieces they have, without a store.
+//! The number of a block's sites, and of their pieces, without a store.
 //!
 //! The checker counts a program's sites and pieces with it, and a job the sites inside it. Begin with `sites_in_block` in
 //! `counts.rt`; `array_jobs/src/work.rt` is a small user of it.

@@ -1,4 +1,4 @@
-//! The cells of the directory, and one hart's sight of them.
+//! The cells of the directory, and one hart's view of them.
 ghost use Rattle.std.specs.Prelude.{◌≡◌, ◌+◌, MatchOption, MatchResult, IfOk, IfErr, IsSome, Some, None, vec_len, length, map};
 ghost use Rattle.once_cell.specs.Once.{cell_name, Agrees};
 
@@ -7,7 +7,7 @@ use once_cell::race::{Note, OnceBox};
 use std::alloc::{AllocError, Global};
 use std::sync::Wait;
 
-/// One hart's sight of the cell of one site.
+/// One hart's view of the cell of one site.
 #[derive(Drop)]
 pub struct SiteLine<'a, S> {
     cell: &'a OnceBox<S>,
@@ -16,7 +16,7 @@ pub struct SiteLine<'a, S> {
 }
 
 impl<'a, S: Drop> SiteLine<'a, S> {
-    /// The first sight of a cell.
+    /// A view of a cell, with no scheduler found.
     pub fn new(cell: &'a OnceBox<S>) -> SiteLine<'a, S>
         ensures cell { result.note.cell ≡ cell_name cell.now }
         ensures first { result.note.known ≡ None }
@@ -27,8 +27,8 @@ impl<'a, S: Drop> SiteLine<'a, S> {
         }
     }
 
-    /// The scheduler in the cell, once it stands there. It is the one that this line found before, and None comes only where
-    /// it found none before.
+    /// The scheduler in the cell, or `None` if the cell is empty. If this line found a scheduler before, the result is the same
+    /// one, and never `None`.
     pub fn find(&mut self) -> Option<&'a S>
         ensures cell { self.new.note.cell ≡ self.old.note.cell }
         ensures found { MatchOption result ((self.old.note.known ≡ None)
@@ -39,7 +39,8 @@ impl<'a, S: Drop> SiteLine<'a, S> {
         self.cell.get_as(&mut self.note)
     }
 
-    /// The scheduler in the cell. It waits until one stands there; where this line found one before, it is that one.
+    /// The scheduler in the cell. Spins with growing pauses until the cell has one. If this line found a scheduler before, the
+    /// result is the same one.
     pub fn until_found<R: Wait>(&mut self, rt: &R) -> &'a S
         ensures cell { self.new.note.cell ≡ self.old.note.cell }
         ensures known { self.new.note.known ≡ Some result.now }
@@ -55,8 +56,11 @@ impl<'a, S: Drop> SiteLine<'a, S> {
         unreachable!()
     }
 
-    /// Puts the scheduler into the cell. A cell that has one already gives it back, and this line then knows the one that
-    /// stands there.
+    /// Puts the scheduler into the cell.
+    ///
+    /// # Errors
+    ///
+    /// The scheduler itself if the cell has one. This line then knows the scheduler in the cell.
     pub fn publish(&mut self, shared: Box<S>) -> Result<&'a S, Box<S>>
         ensures cell { self.new.note.cell ≡ self.old.note.cell }
         ensures gives { MatchResult result (λ published. published.now ≡ shared.value)
@@ -73,12 +77,15 @@ impl<'a, S: Drop> SiteLine<'a, S> {
     }
 }
 
-/// An empty cell for each site of a plan with so many sites, that of site s at place s; the base has one too, which stays
-/// empty.
+/// An empty cell for each site of a plan with `sites` sites, at index s for site s. The base has a cell too, which stays empty.
 ///
 /// # Errors
 ///
 /// `AllocError` if an allocation fails.
+///
+/// # Memory
+///
+/// It allocates the cells.
 pub fn cells<S: Drop>(alloc: Global, sites: u16) -> Result<Vec<OnceBox<S>>, AllocError>
     ensures { IfOk result (λ cells. vec_len cells ≡ sites + 1) }
 {
@@ -89,11 +96,15 @@ pub fn cells<S: Drop>(alloc: Global, sites: u16) -> Result<Vec<OnceBox<S>>, Allo
     Ok(cells)
 }
 
-/// A hart's first sight of each cell, in their order.
+/// A hart's first view of each cell, in their order.
 ///
 /// # Errors
 ///
 /// `AllocError` if an allocation fails.
+///
+/// # Memory
+///
+/// It allocates the list.
 pub fn lines<'a, S: Drop>(
     alloc: Global,
     cells: &'a [OnceBox<S>],

@@ -1,4 +1,4 @@
--- Works, constructs and jobs whose sites are parts of a plan, whole subtrees inside the site around.
+-- Works, constructs and jobs whose sites are parts of a plan: whole subtrees inside the site around.
 use Rattle.std.specs.Prelude.{◌≡◌, ℕ, ◌+◌, ◌-◌, ◌<◌, List, [], ◌∷◌, ◌++◌, Some}
 use Rattle.transfer_table.specs.Plan.{Plan, IsPlan, IsSite, parent}
 use Rattle.site_accounts.specs.Accounts.{IsSpan}
@@ -17,31 +17,31 @@ use Rattle.step_eval.specs.Machines.{construct_of}
 use Rattle.step_eval.specs.Nests.{NestedTree, phases_of, jobs_in}
 use Rattle.planned_sites.specs.Planned.{work_parents, inside_parents, WorksHave}
 
--- The sites of each work are a part inside the site around, one work after another, those behind a work before those of the
--- next.
+-- The sites of each work are a part inside the site around, one work after another. The sites after a work come before those of
+-- the next.
 abbrev pub AreParts : Plan → ℕ → ℕ → List WorkAt → Type 0
 AreParts p around next works = WorksHave (HasPartFrom p around) around next works
 
--- A step leaves them so.
+-- After a step the sites of the works are such parts.
 abbrev pub WorksStayParts : Type 0
 WorksStayParts = (p : Plan) (around next : ℕ) (arrays : Arrays) (store : Store) (w : WorkAt)
     (more : List WorkAt) → AreParts p around next (w ∷ more)
     → AreParts p around (next + moved_sites arrays store w) (moved arrays store w ++ more)
 
--- A work without a site in it or behind it may be left out.
+-- A work without a site in it or after it may be left out.
 abbrev pub WholeWorksArePassed : Type 0
 WholeWorksArePassed = (p : Plan) (around next : ℕ) (w : WorkAt) (more : List WorkAt)
     → AreParts p around next (w ∷ more) → sites_of w.work + w.after ≡ 0
     → AreParts p around next more
 
--- The sites that a hart is told to skip are whole subtrees inside the site around.
+-- The sites that a hart has to skip are whole subtrees inside the site around.
 abbrev pub PassesAreSpans : Type 0
 PassesAreSpans = (p : Plan) (around next : ℕ) (arrays : Arrays) (store : Store) (rest : List WorkAt)
     (span : ℕ × ℕ) → pass_of arrays store next rest ≡ Some span → AreParts p around next rest
     → IsSpan p around span.0 (span.1 - span.0)
 
--- The site of a construct is one inside the site around, and the sites inside it come next, a part inside it. Its children are
--- among these.
+-- The site of a construct is inside the site around. The sites inside the construct come next, a part inside its site, and the
+-- site's children are among them.
 pub record IsConstructPart (p : Plan) (around next : ℕ) (construct : Statement) : Type 0 where
   pub site : IsSite p next
   pub inside : HasPartFrom p next (next + 1) (inside_parents construct next (next + 1))
@@ -49,13 +49,13 @@ pub record IsConstructPart (p : Plan) (around next : ℕ) (construct : Statement
       → (next < x) × (x < next + statement_sites_in construct)
   pub parent : parent p next ≡ around
 
--- So it is of the construct that is next.
+-- This holds of the next construct.
 abbrev pub ConstructsAreParts : Type 0
 ConstructsAreParts = (p : Plan) (around next : ℕ) (w : WorkAt) (more : List WorkAt)
     (construct : Statement) → IsPlan p → construct_of w.work ≡ Some construct
     → AreParts p around next (w ∷ more) → IsConstructPart p around next construct
 
--- Where the sites inside a construct are a part, those of each of its jobs are a part inside the construct's site.
+-- If the sites inside a construct are a part, the sites of each of its jobs are a part inside the construct's site.
 abbrev pub JobsAreParts : Type 0
 JobsAreParts = (p : Plan) (nested : NestedTree) (phase : ℕ) (store : Store)
     → phase < phases_of nested.construct

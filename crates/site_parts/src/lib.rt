@@ -1,26 +1,28 @@
 //! The sites of a machine's works, of the constructs that it hands out and of their jobs are whole subtrees of the plan.
 //!
-//! The crate holds definitions and laws. No code here runs: each function's contract is a law, and its body is empty.
+//! So a hart that skips them skips complete subtrees. The crate holds definitions and laws. No code here runs: each function's
+//! contract is a law, and its body is empty. Begin with `specs/Parts.antt`; `meant_sites` defines parts, and the tests of
+//! `job_tests` step machines over such sites.
 #![tactic(auto)]
 
 ghost use Rattle.site_parts.specs.Parts.{WorksStayParts, WholeWorksArePassed, PassesAreSpans, ConstructsAreParts, JobsAreParts, BodiesAreParts};
 
-/// A step leaves the sites of a machine's works parts of the plan.
+/// After a step the sites of a machine's works are parts of the plan.
 pub fn works_stay_parts()
     ensures { WorksStayParts }
 {}
 
-/// A work without a site in it or behind it may be left out.
+/// A work without a site in it or after it may be left out.
 pub fn whole_works_are_passed()
     ensures { WholeWorksArePassed }
 {}
 
-/// The sites that a hart is told to skip are whole subtrees.
+/// The sites that a hart has to skip are whole subtrees.
 pub fn passes_are_spans()
     ensures { PassesAreSpans }
 {}
 
-/// The construct that is next has its site inside the one around, and the sites inside it follow as a part.
+/// The site of the next construct is inside the site around, and the sites inside it follow as a part.
 pub fn constructs_are_parts()
     ensures { ConstructsAreParts }
 {}

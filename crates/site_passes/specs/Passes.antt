@@ -1,16 +1,16 @@
--- Where the sites lie that a hart is told to skip.
+-- The positions of the sites that a hart has to skip.
 use Rattle.std.specs.Prelude.{◌≡◌, ℕ, ◌+◌, ◌<◌, ◌≤◌, List, Some}
 use Rattle.array_meaning.specs.Stores.{Arrays, Store}
 use Rattle.step_eval.specs.Rest.{WorkAt, rest_sites}
 use Rattle.step_eval.specs.Passes.{pass_of}
 
--- A span that isn't empty and lies within the sites that the walk has in and behind what is left to be run.
+-- A span that isn't empty, inside the sites that the walk has in and after the remaining works.
 pub record IsWithinRest (next : ℕ) (rest : List WorkAt) (span : ℕ × ℕ) : Type 0 where
   pub some : span.0 < span.1
   pub low : next ≤ span.0
   pub high : span.1 ≤ next + rest_sites rest
 
--- So is each that a hart is told of.
+-- Each span that a hart has to skip is such a span.
 abbrev pub PassesAreWithin : Type 0
 PassesAreWithin = (arrays : Arrays) (store : Store) (next : ℕ) (rest : List WorkAt) (span : ℕ × ℕ)
     → pass_of arrays store next rest ≡ Some span → IsWithinRest next rest span

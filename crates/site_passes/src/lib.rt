@@ -1,18 +1,19 @@
-//! How a machine passes sites, where both sides of an `if` may have some: which sites a hart is told to skip, and which are
-//! still to be entered.
+//! How a machine passes sites if both sides of an `if` may have some: the sites that a hart has to skip, and those that it
+//! still enters.
 //!
-//! The crate holds definitions and laws. No code here runs: each function's contract is a law, and its body is empty.
+//! The crate holds definitions and laws. No code here runs: each function's contract is a law, and its body is empty. Begin
+//! with `specs/Entering.antt`; `step_eval` has the machines, and the tests of `job_tests` step them.
 #![tactic(auto)]
 
 ghost use Rattle.site_passes.specs.Passes.{PassesAreWithin};
 ghost use Rattle.site_passes.specs.Entering.{RestIsCounted, StepsPassSites, SuppliesPassSites, JobsEnterTheConstruct};
 
-/// The sites that a hart is told of are some of those that are left.
+/// The sites that a hart has to skip are among the remaining ones.
 pub fn passes_are_within()
     ensures { PassesAreWithin }
 {}
 
-/// Of each site that is left it is told whether it is still entered.
+/// There is a flag for each remaining site, whether it is still entered.
 pub fn rest_is_counted()
     ensures { RestIsCounted }
 {}
@@ -22,12 +23,12 @@ pub fn steps_pass_sites()
     ensures { StepsPassSites }
 {}
 
-/// A construct is entered with what it enters inside.
+/// A construct is entered with the sites that it enters inside.
 pub fn supplies_pass_sites()
     ensures { SuppliesPassSites }
 {}
 
-/// A construct that is handed out is entered, and inside it what its jobs enter, phase after phase.
+/// A construct that is handed out is entered, and inside it the sites that its jobs enter, phase after phase.
 pub fn jobs_enter_the_construct()
     ensures { JobsEnterTheConstruct }
 {}

@@ -6,8 +6,8 @@ ghost use Rattle.site_steps.specs.Back.{ChildrenOver, HasLooked};
 use crate::patience::PatientPort;
 use crate::tree::SiteTree;
 
-/// Closes the owner, looks at each of its children until it is gone, and then until the owner is empty. After it the
-/// owner may be unregistered.
+/// Closes the owner, waits until each of its children is gone, and then until the owner is empty. Afterwards the owner may be
+/// unregistered.
 pub fn finish_site<P: PatientPort>(tree: &SiteTree, port: &mut P, hold: P::Hold)
     requires plan { (P.seen port.old).plan ≡ tree.now }
     requires home { is_in (P.seen port.old).homes (P.seen port.old).owner ≡ true }
@@ -22,7 +22,7 @@ pub fn finish_site<P: PatientPort>(tree: &SiteTree, port: &mut P, hold: P::Hold)
     port.until_empty(hold);
 }
 
-/// Looks at each top site until it is gone.
+/// Waits until each top site is gone.
 pub fn finish_base<P: PatientPort>(tree: &SiteTree, port: &mut P, hold: P::Hold)
     requires plan { (P.seen port.old).plan ≡ tree.now }
     requires base { (P.seen port.old).owner ≡ 0 }
@@ -34,7 +34,7 @@ pub fn finish_base<P: PatientPort>(tree: &SiteTree, port: &mut P, hold: P::Hold)
     see_children_gone(tree, port, hold);
 }
 
-// Looks at each child of the owner until it is gone.
+// Waits until each child of the owner is gone.
 fn see_children_gone<P: PatientPort>(tree: &SiteTree, port: &mut P, hold: P::Hold)
     requires plan { (P.seen port.old).plan ≡ tree.now }
     requires children { ChildrenOver (P.seen port.old) }

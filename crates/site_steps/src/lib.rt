@@ -1,8 +1,9 @@
-//! What a hart does at a site besides its work, for every port: it ends the site, and it makes the sites that no hart
-//! entered come and go.
+//! What a hart does at a site besides its work, over every port: it ends the site, and it registers and unregisters, or skips,
+//! the sites that no hart entered.
 //!
-//! `PatientPort` is a port that can wait for what other harts do; a single hart's port waits for nothing, and `WaitingPort`
-//! makes any port one that waits. `SiteTree` is a plan with the children of each site in their order.
+//! `PatientPort` is a port that can wait for other harts. A single hart's port never waits, and `WaitingPort` wraps any port so
+//! that its waits may last. `SiteTree` is a plan with the children of each site in order. Begin with `finish_site` in
+//! `ending.rt` and `sweep_children` in `sweeping.rt`; `src/tests.rt` has examples.
 #![tactic(auto)]
 
 mod ending;

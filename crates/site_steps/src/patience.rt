@@ -5,10 +5,9 @@ ghost use Rattle.hart_port.specs.PortView.{IsPortView, is_in, HasEnded, sees_gon
 
 use hart_port::{PlainPort, Port, Seen};
 
-/// A port whose hart can wait for what other harts do. A wait that returns has seen what it waited for.
+/// A port whose hart can wait for other harts. A wait that returns has seen what it waited for.
 pub trait PatientPort: Port {
-    /// Looks at the site until it is gone. Where no other hart shares the table, the hart has unregistered or
-    /// skipped it.
+    /// Waits until the site is gone. If no other hart shares the table, the hart has unregistered or skipped it.
     fn until_gone(&mut self, hold: Self::Hold, site: u16)
         requires known { IsSite (Self.seen self.old).plan site }
         requires over { (Self.seen self.old).alone ≡ true
@@ -17,7 +16,7 @@ pub trait PatientPort: Port {
         ensures count { Self.refused self.new ≡ Self.refused self.old }
         ensures kept { IsPortView (Self.seen self.new) };
 
-    /// Looks at the owner, which the hart has closed, until it is empty.
+    /// Waits until the owner, which the hart has closed, is empty.
     fn until_empty(&mut self, hold: Self::Hold)
         requires home { is_in (Self.seen self.old).homes (Self.seen self.old).owner ≡ true }
         requires closed { is_in (Self.seen self.old).closed (Self.seen self.old).owner ≡ true }
@@ -26,10 +25,11 @@ pub trait PatientPort: Port {
         ensures kept { IsPortView (Self.seen self.new) };
 }
 
-/// A single hart waits for nothing: it sees at once what it waits for.
+/// A single hart never waits: its first read sees what it waits for.
 impl PatientPort for PlainPort {
     fn until_gone(&mut self, hold: (), site: u16) {
-        // A read of the owner gives the port's invariant: a site that this hart unregistered or skipped is gone.
+        // Why: reading the owner makes the port's invariant known. By it, a site that this hart unregistered or skipped is
+        // gone.
         let _ = self.owner();
         if !self.see_gone(hold, site) {
             unreachable!()

@@ -1,4 +1,4 @@
-//! How a hart skips sites that no hart is to enter.
+//! How a hart skips the sites that no hart shall enter.
 ghost use Rattle.std.specs.Prelude.{◌≡◌, ◌≤◌, ◌+◌};
 ghost use Rattle.site_steps.specs.Back.{IsSettled, IsBack};
 ghost use Rattle.site_steps.specs.Skips.{HasSkipped, ChildrenClaimed};
@@ -6,8 +6,8 @@ ghost use Rattle.site_steps.specs.Skips.{HasSkipped, ChildrenClaimed};
 use crate::tree::SiteTree;
 use hart_port::Port;
 
-/// Skips each child of the owner from `first` to before `end`, and with it all that is inside it, in rising order. A child that
-/// was claimed is left as it is: its skip is refused.
+/// Skips each child of the owner from `first` to before `end`, in rising order, with all sites inside it. The port refuses the
+/// skip of a child that was claimed, and the child is unchanged.
 pub fn skip_sites<P: Port>(tree: &SiteTree, port: &mut P, hold: P::Hold, first: u16, end: u16)
     requires plan { (P.seen port.old).plan ≡ tree.now }
     requires inner { IsSettled (P.seen port.old) }

@@ -1,4 +1,4 @@
-//! How the sites that no hart entered come and go.
+//! How the sites that no hart entered are registered and unregistered.
 ghost use Rattle.std.specs.Prelude.{◌≡◌, ◌≤◌, true, false};
 ghost use Rattle.transfer_table.specs.Plan.{IsSite, parent};
 ghost use Rattle.hart_port.specs.PortView.{HasEnded};
@@ -9,8 +9,7 @@ use crate::ending::finish_site;
 use crate::patience::PatientPort;
 use crate::tree::SiteTree;
 
-/// Sweeps the owner where that is needed: where a piece of it has failed, or it isn't known that each child came and went or was
-/// skipped.
+/// Sweeps the owner if `is_needed`: if a piece of it has failed, or it isn't known that each child was unregistered or skipped.
 pub fn sweep_if<P: PatientPort>(tree: &SiteTree, port: &mut P, hold: P::Hold, is_needed: bool)
     requires plan { (P.seen port.old).plan ≡ tree.now }
     requires inner { IsSettled (P.seen port.old) }
@@ -26,8 +25,8 @@ pub fn sweep_if<P: PatientPort>(tree: &SiteTree, port: &mut P, hold: P::Hold, is
     }
 }
 
-/// Makes each child of the owner that no hart registered come and go, in rising order, with all that is inside it. Of each child
-/// that it didn't unregister the register was refused.
+/// Registers and unregisters each child of the owner that no hart registered, in rising order, with all sites inside it. The
+/// port refused the register of each child that this call didn't unregister.
 #[cycle(sweep)]
 pub fn sweep_children<P: PatientPort>(tree: &SiteTree, port: &mut P, hold: P::Hold)
     requires plan { (P.seen port.old).plan ≡ tree.now }
@@ -45,7 +44,7 @@ pub fn sweep_children<P: PatientPort>(tree: &SiteTree, port: &mut P, hold: P::Ho
     }
 }
 
-// Makes a child of the owner come and go, unless it is registered or skipped already.
+// Registers and unregisters a child of the owner, unless the child is registered or skipped already.
 #[cycle(sweep)]
 fn sweep_site<P: PatientPort>(tree: &SiteTree, port: &mut P, hold: P::Hold, site: u16)
     requires plan { (P.seen port.old).plan ≡ tree.now }

@@ -71,7 +71,7 @@ fn each_site_comes_and_goes(rt: HostRuntime) -> Result<(), Fail> {
     Ok(())
 }
 
-// What came and went is passed over by the next sweep.
+// A second sweep passes over the sites that came and went.
 #[test]
 fn a_second_sweep_adds_nothing(rt: HostRuntime) -> Result<(), Fail> {
     let plan = Plan::new(rt.alloc(), 1, &[0, 0])?;
@@ -85,7 +85,7 @@ fn a_second_sweep_adds_nothing(rt: HostRuntime) -> Result<(), Fail> {
     Ok(())
 }
 
-// The topmost sites of a span are skipped, each with what is inside it; what was claimed is left as it is.
+// The topmost sites of a span are skipped, each with all sites inside it; a claimed site is unchanged.
 #[test]
 fn the_tops_of_a_span_are_skipped(rt: HostRuntime) -> Result<(), Fail> {
     let plan = small_plan(rt.alloc())?;
@@ -102,7 +102,7 @@ fn the_tops_of_a_span_are_skipped(rt: HostRuntime) -> Result<(), Fail> {
     Ok(())
 }
 
-// A port that waits does what the port does that it was made of.
+// A waiting port does what the port inside it does.
 #[test]
 fn sites_come_and_go_over_a_port_that_waits(rt: HostRuntime) -> Result<(), Fail> {
     let plan = Plan::new(rt.alloc(), 1, &[0, 0])?;

@@ -1,5 +1,5 @@
 //! Plans with their children in order.
-ghost use Rattle.std.specs.Prelude.{◌≡◌, ◌≤◌, ◌-◌, ◌↔◌, IsTrue, IfOk, length};
+ghost use Rattle.std.specs.Prelude.{◌≡◌, ◌≤◌, ◌-◌, ◌↔◌, IsTrue, IfOk};
 ghost use Rattle.transfer_table.specs.Plan.{Plan, IsPlan, IsSite, parent, site_count};
 ghost use Rattle.site_steps.specs.Children.{NextChild, AreLinkedFrom, site_if};
 
@@ -7,9 +7,9 @@ use std::alloc::{AllocError, Global};
 use std::marker::Model;
 use transfer_table::Plan;
 
-/// A plan, with the children of each site in rising order. Who goes through a site's children looks at no other site.
+/// A plan, with the children of each site in rising order. Going through a site's children reads no other site.
 ///
-/// Contracts see it as the plan.
+/// Contracts see the tree as the plan.
 #[derive(Drop)]
 pub struct SiteTree {
     plan: Plan,
@@ -31,7 +31,15 @@ impl Model for SiteTree {
 }
 
 impl SiteTree {
-    /// The sites of a plan.
+    /// The tree of a plan's sites.
+    ///
+    /// # Errors
+    ///
+    /// `AllocError` if an allocation fails.
+    ///
+    /// # Memory
+    ///
+    /// It allocates two links and a copy of the parent for each site.
     pub fn new(alloc: Global, plan: &Plan) -> Result<SiteTree, AllocError>
         ensures { IfOk result (λ tree. tree ≡ plan.now) }
     {
@@ -50,7 +58,7 @@ impl SiteTree {
         ensures same { result.now ≡ self.now }
         ensures kept { IsPlan self.now }
     {
-        // A read of the sites gives the invariant of a plan's type.
+        // Why: reading the number of sites makes the plan's invariant known.
         let _ = self.plan.sites();
         &self.plan
     }
@@ -71,7 +79,7 @@ impl SiteTree {
         some_site(self.next[usize::from(site)])
     }
 
-    /// Whether it is a site of the plan inside this one.
+    /// Whether `site` is a site of the plan whose parent is `around`.
     pub fn is_child(&self, around: u16, site: u16) -> bool
         ensures { IsTrue result ↔ (IsSite self.now site × (parent self.now site ≡ around)) }
     {
@@ -79,14 +87,14 @@ impl SiteTree {
     }
 }
 
-// The site with this number; 0 is none.
+// The site with this number; 0 is no site.
 fn some_site(number: u16) -> Option<u16>
     ensures { result ≡ site_if number }
 {
     if number == 0 { None } else { Some(number) }
 }
 
-// Puts a site before the children of its parent, all of which are greater.
+// Links a site before the children of its parent, all of which have greater numbers.
 fn link(plan: &Plan, site: u16, first: &mut [u16], next: &mut [u16])
     requires plan { IsPlan plan.now }
     requires site { IsSite plan.now site }

@@ -6,8 +6,8 @@ use crossbeam_utils::Backoff;
 use hart_port::{Entered, Port, Seen, Taken};
 use std::sync::Wait;
 
-/// A port whose waits may last: each wait looks again and again. The pauses between looks grow (`Backoff`), so that a long wait
-/// takes little of a processor. The view's `alone` is always false, so callers can't rely on exclusive access.
+/// A port whose waits may last: each wait reads again and again. The pauses between reads grow (`Backoff`), so that a long wait
+/// uses little processor time. The view's `alone` is always false, so callers can't rely on exclusive access.
 pub struct WaitingPort<'a, P, R> {
     port: P,
     rt: &'a R,
@@ -20,14 +20,14 @@ impl<'a, P: Drop, R> Drop for WaitingPort<'a, P, R> {
 }
 
 impl<'a, P, R> WaitingPort<'a, P, R> {
-    /// The port, which waits by this runtime.
+    /// Wraps the port. Its waits use this runtime.
     pub fn new(port: P, rt: &'a R) -> WaitingPort<'a, P, R>
         ensures { result.port ≡ port }
     {
         WaitingPort { port, rt }
     }
 
-    /// The port by itself.
+    /// The port inside.
     pub fn into_port(self) -> P
         ensures { result ≡ self.entry.port }
     {

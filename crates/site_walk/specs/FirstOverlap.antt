@@ -10,29 +10,29 @@ use Rattle.site_walk.specs.declared.fault.WalkFault.TheVariants.{Overlap}
 use Rattle.std.specs.Option.{option_or}
 use Rattle.site_walk.specs.Outside.{out_of_range_of}
 
--- The fault of an overlap on a cell, by its construct's line.
+-- The fault of an overlap on a cell, with its construct's line.
 abbrev pub cell_fault : ℕ → Option ℕ → Option WalkFault
 cell_fault line None = None
 cell_fault line (Some cell) = Some (Overlap line cell)
 
--- The fault is the first of the rounds in which two pieces overlap, and the least cell on which they do.
+-- The fault of the first of the rounds in which two pieces overlap, with the least cell on which they do.
 abbrev pub rounds_fault : Arrays → ℕ → List (List Steps) → Option WalkFault
 rounds_fault arrays line [] = None
 rounds_fault arrays line (round ∷ more) =
     option_or (cell_fault line (overlap arrays (cells_of arrays) round))
     (rounds_fault arrays line more)
 
--- The first of the sites with an overlap.
+-- The fault of the first of the sites with an overlap.
 abbrev pub first_overlap : Arrays → List Site → Option WalkFault
 first_overlap arrays [] = None
 first_overlap arrays (site ∷ more) =
     option_or (rounds_fault arrays site.line site.rounds) (first_overlap arrays more)
 
--- The first overlap of a program's sites, in the order of its plan: by the construct's line and, in a
--- `team` in its first phase with one, the least cell.
+-- The first overlap of a program's sites, in the order of its plan: the construct's line, and the least cell (in a `team`, of
+-- its first phase with an overlap).
 abbrev pub overlap_of : ProgramTree → Option WalkFault
 overlap_of program = first_overlap (arrays_of program.arrays) (sequence_sites program.body [])
 
--- This is what the walk finds: an index outside its array, or else an overlap.
+-- The result of the walk: an index outside its array, or else an overlap.
 abbrev pub walk_fault_of : ProgramTree → Option WalkFault
 walk_fault_of program = option_or (out_of_range_of program) (overlap_of program)

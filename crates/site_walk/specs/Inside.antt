@@ -1,5 +1,5 @@
--- What only proofs need: how the walk marks what pieces do, and what it keeps. No public clause speaks of it, so a reader
--- of what the walk finds needs none of it.
+-- Definitions for proofs only: how the walk marks the touches of pieces, and what it keeps. No public clause uses them, so a
+-- reader of the walk's results needs none of them.
 pub mod Numbers
 pub mod Touched
 pub mod Rounds

@@ -1,4 +1,4 @@
--- What the walk's results mean.
+-- The meaning of the walk's results.
 use Rattle.std.specs.Prelude.{◌≡◌, ◌↔◌, None, IsTrue}
 use Rattle.array_tree.specs.Trees.{ProgramTree}
 use Rattle.array_meaning.specs.Names.{has_only_known_names}
@@ -6,12 +6,12 @@ use Rattle.array_meaning.specs.Accepted.{has_indices_inside, HasApartSites}
 use Rattle.site_walk.specs.Outside.{out_of_range_of}
 use Rattle.site_walk.specs.FirstOverlap.{overlap_of}
 
--- No index is found exactly where each static index is inside its array.
+-- The walk finds no index exactly if each static index is inside its array.
 abbrev pub AreOutsidesFound : Type 0
 AreOutsidesFound = (program : ProgramTree) → (out_of_range_of program ≡ None)
     ↔ IsTrue (has_indices_inside program)
 
--- In a program whose names are known and whose indexes are inside, no overlap is found exactly where the pieces of each
+-- In a program whose names are known and whose indexes are inside, the walk finds no overlap exactly if the pieces of each
 -- round of each site are apart.
 abbrev pub AreOverlapsFound : Type 0
 AreOverlapsFound = (program : ProgramTree) → IsTrue (has_only_known_names program)

@@ -9,20 +9,20 @@ use Rattle.array_meaning.specs.Accepted.{is_inside}
 use Rattle.site_walk.specs.declared.fault.WalkFault.{WalkFault}
 use Rattle.site_walk.specs.declared.fault.WalkFault.TheVariants.{OutOfRange}
 
--- An index outside an array of this length has this fault.
+-- The fault of an index outside an array of this length.
 abbrev pub index_fault : ℕ → ℕ → Option ℤ → Option WalkFault
 index_fault line length None = None
 index_fault line length (Some index) =
     if is_inside length (Some index) then None else Some (OutOfRange line index length)
 
--- The fault is the first one of an index in a walk.
+-- The fault of the first index in a walk.
 abbrev pub first_outside : Arrays → List Visit → Option WalkFault
 first_outside arrays [] = None
 first_outside arrays (v ∷ more) =
     option_or (index_fault v.line (length_of arrays v.array) v.index) (first_outside arrays more)
 
--- The fault is the first static index of a program outside its array, by the line of the assignment or `if` in whose own
--- expressions it stands.
+-- The fault of a program's first static index outside its array, with the line of the assignment or `if` whose own expressions
+-- have the index.
 abbrev pub out_of_range_of : ProgramTree → Option WalkFault
 out_of_range_of program =
     let arrays = arrays_of program.arrays in

@@ -1,4 +1,4 @@
-//! The walk that looks for a static index outside its array.
+//! The walk that searches a static index outside its array.
 ghost use Rattle.std.specs.Prelude.{◌≡◌, false, None, []};
 ghost use Rattle.std.specs.Bool.{OnTrue};
 ghost use Rattle.array_tree.specs.Trees.{expression_of, statement_of, sequence_of, sequences_of};
@@ -16,7 +16,7 @@ use array_tree::{Block, Blocks, Expr, Name, Stmt};
 use std::alloc::Global;
 use touch_bounds::{indices_are_inside, statement_pays};
 
-// What is wrong with an index of an array.
+// The fault of an index of an array, if there is one.
 fn index_outside(
     layout: &Layout,
     line: u32,
@@ -44,7 +44,7 @@ fn index_outside(
     }
 }
 
-// Keeps what is wrong with an index of an array, unless something was found before.
+// Keeps the fault of an index of an array, unless an earlier one was found.
 fn keep_index(
     layout: &Layout,
     line: u32,
@@ -91,8 +91,8 @@ fn is_settled<'s>(alloc: Global, layout: &Layout, statement: &'s Stmt, scope: &'
     statement_pays(statement) && indices_are_inside(alloc, layout, statement, scope)
 }
 
-// Keeps the first fault of an index in the walk through a statement, unless something was found before. Where the text
-// shows that there is none, it isn't walked through.
+// Keeps the first fault of an index in the walk through a statement, unless an earlier one was found. If the text shows that
+// the statement has none, it isn't walked.
 fn keep_unless_settled<'s>(
     alloc: Global,
     layout: &Layout,
@@ -109,8 +109,8 @@ fn keep_unless_settled<'s>(
     keep_statement(layout, statement, scope, found);
 }
 
-/// Keeps the first fault of an index in a program's walk, unless something was found before. Statements of its body whose
-/// text shows that there is none are passed over.
+/// Keeps the first fault of an index in a program's walk, unless an earlier one was found. It passes over the statements of the
+/// body whose text shows that they have none.
 pub(crate) fn keep_body(alloc: Global, layout: &Layout, body: &Block, found: &mut Option<WalkFault>)
     ensures { found.new ≡ or_outside layout.now
         (sequence_work (sequence_of body.now) []) found.old }
@@ -120,7 +120,7 @@ pub(crate) fn keep_body(alloc: Global, layout: &Layout, body: &Block, found: &mu
     }
 }
 
-// Keeps the first fault of an index in the walk through a block, unless something was found before.
+// Keeps the first fault of an index in the walk through a block, unless an earlier one was found.
 #[cycle(keep)]
 fn keep_block<'s>(
     layout: &Layout,
@@ -136,7 +136,7 @@ fn keep_block<'s>(
     }
 }
 
-// The same of a statement.
+// The same for a statement.
 #[cycle(keep)]
 #[tactic(auto, using(crate::proofs::OutsideLemmas::first_append, array_meaning::proofs::LastLemmas::or_assoc, array_meaning::proofs::LastLemmas::or_none))]
 fn keep_statement<'s>(
@@ -187,7 +187,7 @@ fn keep_statement<'s>(
     }
 }
 
-// The same of a block for each number from low to before high.
+// The same for a block for each number from low to before high.
 #[cycle(keep)]
 fn keep_loop<'s>(
     layout: &Layout,
@@ -212,7 +212,7 @@ fn keep_loop<'s>(
     }
 }
 
-// The same of the branches of a `par`.
+// The same for the branches of a `par`.
 #[cycle(keep)]
 fn keep_branches<'s>(
     layout: &Layout,
@@ -228,7 +228,7 @@ fn keep_branches<'s>(
     }
 }
 
-// The same of the phases of a `team`.
+// The same for the phases of a `team`.
 #[cycle(keep)]
 fn keep_phases<'s>(
     layout: &Layout,

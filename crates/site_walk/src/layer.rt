@@ -1,4 +1,4 @@
-//! Lists of what was done, which are cleared at once.
+//! Lists of touches, which are cleared at once.
 ghost use Rattle.std.specs.Prelude.{◌≡◌, IfOk, length, replicate, slice_set};
 ghost use Rattle.site_walk.specs.Inside.Touched.{joined, touched_at, untouched};
 
@@ -6,16 +6,16 @@ use crate::touched::{Touched, UNTOUCHED};
 use std::alloc::{AllocError, Global};
 use std::marker::Model;
 
-// What was done in a round. It says nothing of other rounds.
+// The touches of one round. A mark means nothing in any other round.
 #[derive(Clone, Copy, Debug, Drop)]
 struct Mark {
     round: u64,
     touched: Touched,
 }
 
-/// What was done in a round at each of some places.
+/// The touches of a round, with an entry for each index.
 ///
-/// A new round clears all places at once: what an earlier round did stays in memory and counts no more.
+/// Why each mark has its round: a new round then clears all entries at once, since marks of earlier rounds don't count.
 ///
 /// Contracts see it as a list.
 #[derive(Debug, Drop)]
@@ -39,7 +39,7 @@ impl Model for Layer {
 }
 
 impl Layer {
-    /// So many places, with nothing done.
+    /// A layer of so many entries, without a touch.
     #[tactic(auto, using(crate::proofs::RoundLemmas::none_in_round))]
     pub(crate) fn new(alloc: Global, places: usize) -> Result<Layer, AllocError>
         ensures { IfOk result (λ layer. layer ≡ replicate places untouched) }
@@ -54,7 +54,7 @@ impl Layer {
         })
     }
 
-    /// What was done at a place, nothing behind the last.
+    /// The touch at an index; none after the last.
     pub(crate) fn get(&self, place: usize) -> Touched
         ensures { result ≡ touched_at self.now place }
     {
@@ -69,7 +69,7 @@ impl Layer {
         }
     }
 
-    // Puts what was done at a place, if it is there.
+    // Sets the touch at an index, if it exists.
     #[tactic(auto, using(crate::proofs::RoundLemmas::put_in_round))]
     fn put(&mut self, place: usize, touched: Touched)
         ensures { self.new ≡ slice_set self.old place touched }
@@ -82,7 +82,7 @@ impl Layer {
         }
     }
 
-    /// Adds what is done at a place. The result is what is done there in all.
+    /// Adds a touch at an index. Returns all touches there.
     pub(crate) fn add(&mut self, place: usize, touched: Touched) -> Touched
         ensures all { result ≡ joined touched (touched_at self.old place) }
         ensures added { self.new
@@ -93,7 +93,7 @@ impl Layer {
         all
     }
 
-    /// Begins a round, in which nothing is done yet.
+    /// Begins a round, without a touch.
     #[tactic(auto, using(crate::proofs::RoundLemmas::next_round, crate::proofs::RoundLemmas::none_in_round))]
     pub(crate) fn clear(&mut self)
         ensures { self.new ≡ replicate (length self.old) untouched }

@@ -1,8 +1,8 @@
 //! The checker's walk: whether each static index is inside its array, and whether the pieces of each site are apart.
 //!
-//! `disjoint_check` calls `walk_program` for a program inside the limits. A walk follows the program step by step, but for texts
-//! that `touch_bounds` settles. Begin with `walk_program` in `walk.rt`; the tests of `language_tests` check programs that it
-//! refuses.
+//! `disjoint_check` calls `walk_program` for a program inside the limits. A walk follows the program step by step, except for
+//! texts that `touch_bounds` settles. Begin with `walk_program` in `walk.rt`; the tests of `language_tests` check programs that
+//! it refuses.
 #![tactic(auto)]
 
 mod fault;

@@ -1,4 +1,4 @@
-//! The walk that marks what a piece does.
+//! The walk that marks the cells that a piece touches.
 ghost use Rattle.std.specs.Prelude.{◌≡◌, true, false};
 ghost use Rattle.array_tree.specs.Trees.{expression_of, statement_of, sequence_of, sequences_of};
 ghost use Rattle.array_meaning.specs.Work.{statement_work, sequence_work, branches_work, phases_work, loop};
@@ -11,7 +11,7 @@ use crate::touched::{Pieces, Touched};
 use array_eval::{Layout, NoCells, Scope, evaluate, is_dynamic};
 use array_tree::{Block, Blocks, Expr, Name, Stmt};
 
-// Marks what a piece does by an index of an array.
+// Marks the cells that an index of an array touches.
 fn mark_index(
     layout: &Layout,
     piece: usize,
@@ -60,7 +60,7 @@ fn mark_reads(layout: &Layout, piece: usize, scope: &Scope, expr: &Expr, table: 
     }
 }
 
-/// Marks what a piece does in a block: whatever is on either side of an `if`, and in whatever order it may run.
+/// Marks the cells that a piece touches in a block: both sides of each `if`, and its branches and phases in any order.
 #[cycle(mark)]
 pub(crate) fn mark_block<'s>(
     layout: &Layout,
@@ -77,7 +77,7 @@ pub(crate) fn mark_block<'s>(
     }
 }
 
-// The same of a statement.
+// The same for a statement.
 #[cycle(mark)]
 fn mark_statement<'s>(
     layout: &Layout,
@@ -128,7 +128,7 @@ fn mark_statement<'s>(
     }
 }
 
-/// The same of a block for each number from low to before high.
+/// The same for a block for each number from low to before high.
 #[cycle(mark)]
 pub(crate) fn mark_loop<'s>(
     layout: &Layout,
@@ -154,7 +154,7 @@ pub(crate) fn mark_loop<'s>(
     }
 }
 
-// The same of the branches of a `par` inside the piece.
+// The same for the branches of a `par` inside the piece.
 #[cycle(mark)]
 fn mark_branches<'s>(
     layout: &Layout,
@@ -171,7 +171,7 @@ fn mark_branches<'s>(
     }
 }
 
-// The same of the phases of a `team` inside the piece.
+// The same for the phases of a `team` inside the piece.
 #[cycle(mark)]
 fn mark_phases<'s>(
     layout: &Layout,

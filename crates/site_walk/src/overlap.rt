@@ -1,4 +1,4 @@
-//! The walk that looks for an overlap of two pieces of a site.
+//! The walk that searches an overlap of two pieces of a site.
 ghost use Rattle.std.specs.Prelude.{◌≡◌, [], ◌∷◌};
 ghost use Rattle.array_tree.specs.Trees.{statement_of, sequence_of, sequences_of};
 ghost use Rattle.array_meaning.specs.Work.{sequence_work};
@@ -19,7 +19,7 @@ use site_counts::sites_in_block;
 use std::alloc::Global;
 use touch_bounds::{Ranges, loop_is_settled, loop_pays};
 
-// Keeps the overlap of a `par` itself, unless something was found before.
+// Keeps the overlap of a `par` itself, unless an earlier fault was found.
 fn keep_par<'s>(
     alloc: Global,
     layout: &Layout,
@@ -45,7 +45,7 @@ fn keep_par<'s>(
     }
 }
 
-// Keeps the overlap of the first phase of a `team` that has one, unless something was found before.
+// Keeps the overlap of the first phase of a `team` that has one, unless an earlier fault was found.
 fn keep_team<'s>(
     alloc: Global,
     layout: &Layout,
@@ -72,7 +72,7 @@ fn keep_team<'s>(
     }
 }
 
-// Keeps the overlap of the members of a `team` in one phase, unless something was found before.
+// Keeps the overlap of the members of a `team` in one phase, unless an earlier fault was found.
 fn keep_phase<'s>(
     alloc: Global,
     layout: &Layout,
@@ -105,7 +105,7 @@ fn keep_phase<'s>(
     }
 }
 
-/// Keeps the first overlap of the sites of a block, in the order of the plan, unless something was found before.
+/// Keeps the first overlap of the sites of a block, in the order of the plan, unless an earlier fault was found.
 #[cycle(seek)]
 pub(crate) fn seek_block<'s>(
     alloc: Global,
@@ -126,7 +126,7 @@ pub(crate) fn seek_block<'s>(
     }
 }
 
-// The same of a statement.
+// The same for a statement.
 #[cycle(seek)]
 fn seek_statement<'s>(
     alloc: Global,
@@ -189,8 +189,8 @@ fn seek_statement<'s>(
     }
 }
 
-// The same of a block for each number from low to before high. One that enters no site is passed over, however many turns
-// it has, and so is one whose text shows for all turns at once that the pieces of each site are apart.
+// The same for a block for each number from low to before high. It passes over a loop that enters no site, and a loop whose
+// text shows, for all turns at once, that the pieces of each site are apart.
 #[cycle(seek)]
 fn seek_loop<'s>(
     alloc: Global,
@@ -227,7 +227,7 @@ fn seek_loop<'s>(
     }
 }
 
-// The same of the branches of a `par`.
+// The same for the branches of a `par`.
 #[cycle(seek)]
 fn seek_branches<'s>(
     alloc: Global,
@@ -248,7 +248,7 @@ fn seek_branches<'s>(
     }
 }
 
-// The same of the phases of a `team`.
+// The same for the phases of a `team`.
 #[cycle(seek)]
 fn seek_phases<'s>(
     alloc: Global,

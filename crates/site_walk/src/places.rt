@@ -1,4 +1,4 @@
-//! Which array a cell belongs to.
+//! The array that a cell belongs to.
 ghost use Rattle.std.specs.Prelude.{◌≡◌};
 ghost use Rattle.array_tree.specs.Trees.{declarations_of};
 ghost use Rattle.array_meaning.specs.Stores.{arrays_of};
@@ -7,7 +7,7 @@ ghost use Rattle.site_walk.specs.Inside.Numbers.{array_at};
 use array_eval::Layout;
 use array_tree::Arrays;
 
-/// The place among the arrays of the one that a cell belongs to, the number of arrays behind the last cell.
+/// The index of the array that a cell belongs to; the number of arrays after the last cell.
 pub(crate) fn number_at(layout: &Layout, cell: usize) -> usize
     ensures { result ≡ array_at layout.now cell }
 {

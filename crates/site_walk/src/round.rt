@@ -43,7 +43,7 @@ fn least_clash(layout: &Layout, table: &Table) -> Option<usize>
     None
 }
 
-// The least cell on which the pieces of a round clash. Mostly nothing is suspect, and no cell is looked at.
+// The least cell on which the pieces of a round clash. Usually nothing is suspect, and no cell is compared.
 fn least_overlap(layout: &Layout, table: &Table) -> Option<usize>
     ensures least { result ≡ cond table.now.suspect
         (first_from (λ cell. clashes (done_at layout.now table.now cell)) 0
@@ -57,7 +57,7 @@ fn least_overlap(layout: &Layout, table: &Table) -> Option<usize>
     }
 }
 
-// Marks what the branches of a `par` do, each as a piece.
+// Marks the cells that the branches of a `par` touch, each branch as a piece.
 fn mark_pieces<'s>(layout: &Layout, branches: &'s Blocks, scope: &'s Scope<'s>, table: &mut Table)
     ensures { table.new ≡ with_pieces layout.now 0 (branch_works (sequences_of branches.now)
         (vars_of scope.now)) table.old }
@@ -67,8 +67,8 @@ fn mark_pieces<'s>(layout: &Layout, branches: &'s Blocks, scope: &'s Scope<'s>, 
     }
 }
 
-/// The least cell on which two branches of a `par` overlap. A branch alone can't, and isn't walked through; nor are
-/// branches whose text shows that they are apart.
+/// The least cell on which two branches of a `par` overlap. It doesn't walk a single branch, which can't overlap, and branches
+/// whose text shows that they are apart.
 pub(crate) fn overlap_of_branches<'s>(
     alloc: Global,
     layout: &Layout,
@@ -95,7 +95,7 @@ pub(crate) fn overlap_of_branches<'s>(
     least_overlap(layout, table)
 }
 
-// Marks what the members of a `team` do in one phase, each as a piece.
+// Marks the cells that the members of a `team` touch in one phase, each member as a piece.
 fn mark_members<'s>(
     layout: &Layout,
     phase: &'s Block,
@@ -126,8 +126,8 @@ fn mark_members<'s>(
     }
 }
 
-/// The least cell on which two members of a `team` overlap in one phase. A member alone can't, and isn't walked through;
-/// nor are members whose text shows that they are apart.
+/// The least cell on which two members of a `team` overlap in one phase. It doesn't walk a single member, which can't overlap,
+/// and members whose text shows that they are apart.
 pub(crate) fn overlap_of_members<'s>(
     alloc: Global,
     layout: &Layout,

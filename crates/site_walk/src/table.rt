@@ -1,4 +1,4 @@
-//! What the pieces of a round do, cell by cell and array by array.
+//! The touches of the pieces of a round, cell by cell and array by array.
 ghost use Rattle.std.specs.Prelude.{◌≡◌, IfOk, length};
 ghost use Rattle.array_meaning.specs.Stores.{cells_of};
 ghost use Rattle.site_walk.specs.Inside.Marks.{with_static, with_dynamic, nothing_done, cleared};
@@ -8,23 +8,23 @@ use crate::touched::Touched;
 use array_eval::Layout;
 use std::alloc::{AllocError, Global};
 
-/// What the pieces of a round do. A static index touches a cell, and a dynamic one all cells of an array by one mark.
+/// The touches of the pieces of a round. A static index marks a cell, and a dynamic one all cells of an array by one mark.
 #[derive(Debug, Drop)]
 pub(crate) struct Table {
-    /// For each cell: what is done by static indexes.
+    /// For each cell, the touches by static indexes.
     pub(crate) cells: Layer,
-    /// For each array: what is done by dynamic indexes.
+    /// For each array, the touches by dynamic indexes.
     pub(crate) everywhere: Layer,
-    /// For each array: what is done by static indexes to cells that none of them writes.
+    /// For each array, the touches by static indexes of cells that none of them writes.
     pub(crate) read: Layer,
-    /// For each array: what is done by static indexes to cells that one of them writes.
+    /// For each array, the touches by static indexes of cells that one of them writes.
     pub(crate) written: Layer,
-    /// Whether two pieces may overlap. If not, none do.
+    /// Whether two pieces may overlap. If false, none do.
     pub(crate) suspect: bool,
 }
 
 impl Table {
-    /// A table for the arrays of a layout, with nothing done.
+    /// A table for the arrays of a layout, without a touch.
     pub(crate) fn new(alloc: Global, layout: &Layout) -> Result<Table, AllocError>
         ensures { IfOk result (λ table. table
             ≡ nothing_done (cells_of layout.now) (length layout.now)) }
@@ -39,7 +39,7 @@ impl Table {
         })
     }
 
-    /// Begins a round, in which nothing is done yet.
+    /// Begins a round, without a touch.
     pub(crate) fn clear(&mut self)
         ensures { self.new ≡ cleared self.old }
     {
@@ -50,7 +50,7 @@ impl Table {
         self.suspect = false;
     }
 
-    /// Adds what is done to a cell by a static index of an array, which may be outside the array.
+    /// Adds the touch of a cell by a static index of an array, which may be outside the array.
     #[tactic(auto, unfolding(crate::specs::Inside::Marks::with_static))]
     pub(crate) fn touch_cell(&mut self, number: usize, cell: usize, inside: bool, touch: Touched)
         ensures { self.new ≡ with_static number cell inside touch self.old }
@@ -65,7 +65,7 @@ impl Table {
         }
     }
 
-    /// Adds what is done to all cells of an array by a dynamic index.
+    /// Adds the touch of all cells of an array by a dynamic index.
     #[tactic(auto, unfolding(crate::specs::Inside::Marks::with_dynamic))]
     pub(crate) fn touch_array(&mut self, number: usize, touch: Touched)
         ensures { self.new ≡ with_dynamic number touch self.old }

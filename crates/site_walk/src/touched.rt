@@ -1,8 +1,8 @@
-//! What pieces do to something.
+//! Touches of cells by pieces.
 ghost use Rattle.std.specs.Prelude.{◌≡◌};
 ghost use Rattle.site_walk.specs.Inside.Touched.{joined_pieces, joined, clashes};
 
-/// Which pieces of a round touched something.
+/// The pieces of a round that touched a cell.
 #[derive(Clone, Copy, PartialEq, Eq, Debug, Drop)]
 pub(crate) enum Pieces {
     Nobody,
@@ -11,7 +11,7 @@ pub(crate) enum Pieces {
 }
 
 impl Pieces {
-    /// The pieces of one set or another.
+    /// The pieces of both sets.
     fn with(self, other: Pieces) -> Pieces
         ensures { result ≡ joined_pieces self other }
     {
@@ -26,7 +26,7 @@ impl Pieces {
     }
 }
 
-/// What the pieces of a round did to something: which touched it, and whether one of them wrote.
+/// The touches of a cell in a round: the pieces that touched it, and whether one of them wrote.
 #[derive(Clone, Copy, PartialEq, Eq, Debug, Drop)]
 pub(crate) struct Touched {
     pub(crate) by: Pieces,
@@ -40,7 +40,7 @@ pub(crate) const UNTOUCHED: Touched = Touched {
 };
 
 impl Touched {
-    /// What was done here or there.
+    /// The touches of both.
     pub(crate) fn with(self, other: Touched) -> Touched
         ensures { result ≡ joined self other }
     {
@@ -50,7 +50,7 @@ impl Touched {
         }
     }
 
-    /// Whether two pieces touched it, of which one wrote.
+    /// Whether two pieces touched it, one of which wrote.
     pub(crate) fn clashes(self) -> bool
         ensures { result ≡ clashes self }
     {

@@ -17,14 +17,20 @@ use std::alloc::Global;
 
 /// Walks through a program: each static index must be inside its array, and the pieces of each site must not overlap.
 ///
-/// The indices of the whole program are walked first. Then each construct is walked once, before the sites inside it, so site
+/// It walks the indices of the whole program first. Then it walks each construct once, before the sites inside it, so site
 /// numbers need no second pass.
 ///
-/// The fault is the first index outside its array, over the whole program, or else the first overlap. An
-/// allocation failure may be returned at any time.
+/// Each array must have a cell, and all arrays together at most 4,096. If the walk finds nothing and no name is unknown, the
+/// pieces of each site are apart: an unknown array would have a cell after the last.
 ///
-/// Each array must have a cell, and all at most 4,096. In a walk that finds nothing the pieces of each site are apart,
-/// where no name is unknown: an unknown array would have a cell behind the last.
+/// # Errors
+///
+/// The first index outside its array, over the whole program, or else the first overlap. `WalkFault::Memory` if an allocation
+/// fails, at any time.
+///
+/// # Memory
+///
+/// It allocates a table with an entry for each cell.
 #[tactic(auto, using(crate::proofs::ApartLemmas::sites_of_none))]
 pub fn walk_program(alloc: Global, program: &Program) -> Result<(), WalkFault>
     requires { AreSized (arrays_of (declarations_of program.now.arrays)) }
@@ -58,10 +64,17 @@ pub fn walk_program(alloc: Global, program: &Program) -> Result<(), WalkFault>
     }
 }
 
-/// Looks at each static index of a program: it must be inside its array. The fault is that of the first one outside. An
-/// allocation failure may be returned at any time.
+/// Checks each static index of a program: it must be inside its array.
 ///
-/// Each array must have a cell, and all at most 4,096.
+/// Each array must have a cell, and all arrays together at most 4,096.
+///
+/// # Errors
+///
+/// The first index outside its array. `WalkFault::Memory` if an allocation fails, at any time.
+///
+/// # Memory
+///
+/// It allocates the layout of the arrays.
 pub fn walk_indices(alloc: Global, program: &Program) -> Result<(), WalkFault>
     requires { AreSized (arrays_of (declarations_of program.now.arrays)) }
     ensures ok { OnOk result (out_of_range_of (program_of program.now) ≡ None) }
@@ -74,7 +87,7 @@ pub fn walk_indices(alloc: Global, program: &Program) -> Result<(), WalkFault>
     indices_in(alloc, &layout, program)
 }
 
-// Where the program's arrays lie.
+// The layout of the program's arrays.
 fn layout_of(alloc: Global, program: &Program) -> Result<Layout<'_>, WalkFault>
     requires { AreSized (arrays_of (declarations_of program.now.arrays)) }
     ensures layout { IfOk result (λ layout. layout ≡ arrays_of (declarations_of program.now.arrays)) }
@@ -86,7 +99,7 @@ fn layout_of(alloc: Global, program: &Program) -> Result<Layout<'_>, WalkFault>
     }
 }
 
-// The same with the layout at hand.
+// The same, with the layout given.
 fn indices_in(alloc: Global, layout: &Layout, program: &Program) -> Result<(), WalkFault>
     requires layout { layout.now ≡ arrays_of (declarations_of program.now.arrays) }
     requires sized { AreSized layout.now }

@@ -1,5 +1,5 @@
--- What only proofs need: how a machine keeps what it has still to run. No public clause speaks of it, so a reader of what
--- a machine and its calls do needs none of it.
+-- Definitions for proofs only: how a machine keeps its remaining works. No public clause uses them, so a reader of a machine's
+-- calls needs none of them.
 pub mod Codes
 pub mod Computed
 pub mod Frames

@@ -1,4 +1,4 @@
--- Machines, and what their calls do.
+-- Machines, and the effects of their calls.
 use Rattle.std.specs.Prelude.{◌≡◌, ℕ, ◌+◌, ◌-◌, ◌<◌, List, [], ◌∷◌, ◌++◌, Bool, true, false, Option, Some, None, IsSome, length}
 use Rattle.contexts.specs.Machine.{Work}
 use Rattle.contexts.specs.declared.machine.Step.{Step}
@@ -20,9 +20,8 @@ use Rattle.step_eval.specs.Moves.{moved, moved_writes, moved_sites, rest_left}
 use Rattle.step_eval.specs.Passes.{pass_of}
 use Rattle.step_eval.specs.Nests.{NestedTree, nested_of, nested_writes}
 
--- Contracts see these parts of a machine: its job, the works that are still to be run, the store as it now is with the cells
--- that were written so far, the number of the next site, and its stage. A work is a block or a loop with its variables;
--- contracts see no frames.
+-- The parts of a machine that contracts see: its job, the remaining works, the current store with marks for the cells written
+-- so far, the number of the next site, and its stage. A work is a block or a loop with its variables; contracts see no frames.
 pub record Progress : Type 0 where
   pub job : JobParts
   pub rest : List WorkAt
@@ -30,9 +29,9 @@ pub record Progress : Type 0 where
   pub next : ℕ
   pub stage : Stage
 
--- A machine is right: the last values of its writes so far, followed by the writes of the rest from the store as it
--- now is, are its job's piece; the next site's number is the job's first plus the sites that the walk has before this
--- place; and each work of the rest is fit to be run.
+-- A right machine. The last values of its writes so far, followed by the writes of the rest from the current store, are its
+-- job's piece. The next site's number is the job's first plus the number of sites that the walk has passed. Each work of the
+-- rest is fit to run.
 pub record IsRight (job : JobTree) (rest : List WorkAt) (store : Trace) (next : ℕ) : Type 0 where
   pub writes : last_writes
       (marked store ++ writes_of (arrays_of job.arrays) (rest_steps rest) store.cells)
@@ -42,7 +41,7 @@ pub record IsRight (job : JobTree) (rest : List WorkAt) (store : Trace) (next : 
   pub cells : length store.cells ≡ length job.store
   pub marks : length store.marks ≡ length job.store
 
--- The construct is the first statement of a work.
+-- The construct that is the first statement of a work, if it is one.
 abbrev pub construct_of : WorkTree → Option Statement
 construct_of (branch_of ended) = None
 construct_of (branch_of (followed (Assign line array index value) rest)) = None
@@ -53,18 +52,18 @@ construct_of (branch_of (followed (Team line var low high members phases) rest))
     Some (Team line var low high members phases)
 construct_of (member_of var low high body) = None
 
--- The construct is the one that is to be run next.
+-- The construct that runs next, if there is one.
 abbrev pub next_construct : List WorkAt → Option Statement
 next_construct [] = None
 next_construct (w ∷ more) = construct_of w.work
 
--- A machine's type has this invariant: unless the machine is failed it is right, and what it awaits is the next construct.
+-- The machine's invariant: unless the machine is failed it is right, and the construct that it awaits is the next one.
 abbrev pub IsKept : Stage → JobTree → List WorkAt → Trace → ℕ → Type 0
 IsKept Going job rest store next = IsRight job rest store next
 IsKept Awaiting job rest store next = IsRight job rest store next × IsSome (next_construct rest)
 IsKept Failed job rest store next = Unit {0}
 
--- A machine that is made of a job has all of it to run.
+-- The machine that is made of a job, with all of the job remaining.
 abbrev pub fresh_machine : JobParts → Progress
 fresh_machine job = record {
   job = job;
@@ -74,25 +73,25 @@ fresh_machine job = record {
   stage = Going;
 }
 
--- This is what is still to be written.
+-- The writes that remain.
 abbrev pub rest_writes : Progress → List Write
 rest_writes machine = writes_of (arrays_of (declarations_of machine.job.arrays))
     (rest_steps machine.rest) machine.store.cells
 
--- The test decides whether a machine awaits what a construct writes.
+-- The test decides whether a machine awaits the writes of a construct.
 abbrev pub is_awaiting : Stage → Bool
 is_awaiting Going = false
 is_awaiting Awaiting = true
 is_awaiting Failed = false
 
--- The number says how many steps are left at most: the construct that is awaited takes none. A machine that is failed is never
--- done. A construct counts for one step until it is handed out, and both sides of an `if` count.
+-- An upper bound of the number of remaining steps. An awaited construct takes no step. A construct counts for one step until it
+-- is handed out, and both sides of an `if` count. A failed machine is never done.
 abbrev pub left_of : Stage → List WorkAt → ℕ
 left_of Going rest = rest_left rest
 left_of Awaiting rest = rest_left rest - 1
 left_of Failed rest = 1
 
--- A machine has this still to do, as contracts see it of any machine.
+-- The remaining work of a machine, as contracts see it of any machine.
 abbrev pub to_do : Progress → Work
 to_do machine = record {
   rest = rest_writes machine;
@@ -100,7 +99,7 @@ to_do machine = record {
   left = left_of machine.stage machine.rest;
 }
 
--- A construct is handed out at this place of a machine.
+-- The construct that is handed out at this work of a machine.
 abbrev pub handed_out : Progress → WorkAt → Option Statement → Option NestedTree
 handed_out machine w None = None
 handed_out machine w (Some construct) = Some record {
@@ -111,22 +110,22 @@ handed_out machine w (Some construct) = Some record {
   store = machine.store.cells;
 }
 
--- The first of these works gives the construct that is handed out.
+-- The construct that is handed out for the first of these works.
 abbrev pub nest_in : Progress → List WorkAt → Option NestedTree
 nest_in machine [] = None
 nest_in machine (w ∷ more) = handed_out machine w (construct_of w.work)
 
--- The construct that is to be run next is handed out so.
+-- The construct that runs next, as it is handed out.
 abbrev pub next_nest : Progress → Option NestedTree
 next_nest machine = nest_in machine machine.rest
 
--- The hart has to skip these sites with the next step: those of the side of an `if` that isn't run.
+-- The sites that the hart has to skip with the next step: those of the side of an `if` that doesn't run.
 abbrev pub next_pass : Progress → Option (ℕ × ℕ)
 next_pass machine =
     pass_of (arrays_of (declarations_of machine.job.arrays)) machine.store.cells machine.next
     machine.rest
 
--- A machine that goes on has moved by one step: its first work has.
+-- A machine that goes on has moved by one step: its first work has moved.
 abbrev pub HasMoved : List WorkAt → Progress → Progress → Type 0
 HasMoved [] before after = ⊥
 HasMoved (w ∷ more) before after =
@@ -139,10 +138,10 @@ HasMoved (w ∷ more) before after =
       stage = Going;
     }
 
--- This is what a step does, by its result. More: no construct is next, and no `if` whose other side has sites, and the first
--- work has moved. A construct: the one that is next is handed out, with its site's number, the variables and the store at this
--- place, and the machine awaits what it writes. A pass: the `if` that is next has begun, and the hart gets the sites of the
--- side that isn't run; nothing is awaited. Finished: nothing is left. NoMemory: the machine is failed.
+-- The effect of a step, by its result. More: no construct is next, and no `if` whose other side has sites, and the first work
+-- has moved. A construct: the next one is handed out, with its site's number and the current variables and store, and the
+-- machine awaits its writes. A pass: the next `if` has begun, and the hart gets the sites of the side that doesn't run; the
+-- machine awaits nothing. Finished: no work remains. NoMemory: the machine is failed.
 abbrev pub Advances : Progress → Step Found → Progress → Type 0
 Advances before step.More after =
     (before.stage ≡ Going) × (next_nest before ≡ None) × (next_pass before ≡ None)
@@ -162,21 +161,21 @@ Advances before (step.Nest (found.Nest nested)) after =
 Advances before step.Finished after = (before.stage ≡ Going) × (before.rest ≡ []) × (after ≡ before)
 Advances before step.NoMemory after = after.stage ≡ Failed
 
--- These are the writes of the construct, if there is one.
+-- The writes of the construct, if there is one.
 abbrev pub AreAwaitedBy : Option NestedTree → List Write → Type 0
 AreAwaitedBy None written = ⊥
 AreAwaitedBy (Some nested) written = written ≡ nested_writes nested
 
--- These are what the awaited construct writes.
+-- The writes of the awaited construct.
 abbrev pub AreAwaited : Progress → List Write → Type 0
 AreAwaited machine written = AreAwaitedBy (next_nest machine) written
 
--- The last step of a machine was Finished: it goes on, and nothing is left.
+-- The last step of a machine was Finished: it isn't failed, and no work remains.
 pub record IsFinished (machine : Progress) : Type 0 where
   pub stage : machine.stage ≡ Going
   pub rest : machine.rest ≡ []
 
--- The first work was run whole, which has no site in it or behind it.
+-- The first work, which has no site in it or after it, ran completely.
 abbrev pub HasRunWhole : List WorkAt → Progress → Progress → Type 0
 HasRunWhole [] before after = ⊥
 HasRunWhole (w ∷ more) before after =
@@ -190,8 +189,8 @@ HasRunWhole (w ∷ more) before after =
       stage = Going;
     })
 
--- A machine comes from the first of these to the second with nothing for its hart to see to: by steps that hand out no
--- construct and pass no site, and by works without sites that are run whole. Laws go over it by cases.
+-- The machine goes from the first state to the second without an event for its hart: by steps that hand out no construct and
+-- pass no site, and by works without sites that run completely. Laws go over it by cases.
 pub data RunsTo (first : Progress) : Progress → Type 0 where
   stands : RunsTo first first
   moves : (mid last : Progress) → RunsTo first mid → mid.stage ≡ Going → next_nest mid ≡ None
@@ -199,8 +198,7 @@ pub data RunsTo (first : Progress) : Progress → Type 0 where
   skims : (mid last : Progress) → RunsTo first mid → mid.stage ≡ Going
       → HasRunWhole mid.rest mid last → RunsTo first last
 
--- Before its last step the machine stood where an `if` was next whose side that isn't run has these sites, and the step began
--- it.
+-- With its last step, the machine began an `if` whose other side, which doesn't run, has these sites.
 pub record HasJustPassed (start : Progress) (first end : ℕ) (after : Progress) : Type 0 where
   pub before : Progress
   pub ran : RunsTo start before
@@ -208,10 +206,10 @@ pub record HasJustPassed (start : Progress) (first end : ℕ) (after : Progress)
   pub told : next_pass before ≡ Some (first, end)
   pub moved : HasMoved before.rest before after
 
--- Where a machine has gone, by the result. Each time it is the same job, and the type keeps that the machine writes what
--- the job writes. More: it goes on, with less left. A construct: it has come to the one that is handed out, and awaits
--- what that writes. A pass: it has begun an `if`, and the hart gets the sites of the side that isn't run. Finished:
--- nothing is left. NoMemory: the machine is failed. On the way there was nothing for its hart to see to.
+-- The machine after a run of steps, by the result. Each time it is the same job, and the invariant implies that the machine
+-- writes what the job writes. More: it goes on, with less remaining. A construct: it has come to the construct that is handed
+-- out, and awaits its writes. A pass: it has begun an `if`, and the hart gets the sites of the side that doesn't run. Finished:
+-- no work remains. NoMemory: the machine is failed. Before, there was no event for its hart.
 abbrev pub HasGone : Progress → Step Found → Progress → Type 0
 HasGone before step.More after =
     (after.job ≡ before.job) × (after.stage ≡ Going)
@@ -228,7 +226,7 @@ HasGone before step.Finished after =
     (after.job ≡ before.job) × IsFinished after × RunsTo before after
 HasGone before step.NoMemory after = after.stage ≡ Failed
 
--- A machine has gone on, or it stands as it stood.
+-- A machine has gone on, or is unchanged.
 abbrev pub HasGoneOn : Bool → Progress → Progress → Type 0
 HasGoneOn false before after = after ≡ before
 HasGoneOn true before after = HasGone before step.More after

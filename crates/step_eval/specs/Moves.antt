@@ -1,4 +1,4 @@
--- What one step does: it begins or ends one statement or one turn of a loop.
+-- The effect of one step: it begins or ends one statement or one turn of a loop.
 use Rattle.std.specs.Prelude.{ℕ, ◌+◌, ◌*◌, List, [], ◌∷◌, ◌++◌, pos, ◌+ℤ◌, int_lt, if◌then◌else◌}
 use Rattle.array_tree.specs.Trees.{Statement, Assign, For, If, Par, Team, Sequence, ended, followed}
 use Rattle.array_meaning.specs.Values.{holds}
@@ -9,8 +9,8 @@ use Rattle.array_meaning.specs.Pieces.{piece_of}
 use Rattle.array_jobs.specs.Works.{WorkTree, branch_of, member_of}
 use Rattle.step_eval.specs.Rest.{WorkAt, at, before}
 
--- The works that a statement leaves to be run once it has begun: a loop's turns, and of an `if` one side, of which the first
--- has the sites of the second behind it. An assignment leaves none, and a construct's are run by others.
+-- The works that remain of a statement once it has begun: a loop's turns, or one side of an `if`. The first side has the sites
+-- of the second after it. An assignment leaves none, and others run the works of a construct.
 abbrev pub begun : Arrays → Store → Statement → Vars → List WorkAt
 begun arrays store (Assign line array index value) vars = []
 begun arrays store (For line var low high body) vars = at (member_of var low high body) vars ∷ []
@@ -21,8 +21,8 @@ begun arrays store (If line cond then_block else_block) vars =
 begun arrays store (Par line branches) vars = []
 begun arrays store (Team line var low high members phases) vars = []
 
--- This is what one step leaves of a work with so many sites behind it: the first statement has begun, or the first turn, and
--- the rest keeps what is behind the work; what has nothing left is ended.
+-- The works that remain after one step of a work with so many sites after it: the first statement or the first turn has begun,
+-- and the rest keeps the sites after the work. A work without a statement is ended.
 abbrev pub work_moved : Arrays → Store → WorkTree → Vars → ℕ → List WorkAt
 work_moved arrays store (branch_of ended) vars n = []
 work_moved arrays store (branch_of (followed first rest)) vars n =
@@ -33,12 +33,12 @@ work_moved arrays store (member_of var low high body) vars n =
     ∷ before (member_of var (low +ℤ pos 1) high body) vars n ∷ [])
     else []
 
--- After one step of a work these works stand in its place.
+-- The works that replace a work after one step of it.
 abbrev pub moved : Arrays → Store → WorkAt → List WorkAt
 moved arrays store w = work_moved arrays store w.work w.vars w.after
 
--- This is what a statement writes when it begins: an assignment its cell, and a construct, once its pieces are done, all that
--- they wrote, each cell with its last value.
+-- The writes of a statement when it begins: an assignment writes its cell, and a construct, once its pieces are done, all their
+-- writes, each cell with its last value.
 abbrev pub begun_writes : Arrays → Store → Statement → Vars → List Write
 begun_writes arrays store (Assign line array index value) vars = (
   cell_of arrays array (is_dynamic index) (value_of arrays vars index store),
@@ -52,15 +52,15 @@ begun_writes arrays store (Par line branches) vars =
 begun_writes arrays store (Team line var low high members phases) vars =
     piece_of arrays (statement_work (Team line var low high members phases) vars) store
 
--- This is what one step of a work writes.
+-- The writes of one step of a work.
 abbrev pub moved_writes : Arrays → Store → WorkTree → Vars → List Write
 moved_writes arrays store (branch_of ended) vars = []
 moved_writes arrays store (branch_of (followed first rest)) vars =
     begun_writes arrays store first vars
 moved_writes arrays store (member_of var low high body) vars = []
 
--- The beginning of a statement passes these sites: all of a construct, and of an `if` whose second side is run those of the
--- first.
+-- The number of sites that the beginning of a statement passes: all of a construct, and those of the first side of an `if`
+-- whose second side runs.
 abbrev pub begun_sites : Arrays → Store → Statement → Vars → ℕ
 begun_sites arrays store (Assign line array index value) vars = 0
 begun_sites arrays store (For line var low high body) vars = 0
@@ -70,18 +70,18 @@ begun_sites arrays store (Par line branches) vars = statement_sites_in (Par line
 begun_sites arrays store (Team line var low high members phases) vars =
     statement_sites_in (Team line var low high members phases)
 
--- One step of a work passes these sites. Where the work ends these are the ones behind it.
+-- The number of sites that one step of a work passes: those after the work if it ends.
 abbrev pub work_passes : Arrays → Store → WorkTree → Vars → ℕ → ℕ
 work_passes arrays store (branch_of ended) vars n = n
 work_passes arrays store (branch_of (followed first rest)) vars n =
     begun_sites arrays store first vars
 work_passes arrays store (member_of var low high body) vars n = if int_lt low high then 0 else n
 
--- A step of a work passes so many sites.
+-- The number of sites that a step of a work passes.
 abbrev pub moved_sites : Arrays → Store → WorkAt → ℕ
 moved_sites arrays store w = work_passes arrays store w.work w.vars w.after
 
--- How many steps statements take at most: one to begin each, and one to end what it leaves.
+-- An upper bound of the number of steps of statements: one to begin each, and one to end its remaining work.
 abbrev mutual
   pub sequence_left : Sequence → ℕ
   sequence_left ended = 0
@@ -95,12 +95,12 @@ abbrev mutual
   statement_left (Par line branches) = 1
   statement_left (Team line var low high members phases) = 1
 
--- The number says how many steps a work takes at most: of a loop each turn is begun and ended, and the work itself is ended.
+-- An upper bound of the number of steps of a work: each turn of a loop begins and ends, and the work itself ends.
 abbrev pub work_left : WorkTree → ℕ
 work_left (branch_of body) = 1 + sequence_left body
 work_left (member_of var low high body) = 1 + span low high * (2 + sequence_left body)
 
--- The number says how many steps all works take at most.
+-- An upper bound of the number of steps of all works.
 abbrev pub rest_left : List WorkAt → ℕ
 rest_left [] = 0
 rest_left (w ∷ more) = work_left w.work + rest_left more

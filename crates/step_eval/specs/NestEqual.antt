@@ -1,4 +1,4 @@
--- `==` of constructs that are handed out, and that it is equality.
+-- `==` of constructs that are handed out, and the proof that it is equality.
 use Rattle.std.proofs.Common.{◌≡◌, ℕ, List, true, refl}
 use Rattle.std.specs.Bool.{Decides}
 use Rattle.std.specs.Prelude.{Bool, ◌&&◌, nat_eq}
@@ -17,6 +17,7 @@ nested_eq a b =
     nat_eq a.site b.site && (vars_eq a.vars b.vars && (store_eq a.store b.store
     && (statement_eq a.construct b.construct && declarations_eq a.arrays b.arrays)))
 
+-- The construct with these parts.
 abbrev made : ℕ → Vars → Store → Statement → List Declaration → NestedTree
 made site vars store construct arrays = record {
   arrays = arrays;
@@ -41,7 +42,7 @@ nested_same a b h =
     = rw (e.0, e.1.0, e.1.1.0, e.1.1.1.0, e.1.1.1.1) refl in
     same
 
--- Each is equal to itself.
+-- Each construct passes the test with itself.
 pub nested_refl : (a : NestedTree) → nested_eq a a ≡ true
 nested_refl a = (parts_decide a a).1 (refl, (refl, (refl, (refl, refl))))
 

@@ -1,4 +1,4 @@
--- What a construct writes, phase after phase.
+-- The writes of a construct, phase after phase.
 use Rattle.std.specs.Prelude.{◌≡◌, ℕ, zero, suc, ◌<◌, List, [], ◌∷◌, map, length}
 use Rattle.array_meaning.specs.Stores.{Store, Write, arrays_of, after}
 use Rattle.array_meaning.specs.Steps.{Steps, join}
@@ -10,40 +10,40 @@ use Rattle.array_jobs.specs.PieceParts.{piece_of_job}
 use Rattle.step_eval.specs.Shapes.{members_of}
 use Rattle.step_eval.specs.Nests.{NestedTree, phases_of, rounds_of, jobs_in, IsFitNest, nested_writes}
 
--- The pieces of this phase do what stands at its place in the list of all phases.
+-- The steps of the pieces of this phase, from the list of all phases.
 abbrev pub round_at : List (List Steps) → ℕ → List Steps
 round_at [] phase = []
 round_at (round ∷ more) zero = round
 round_at (round ∷ more) (suc phase) = round_at more phase
 
--- This is what the pieces of a phase of a construct do.
+-- The steps of the pieces of a phase of a construct.
 abbrev pub round_of : NestedTree → ℕ → List Steps
 round_of nested phase = round_at (rounds_of nested.construct nested.vars) phase
 
--- This is what a phase writes from a store, its pieces one after another: each cell with its last value. That they merge in any
--- order is a law, `PhasesAreMerged`.
+-- The writes of a phase from a store, its pieces one after another: each cell with its last value. By the law `PhasesAreMerged`
+-- they merge in any order.
 abbrev pub phase_writes : NestedTree → ℕ → Store → List Write
 phase_writes nested phase store =
     piece_of (arrays_of nested.arrays) (join (round_of nested phase)) store
 
--- The phases before this one leave this store.
+-- The store that the phases before this one leave.
 abbrev pub store_before : NestedTree → ℕ → Store
 store_before nested zero = nested.store
 store_before nested (suc phase) =
     let store = store_before nested phase in
     after (phase_writes nested phase store) store
 
--- This is what the phases before this one write, laid together.
+-- The writes of the phases before this one, laid over one another.
 abbrev pub writes_before : NestedTree → ℕ → List Write
 writes_before nested zero = []
 writes_before nested (suc phase) =
     lays (phase_writes nested phase (store_before nested phase)) (writes_before nested phase)
 
--- A job does the steps of its work, with its variables.
+-- The steps of a job's work, with its variables.
 abbrev pub steps_of_job : JobTree → Steps
 steps_of_job job = steps_of job.work job.vars
 
--- The jobs of a phase do what its pieces do, in the order of their places.
+-- The jobs of a phase do what its pieces do, in the order of their indices.
 abbrev pub JobsAreRounds : Type 0
 JobsAreRounds = (nested : NestedTree) (phase : ℕ) (store : Store)
     → phase < phases_of nested.construct →
@@ -61,20 +61,20 @@ JobsAreGroups = (nested : NestedTree) → IsFitNest nested → (phase : ℕ) (st
     → phase < phases_of nested.construct →
     IsGroup (jobs_in nested phase store)
 
--- Their pieces, merged in any order, are what the phase writes.
+-- The pieces of a phase's jobs, merged in any order, are what the phase writes.
 abbrev pub PhasesAreMerged : Type 0
 PhasesAreMerged = (nested : NestedTree) → IsFitNest nested → (phase : ℕ) (store : Store)
     → phase < phases_of nested.construct →
     (order : List JobTree) → HaveSameJobs order (jobs_in nested phase store) →
     merged (map piece_of_job order) [] ≡ phase_writes nested phase store
 
--- The pieces of a construct, phase after phase, each from the store that the one before left, make up what the construct writes
+-- The pieces of a construct, phase after phase, each from the store that the phase before left, are what the construct writes
 -- and leaves.
 pub record IsWhole (nested : NestedTree) : Type 0 where
   pub writes : writes_before nested (phases_of nested.construct) ≡ nested_writes nested
   pub store : store_before nested (phases_of nested.construct)
       ≡ after (nested_writes nested) nested.store
 
--- The phases of each fit construct make up the whole construct.
+-- The phases of each fit construct are the whole construct.
 abbrev pub PhasesAreConstructs : Type 0
 PhasesAreConstructs = (nested : NestedTree) → IsFitNest nested → IsWhole nested

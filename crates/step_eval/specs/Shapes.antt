@@ -5,7 +5,7 @@ use Rattle.array_meaning.specs.Limits.{count_of}
 use Rattle.step_eval.specs.declared.shape.Kind.{Kind}
 use Rattle.step_eval.specs.declared.shape.Kind.TheVariants as kind
 
--- The kind says which construct a statement is, if it is one.
+-- The kind of a construct; none for any other statement.
 abbrev pub kind_of : Statement → Option Kind
 kind_of (Assign line array index value) = None
 kind_of (For line var low high body) = None
@@ -13,7 +13,7 @@ kind_of (If line cond then_block else_block) = None
 kind_of (Par line branches) = Some kind.Par
 kind_of (Team line var low high members phases) = Some kind.Team
 
--- The number says how many pieces each phase of a construct has.
+-- The number of pieces of each phase of a construct.
 abbrev pub members_of : Statement → ℕ
 members_of (Assign line array index value) = 0
 members_of (For line var low high body) = 0

@@ -1,4 +1,4 @@
-//! Constructs that are computed where they are met.
+//! Constructs that the hart that meets them computes itself.
 ghost use Rattle.std.specs.Prelude.{◌≡◌, ◌+◌, ◌<◌, IfOk, OnOk, map};
 ghost use Rattle.array_tree.specs.Trees.{statement_of};
 ghost use Rattle.array_eval.specs.Traces.{noted_all};
@@ -12,13 +12,17 @@ use array_eval::{MarkedStore, Overlay};
 use array_jobs::{Job, written_by};
 use std::alloc::{AllocError, Global};
 
-/// What a construct writes, each cell with its last value: the pieces of each phase, merged, phase after phase.
+/// The writes of a construct, each cell with its last value: the pieces of each phase, merged, phase after phase.
 ///
-/// At the end it takes one pass over the written pages.
+/// At the end it makes one pass over the written pages.
 ///
 /// # Errors
 ///
 /// `AllocError` if an allocation fails.
+///
+/// # Memory
+///
+/// It allocates a marked store, the jobs of a phase, and the overlay.
 pub fn compute(alloc: Global, nested: &Nested) -> Result<Overlay, AllocError>
     ensures { IfOk result (λ written. written.pairs ≡ nested_writes (nested_of nested.now)) }
 {
@@ -29,7 +33,7 @@ pub fn compute(alloc: Global, nested: &Nested) -> Result<Overlay, AllocError>
     store.written(alloc)
 }
 
-// Runs the pieces of a phase, each from the store that the phases before leave, taken before the first piece.
+// Runs the pieces of a phase, each from the store that the earlier phases leave, taken before the first piece.
 fn run_phase(
     alloc: Global,
     nested: &Nested,
@@ -46,7 +50,7 @@ fn run_phase(
     merge_pieces(alloc, &jobs, store)
 }
 
-// Merges what jobs write into a store, one after another.
+// Merges the writes of jobs into a store, one after another.
 fn merge_pieces(alloc: Global, jobs: &[Job], store: &mut MarkedStore) -> Result<(), AllocError>
     ensures { OnOk result (store.new ≡ noted_all (writes_of_jobs (map job_of jobs.now)) store.old) }
 {

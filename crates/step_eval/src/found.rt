@@ -1,12 +1,12 @@
-//! What a machine finds on its way.
+//! The events of a machine for its hart.
 use crate::nested::Nested;
 
-/// What a machine comes to that its hart has to see to.
+/// An event of a machine for its hart.
 #[derive(Debug, Drop)]
 pub enum Found<'p> {
-    /// A construct. The machine awaits what it writes.
+    /// A construct. The machine awaits its writes.
     Nest(Nested<'p>),
-    /// An `if` that has begun, and whose other side has sites: those from `first` to before `end`. The hart skips them. Nothing is
-    /// awaited.
+    /// An `if` that has begun, and whose other side has the sites from `first` to before `end`. The hart skips them. The
+    /// machine awaits nothing.
     Pass { first: u16, end: u16 },
 }

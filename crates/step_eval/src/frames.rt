@@ -1,4 +1,4 @@
-//! What a machine has still to run.
+//! The remaining works of a machine.
 ghost use Rattle.std.specs.Prelude.{◌≡◌, ◌+◌, ◌≤◌, ◌∷◌, ◌++◌, [], IfOk, IfErr, OnOk, Some, None, true, false, IsSome};
 ghost use Rattle.array_tree.specs.Trees.{statement_of, sequence_of};
 ghost use Rattle.array_meaning.specs.Plans.{sites_in, statement_sites_in};
@@ -19,11 +19,11 @@ use array_tree::{Block, Name, Stmt};
 use site_counts::{sites_in_block, sites_in_turns};
 use std::alloc::{AllocError, Global};
 
-/// A work that is still to be run.
+/// A remaining work.
 #[derive(Clone, Copy, Debug, Drop)]
 pub(crate) enum Frame<'p> {
-    /// The statements of a block from number `from` on. So many sites of the side that
-    /// the `if` around it did not choose come behind the block.
+    /// The statements of a block from number `from` on. After the block come so many sites of the side that the `if` around it
+    /// did not choose.
     Statements {
         block: &'p Block,
         from: usize,
@@ -37,15 +37,15 @@ pub(crate) enum Frame<'p> {
     },
 }
 
-/// The works that are still to be run: the next one, on top, and those below it, the last one first; and the variables
-/// of the loops that have begun, the innermost last.
+/// The remaining works: the next one, on top, and those below it, the last one first; and the variables of the loops that have
+/// begun, the innermost last.
 ///
-/// The top stands apart, so that a step that goes on in it changes it in place.
+/// Why the top is apart: a step that goes on in it changes it in place.
 #[derive(Debug, Drop)]
 pub(crate) struct Frames<'p> {
     top: Option<Frame<'p>>,
     below: Vec<Frame<'p>>,
-    // Each borrows its name from the tree.
+    // Each variable borrows its name from the tree.
     vars: Vec<LoopVar<'p>>,
 }
 
@@ -86,7 +86,7 @@ impl<'p> Frames<'p> {
         })
     }
 
-    /// The construct that is to be run next, if one is.
+    /// The next construct, if one is next.
     #[inline(always)]
     pub(crate) fn construct(&self) -> Option<&'p Stmt>
         ensures { IsConstruct result self.now }
@@ -109,8 +109,8 @@ impl<'p> Frames<'p> {
         Vars::of_scope(alloc, &scope)
     }
 
-    /// Begins or ends the next statement or turn, which must be no construct, and returns what the hart has to skip; None where
-    /// nothing is left. The next site's number goes on by the sites that are passed.
+    /// Begins or ends the next statement or turn, which must be no construct, and returns the sites that the hart has to skip;
+    /// `None` if no work remains. Adds the sites that are passed to the next site's number.
     ///
     /// The end of a block and the end of a turn are steps of their own, so no step begins or ends two things.
     #[inline(always)]
@@ -139,8 +139,8 @@ impl<'p> Frames<'p> {
         }
     }
 
-    /// Runs the loop that is next to its end, with no step between its turns, if it comes to no site; false where that isn't so.
-    /// Where no turn is left, it doesn't count the sites of the body.
+    /// Runs the next loop to its end, without steps between its turns, if it comes to no site; otherwise returns false. If no
+    /// turn remains, it doesn't count the sites of the body.
     #[inline(always)]
     pub(crate) fn run_through(
         &mut self,
@@ -162,7 +162,7 @@ impl<'p> Frames<'p> {
         }
     }
 
-    /// Passes the construct that is next. It has been run by others.
+    /// Passes the next construct, which others ran.
     pub(crate) fn pass(&mut self)
         requires { IsSome (next_construct (works_of self.old [])) }
         ensures passed { HasPassed self.old self.new }
@@ -293,7 +293,7 @@ impl<'p> Frames<'p> {
         }
     }
 
-    // Begins a statement that is no construct, with the rest of its block behind it.
+    // Begins a statement that is no construct, with the rest of its block after it.
     #[inline(always)]
     fn begin(
         &mut self,
@@ -367,7 +367,7 @@ impl<'p> Frames<'p> {
         }
     }
 
-    // Begins the first side of an `if`. The sites of the other come behind it.
+    // Begins the first side of an `if`. The sites of the other side come after it.
     #[inline(always)]
     fn begin_then(
         &mut self,
@@ -395,7 +395,7 @@ impl<'p> Frames<'p> {
         }
     }
 
-    // Begins the second side of an `if`. The sites of the first are passed.
+    // Begins the second side of an `if`. The sites of the first side are passed.
     #[inline(always)]
     fn begin_else(
         &mut self,
@@ -419,7 +419,7 @@ impl<'p> Frames<'p> {
         Ok(Told::to_skip(first, passed))
     }
 
-    // Puts a block on top with so many sites behind it, and this below it in the place of what was on top.
+    // Puts a block on top with so many sites after it, and replaces the old top by this frame.
     #[inline(always)]
     fn begin_block(
         &mut self,
@@ -440,7 +440,7 @@ impl<'p> Frames<'p> {
         Ok(())
     }
 
-    // Puts a loop on top, and this below it in the place of what was on top.
+    // Puts a loop on top, and replaces the old top by this frame.
     #[inline(always)]
     fn begin_loop(
         &mut self,
@@ -468,7 +468,7 @@ impl<'p> Frames<'p> {
         Ok(())
     }
 
-    // Takes the top off: nothing is left of it.
+    // Removes the top frame.
     #[inline(always)]
     fn end(&mut self)
         ensures { IsEnded self.old self.new }
@@ -477,7 +477,7 @@ impl<'p> Frames<'p> {
     }
 }
 
-// The frame of a construct's block, behind the construct.
+// The frame of a construct's block, past the construct.
 fn past(top: Frame) -> Frame
     requires { IsSome (next_construct (works_in (top ∷ []) [])) }
     ensures { IsBehind top.entry result }
@@ -492,7 +492,7 @@ fn past(top: Frame) -> Frame
     }
 }
 
-// The construct at a place of a block, if one is there.
+// The construct at an index of a block, if there is one.
 #[inline(always)]
 fn construct_at<'p>(block: &'p Block, place: usize) -> Option<&'p Stmt>
     ensures { IsConstructAt result block.now place }

@@ -17,15 +17,19 @@ use array_tree::{Block, Blocks, Name, Stmt};
 use site_counts::sites_in_turns;
 use std::alloc::{AllocError, Global};
 
-/// The jobs of the pieces of a phase, counted from 0, in the order of their places: one for each branch or member. They
-/// are a group.
+/// The jobs of the pieces of a phase, counted from 0, in the order of their indices: one for each branch or member. They are a
+/// group.
 ///
-/// They start from this store, which has as many cells as the one before the construct. A `par` has one phase. The sites inside
-/// the jobs have consecutive numbers, after those of earlier phases in all iterations.
+/// They start from this store, which has as many cells as the store before the construct. A `par` has one phase. The sites
+/// inside the jobs have consecutive numbers, after those of earlier phases in all iterations.
 ///
 /// # Errors
 ///
 /// `AllocError` if an allocation fails.
+///
+/// # Memory
+///
+/// It allocates the list of the phase's works and the list of jobs.
 pub fn jobs_of<'p>(
     alloc: Global,
     nested: &Nested<'p>,
@@ -49,10 +53,19 @@ pub fn jobs_of<'p>(
     )
 }
 
-/// The job of the piece at one place of a phase: an equal one to what `jobs_of` has there. It copies the variables and the
+/// The job of the piece at an index of a phase: equal to the job that `jobs_of` has there. It copies the variables and the
 /// store for this job alone.
 ///
-/// It starts from this store, which has as many cells as the one before the construct.
+/// It starts from this store, which has as many cells as the store before the construct. `phase` is below the number of phases,
+/// `place` below the number of members.
+///
+/// # Errors
+///
+/// `AllocError` if an allocation fails.
+///
+/// # Memory
+///
+/// It allocates the list of the phase's works.
 pub fn job_at<'p>(
     alloc: Global,
     nested: &Nested<'p>,
@@ -86,7 +99,7 @@ fn first_site(nested: &Nested, phase: u8) -> u16
     nested.site + 1 + earlier_sites(nested.construct, phase) as u16
 }
 
-// How many sites the phases before this one have.
+// The number of sites of the phases before this one.
 fn earlier_sites(construct: &Stmt, phase: u8) -> u64
     requires { phase < phases_of (statement_of construct.now) }
     ensures { result ≡ capped (earlier_sites (statement_of construct.now) phase) }
@@ -102,7 +115,7 @@ fn earlier_sites(construct: &Stmt, phase: u8) -> u64
     }
 }
 
-// How many sites so many of the first phases have, each in all its iterations.
+// The number of sites of so many of the first phases, each in all its iterations.
 fn sites_before(phases: &Blocks, low: i64, high: i64, phase: u8) -> u64
     requires { phase ≤ count_of (sequences_of phases.now) }
     ensures { result ≡ capped (span low high * sites_before (sequences_of phases.now) phase) }
@@ -114,7 +127,7 @@ fn sites_before(phases: &Blocks, low: i64, high: i64, phase: u8) -> u64
     sites
 }
 
-// What the pieces of a phase run.
+// The works of the pieces of a phase.
 fn works_of<'p>(alloc: Global, construct: &'p Stmt, phase: u8) -> Result<Vec<Work<'p>>, AllocError>
     requires { phase < phases_of (statement_of construct.now) }
     ensures { IfOk result (λ works. map work_of works.items
@@ -141,7 +154,7 @@ fn works_of<'p>(alloc: Global, construct: &'p Stmt, phase: u8) -> Result<Vec<Wor
     }
 }
 
-// What the branches of a `par` run.
+// The works of the branches of a `par`.
 fn branch_works<'p>(alloc: Global, branches: &'p Blocks) -> Result<Vec<Work<'p>>, AllocError>
     ensures { IfOk result (λ works. map work_of works.items
         ≡ branch_trees (sequences_of branches.now)) }
@@ -153,7 +166,7 @@ fn branch_works<'p>(alloc: Global, branches: &'p Blocks) -> Result<Vec<Work<'p>>
     Ok(works)
 }
 
-// What the members of a `team` run in the phase with this body.
+// The works of the members of a `team` in the phase with this body.
 fn member_works<'p>(
     alloc: Global,
     var: &'p Name,
@@ -177,7 +190,7 @@ fn member_works<'p>(
     Ok(works)
 }
 
-// The jobs of works in a phase, from place 0 on. The next site gets this number.
+// The jobs of works in a phase, from index 0 on. The next site gets this number.
 fn jobs_of_works<'p>(
     alloc: Global,
     nested: &Nested<'p>,
@@ -200,7 +213,7 @@ fn jobs_of_works<'p>(
     Ok(jobs)
 }
 
-// Of the jobs of works in a phase, from place 0 on, the one at this place. The first site of the first one has this number.
+// The job at this index, of the jobs of works in a phase. The first site of the first job has this number.
 fn job_of_place<'p>(
     nested: &Nested<'p>,
     phase: u8,
@@ -221,7 +234,7 @@ fn job_of_place<'p>(
     job_of_work(nested, phase, store, place, first, works[before])
 }
 
-// The number of the site that comes after those of these works, of which the first has this number.
+// The number of the site after those of these works. The first of them has this number.
 fn site_after(next: u16, works: &[Work]) -> u16
     requires { next + sites_of_all (map work_of works.now) < 2 ^ 16 }
     ensures { result ≡ next + sites_of_all (map work_of works.now) }

@@ -1,7 +1,7 @@
 //! Laws of constructs that are handed out. No code here runs: each function's contract is a law, and its body is empty.
 ghost use Rattle.step_eval.specs.Phases.{JobsAreRounds, JobsAreCounted, JobsAreGroups, PhasesAreMerged, PhasesAreConstructs};
 
-/// The jobs of a phase do what its pieces do, in the order of their places.
+/// The jobs of a phase do what its pieces do, in the order of their indices.
 pub fn jobs_are_rounds()
     ensures { JobsAreRounds }
 {}
@@ -11,7 +11,7 @@ pub fn jobs_are_counted()
     ensures { JobsAreCounted }
 {}
 
-/// The jobs of a phase are a group: 1 to 64, alike, each with its place.
+/// The jobs of a phase are a group: 1 to 64, alike, each with its index.
 pub fn jobs_are_groups()
     ensures { JobsAreGroups }
 {}
@@ -21,7 +21,7 @@ pub fn phases_are_merged()
     ensures { PhasesAreMerged }
 {}
 
-/// Phase after phase, each from the store that the one before left, they are what the construct writes and leaves.
+/// Phase after phase, each from the store that the phase before left, the pieces are what the construct writes and leaves.
 pub fn phases_are_constructs()
     ensures { PhasesAreConstructs }
 {}

@@ -5,7 +5,6 @@ ghost use Rattle.contexts.specs.declared.machine.Step.TheVariants.{More};
 ghost use Rattle.array_tree.specs.Trees.{statement_of};
 ghost use Rattle.array_jobs.specs.Jobs.{job_of};
 ghost use Rattle.step_eval.specs.declared.stage.Stage.TheVariants.{Awaiting, Failed};
-ghost use Rattle.step_eval.specs.Rest.{rest_sites};
 ghost use Rattle.step_eval.specs.Machines.{IsRight, fresh_machine, is_awaiting, to_do, left_of, Advances, HasMoved, HasGone, HasGoneOn, AreAwaited, IsFinished};
 ghost use Rattle.step_eval.specs.Inside.Frames.{works_of, IsStacked, IsMore, Ran};
 ghost use Rattle.step_eval.specs.Inside.Parts.{while_going, Advanced, IsLayoutOf, IsHandedOut, IsConstructNext, stage_by, sites_seen, step_by};
@@ -23,11 +22,11 @@ use site_counts::sites_in_statement;
 use std::alloc::{AllocError, Global};
 use std::marker::Model;
 
-/// A job that is run a step at a time. It can be put down after any step and handed on.
+/// A job that runs a step at a time. It can be paused after any step and passed on.
 ///
-/// Contracts see a machine as its job, the works that are still to be run, the store as it now is with the cells that
-/// were written, the number of the next site, and its stage. Its type keeps that what was written so far, followed by
-/// what is left to write, is what the job writes.
+/// Contracts see a machine as its job, the remaining works, the current store with marks for the written cells, the number of
+/// the next site, and its stage. The type's invariant: the writes so far, followed by the remaining ones, are what the job
+/// writes.
 #[derive(Debug, Drop)]
 pub struct StepMachine<'p> {
     alloc: Global,
@@ -35,10 +34,10 @@ pub struct StepMachine<'p> {
     layout: Layout<'p>,
     frames: Frames<'p>,
     store: MarkedStore,
-    // Room for all that the job may write, a pair a cell, so that `into_piece` does not allocate.
+    // Room for all that the job may write, a pair for each cell. Why: `into_piece` then doesn't allocate.
     room: Overlay,
     // The next site's number. Why one for the machine, and not one for each work: a loop that begins would have to count the
-    // sites of its body. At the end of an `if` it jumps by the sites of the other side, which a `Pass` has reported.
+    // sites of its body. At the end of an `if` it grows by the sites of the other side, which a `Pass` has reported.
     next: u16,
     stage: Stage,
 }
@@ -65,11 +64,15 @@ impl<'p> Model for StepMachine<'p> {
 }
 
 impl<'p> StepMachine<'p> {
-    /// A machine that has all of a job to run.
+    /// A machine with all of a job remaining.
     ///
     /// # Errors
     ///
     /// `AllocError` if an allocation fails.
+    ///
+    /// # Memory
+    ///
+    /// It allocates a layout, a marked store, room for a pair for each cell, and the frames.
     pub fn new(alloc: Global, job: Job<'p>) -> Result<StepMachine<'p>, AllocError>
         ensures { IfOk result (λ machine. machine ≡ fresh_machine job.entry) }
     {
@@ -90,10 +93,13 @@ impl<'p> StepMachine<'p> {
         })
     }
 
-    /// Takes what the construct that is awaited wrote, after which the machine goes on behind it.
+    /// Gives the machine the writes of the construct that it awaits. The machine then goes on after the construct.
     ///
     /// The last step must have handed the construct out, and these must be its writes, each cell with its last value.
-    /// If an allocation fails, the machine is failed. This body allocates nothing; the contract leaves that open.
+    ///
+    /// # Errors
+    ///
+    /// `AllocError`, as the contract allows; the machine is then failed. This implementation does not allocate.
     pub fn supply(&mut self, written: &Overlay) -> Result<(), AllocError>
         requires awaits { self.old.stage ≡ Awaiting }
         requires written { AreAwaited self.old written.now.pairs }
@@ -110,10 +116,10 @@ impl<'p> StepMachine<'p> {
         Ok(())
     }
 
-    /// Goes on to the next construct or to the end, step by step but for the loops that come to no site: each is run to
-    /// its end at once. It also stops where it has begun an `if` whose other side has sites. It never returns More.
+    /// Goes on to the next construct or to the end, step by step, except that it runs each loop without sites to its end at
+    /// once. It also stops when it has begun an `if` whose other side has sites. It never returns More.
     ///
-    /// Why bare statements go by steps: each runs once a piece or a turn.
+    /// Why statements outside loops go by steps: each runs once a piece or a turn.
     pub fn go(&mut self) -> Step<Found<'p>>
         requires { is_awaiting self.old.stage ≡ false }
         ensures gone { HasGone self.old result self.new }
@@ -127,7 +133,7 @@ impl<'p> StepMachine<'p> {
         }
     }
 
-    // Runs the loop that is next, if it comes to no site, or else does one step.
+    // Runs the next loop if it comes to no site, and otherwise does one step.
     fn go_on(&mut self) -> Step<Found<'p>>
         requires { is_awaiting self.old.stage ≡ false }
         ensures { HasGone self.old result self.new }
@@ -139,7 +145,7 @@ impl<'p> StepMachine<'p> {
         }
     }
 
-    // Runs the loop that is next to its end, if it comes to no site; false where that isn't so.
+    // Runs the next loop to its end, if it comes to no site; otherwise returns false.
     fn run_through(&mut self) -> bool
         ensures { HasGoneOn result self.old self.new }
     {
@@ -151,7 +157,7 @@ impl<'p> StepMachine<'p> {
         }
     }
 
-    /// The job with what it wrote. The last step must have been Finished. It does not allocate.
+    /// The job with its writes. The last step must have been Finished. Does not allocate.
     pub fn into_piece(self) -> Piece<'p>
         requires { IsFinished self }
         ensures { result.job ≡ self.entry.job }
@@ -176,8 +182,8 @@ impl<'p> Machine for StepMachine<'p> {
 
     ghost steps = { Advances };
 
-    /// Begins or ends one statement or one turn of a loop, or hands out the construct that is next. Where it begins an `if` whose
-    /// other side has sites, it reports these.
+    /// Begins or ends one statement or one turn of a loop, or hands out the next construct. If it begins an `if` whose other
+    /// side has sites, it reports these.
     fn step(&mut self) -> Step<Found<'p>>
         requires { is_awaiting self.old.stage ≡ false }
         ensures exact { Advances self.old result self.new }
@@ -202,13 +208,13 @@ impl<'p> Machine for StepMachine<'p> {
                 }
             },
             Stage::Failed => Step::NoMemory,
-            // No caller steps on while something is awaited.
+            // Why: the contract excludes a step while the machine awaits a construct's writes.
             Stage::Awaiting => Step::NoMemory,
         }
     }
 }
 
-// How a machine stands after a step in which no allocation failed.
+// The stage of a machine after a step in which no allocation failed.
 fn stage_after(step: &Step<Found>) -> Stage
     ensures { result ≡ stage_by step.now }
 {
@@ -218,7 +224,7 @@ fn stage_after(step: &Step<Found>) -> Stage
     }
 }
 
-// How many sites a construct has.
+// The number of a construct's sites.
 fn sites_in_construct(construct: Option<&Stmt>) -> u64
     ensures { result ≡ sites_seen construct.entry }
 {
@@ -228,8 +234,8 @@ fn sites_in_construct(construct: Option<&Stmt>) -> u64
     }
 }
 
-// Does one step of a machine that goes on. Why it and the parts of a step are inlined: a loop of steps takes 1.4 to 3.5 times as
-// long if each is a call, since the result has room for a construct.
+// Does one step of a machine that goes on. Why it and the parts of a step are inlined: a loop of steps takes 1.4 to 3.5 times
+// as long if each is a call, since the result has room for a construct.
 #[inline(always)]
 fn advance<'p>(
     alloc: Global,
@@ -261,7 +267,7 @@ fn advance<'p>(
     }
 }
 
-// What a step comes to that hands out no construct.
+// The result of a step that hands out no construct.
 fn step_by<'p>(told: Option<Told>) -> Step<Found<'p>>
     ensures { result ≡ step_by told }
 {
@@ -272,7 +278,7 @@ fn step_by<'p>(told: Option<Told>) -> Step<Found<'p>>
     }
 }
 
-// Runs the loop that is next to its end, if it comes to no site; false where that isn't so.
+// Runs the next loop to its end, if it comes to no site; otherwise returns false.
 #[inline(always)]
 fn run_loop_of(job: &Job, layout: &Layout, frames: &mut Frames, store: &mut MarkedStore) -> bool
     requires { IsStacked frames.old }
@@ -283,7 +289,7 @@ fn run_loop_of(job: &Job, layout: &Layout, frames: &mut Frames, store: &mut Mark
     frames.run_through(layout, &job.vars, store)
 }
 
-// Hands out the construct that is next, with what its pieces start from.
+// Hands out the next construct, with the variables and the store from which its pieces start.
 #[inline(never)]
 fn hand_out<'p>(
     alloc: Global,

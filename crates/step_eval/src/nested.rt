@@ -10,8 +10,7 @@ use std::marker::Model;
 
 /// A `par` or a `team` that a job has come to, with all that its pieces start from.
 ///
-/// Contracts see it as its parts. Its type keeps that the pieces of each phase are jobs that are fit to be run, and
-/// apart.
+/// Contracts see it as its parts. The type's invariant: the pieces of each phase are jobs that are fit to run, and apart.
 #[derive(Debug, Drop)]
 pub struct Nested<'p> {
     /// The arrays of the program.
@@ -22,7 +21,7 @@ pub struct Nested<'p> {
     pub construct: &'p Stmt,
     /// The loop variables around it.
     pub vars: Vars,
-    /// The store before it, with one value per cell of the arrays.
+    /// The store before the construct, with one value for each cell of the arrays.
     pub store: Store,
 }
 
@@ -49,11 +48,11 @@ impl<'p> Model for Nested<'p> {
 }
 
 impl<'p> Nested<'p> {
-    /// An equal one.
+    /// An equal construct, which shares variables and store.
     ///
     /// # Errors
     ///
-    /// `AllocError` if an allocation fails.
+    /// `AllocError`, as the contract allows. This implementation does not allocate.
     pub fn copy(&self) -> Result<Nested<'p>, AllocError>
         ensures { IfOk result (λ nested. nested ≡ self.now) }
     {

@@ -9,7 +9,7 @@ ghost use Rattle.step_eval.specs.Shapes.{kind_of, members_of};
 use crate::nested::Nested;
 use array_tree::Stmt;
 
-/// Which of the two constructs it is.
+/// The kind of a construct.
 #[derive(Clone, Copy, Debug, PartialEq, Eq, Drop)]
 pub enum Kind {
     /// A `par`.
@@ -26,7 +26,7 @@ impl<'p> Nested<'p> {
         kind_of(self.construct)
     }
 
-    /// How many phases it has: 1 if it is a `par`, and 1 to 8 if it is a `team`.
+    /// The number of its phases: 1 for a `par`, and 1 to 8 for a `team`.
     pub fn phases(&self) -> u8
         ensures same { result ≡ phases_of (statement_of self.now.construct) }
         ensures some { 0 < result }
@@ -35,7 +35,7 @@ impl<'p> Nested<'p> {
         phases_of(self.construct)
     }
 
-    /// How many pieces each phase has, 1 to 64: the branches of a `par`, and the members of a `team`.
+    /// The number of pieces of each phase, 1 to 64: the branches of a `par`, or the members of a `team`.
     pub fn members(&self) -> u8
         ensures same { result ≡ members_of (statement_of self.now.construct) }
         ensures some { 0 < result }
@@ -56,7 +56,7 @@ fn kind_of(construct: &Stmt) -> Kind
     }
 }
 
-// How many phases a construct in its limits has.
+// The number of phases of a construct in its limits.
 fn phases_of(construct: &Stmt) -> u8
     requires { IsTrue (statement_has_right_ranges (statement_of construct.now)) }
     ensures { result ≡ phases_of (statement_of construct.now) }
@@ -68,7 +68,7 @@ fn phases_of(construct: &Stmt) -> u8
     }
 }
 
-// How many pieces each phase of a construct in its limits has.
+// The number of pieces of each phase of a construct in its limits.
 fn members_of(construct: &Stmt) -> u8
     requires { IsTrue (statement_has_right_ranges (statement_of construct.now)) }
     ensures { result ≡ members_of (statement_of construct.now) }

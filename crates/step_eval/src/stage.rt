@@ -1,11 +1,11 @@
-//! How a machine stands.
+//! The stage of a machine.
 
-/// How a machine stands.
+/// The stage of a machine.
 #[derive(Clone, Copy, Debug, PartialEq, Eq, Drop)]
 pub enum Stage {
-    /// It goes on, or is done.
+    /// The machine goes on, or is done.
     Going,
-    /// It waits for what a construct writes.
+    /// The machine awaits the writes of a construct.
     Awaiting,
     /// An allocation failed, and the machine is failed for good.
     Failed,

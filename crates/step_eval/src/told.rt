@@ -1,5 +1,5 @@
 //! The sites that a step passes, as a hart gets them.
-ghost use Rattle.std.specs.Prelude.{◌≡◌, ℕ, ◌+◌, ◌≤◌, Option};
+ghost use Rattle.std.specs.Prelude.{◌≡◌, ℕ, ◌+◌, ◌≤◌};
 ghost use Rattle.step_eval.specs.Passes.{some_span};
 ghost use Rattle.step_eval.specs.Inside.Frames.{span_told};
 
@@ -7,12 +7,12 @@ ghost use Rattle.step_eval.specs.Inside.Frames.{span_told};
 #[derive(Clone, Copy, Debug, Drop)]
 pub(crate) enum Told {
     Nothing,
-    /// It has to skip these.
+    /// The hart has to skip these sites.
     Skips { first: u16, end: u16 },
 }
 
 impl Told {
-    /// To skip so many sites from this one on, if there is any.
+    /// Skips so many sites from this one on, if there is any.
     pub(crate) fn to_skip(first: u16, count: u16) -> Told
         requires { first + count ≤ 4096 }
         ensures { some_span first count ≡ span_told result }

@@ -164,7 +164,7 @@ transfers 6
     serve(&rt, RUN, BRANCHES, Status::Done, told, b"")
 }
 
-// A choice in each phase, of which two ask for what an earlier phase wrote.
+// A choice in each phase; two of them read cells that an earlier phase wrote.
 const PHASES: &[u8] = b"array a[4]; array b[4]; array c[4];
 team i in 0..4 by 2 {
   a[i] = i % 2;
@@ -176,7 +176,7 @@ team i in 0..4 by 2 {
 }
 ";
 
-// What the arrays of the members are on so many harts.
+// The arrays of the members on so many harts.
 fn members_choose<R: AllocGlobal + Abort + Threads + Wait + Sync>(
     rt: &R,
     harts: &str,

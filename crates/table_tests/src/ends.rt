@@ -21,7 +21,7 @@ fn serve_failing<R: AllocGlobal + Threads + Wait + Sync>(
     serve_into(rt, words, source, out, open(rt.alloc(), 4096)?)
 }
 
-// Whether a source that fails at this call is a read fault, whatever the words.
+// Whether a source that fails at this call leads to a read fault, for any words.
 fn is_read_fault<R: AllocGlobal + Threads + Wait + Sync>(rt: &R, call: u32) -> Result<bool, Fail> {
     for words in [RUN, &["solo"], AUDIT] {
         let served = serve_failing(rt, words, call)?;
@@ -34,7 +34,7 @@ fn is_read_fault<R: AllocGlobal + Threads + Wait + Sync>(rt: &R, call: u32) -> R
 
 #[test]
 fn a_source_may_fail_at_each_call(rt: HostRuntime) -> Result<(), Fail> {
-    // Six calls give the 47 bytes, and the seventh is the end.
+    // Six calls return the 47 bytes, and the seventh reports the end.
     for call in 1..8u32 {
         assert!(rt; is_read_fault(&rt, call)?);
     }
@@ -50,7 +50,7 @@ fn run_failing<R: AllocGlobal + Threads + Wait + Sync>(rt: &R, call: u32) -> Res
     serve_into(rt, RUN, source, out, open(rt.alloc(), 4096)?)
 }
 
-// Whether an output that fails at this call, from 1 on, has taken what the calls before it gave.
+// Whether an output that fails at this call, from 1 on, has taken the bytes of the calls before it.
 fn is_cut_off_at<R: AllocGlobal + Threads + Wait + Sync>(rt: &R, call: u32) -> Result<bool, Fail>
     requires { 1 ≤ call }
 {
@@ -69,7 +69,7 @@ fn an_output_may_fail_at_each_call(rt: HostRuntime) -> Result<(), Fail> {
     Ok(())
 }
 
-// Makes a program to an output with so much room.
+// Generates a program to an output with so much room.
 fn make_within<R: AllocGlobal + Threads + Wait + Sync>(
     rt: &R,
     room: usize,
@@ -90,7 +90,7 @@ fn an_output_may_be_full(rt: HostRuntime) -> Result<(), Fail> {
     Ok(())
 }
 
-// Audits an output of no transfers, whose verdict the second call doesn't take.
+// Audits an output of no transfers. The second call of the sink doesn't take the verdict.
 fn audit_failing<R: AllocGlobal + Threads + Wait + Sync>(rt: &R) -> Result<Served, Fail> {
     let source = MemSource::new(rt.alloc(), b"\n%%\ntransfers 0\n", 3, &[])?;
     let out = MemSink::new(rt.alloc(), 4096, 4, &[2])?;
@@ -104,7 +104,7 @@ fn a_verdict_may_not_be_written(rt: HostRuntime) -> Result<(), Fail> {
     Ok(())
 }
 
-// Makes a program where the source fails at its first call.
+// Generates a program; the source would fail at its first call.
 fn make_by_failing<R: AllocGlobal + Threads + Wait + Sync>(rt: &R) -> Result<Served, Fail> {
     let source = MemSource::new(rt.alloc(), b"abc", 8, &[1])?;
     let out = open(rt.alloc(), 4096)?;
@@ -118,7 +118,7 @@ fn making_meets_no_fault_of_the_source(rt: HostRuntime) -> Result<(), Fail> {
     Ok(())
 }
 
-// Runs a text that spells no program, where the stream of errors fails at this call.
+// Runs a text that spells no program, with a stream of errors that fails at this call.
 fn run_telling<R: AllocGlobal + Threads + Wait + Sync>(rt: &R, call: u32) -> Result<Served, Fail> {
     let source = MemSource::new(rt.alloc(), b"array 4;", 8, &[])?;
     let out = open(rt.alloc(), 4096)?;
@@ -131,7 +131,7 @@ fn run_telling<R: AllocGlobal + Threads + Wait + Sync>(rt: &R, call: u32) -> Res
     )
 }
 
-// Whether a syntax fault is told as far as so many bytes, and nothing is written.
+// Whether so many bytes of a syntax error are reported, and nothing is written.
 fn is_told_in_part(served: &Served, count: usize) -> bool {
     let told = b"syntax: unexpected at byte 6\n".as_slice();
     let err = served.err.bytes();

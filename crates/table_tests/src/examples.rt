@@ -1,4 +1,4 @@
-//! What the examples' runs write is legal.
+//! The outputs of the examples' runs are legal.
 use crate::serving::serve_by;
 use lithe_call::Status;
 use std::alloc::{AllocError, Global};
@@ -94,7 +94,7 @@ const HARTS: [&str; 7] = [
     "--harts=16",
 ];
 
-/// Runs the program on so many harts each, and audits what each run writes.
+/// Runs the program on so many harts each, and audits the output of each run.
 pub fn runs_are_legal<R: AllocGlobal + Abort + Threads + Wait + Sync>(
     rt: &R,
     program: &[u8],
@@ -117,7 +117,7 @@ fn is_legal<R: AllocGlobal + Threads + Wait + Sync>(
     Ok(served.status == Status::Done && legal)
 }
 
-// The input of an audit of what a run on so many harts writes.
+// The input of an audit of the output of a run on so many harts.
 fn input_of_run<R: AllocGlobal + Threads + Wait + Sync>(
     rt: &R,
     harts: &str,

@@ -1,4 +1,4 @@
-//! Forged journals, one for each refusal of the table, and one that isn't finished.
+//! Forged journals, one for each refusal of the table, and one that is incomplete.
 use crate::serving::{AUDIT, BRANCHES, serve};
 use lithe_call::Status;
 use std::alloc::{AllocError, Global};
@@ -24,14 +24,14 @@ fn input(
     Ok(input)
 }
 
-// The line that tells a cause.
+// The line that reports a cause.
 fn line_of(alloc: Global, cause: &str) -> Result<String, Fail> {
     let mut line = String::new(alloc);
     writeln!(line, "illegal: entry {cause}")?;
     Ok(line)
 }
 
-// Audits the input on two harts, and tests what is told of it after `illegal: entry `.
+// Audits the input on two harts, and compares the line after `illegal: entry `.
 fn is_told<R: AllocGlobal + Abort + Threads + Wait + Sync>(
     rt: &R,
     input: &[u8],
@@ -41,7 +41,7 @@ fn is_told<R: AllocGlobal + Abort + Threads + Wait + Sync>(
     serve(rt, AUDIT, input, Status::Illegal, line.as_bytes(), b"")
 }
 
-// Does so with each journal behind the program and its arrays.
+// The same for each journal after the program and its arrays.
 fn told<R: AllocGlobal + Abort + Threads + Wait + Sync>(
     rt: &R,
     program: &[u8],

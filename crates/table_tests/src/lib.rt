@@ -1,4 +1,4 @@
-//! Tables of tests through the top call, over a source and sinks in memory that give and take little at a time, and fail.
+//! Tables of tests through the top call. The source and the sinks in memory transfer few bytes at a time, and fail.
 #![tactic(auto)]
 
 #[cfg(test)]

@@ -14,7 +14,7 @@ const SIXTEEN: &[&str] = &["pipe", "--harts", "16"];
 
 const AUDIT: &[&str] = &["audit", "--harts", "4"];
 
-// In the second phase each member reads what lies below it.
+// In the second phase, each member reads the cell below its own.
 const TWO_STEPS: &[u8] =
     b"array a[6]; array b[6]; team i in 0..6 by 3 { a[i] = i + 1; } barrier { b[i] = a[i / 2] * 10; }";
 
@@ -22,11 +22,11 @@ const TWO_STEPS: &[u8] =
 const NESTED: &[u8] = b"array a[8]; array b[8];
 par { { team i in 0..4 by 2 { par { { a[2 * i] = i; } { a[2 * i + 1] = i + 1; } } } barrier { b[i] = a[i]; } } { } }";
 
-// A wavefront: each member goes on from what the one below it left in the phase before.
+// A wavefront: each member goes on from the cell that the member below it wrote in the phase before.
 const WAVE: &[u8] = b"array a[5]; array b[5]; array c[5];
 team i in 1..5 by 4 { a[i] = i; } barrier { b[i] = a[i - 1] + a[i]; } barrier { c[i] = b[i - 1] + b[i]; }";
 
-// In the second phase each member chooses by what lies below it.
+// In the second phase, each member chooses by the cell below its own.
 const CHOICE: &[u8] = b"array a[6]; array b[6];
 team i in 0..6 by 3 { a[i] = i % 2; } barrier { if a[i / 2] { par { { b[i] = 1; } { } } } }";
 
@@ -56,7 +56,7 @@ fn what_run_refuses_is_told_first(rt: HostRuntime) -> Result<(), Fail> {
     serve(&rt, ONE, text, Status::Refused, b"", told)
 }
 
-// The arrays that members who overtake write, on so many harts, are these lines.
+// Whether members that overtake write these array lines, on so many harts.
 fn writes<R: AllocGlobal + Abort + Threads + Wait + Sync>(
     rt: &R,
     words: &[&str],

@@ -6,8 +6,8 @@ use std::test::Fail;
 const TWO_PHASES: &[u8] =
     b"array a[6]; array b[6]; team i in 0..6 by 3 { a[i] = i + 1; } barrier { b[i] = a[5 - i]; }";
 
-// What a prefix of this length writes, if it is a program: one or two declarations, or a team of one phase, each also with
-// the space behind it.
+// The output for a prefix of this length, if it is a program: one or two declarations, or a team of one phase, each also with
+// the space after it.
 fn output_of(length: usize) -> Option<&'static [u8]> {
     match length {
         11 | 12 => Some(b"a = 0 0 0 0 0 0\ntransfers 0\n"),
@@ -19,7 +19,7 @@ fn output_of(length: usize) -> Option<&'static [u8]> {
     }
 }
 
-// Whether a prefix that writes this is served so, and another is told as a syntax fault.
+// Whether a prefix with this output is served so, and any other is reported as a syntax error.
 fn is_served(served: &Served, output: Option<&[u8]>) -> bool {
     match output {
         Some(output) => served.is(Status::Done, output, b""),
@@ -27,7 +27,7 @@ fn is_served(served: &Served, output: Option<&[u8]>) -> bool {
     }
 }
 
-// Whether a syntax fault is told, and nothing is written.
+// Whether a syntax error is reported, and nothing is written.
 fn is_syntax_fault(served: &Served) -> bool {
     let told = served.err.bytes().starts_with(b"syntax: ");
     served.status == Status::Syntax && told && served.out.bytes().is_empty()

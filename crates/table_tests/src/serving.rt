@@ -18,11 +18,11 @@ pub const MAKE: &[&str] = &["make", "--seed=7", "--size=1", "--harts=1"];
 /// Two branches that write two cells of one array.
 pub const BRANCHES: &[u8] = b"array a[4]; par { { a[0] = 1; } { a[1] = 2; } }";
 
-/// What a run of them writes on one hart.
+/// The output of a run of them on one hart.
 pub const BRANCHES_RUN: &[u8] =
     b"a = 1 2 0 0\ntransfers 2\n0 h0 register s1 under s0\n1 h0 unregister s1\n";
 
-// Serves the words, and answers the status.
+// Serves the words, and returns the status.
 fn status_of<R: AllocGlobal + Threads + Wait + Sync>(
     rt: &R,
     words: &[&str],
@@ -38,7 +38,7 @@ fn status_of<R: AllocGlobal + Threads + Wait + Sync>(
     Ok(lithe(rt, alloc, &own, source, out, err, &OpenGate))
 }
 
-/// What a call came to.
+/// The results of a call.
 #[derive(Drop)]
 pub struct Served {
     pub status: Status,
@@ -47,7 +47,7 @@ pub struct Served {
 }
 
 impl Served {
-    /// Whether it is this status, and the sinks took this.
+    /// Whether the status is this, and the sinks took these bytes.
     pub fn is(&self, status: Status, out: &[u8], err: &[u8]) -> bool {
         self.status == status && self.out.bytes() == out && self.err.bytes() == err
     }
@@ -57,7 +57,7 @@ impl Served {
         self.status == Status::Done && self.out.bytes() == out
     }
 
-    /// Whether it is a write fault, which is told, and so many bytes of this were written.
+    /// Whether a write fault is reported, and so many bytes of this were written.
     pub fn is_cut_off(&self, whole: &[u8], count: usize) -> bool {
         let out = self.out.bytes();
         let cut = out.len() == count && whole.starts_with(out);
@@ -65,14 +65,14 @@ impl Served {
     }
 }
 
-/// A sink that takes all, so many bytes a call.
+/// A sink that takes all bytes, at most so many a call.
 pub fn open(alloc: Global, most: usize) -> Result<MemSink, AllocError>
     requires { 1 ≤ most }
 {
     MemSink::new(alloc, 4096, most, &[])
 }
 
-/// Serves the words on what the source gives.
+/// Serves the words with a source.
 pub fn serve_into<R: AllocGlobal + Threads + Wait + Sync>(
     rt: &R,
     words: &[&str],
@@ -84,7 +84,7 @@ pub fn serve_into<R: AllocGlobal + Threads + Wait + Sync>(
     Ok(Served { status, out, err })
 }
 
-/// Serves the words on the input, of which each call reads and writes so many bytes at most.
+/// Serves the words with the input. Each call reads and writes at most so many bytes.
 pub fn serve_by<R: AllocGlobal + Threads + Wait + Sync>(
     rt: &R,
     words: &[&str],
@@ -100,7 +100,7 @@ pub fn serve_by<R: AllocGlobal + Threads + Wait + Sync>(
     serve_into(rt, words, source, out, open(rt.alloc(), writes)?)
 }
 
-/// Serves the words on the input, and tests the status and what the sinks took.
+/// Serves the words with the input, and compares the status and the bytes that the sinks took.
 pub fn serve<R: AllocGlobal + Abort + Threads + Wait + Sync>(
     rt: &R,
     words: &[&str],

@@ -17,14 +17,14 @@ struct Call {
     number: u8,
 }
 
-// Makes the call, and tests how it ended.
+// Makes the call, and compares its status.
 fn ends<R: AllocGlobal + Abort + Threads + Wait + Sync>(rt: &R, call: &Call) -> Result<(), Fail> {
     let status = status_after(rt, call)?;
     assert!(rt; status == call.status && status.number() == call.number);
     Ok(())
 }
 
-// How the call ends.
+// The status of the call.
 fn status_after<R: AllocGlobal + Threads + Wait + Sync>(
     rt: &R,
     call: &Call,
@@ -102,7 +102,7 @@ fn calls_end_with_each_status(rt: HostRuntime) -> Result<(), Fail> {
     Ok(())
 }
 
-// How a run of this input ends.
+// The status of a run of this input.
 fn status_of_run<R: AllocGlobal + Threads + Wait + Sync>(
     rt: &R,
     input: &[u8],
@@ -111,7 +111,7 @@ fn status_of_run<R: AllocGlobal + Threads + Wait + Sync>(
     Ok(served.status)
 }
 
-// Whether want of memory for the words is told, and its number is 8.
+// Whether the allocation failure of the words is reported, with the number 8.
 fn tells_no_memory(err: &mut MemSink) -> bool {
     let status = no_memory_for_words(err);
     status.number() == 8 && err.bytes() == b"no memory\n".as_slice()

@@ -56,7 +56,7 @@ fn members_have_uneven_parts(rt: HostRuntime) -> Result<(), Fail> {
     serve(&rt, ONE, text, Status::Done, told, b"")
 }
 
-// The arrays that a tally writes, on so many harts, are these lines.
+// Whether a tally writes these array lines, on so many harts.
 fn writes<R: AllocGlobal + Abort + Threads + Wait + Sync>(
     rt: &R,
     words: &[&str],
@@ -112,11 +112,11 @@ fn the_first_of_three_refusals_is_told(rt: HostRuntime) -> Result<(), Fail> {
     let text = b"array q_sum[1]; par { { q_sum[1] = 1; } }";
     let told = b"refused: index 1 outside 1 cells at line 1\n";
     serve(&rt, ONE, text, Status::Refused, b"", told)?;
-    // With a row for each branch there are too many cells; the line is the array's own.
+    // With a row for each branch there are too many cells. The line is the array's own.
     let text = b"array q_sum[4000];\npar { { q_sum[0] = q_sum[0] + 1; } { } }";
     let told = b"refused: length 8000 at line 1\n";
     serve(&rt, ONE, text, Status::Refused, b"", told)?;
-    // Other overlaps stay what they are.
+    // Other overlaps are refused as before.
     let text = b"array a[1];\npar { { a[0] = 1; } { a[0] = 2; } }";
     let told = b"refused: overlap on a[0] at line 2\n";
     serve(&rt, ONE, text, Status::Refused, b"", told)

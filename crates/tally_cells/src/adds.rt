@@ -19,8 +19,8 @@ pub(crate) fn reads_sum(expr: &Expr) -> bool
     }
 }
 
-/// What an assignment to a place of an array adds, where it is an add: `x[e] = x[e] + v;`, x being accumulating. The
-/// place e holds no array read, and v reads no accumulating array.
+/// The value that an assignment to an array adds, if it is an add: `x[e] = x[e] + v;` for an accumulating array x. The index e
+/// contains no array read, and v reads no accumulating array.
 pub(crate) fn added<'s>(array: &Name, index: &Expr, value: &'s Expr) -> Option<&'s Expr>
     ensures { MatchOption result
         (added array.now (expression_of index.now) (expression_of value.now) ≡ None)
@@ -72,7 +72,7 @@ pub(crate) fn is_add(statement: &Stmt) -> bool
     }
 }
 
-/// Whether a statement is or has in it an add to this array.
+/// Whether a statement is or contains an add to this array.
 #[cycle(adds)]
 pub(crate) fn statement_has_add(name: &Name, statement: &Stmt) -> bool
     ensures { result ≡ statement_has_add name.now (statement_of statement.now) }
@@ -95,7 +95,7 @@ pub(crate) fn statement_has_add(name: &Name, statement: &Stmt) -> bool
     }
 }
 
-// The same of a block.
+// The same for a block.
 #[cycle(adds)]
 fn has_add(name: &Name, block: &Block) -> bool
     ensures { result ≡ has_add name.now (sequence_of block.now) }
@@ -108,7 +108,7 @@ fn has_add(name: &Name, block: &Block) -> bool
     false
 }
 
-// The same of branches or phases.
+// The same for branches or phases.
 #[cycle(adds)]
 fn have_add(name: &Name, blocks: &Blocks) -> bool
     ensures { result ≡ have_add name.now (sequences_of blocks.now) }

@@ -1,4 +1,4 @@
-//! The parts of the trees that a spread puts in.
+//! The parts of trees that a spread adds.
 ghost use Rattle.std.specs.Prelude.{◌≡◌, ◌<ℤ◌, [], ◌∷◌, pos, IfOk};
 ghost use Rattle.array_tree.specs.Trees.{Number, Var, Read, Binary, For, sequence, expression_of, statement_of, sequence_of};
 ghost use Rattle.array_meaning.specs.Values.{wrapping_minus, wrapping_difference};
@@ -7,7 +7,7 @@ ghost use Rattle.spread_laws.specs.Spread.{number};
 use array_tree::{Block, Expr, Name, Op, Stmt};
 use std::alloc::{AllocError, Global};
 
-/// A number as it is written: a negative one as a minus sign and the number.
+/// A number as the text writes it: a negative one as a minus sign and the number.
 pub(crate) fn number(alloc: Global, value: i64) -> Result<Expr, AllocError>
     ensures { IfOk result (λ e. expression_of e ≡ number value) }
 {
@@ -26,7 +26,7 @@ fn negative(alloc: Global, value: i64) -> Result<Expr, AllocError>
     Ok(Expr::Neg(Box::new(alloc, negated(value))?))
 }
 
-// The literal behind the minus sign of a number.
+// The literal after the minus sign of a number.
 fn negated(value: i64) -> Expr
     ensures { expression_of result ≡ Number (wrapping_minus value) }
 {
@@ -39,7 +39,7 @@ fn negate(value: i64) -> i64
     value.wrapping_neg()
 }
 
-/// How far apart two numbers are, as a number of 64 bits.
+/// The distance of two numbers, as a number of 64 bits.
 pub(crate) fn difference(high: i64, low: i64) -> i64
     ensures { result ≡ wrapping_difference high low }
 {

@@ -1,4 +1,4 @@
-//! Copies of trees. In memory each literal and each bound has 64 bits, which a copy sees of all of them.
+//! Copies of trees. In memory each literal and each bound has 64 bits: the contract of a copy states that of all of them.
 ghost use Rattle.std.specs.Prelude.{◌≡◌, IfOk};
 ghost use Rattle.array_tree.specs.Trees.{expression_of, statement_of, sequence_of, sequences_of, declaration_of};
 ghost use Rattle.spread_laws.specs.Served.{IsNarrowExpression, IsNarrowSequence, IsNarrowStatement, AreNarrow};

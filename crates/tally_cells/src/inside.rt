@@ -1,4 +1,4 @@
-//! What stands inside an outermost construct: an add goes to a row.
+//! The statements inside an outermost construct: an add goes to a row.
 ghost use Rattle.std.specs.Prelude.{◌≡◌, pos, Some, IfOk};
 ghost use Rattle.array_tree.specs.Trees.{Number, Var, Binary, expression_of, statement_of, sequence_of, sequences_of};
 ghost use Rattle.array_tree.specs.declared.tree.Op.TheVariants.{Add, Sub};
@@ -99,7 +99,7 @@ fn spread_block(
     Ok(Block { statements })
 }
 
-// The same of a statement. A construct inside the outermost one stays as it is.
+// The same for a statement. A construct inside the outermost one is unchanged.
 #[cycle(inside)]
 fn spread_statement(
     alloc: Global,
@@ -146,7 +146,7 @@ fn spread_statement(
     }
 }
 
-// An assignment: an add goes to the row, any other stays.
+// An assignment: an add goes to the row, any other is unchanged.
 fn spread_assign(
     alloc: Global,
     layout: &Layout<'_>,
@@ -201,7 +201,7 @@ fn add_to_row(
     })
 }
 
-// Where a cell of an array stands in a row: row * length + e.
+// The index of an array's cell in the rows: row * length + e.
 fn row_cell(
     alloc: Global,
     layout: &Layout<'_>,

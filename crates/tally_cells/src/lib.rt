@@ -1,5 +1,5 @@
-//! Accumulating arrays: a program whose branches add into one cell becomes one in which each branch or member has cells of
-//! its own, which are added up behind it.
+//! Accumulating arrays: turns a program whose branches add into one cell into one in which each branch or member has cells of
+//! its own, which are added up after the construct.
 //!
 //! `lithe tally` runs a program that `spread` has changed. Begin with `spread` in `program.rt`; the laws are in `spread_laws`,
 //! and the tests of `tally_tests` spread programs and run them.

@@ -1,4 +1,4 @@
-//! The loops around a construct with adds. Each has its construct's line.
+//! The loops around a construct with adds. Each has the line of its construct.
 ghost use Rattle.std.specs.Prelude.{◌≡◌, ◌++◌, ◌≤◌, ◌*◌, map, pos, OnOk, IfOk, unsigned_abs};
 ghost use Rattle.array_tree.specs.declared.tree.Op.TheVariants.{Rem};
 ghost use Rattle.array_tree.specs.Trees.{Number, Var, Binary, expression_of, statement_of, declaration_of};
@@ -95,7 +95,7 @@ fn fold_loop(alloc: Global, line: u32, rows: u64, array: &ArrayDecl) -> Result<S
     counting_loop(alloc, line, var, cells_in(rows, array), assignment)
 }
 
-// Where a cell of the rows stands in its row: x_cell % length.
+// The position of a cell of the rows in its row: x_cell % length.
 fn place(alloc: Global, var: &Name, array: &ArrayDecl) -> Result<Expr, AllocError>
     requires { unsigned_abs array.now.length ≤ most_cells }
     ensures { IfOk result (λ e. expression_of e
@@ -105,7 +105,7 @@ fn place(alloc: Global, var: &Name, array: &ArrayDecl) -> Result<Expr, AllocErro
     binary(alloc, Op::Rem, variable(var)?, length)
 }
 
-// How many cells so many rows have.
+// The number of cells of so many rows.
 fn cells_in(rows: u64, array: &ArrayDecl) -> i64
     requires rows { rows ≤ most_members }
     requires cells { unsigned_abs array.now.length ≤ most_cells }

@@ -1,4 +1,4 @@
-//! Names: which arrays are accumulating, and what their rows are called.
+//! Names: accumulating arrays, and the names of their rows.
 ghost use Rattle.std.specs.Prelude.{◌≡◌, ◌++◌, IfOk};
 ghost use Rattle.spread_laws.specs.Adds.{is_sum};
 ghost use Rattle.spread_laws.specs.Rows.{rows_name, cell_name};
@@ -20,14 +20,14 @@ pub(crate) fn rows_name(alloc: Global, name: &Name) -> Result<Name, AllocError>
     longer_name(alloc, name, b"_rows")
 }
 
-/// The name of the variable that goes through the cells of its rows.
+/// The name of the variable that goes through the cells of an array's rows.
 pub(crate) fn cell_name(alloc: Global, name: &Name) -> Result<Name, AllocError>
     ensures { IfOk result (λ cell. cell ≡ cell_name name.now) }
 {
     longer_name(alloc, name, b"_cell")
 }
 
-// A name with an ending behind it.
+// A name followed by an ending.
 fn longer_name(alloc: Global, name: &Name, ending: &[u8]) -> Result<Name, AllocError>
     ensures { IfOk result (λ longer. longer ≡ name.now ++ ending.now) }
 {

@@ -1,4 +1,4 @@
-//! What stands outside all constructs: loops are put around those with adds.
+//! The statements outside all constructs: a construct with adds gets loops around it.
 ghost use Rattle.std.specs.Prelude.{◌≡◌, ◌++◌, ◌≤◌, map, OnOk, IfOk, IsTrue};
 ghost use Rattle.array_tree.specs.Trees.{statement_of, sequence_of};
 ghost use Rattle.array_meaning.specs.Bounds.{most_members};
@@ -33,7 +33,7 @@ pub(crate) fn spread_block(
     Ok(Block { statements })
 }
 
-// Adds what a statement becomes.
+// Adds the statements that a statement is spread to.
 #[cycle(outside)]
 fn push_spread(
     alloc: Global,
@@ -112,7 +112,7 @@ fn push_spread(
     }
 }
 
-// Adds a construct of so many rows that is spread, with the loops around it. Given is also the construct as it was.
+// Adds a spread construct of so many rows, with the loops around it. `construct` is the construct before the spread.
 fn push_with_loops(
     alloc: Global,
     layout: &Layout<'_>,

@@ -17,16 +17,26 @@ use array_eval::Layout;
 use array_tree::{Arrays, Program};
 use std::alloc::{AllocError, Global};
 
-/// The program with a row of cells for each branch or member that adds into an accumulating array, one whose name ends in
-/// `_sum`. An add is `x[e] = x[e] + v;` inside one construct, e without array reads and v without accumulating ones.
+/// The program with a row of cells for each branch or member that adds into an accumulating array. The name of an accumulating
+/// array ends in `_sum`. An add is `x[e] = x[e] + v;` inside one construct, with no array reads in `e` and no accumulating ones
+/// in `v`.
 ///
-/// Behind the arrays the rows are declared, `x_rows`, as many as any construct that adds to `x` has branches or members.
-/// Before such a construct its rows become 0; inside it the adds go to the row of their branch or member; behind it
-/// all cells of the rows are added to those of `x`. Nothing else changes: run with one hart, the result leaves in the
-/// given arrays what the given program leaves there, its plan of sites is the same, and it enters the same of them.
+/// After the arrays, rows are declared, `x_rows`: as many as any construct that adds to `x` has branches or members. Before
+/// such a construct its rows become 0. Inside it, the adds go to the row of their branch or member. After it, all cells of the
+/// rows are added to the cells of `x`.
 ///
-/// An `Err` is `Unshaped` where, inside constructs, an accumulating array is mentioned otherwise; else `NameTaken` where a
-/// declaration or a loop has the name of rows or of the variable that goes through their cells, `x_cell`; or `Memory`.
+/// Nothing else changes: with one hart, the result leaves in the given arrays what the given program leaves there, its plan of
+/// sites is the same, and it enters the same of them.
+///
+/// # Errors
+///
+/// `TallyFault::Unshaped` if a construct mentions an accumulating array in any other way. Otherwise `NameTaken` if a
+/// declaration or a loop has the name of rows, or of the variable that goes through their cells, `x_cell`. `Memory` if an
+/// allocation fails.
+///
+/// # Memory
+///
+/// It allocates the whole new program.
 pub fn spread(alloc: Global, program: &Program) -> Result<Program, TallyFault>
     requires { HasMeaning (program_of program.now) }
     ensures spread { IfOk result (λ t. program_of t ≡ spread_of (program_of program.now)) }
@@ -44,7 +54,7 @@ pub fn spread(alloc: Global, program: &Program) -> Result<Program, TallyFault>
     Ok(spread_program(alloc, program)?)
 }
 
-// The same of a program that can be spread.
+// The same for a program that can be spread.
 fn spread_program(alloc: Global, program: &Program) -> Result<Program, AllocError>
     requires meaning { HasMeaning (program_of program.now) }
     requires sound { spread_fault_of (program_of program.now) ≡ None }
@@ -58,7 +68,7 @@ fn spread_program(alloc: Global, program: &Program) -> Result<Program, AllocErro
     })
 }
 
-// The arrays of a program, and the rows behind them.
+// The arrays of a program, followed by the rows.
 fn spread_arrays(alloc: Global, program: &Program) -> Result<Arrays, AllocError>
     requires { HasMeaning (program_of program.now) }
     ensures { IfOk result (λ arrays. declarations_of arrays

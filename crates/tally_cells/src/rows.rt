@@ -1,4 +1,4 @@
-//! How many rows an accumulating array has, and how they are declared.
+//! The number of rows of an accumulating array, and their declaration.
 ghost use Rattle.std.specs.Prelude.{◌≡◌, ◌++◌, ◌≤◌, ◌*◌, pos, [], ◌∷◌, cond, true, false, map, OnOk, IfOk, MatchOption, IsTrue, unsigned_abs};
 ghost use Rattle.std.specs.List.{filter};
 ghost use Rattle.array_tree.specs.Trees.{statement_of, sequence_of, declaration_of};
@@ -27,7 +27,7 @@ fn push_rows(name: &Name, block: &Block, rows: &mut Vec<u64>) -> Result<(), Allo
     Ok(())
 }
 
-// The same of a statement.
+// The same for a statement.
 #[cycle(rows)]
 fn push_rows_of_statement(
     name: &Name,
@@ -63,7 +63,7 @@ fn push_rows_of_statement(
     }
 }
 
-// Adds this number where the construct has an add to the array.
+// Adds this number if the construct has an add to the array.
 fn push_where_added(
     name: &Name,
     construct: &Stmt,
@@ -90,8 +90,8 @@ fn greatest(numbers: &[u64]) -> u64
     greatest
 }
 
-/// How many rows an array has: as many as any construct with an add to it has branches or members. None where no construct
-/// of the body has one.
+/// The number of an array's rows: as many as any construct with an add to it has branches or members. `None` if no construct of
+/// the body has an add to it.
 pub(crate) fn most_rows(alloc: Global, name: &Name, body: &Block) -> Result<Option<u64>, AllocError>
     ensures { IfOk result (λ most. MatchOption most
         (is_tallied (sequence_of body.now) name.now ≡ false)
@@ -128,7 +128,7 @@ pub(crate) fn push_declarations(
     Ok(())
 }
 
-// The declaration of the rows of an array, of which there are so many. It has the array's line.
+// The declaration of so many rows of an array. It has the array's line.
 fn rows_of(alloc: Global, array: &ArrayDecl, count: u64) -> Result<ArrayDecl, AllocError>
     requires few { count ≤ most_members }
     requires cells { unsigned_abs array.now.length ≤ most_cells }

@@ -11,7 +11,7 @@ use crate::rows::most_rows;
 use array_tree::{ArrayDecl, Block, Blocks, Name, Program, Stmt};
 use std::alloc::{AllocError, Global};
 
-/// The line of the first declaration, and else of the first loop, that has a name which the rows need.
+/// The line of the first declaration that has a name which the rows need, or else of the first such loop.
 pub(crate) fn taken_name(alloc: Global, program: &Program) -> Result<Option<u32>, AllocError>
     ensures { IfOk result (λ line. line ≡ taken_at (program_of program.now)) }
 {
@@ -22,7 +22,7 @@ pub(crate) fn taken_name(alloc: Global, program: &Program) -> Result<Option<u32>
     Ok(looped_in_block(&names, &program.body))
 }
 
-// The names that the rows need of those arrays to which some construct of a body has an add.
+// The names that the rows need for the arrays to which some construct of a body has an add.
 fn needed_names(alloc: Global, body: &Block, arrays: &[ArrayDecl]) -> Result<Vec<Name>, AllocError>
     ensures { IfOk result (λ names. names.items ≡ needed_names
         (filter (λ d. is_tallied (sequence_of body.now) d.name) (map declaration_of arrays.now))) }
@@ -74,7 +74,7 @@ fn looped_in_block(names: &[Name], block: &Block) -> Option<u32>
     None
 }
 
-// The same of a statement.
+// The same for a statement.
 #[cycle(looped)]
 fn looped_in_statement(names: &[Name], statement: &Stmt) -> Option<u32>
     ensures { result ≡ statement_looped_at names.now (statement_of statement.now) }
@@ -117,7 +117,7 @@ fn looped_in_statement(names: &[Name], statement: &Stmt) -> Option<u32>
     }
 }
 
-// The same of branches or phases.
+// The same for branches or phases.
 #[cycle(looped)]
 fn looped_among(names: &[Name], blocks: &Blocks) -> Option<u32>
     ensures { result ≡ any_looped_at names.now (sequences_of blocks.now) }

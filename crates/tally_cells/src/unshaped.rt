@@ -1,4 +1,4 @@
-//! Statements inside constructs that mention accumulating arrays otherwise than as an add.
+//! Statements inside constructs that mention accumulating arrays in any way but as an add.
 ghost use Rattle.std.specs.Prelude.{◌≡◌, ◌+◌};
 ghost use Rattle.array_tree.specs.Trees.{Sequences, statement_of, sequence_of, sequences_of};
 ghost use Rattle.spread_laws.specs.Faults.{is_unshaped, unshaped, statement_unshaped, any_unshaped};
@@ -6,7 +6,7 @@ ghost use Rattle.spread_laws.specs.Faults.{is_unshaped, unshaped, statement_unsh
 use crate::adds::{is_add, mentions_sum};
 use array_tree::{Block, Blocks, Stmt};
 
-/// The line of the first such statement of a block. Given is how many constructs are around.
+/// The line of the first such statement of a block, with `depth` constructs around.
 #[cycle(unshaped)]
 pub(crate) fn unshaped_in_block(depth: u8, block: &Block) -> Option<u32>
     ensures { result ≡ unshaped depth (sequence_of block.now) }
@@ -19,7 +19,7 @@ pub(crate) fn unshaped_in_block(depth: u8, block: &Block) -> Option<u32>
     None
 }
 
-// The same of a statement.
+// The same for a statement.
 #[cycle(unshaped)]
 fn unshaped_in_statement(depth: u8, statement: &Stmt) -> Option<u32>
     ensures { result ≡ statement_unshaped depth (statement_of statement.now) }
@@ -52,7 +52,7 @@ fn unshaped_in_statement(depth: u8, statement: &Stmt) -> Option<u32>
     }
 }
 
-// The same of branches or phases.
+// The same for branches or phases.
 #[cycle(unshaped)]
 fn unshaped_among(depth: u8, blocks: &Blocks) -> Option<u32>
     ensures { result ≡ any_unshaped depth (sequences_of blocks.now) }
@@ -65,14 +65,14 @@ fn unshaped_among(depth: u8, blocks: &Blocks) -> Option<u32>
     None
 }
 
-// Whether a statement inside so many constructs mentions an accumulating array otherwise than as an add inside one.
+// Whether a statement inside so many constructs mentions an accumulating array in any way but as an add inside one construct.
 fn is_unshaped(depth: u8, statement: &Stmt) -> bool
     ensures { result ≡ is_unshaped depth (statement_of statement.now) }
 {
     depth > 0 && mentions_sum(statement) && (!is_add(statement) || depth > 1)
 }
 
-// One construct more. Where two are around, a further one changes nothing.
+// One construct more. If two are around, a further one changes nothing.
 fn one_more(depth: u8) -> u8
     ensures { (blocks : Sequences) → any_unshaped result blocks ≡ any_unshaped (depth + 1) blocks }
 {

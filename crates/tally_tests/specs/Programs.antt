@@ -7,6 +7,7 @@ use Rattle.array_tree.specs.Trees.{Expression, Number, Var, Read, Binary, Statem
 abbrev pub declared : List ℕ → Declaration
 declared name = record { line = 1; name = name; length = pos 1 }
 
+-- { s }
 abbrev pub alone : Statement → Sequence
 alone s = followed s ended
 

@@ -8,6 +8,7 @@ use Rattle.tally_tests.specs.Programs.{add, alone, declared, team}
 abbrev pub declared_long : List ℕ → ℕ → Declaration
 declared_long name length = record { line = 1; name = name; length = pos length }
 
+-- { s; t }
 abbrev pub pair : Statement → Statement → Sequence
 pair first second = followed first (alone second)
 
@@ -15,6 +16,7 @@ pair first second = followed first (alone second)
 abbrev pub add_to_second : List ℕ → Expression → Statement
 add_to_second x v = Assign 1 x (Number (pos 1)) (Binary Add (Read x (Number (pos 1))) v)
 
+-- par { { .. } { .. } }
 abbrev pub two_branches : Sequence → Sequence → Statement
 two_branches first second = Par 1 (beside first (beside second no_more))
 

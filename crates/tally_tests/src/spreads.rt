@@ -1,4 +1,4 @@
-//! Programs and what they are spread to.
+//! Programs and their spread programs.
 ghost use Rattle.array_tree.specs.Trees.{program_of};
 ghost use Rattle.spread_laws.specs.Served.{HasMeaning};
 
@@ -74,7 +74,7 @@ fn names_that_rows_need_are_refused(rt: HostRuntime) -> Result<(), Fail> {
     Ok(())
 }
 
-/// Why a program isn't spread.
+/// Why a program can't be spread.
 pub fn refusal(alloc: Global, program: &Program) -> Option<TallyFault>
     requires { HasMeaning (program_of program.now) }
 {

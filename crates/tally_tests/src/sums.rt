@@ -1,4 +1,4 @@
-//! What spread programs end with, and which programs aren't spread.
+//! The cells with which spread programs end, and programs that can't be spread.
 ghost use Rattle.array_tree.specs.Trees.{program_of};
 ghost use Rattle.spread_laws.specs.Served.{HasMeaning};
 
@@ -17,7 +17,7 @@ use std::alloc::Global;
 use std::test::Fail;
 use tally_cells::{TallyFault, spread};
 
-// Whether the spread of a program ends with these array lines, the last of which are those of its rows.
+// Whether the spread of a program ends with these array lines. The last lines are those of its rows.
 fn sums_to(alloc: Global, program: &Program, expected: &[u8]) -> Result<bool, Fail>
     requires { HasMeaning (program_of program.now) }
 {

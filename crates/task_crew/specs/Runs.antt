@@ -1,4 +1,4 @@
--- How a run ends.
+-- The end of a run.
 use Rattle.std.specs.Prelude.{◌≡◌, ◌≢◌, ◌<◌, ◌⊎◌, ℕ, List, length}
 use Rattle.atomic_table.specs.Seated.{TableId}
 use Rattle.open_table.specs.declared.table.Size.{Size}
@@ -9,22 +9,22 @@ use Rattle.open_board.specs.Ending.{HasFinished, IsHomeAgain}
 use Rattle.task_crew.specs.declared.error.RunError.{RunError}
 use Rattle.task_crew.specs.declared.error.RunError.TheVariants.{HartCount, LevelCount, Task, NotEnded}
 
--- A reason why a board of so many harts does not end, as far as the caller of a run sees it.
+-- A reason why a board of so many harts does not end, as the caller of a run sees it.
 abbrev pub IsReason : ℕ → Cause → Type 0
 IsReason harts WrongCount = Unit {0}
 IsReason harts (OutOfOrder position hart) = (position < harts) × (hart ≢ position)
 IsReason harts (InSite hart site) = (hart < harts) × (site ≢ 0)
 
--- Why a run on so many harts with so many levels has no output: there are no harts or more than 64, there are more than 16 levels,
--- the task failed or memory ran out, or the board refused to end.
+-- Why a run on so many harts with so many levels has no output: there are no harts or more than 64, there are more than 16
+-- levels, the task failed or an allocation failed, or the board refused to end.
 abbrev pub RunFails : {E : Type 0} → ℕ → ℕ → (E → Type 0) → (E → Type 0) → RunError E → Type 0
 RunFails harts levels fails memory (HartCount n) = (n ≡ harts) × ((harts ≡ 0) ⊎ (64 < harts))
 RunFails harts levels fails memory (LevelCount n) = (n ≡ levels) × (16 < levels)
 RunFails harts levels fails memory (Task error) = fails error ⊎ memory error
 RunFails harts levels fails memory (NotEnded why) = IsReason harts why
 
--- With these seats a board of this size has ended: each of its harts is at the base again, and all that the harts did is a list of
--- entries that the table of lent harts admits, after which no site is live.
+-- With these seats a board of this size has ended: each of its harts is at the base again, and all that the harts did is a list
+-- of entries that the table of lent harts admits, after which no site is live.
 abbrev pub AllAreHome : Size → List OpenSeat → Type 0
 AllAreHome size seats =
     (length seats ≡ size.harts) × ((n : ℕ) → n < size.harts → IsHomeAgain seats n) × HasFinished size seats

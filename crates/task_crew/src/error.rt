@@ -8,7 +8,7 @@ pub enum RunError<E> {
     HartCount(u8),
     /// There are more than 16 levels. Nothing was started.
     LevelCount(u8),
-    /// The task failed with this error, or memory ran out.
+    /// The task failed with this error, or an allocation failed.
     Task(E),
     /// All tasks have ended, but the board did not, since a hart is still in a site.
     NotEnded(NotEnded),

@@ -1,8 +1,8 @@
 //! Runs a task on several harts.
 //!
-//! [`run_on`] starts the harts once. Hart 0 runs the task, and the tasks inside it are lent the other harts by an open board, from
-//! site to site. A hart that finds nothing to do looks for a few microseconds and then sleeps until there is a wish for harts, or the
-//! run has ended. On one hart no thread starts and nothing waits.
+//! [`run_on`] starts the harts once. Hart 0 runs the task, and an open board lends the other harts to the tasks inside it, from
+//! site to site. A hart that finds nothing to do checks for a few microseconds and then sleeps until there is a wish for harts,
+//! or the run has ended. On one hart no thread starts and nothing blocks.
 //!
 //! # Example
 //!

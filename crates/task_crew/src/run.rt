@@ -25,18 +25,18 @@ pub const MOST_LEVELS: u8 = 16;
 // Four levels more than `L`. Why four at a time: a goal that names sixteen is too large to prove.
 type FourMore<L> = OneMore<OneMore<OneMore<OneMore<L>>>>;
 
-/// Runs a task on so many harts, with at most `levels` levels of tasks inside it, and returns its output. `harts` is 1 to 64, and
-/// `levels` is 0 to 16. Once it returns, all tasks have ended, and all threads that it started.
+/// Runs a task on `harts` harts, with at most `levels` levels of tasks inside it, and returns its output. `harts` is 1 to 64,
+/// and `levels` is 0 to 16. When it returns, all tasks have ended, and all threads that it started.
 ///
 /// # Errors
 ///
-/// `HartCount` and `LevelCount` exactly if the number is out of range; nothing is started then. `Task` if the task fails or memory
-/// runs out. `NotEnded` if the board doesn't end, since a hart is still in a site.
+/// `HartCount` and `LevelCount` exactly if the number is out of range; nothing is started then. `Task` if the task fails or an
+/// allocation fails. `NotEnded` if the board doesn't end, since a hart is still in a site.
 ///
 /// # Memory
 ///
-/// On two harts and more: `64 * (harts * levels + 1)` bytes for the board, a few words for each of the `harts * levels` sites, and
-/// some cache lines for each hart.
+/// On two harts and more: `64 * (harts * levels + 1)` bytes for the board, a few words for each of the `harts * levels` sites,
+/// and some cache lines for each hart.
 pub fn run_on<T: Task + Send, R: Threads + Wait + Sync>(
     rt: &R,
     alloc: Global,

@@ -6,8 +6,6 @@ use Rattle.std.proofs.Math.Nat.{add-mod, mod-add-mod}
 use Rattle.std.proofs.lemmas.List.{drop-drop, take_more}
 use Rattle.std.proofs.lemmas.List.Sums.{sum_by-append}
 use Rattle.task_loops.specs.Ranges.{between}
-use mathlib.Core.Logic.{dite}
-use native.Mathlib.Decide.{dec_le}
 
 pub between-between : {X : Type 0} (xs : List X) (low middle high : ℕ) → low ≤ middle → middle ≤ high → between low high xs ≡ between low middle xs ++ between middle high xs
 between-between xs low middle high h k =

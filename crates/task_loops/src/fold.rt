@@ -5,15 +5,15 @@ use held_tasks::{Holds, join_as};
 use std::alloc::{AllocError, Global};
 use tasks::{Harts, Task, TaskKind};
 
-/// What ranges of indices come to, and how the outputs of two neighbours are joined.
+/// The outputs of ranges of indices, and how the outputs of two neighbours are joined.
 pub trait Fold: Copy {
-    /// What a range comes to.
+    /// The output of a range.
     type Output: Drop;
 
     /// Why a range fails. An allocation failure becomes such an error by `From`.
     type Error: Drop + From<AllocError>;
 
-    /// The outputs that the indices from the first number up to the second may give.
+    /// The outputs that the indices from the first number up to the second may have.
     ghost gives: { Self → ℕ → ℕ → Self.Output → Type 0 };
 
     /// The errors that this range may fail with, beside an allocation failure.
@@ -33,11 +33,11 @@ pub trait Fold: Copy {
             → gives self.now low high output) }
         ensures error { IfErr result (λ error. Self.Error.from_gives alloc_error error) };
 
-    /// Where the front part of a range fails, the range fails.
+    /// If the front part of a range fails, the range fails.
     ghost front_fails: { (fold : Self) (low middle high : ℕ) (error : Self.Error) → low ≤ middle → middle ≤ high
         → fails fold low middle error → fails fold low high error };
 
-    /// Where the front part of a range has an output and the back part fails, the range fails.
+    /// If the front part of a range has an output and the back part fails, the range fails.
     ghost back_fails: { (fold : Self) (low middle high : ℕ) (output : Self.Output) (error : Self.Error)
         → low ≤ middle → middle ≤ high
         → gives fold low middle output → fails fold middle high error → fails fold low high error };
@@ -74,13 +74,13 @@ pub struct Part<F> {
     pub fold: F,
     /// The first index.
     pub low: usize,
-    /// The index behind the last.
+    /// The index after the last.
     pub high: usize,
     /// How many levels of parts may be inside this part: the range is cut into at most 2^cuts leaves.
     pub cuts: u8,
     /// One hart runs a range that has fewer indices.
     pub shortest: usize,
-    /// The range isn't turned around.
+    /// The range isn't reversed.
     ghost in_order: { low ≤ high },
 }
 
@@ -128,7 +128,7 @@ impl<F: Leaf<Part<F>>> Task for Part<F> {
     }
 }
 
-/// Runs a range inside tasks of any kind that holds its parts, and returns what the range comes to.
+/// Runs a range inside tasks of any kind that holds its parts, and returns the range's output.
 ///
 /// # Errors
 ///

@@ -1,13 +1,13 @@
 //! Loops and reductions over a range of indices, as a library of tasks.
 //!
-//! An author says what the indices from `low` up to `high` come to, and how the outputs of two neighbouring ranges are joined
+//! An author states the output of the indices from `low` up to `high`, how the outputs of two neighbouring ranges are joined
 //! ([`Fold`]), and how one hart computes a short range ([`Leaf`]). [`run_fold`] cuts the range in halves, runs them as tasks on
-//! whatever harts are free, and joins their outputs in order. The law of `join` is all that an associative operator needs: if
-//! `a..b` gives one output and `b..c` gives another, the joined output is one of `a..c`. So the result is the sequential one,
-//! whatever the cuts were, also for an operator that isn't commutative.
+//! any free harts, and joins their outputs in order. The law of `join` is all that an associative operator needs: if `a..b` has
+//! one output and `b..c` has another, the joined output is an output of `a..c`. So the result is the sequential one, for any
+//! cuts, even for an operator that isn't commutative.
 //!
-//! Three folds are ready to use: [`Mapped`] applies a function to each element of a slice and keeps the order, [`Each`] does
-//! something at each index, and [`Sum`] adds up the numbers of a slice.
+//! Three folds are ready to use: [`Mapped`] applies a function to each element of a slice and keeps the order, [`Each`] runs a
+//! body at each index, and [`Sum`] adds up the numbers of a slice.
 //!
 //! # Example
 //!

@@ -10,13 +10,13 @@ use tasks::{Harts, TaskKind};
 
 /// A function of one element.
 pub trait Map<A>: Copy {
-    /// What an element becomes.
+    /// The image of an element.
     type Image: Drop;
 
-    /// What an element may become.
+    /// The images that an element may have.
     ghost image: { Self → A → Self.Image → Type 0 };
 
-    /// Computes what an element becomes.
+    /// Computes the image of an element.
     ///
     /// # Errors
     ///
@@ -26,7 +26,7 @@ pub trait Map<A>: Copy {
         ensures error { IfErr result (λ error. error ≡ alloc_error) };
 }
 
-/// A function applied to each element of a slice. The output is the list of what they become, in the slice's order.
+/// A function applied to each element of a slice. The output is the list of the images, in the slice's order.
 pub struct Mapped<'p, A, M> {
     /// The slice.
     pub elements: &'p [A],
@@ -93,7 +93,7 @@ impl<'p, A, M: Map<A>, V: TaskKind> Leaf<V> for Mapped<'p, A, M> {
     }
 }
 
-// What the elements become, in order.
+// The images of the elements, in order.
 fn images_of<A, M: Map<A>>(
     alloc: Global,
     map: &M,
@@ -144,9 +144,9 @@ pub fn run_map<'p, A, M: Map<A>, V: Holds<Part<Mapped<'p, A, M>>>, H: Harts<V>>(
     Ok(images)
 }
 
-/// What is done at one index.
+/// A body that runs at one index.
 pub trait Body: Copy {
-    /// What is done at an index, once the body has run there.
+    /// What holds of an index once the body has run there.
     ghost done: { Self → ℕ → Type 0 };
 
     /// Runs the body at an index.

@@ -1,4 +1,4 @@
--- What a matrix product is.
+-- The definition of a matrix product.
 use Rattle.std.specs.Prelude.{◌≡◌, ℕ, zero, suc, ◌+◌, ◌*◌, ◌%◌, ◌^◌, List, Vec, length, slice_index}
 use Rattle.std.specs.List.{AllZip}
 

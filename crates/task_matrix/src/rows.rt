@@ -63,7 +63,7 @@ fn dot(row: &[u64], column: &[u64]) -> u64
     sum
 }
 
-// The number at an index, or 0 behind the last.
+// The number at an index, or 0 after the last.
 fn number_at(numbers: &[u64], index: usize) -> u64
     ensures { result ≡ slice_index numbers.now index }
 {

@@ -1,4 +1,4 @@
--- What the application's tasks come to.
+-- The outputs of the application's tasks.
 use Rattle.std.specs.Prelude.{◌≡◌, ◌≤◌, ◌+◌, ◌%◌, ◌^◌, ℕ, Vec, length, sum}
 use Rattle.std.specs.List.{AllZip}
 use Rattle.std.specs.declared.alloc.Global.{Global}
@@ -13,15 +13,15 @@ use Rattle.task_nested.specs.declared.work.Work.TheVariants.{Table, Sorted, Adde
 use Rattle.task_nested.specs.declared.work.Done.{Done}
 use Rattle.task_nested.specs.declared.work.Done.TheVariants.{Summaries, Numbers, Total}
 
--- A range of rows gives their summaries in order.
+-- The output of a range of rows: their summaries in order.
 abbrev pub GivesRows : Part Rows → Vec Summary Global → Type 0
 GivesRows part list = part.high ≤ length part.fold.rows.now → AllZip IsSummary (between part.low part.high part.fold.rows.now) list.items
 
--- A range of a row gives its sum.
+-- The output of a range of a row: its sum.
 abbrev pub GivesSum : Part Sum → ℕ → Type 0
 GivesSum part total = part.high ≤ length part.fold.numbers.now → total ≡ sum (between part.low part.high part.fold.numbers.now) % 2 ^ 64
 
--- A range of rows gives their summaries in order, a list gives its numbers in order, and a range of a row gives its sum.
+-- The outputs: a range of rows has their summaries in order, a list has its numbers in order, and a range of a row has its sum.
 abbrev pub gives_of : Work → Done → Type 0
 gives_of (Table part) done =
     (list : Vec Summary Global) × (done ≡ Summaries list) × GivesRows part list
@@ -29,7 +29,7 @@ gives_of (Sorted sort) done = (list : Vec ℕ Global) × (done ≡ Numbers list)
 gives_of (Added part) done =
     (total : ℕ) × (done ≡ Total total) × GivesSum part total
 
--- How many levels of tasks may be inside a task: each row of a table is sorted and added up, so many levels deep.
+-- The number of levels of tasks that may be inside a task. Each row of a table is sorted and added up, with so many levels.
 abbrev pub depth_of : Work → ℕ
 depth_of (Table part) = part.cuts + part.fold.cuts
 depth_of (Sorted sort) = sort.cuts

@@ -2,7 +2,7 @@
 //! row by a loop library, all on the same harts.
 //!
 //! The application has one kind of tasks, [`Work`], with a variant for each library that it calls. It implements `Holds` once
-//! for each. Whatever hart is free takes a range of rows, a part of a row that is sorted, or a part of a row that is added up.
+//! for each. Any free hart takes a range of rows, a part of a row that is sorted, or a part of a row that is added up.
 //!
 //! # Example
 //!

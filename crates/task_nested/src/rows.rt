@@ -15,7 +15,7 @@ use tasks::Harts;
 pub struct Rows<'p> {
     /// The rows.
     pub rows: &'p [Vec<u64>],
-    /// How many levels of parts may be inside one row.
+    /// The number of levels of parts that may be inside one row.
     pub cuts: u8,
     /// One hart runs a part of a row that has fewer numbers.
     pub shortest: usize,

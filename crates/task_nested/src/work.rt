@@ -25,7 +25,7 @@ pub enum Done {
     Total(u64),
 }
 
-/// What a row comes to.
+/// The summary of a row.
 #[derive(Debug, Drop, PartialEq)]
 pub struct Summary {
     /// The row's numbers in order.

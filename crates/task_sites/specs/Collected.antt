@@ -1,16 +1,16 @@
--- What the outcomes of tasks come to.
+-- The outputs of tasks, or the first error.
 use Rattle.std.specs.Prelude.{◌≡◌, ◌⊎◌, ℕ, List, Option, Some, None, Result, Ok, Err, ◌++◌, ◌∷◌, [], take}
 use Rattle.std.specs.List.{AllZip}
 use Rattle.tasks.specs.Failures.{FirstFailure}
 
 module _ {T O E : Type 0} (gives : T → O → Type 0) (fails : T → E → Type 0) (memory : E → Type 0) where
-  -- The outcomes of the first n tasks were collected: either these are their outputs in order, or the first that failed did so with
-  -- this error, or memory ran out with it.
+  -- The outcomes of the first n tasks were collected: either these are their outputs in order, or the first task that failed
+  -- has this error, or an allocation failed with it.
   abbrev pub Collected : List T → ℕ → List O → Option E → Type 0
   Collected tasks n outputs None = AllZip gives (take n tasks) outputs
   Collected tasks n outputs (Some error) = FirstFailure gives fails tasks error ⊎ memory error
 
--- One outcome more is kept: an output goes to the end while no task has failed, and the first error stays.
+-- One more outcome: an output is appended while no task has failed, and the first error stays.
 abbrev pub Keeps : {O E : Type 0} → List O → Option E → Result O E → List O → Option E → Type 0
 Keeps outputs (Some error) outcome new first = first ≡ Some error
 Keeps outputs None (Ok output) new first = (new ≡ outputs ++ output ∷ []) × (first ≡ None)

@@ -1,7 +1,7 @@
 //! The board of a crew, and the seats at it.
 //!
-//! Why the board has a name in its type: a seat goes through tasks of any kind, whose contracts state nothing about it. By the name each
-//! seat is known to be one of the crew's board when the run ends.
+//! Why the board has a name in its type: a seat goes through tasks of any kind, whose contracts state nothing about it. By the
+//! name each seat is known to be one of the crew's board when the run ends.
 ghost use Rattle.std.specs.Prelude.{◌≡◌, ◌<◌, ◌≤◌};
 ghost use Rattle.open_board.specs.Calls.{Registers};
 ghost use Rattle.open_board.specs.Checked.{ChecksRequest, ChecksEnter, ChecksYield, ChecksClose, ChecksUnregister};
@@ -10,7 +10,7 @@ ghost use Rattle.open_board.specs.Views.{owner_of};
 use open_board::{Entered, OpenBoard, OpenSeat, Refused, Size, TooDeep};
 use std::marker::{Brand, Model, PhantomData};
 
-/// Which board a crew has. Each run picks it.
+/// The board of a crew. Each run picks it.
 pub trait Naming {
     ghost use Rattle.atomic_table.specs.Seated.{TableId};
     ghost use Rattle.open_table.specs.declared.table.Size.{Size};
@@ -93,7 +93,7 @@ impl<B: Naming> CrewSeat<B> {
         self.seat.owner()
     }
 
-    /// Gives back the seat.
+    /// Returns the seat.
     pub fn into_seat(self) -> OpenSeat
         ensures same { result ≡ self }
         ensures board { result.seat.table_id ≡ B.table }
@@ -104,8 +104,8 @@ impl<B: Naming> CrewSeat<B> {
     }
 }
 
-/// Each call is the board's own, which checks its precondition and refuses an entry that the table of lent harts does not admit. No
-/// call allocates.
+/// Each call is the board's own, which checks its precondition and refuses an entry that the table of lent harts does not
+/// admit. No call allocates.
 impl<B: Naming> CrewBoard<B> {
     /// Names a board.
     pub fn new(board: OpenBoard) -> CrewBoard<B>
@@ -137,7 +137,7 @@ impl<B: Naming> CrewBoard<B> {
         self.board.register(&mut seat.seat)
     }
 
-    /// Asks for `count` more harts at the owner.
+    /// Requests `count` more harts at the owner.
     ///
     /// # Errors
     ///
@@ -192,7 +192,7 @@ impl<B: Naming> CrewBoard<B> {
         self.board.checked_unregister(&mut seat.seat)
     }
 
-    /// Gives back the board.
+    /// Returns the board.
     pub fn into_board(self) -> OpenBoard
         ensures same { result ≡ self }
         ensures board { result.table.shared.table_id ≡ B.table }

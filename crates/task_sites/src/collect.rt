@@ -13,7 +13,7 @@ use std::thread;
 use task_table::{Outcome, TaskSeat, TaskTable};
 use tasks::{Harts, Task, TaskKind};
 
-// Runs the task at a place, unless a hart has claimed it. Returns whether it ran the task.
+// Runs the task at an index, unless a hart has claimed it. Returns whether it ran the task.
 pub(crate) fn run_at<T: Task, H: Harts<T>>(
     table: &TaskTable<T>,
     alloc: Global,
@@ -34,7 +34,7 @@ pub(crate) fn run_at<T: Task, H: Harts<T>>(
     true
 }
 
-// Collects the outcomes of all tasks in order. It waits for tasks that other harts run.
+// Collects the outcomes of all tasks in order. Spins for tasks that other harts run.
 pub(crate) fn collect_all<T: TaskKind, R: Wait>(
     rt: &R,
     table: &TaskTable<T>,
@@ -64,7 +64,7 @@ pub(crate) fn collect_all<T: TaskKind, R: Wait>(
     }
 }
 
-// Keeps one outcome more: an output goes to the end while no task has failed, and the first error stays.
+// Adds one more outcome: an output is appended while no task has failed, and the first error stays.
 fn keep<O: Drop, E: Drop>(outputs: &mut Vec<O>, first: &mut Option<E>, outcome: Result<O, E>)
     requires room { vec_len outputs.old < vec_capacity outputs.old }
     ensures keeps { Keeps outputs.old.items first.old outcome outputs.new.items first.new }
@@ -80,7 +80,7 @@ fn keep<O: Drop, E: Drop>(outputs: &mut Vec<O>, first: &mut Option<E>, outcome: 
     }
 }
 
-// The outcome of the task at a place. It waits for the hart that runs the task.
+// The outcome of the task at an index. Spins until the hart that runs the task has stored it.
 fn wait_for<T: TaskKind, R: Wait>(
     rt: &R,
     table: &TaskTable<T>,

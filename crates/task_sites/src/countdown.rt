@@ -2,7 +2,7 @@
 
 use std::sync::atomic::{AtomicU64, Ordering};
 
-/// A count that harts bring down to 0.
+/// A count that harts decrease to 0.
 #[derive(Drop)]
 pub struct Countdown {
     left: AtomicU64,
@@ -16,12 +16,12 @@ impl Countdown {
         }
     }
 
-    /// Brings the count down by so many.
+    /// Decreases the count by so many.
     pub fn take(&self, count: u64) {
         self.left.fetch_sub(count, Ordering::SeqCst);
     }
 
-    /// Whether the count is down to 0.
+    /// Whether the count is 0.
     pub fn is_down(&self) -> bool {
         self.left.load(Ordering::SeqCst) == 0
     }

@@ -1,5 +1,5 @@
-//! What all harts of a run share.
-ghost use Rattle.std.specs.Prelude.{◌≡◌, IfOk};
+//! The state that all harts of a run share.
+ghost use Rattle.std.specs.Prelude.{◌≡◌};
 
 use crate::board::{CrewBoard, Naming};
 use crate::countdown::Countdown;
@@ -14,14 +14,14 @@ use tasks::TaskKind;
 /// A cell for each site of the board: it holds the tasks of the site while guests may enter it.
 type Cell<T> = Mutex<Option<Arc<Site<T>, Global>>>;
 
-/// What all harts of a run share: the board, a cell for each site, and where harts rest.
+/// The state that all harts of a run share: the board, a cell for each site, and where harts rest.
 #[derive(Drop)]
 pub struct Crew<T: TaskKind, B: Naming> {
     pub(crate) board: CrewBoard<B>,
     pub(crate) harts: u8,
     pub(crate) levels: u8,
     cells: Vec<Cell<T>>,
-    // For each hart, bit k is 1 if the k-th site of which the hart is the home may want harts. The hart alone writes it.
+    // For each hart, bit k is 1 if the k-th site of which the hart is the home may want harts. Only the hart writes it.
     wishes: PaddedWords,
     pub(crate) perches: Perches,
     // 1 until the run has ended.
@@ -55,7 +55,7 @@ impl<T: TaskKind, B: Naming> Crew<T, B> {
         })
     }
 
-    /// Ends the run: each hart that rests at the base wakes, and goes home. It is called once.
+    /// Ends the run: each hart that rests at the base wakes, and ends. It is called once.
     pub fn end(&self) {
         self.run.take(1);
         self.perches.wake(0, self.harts as usize);
@@ -66,7 +66,7 @@ impl<T: TaskKind, B: Naming> Crew<T, B> {
         &self.run
     }
 
-    /// Gives back the board.
+    /// Returns the board.
     pub fn into_board(self) -> OpenBoard
         ensures board { result.table.shared.table_id ≡ B.table }
         ensures size { result.size ≡ B.size }
@@ -119,7 +119,7 @@ impl<T: TaskKind, B: Naming> Crew<T, B> {
         }
     }
 
-    /// Which sites of a hart may want harts.
+    /// The sites of a hart that may want harts, as bits.
     pub(crate) fn wishes_of(&self, hart: u8) -> u64 {
         match self.wishes.get(hart as usize) {
             Some(word) => word.load(Ordering::SeqCst),

@@ -1,4 +1,4 @@
-//! One hart of a crew: its transfers, and what it looks at while it has no task.
+//! One hart of a crew: its transfers, and what it checks while it has no task.
 ghost use Rattle.std.specs.Prelude.{◌≡◌};
 
 use crate::board::{CrewSeat, Naming};
@@ -21,7 +21,7 @@ pub struct Hart<'c, T: TaskKind, R, B: Naming> {
     seat: RefCell<CrewSeat<B>>,
     // The sites of this hart that may want harts, as the crew shows them.
     wishes: Cell<u64>,
-    // How many harts the task that runs may count on.
+    // The number of harts that the current task may count on.
     share: Cell<u8>,
 }
 
@@ -42,7 +42,7 @@ impl<'c, T: TaskKind, R, B: Naming> Hart<'c, T, R, B> {
         }
     }
 
-    /// Gives back the seat.
+    /// Returns the seat.
     pub fn into_seat(self) -> OpenSeat
         ensures board { result.seat.table_id ≡ B.table }
         ensures size { result.seat.me.0.size ≡ B.size }
@@ -68,12 +68,12 @@ impl<'c, T: TaskKind, R, B: Naming> Hart<'c, T, R, B> {
         self.crew.run()
     }
 
-    /// How many harts the task that runs may count on.
+    /// The number of harts that the current task may count on.
     pub(crate) fn share(&self) -> u8 {
         self.share.get()
     }
 
-    /// Sets how many harts the task that runs may count on. Returns how many it was before.
+    /// Sets the number of harts that the current task may count on. Returns the number before.
     pub(crate) fn set_share(&self, share: u8) -> u8 {
         self.share.replace(share)
     }
@@ -98,8 +98,8 @@ impl<'c, T: TaskKind, R, B: Naming> Hart<'c, T, R, B> {
 }
 
 impl<'c, T: TaskKind, R: Wait, B: Naming> Hart<'c, T, R, B> {
-    /// Registers a site for the tasks below the hart's owner and requests so many harts. Returns the site's number, or `None` if the
-    /// hart is the home of as many sites as the board has levels: nothing is changed then.
+    /// Registers a site for the tasks below the hart's owner and requests so many harts. Returns the site's number, or `None`
+    /// if the hart is the home of as many sites as the board has levels: nothing is changed then.
     pub(crate) fn open(&self, tasks: &Arc<Site<T>, Global>, wish: u8) -> Option<u16> {
         let parent = self.owner();
         let site = self.register()?;
@@ -118,7 +118,7 @@ impl<'c, T: TaskKind, R: Wait, B: Naming> Hart<'c, T, R, B> {
         }
     }
 
-    // Asks for so many harts at the site of which the hart is the home. Returns whether it has asked.
+    // Requests so many harts at the site of which the hart is the home. Returns whether the board made the request.
     fn request(&self, wish: u8) -> bool {
         match self.seat.try_borrow_mut() {
             Ok(mut seat) => self.crew.board.request(&mut seat, wish).is_ok(),
@@ -188,8 +188,8 @@ impl<'c, T: TaskKind, R: Wait, B: Naming> Hart<'c, T, R, B> {
         has_ended
     }
 
-    /// Enters a site below the hart's owner that wants harts. Returns its tasks, or `None` if the hart found no such site: it is
-    /// where it was then.
+    /// Enters a site below the hart's owner that wants harts. Returns its tasks, or `None` if the hart found no such site: its
+    /// owner is then unchanged.
     pub(crate) fn enter_wish(&self) -> Option<Arc<Site<T>, Global>> {
         let harts = self.crew.harts;
         for step in 1..harts {
@@ -227,7 +227,7 @@ impl<'c, T: TaskKind, R: Wait, B: Naming> Hart<'c, T, R, B> {
         laid
     }
 
-    /// Leaves the site that the hart is a guest of.
+    /// Leaves the site of which the hart is a guest.
     pub(crate) fn leave(&self) {
         let site = self.owner();
         if let Ok(mut seat) = self.seat.try_borrow_mut() {
@@ -248,8 +248,8 @@ impl<'c, T: TaskKind, R: Wait, B: Naming> Hart<'c, T, R, B> {
         self.crew.perches.wake_hart((home % 256) as u8, site);
     }
 
-    /// Sleeps at the hart's owner until there is a wish below it, or the count is down. Returns the tasks of a site that the hart has
-    /// entered instead, if there was a wish.
+    /// Sleeps at the hart's owner until there is a wish below it, or the count is down. Returns the tasks of a site that the
+    /// hart has entered instead, if there was a wish.
     pub(crate) fn rest(&self, left: &Countdown) -> Option<Arc<Site<T>, Global>> {
         let owner = self.owner();
         self.crew.perches.announce(self.number, owner);

@@ -15,8 +15,8 @@ use std::sync::{Arc, Wait};
 use task_table::Outcome;
 use tasks::{Ground, Harts, Task};
 
-/// How many levels of tasks may be inside a task. Why a type: a task runs tasks of its own kind inside it, and the proof goes down
-/// the levels.
+/// The number of levels of tasks that may be inside a task. Why a type: a task runs tasks of its own kind inside it, and the
+/// proof goes down the levels.
 pub trait Levels<T: Task, R: Wait, B: Naming> {
     /// The number of levels.
     ghost count: { ℕ };
@@ -46,7 +46,7 @@ pub trait Levels<T: Task, R: Wait, B: Naming> {
     fn work(alloc: Global, hart: &Hart<'_, T, R, B>, site: &Site<T>)
         requires { site.now.1 ≤ count };
 
-    /// Runs tasks of a site that the hart is a guest of, and helps the sites inside it until all its tasks have ended.
+    /// Runs tasks of a site of which the hart is a guest, and helps the sites inside it until all its tasks have ended.
     fn serve(alloc: Global, hart: &Hart<'_, T, R, B>, site: &Site<T>)
         requires { site.now.1 ≤ count };
 }
@@ -228,7 +228,8 @@ fn shared_site<T: Task>(
     Ok(Arc::new(alloc, site)?)
 }
 
-// Runs the tasks of a site of which the hart is the home, with the guests that come, until all have ended and no guest is inside.
+// Runs the tasks of a site of which the hart is the home, with the guests that come, until all have ended and no guest is
+// inside.
 fn lead<T: Task, R: Wait, B: Naming, L: Levels<T, R, B>>(
     alloc: Global,
     hart: &Hart<'_, T, R, B>,
@@ -249,12 +250,13 @@ fn lead<T: Task, R: Wait, B: Naming, L: Levels<T, R, B>>(
     }
 }
 
-// How many harts each of so many tasks may count on, of those that their parent may.
+// The number of harts that each of so many tasks may count on, of those that their parent may.
 fn share_of(share: u8, count: usize) -> u8 {
     ((share as usize) / count.max(1)).max(1) as u8
 }
 
-// How many harts a site of so many tasks requests. Without a level inside the tasks, more harts than tasks would find nothing to do.
+// The number of harts that a site of so many tasks requests. Without a level inside the tasks, more harts than tasks would find
+// nothing to do.
 fn wish_of(harts: u8, share: u8, count: usize, levels: u8) -> u8 {
     let others = harts.saturating_sub(1);
     let tasks = count.saturating_sub(1).min(others as usize) as u8;

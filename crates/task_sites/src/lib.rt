@@ -1,12 +1,14 @@
 //! Sites of tasks on a crew of harts.
 //!
-//! A [`Crew`] is what all harts of a run share: an open board, on which harts are lent from site to site, and one cell for each
-//! site. Each [`Hart`] has a seat at the board. A task sees its hart as [`CrewHarts`]: `fork_join` registers a site below the site
-//! that the hart is in, lays the tasks into the site's cell, requests harts, runs tasks, and returns once all tasks have ended.
-//! Other harts enter the site as guests and run its tasks.
+//! A [`Crew`] is the state that all harts of a run share: an open board, on which harts are lent from site to site, and one
+//! cell for each site. Each [`Hart`] has a seat at the board. A task sees its hart as [`CrewHarts`]: `fork_join` registers a
+//! site below the site that the hart is in, lays the tasks into the site's cell, requests harts, runs tasks, and returns once
+//! all tasks have ended. Other harts enter the site as guests and run its tasks.
 //!
-//! That each output belongs to its task is proved by the table of tasks alone, whatever hart ran it. That each transfer of a hart is
-//! an entry of the board's table is proved by the board.
+//! The table of tasks proves that each output belongs to its task, for any hart that ran it. The board proves that each
+//! transfer of a hart is an entry of the board's table.
+//!
+//! Begin with `Levels` in `levels.rt` and `Site` in `site.rt`; `crew_tests` runs tasks on several harts.
 #![tactic(auto)]
 
 mod board;

@@ -1,16 +1,17 @@
 //! Where harts rest: a hart that finds nothing to do sleeps until another hart wakes it.
 //!
-//! Why no wake is lost: a hart first announces the site at which it rests, then looks once more for what it waits for, and only then
-//! sleeps. A waker first makes what the other waits for (a wish, an outcome, an end), and then looks for announced harts. All steps are
-//! sequentially consistent, so one of the two sees the other. A waker takes an announcement back as it chooses the hart, and a hart
-//! sleeps only while its announcement stands. A hart that was chosen and then needed no wake passes it on.
+//! Why no wake is lost: a hart first announces the site at which it rests, then checks once more what it waits for, and only
+//! then sleeps. A waker first makes what the other waits for (a wish, an outcome, an end), and then searches for announced
+//! harts. All steps are sequentially consistent, so one of the two sees the other. A waker takes an announcement back as it
+//! chooses the hart, and a hart sleeps only while its announcement stands. A hart that was chosen and then needed no wake
+//! passes it on.
 
 use crossbeam_utils::CachePadded;
 use std::alloc::{AllocError, Global};
 use std::sync::Wait;
 use std::sync::atomic::{AtomicU64, Ordering};
 
-/// Words of which each has its cache lines for itself.
+/// Words, each with cache lines of its own.
 pub(crate) type PaddedWords = Vec<CachePadded<AtomicU64>>;
 
 /// Makes so many words, each 0.
@@ -22,17 +23,17 @@ pub(crate) fn padded_words(alloc: Global, count: u8) -> Result<PaddedWords, Allo
     Ok(words)
 }
 
-/// The places where the harts of a crew rest.
+/// The words by which the harts of a crew rest.
 #[derive(Drop)]
 pub(crate) struct Perches {
     // For each hart, one more than the number of the site at which it rests, or 0.
     sites: PaddedWords,
-    // How many harts have announced that they rest.
+    // The number of harts that have announced that they rest.
     resting: CachePadded<AtomicU64>,
 }
 
 impl Perches {
-    /// Makes a place for each of so many harts.
+    /// Makes a word for each of so many harts.
     pub(crate) fn new(alloc: Global, harts: u8) -> Result<Perches, AllocError> {
         Ok(Perches {
             sites: padded_words(alloc, harts)?,

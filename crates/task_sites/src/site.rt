@@ -12,15 +12,15 @@ use std::sync::atomic::{AtomicU64, Ordering};
 use task_table::TaskTable;
 use tasks::{Harts, Task, TaskKind};
 
-/// The tasks of one call of `fork_join`. Contracts see the tasks, and how many levels of tasks may be inside each.
+/// The tasks of one call of `fork_join`. Contracts see the tasks, and the number of levels of tasks that may be inside each.
 #[derive(Drop)]
 pub struct Site<T: TaskKind> {
     table: TaskTable<T>,
     levels: u8,
     share: u8,
-    // The place that is tried next.
+    // The index that is tried next.
     next: AtomicU64,
-    // How many tasks have still to end.
+    // The number of tasks that have still to end.
     left: Countdown,
 }
 
@@ -36,8 +36,8 @@ impl<T: TaskKind> Model for Site<T> {
 }
 
 impl<T: TaskKind> Site<T> {
-    /// Makes a site of these tasks. `levels` is how many levels of tasks may be inside each, and `share` is how many harts each may
-    /// count on.
+    /// Makes a site of these tasks. `levels` is the number of levels of tasks that may be inside each, and `share` is the
+    /// number of harts that each may count on.
     ///
     /// # Errors
     ///
@@ -62,19 +62,19 @@ impl<T: TaskKind> Site<T> {
         })
     }
 
-    /// How many levels of tasks may be inside each task.
+    /// The number of levels of tasks that may be inside each task.
     pub fn levels(&self) -> u8
         ensures { result ≡ self.now.1 }
     {
         self.levels
     }
 
-    /// How many harts each task may count on.
+    /// The number of harts that each task may count on.
     pub fn share(&self) -> u8 {
         self.share
     }
 
-    /// How many tasks have still to end.
+    /// The number of tasks that have still to end.
     pub fn left(&self) -> &Countdown {
         &self.left
     }
@@ -100,8 +100,8 @@ impl<T: TaskKind> Site<T> {
         self.left.take(ran);
     }
 
-    /// Collects what each task came to: their outputs in order, added to `outputs`, which is empty and has room for them. It waits
-    /// for tasks that other harts run.
+    /// Collects the outcomes of the tasks: their outputs in order, appended to `outputs`, which is empty and has room for them.
+    /// Spins for tasks that other harts run.
     ///
     /// # Errors
     ///

@@ -1,5 +1,5 @@
--- A table of tasks. A task's word is 0 while the task waits, 1 while a hart has it, 2 once its outcome is in its slot, and 3 once
--- the outcome was collected.
+-- A table of tasks. A task's word is 0 while the task waits, 1 while a hart has it, 2 once its outcome is in its slot, and 3
+-- once the outcome was collected.
 use Rattle.std.specs.Prelude.{◌≡◌, ◌≢◌, ◌⊎◌, ℕ, List, ◌∷◌, Result, IfOk, IfErr, slice_index, length}
 use mathlib.Core.Option.{Option, some}
 use lib.ListN.{get_elem?}
@@ -15,7 +15,8 @@ abbrev pub Ends : {T O E : Type 0} → (T → O → Type 0) → (T → E → Typ
 Ends gives fails memory task outcome =
     IfOk outcome (λ output. gives task output) × IfErr outcome (λ error. fails task error ⊎ memory error)
 
--- Where a task is whose word is n: a task that waits is in its slot, and an outcome in a slot is one of that slot's task.
+-- The position of a task whose word is n: a waiting task is in its slot, and an outcome in a slot is an outcome of that slot's
+-- task.
 abbrev pub StandsAt : {T R : Type 0} → (T → R → Type 0) → T → ℕ → Option (Option (TaskSlot T R)) → Type 0
 StandsAt {R} ends task n home =
     (n ≡ 0 → home ≡ some (some (Waits task)))
@@ -26,30 +27,30 @@ abbrev pub list_of : {T A : Type 0} → Snapshot (Vec T A) → List T
 list_of key = key.value.items
 
 module _ {K : Type 0} where
-  -- What a seat knows after it read n in the word of the task at i.
+  -- What a seat knows after it has read n in the word of the task at i.
   abbrev pub looked : Sight K → ℕ → ℕ → Sight K
   looked sight i n = record sight { place = i; found = n }
 
-  -- A sight is of these tasks, and a task that was seen to be claimed is claimed for good.
+  -- A sight belongs to these tasks, and a task that was seen to be claimed is claimed for good.
   abbrev pub IsSight : K → List ℕ → Sight K → Type 0
   IsSight key words sight = (sight.tasks ≡ key) × (sight.found ≢ 0 → slice_index words sight.place ≢ 0)
 
 module _ {T R K : Type 0} where
-  -- The rule: the slots are those of these tasks, and each seat's sight is of them.
+  -- The invariant: the slots are those of these tasks, and each seat's sight belongs to them.
   abbrev pub TasksStand : (T → R → Type 0) → K → List T → State (TaskSlot T R) (Sight K) → Type 0
   TasksStand ends key tasks s =
       (length s.words ≡ length tasks) × (length s.homes ≡ length tasks)
       × ((id : ℕ) (sight : Sight K) → get_elem? s.views id ≡ some sight → IsSight key s.words sight)
       × ((i : ℕ) (task : T) → get_elem? tasks i ≡ some task → StandsAt ends task (slice_index s.words i) (get_elem? s.homes i))
 
-  -- A claim of the task at i: where its word was 0, the seat has the task.
+  -- A claim of the task at i: if its word was 0, the seat has the task.
   abbrev pub Claims : List T → Me (TaskSlot T R) (Sight K) → ℕ → ℕ → Me (TaskSlot T R) (Sight K) → Type 0
   Claims tasks me i found after =
       (after.0 ≡ looked me.0 i found)
       × (found ≡ 0 → (task : T) × (get_elem? tasks i ≡ some task) × (after.1 ≡ (i, Waits task) ∷ me.1))
       × (found ≢ 0 → after.1 ≡ me.1)
 
-  -- A try to collect the outcome of the task at i: where its word was 2, the seat has the outcome.
+  -- A try to collect the outcome of the task at i: if its word was 2, the seat has the outcome.
   abbrev pub Collects : (T → R → Type 0) → List T → Me (TaskSlot T R) (Sight K) → ℕ → ℕ → Me (TaskSlot T R) (Sight K) → Type 0
   Collects ends tasks me i found after =
       (after.0 ≡ looked me.0 i found)

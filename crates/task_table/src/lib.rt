@@ -1,7 +1,8 @@
-//! Tasks that wait for harts. One hart claims each task once, in one atomic step, and its outcome comes back in the task's slot.
+//! Tasks that wait for harts. One hart claims each task once, in one atomic step, and its outcome comes back in the task's
+//! slot.
 //!
-//! A table is made of a list of tasks and shared by reference. Each hart takes a seat, and claims the task at a place, runs it and
-//! gives its outcome. The hart that needs the outcomes collects each from its place. No call takes a lock, and none waits.
+//! A table is made of a list of tasks and shared by reference. Each hart takes a seat, claims the task at an index, runs it and
+//! stores its outcome. The hart that needs the outcomes collects each from its index. No call locks or blocks.
 //!
 //! # Example
 //!

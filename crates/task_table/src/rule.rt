@@ -1,4 +1,4 @@
-//! The rule of a table of tasks, and what each kind of step ensures.
+//! The invariant of a table of tasks, and what each kind of step ensures.
 use crate::slot::{Outcome, Sight, TaskList, TaskSlot};
 use atomic_table::{Play, TableRule};
 use std::marker::PhantomData;
@@ -37,7 +37,7 @@ impl<T, R> Play<TaskSlot<T, R>, Sight<TaskList<T>>> for Claim {
     ghost then = { λ s me found after. Claims me.0.tasks.value.items me s.word found after };
 }
 
-/// The store by which a hart gives an outcome.
+/// The store by which a hart stores an outcome.
 pub struct Give;
 
 impl<T, R> Play<TaskSlot<T, R>, Sight<TaskList<T>>> for Give {

@@ -1,9 +1,9 @@
-//! What a slot holds, and what a seat knows.
+//! The contents of a slot, and the view of a seat.
 use atomic_table::Seat;
 use std::snapshot::Snapshot;
 use tasks::TaskKind;
 
-/// What a slot holds.
+/// The contents of a slot.
 #[derive(Drop)]
 pub enum TaskSlot<T, R> {
     /// A task that waits.
@@ -24,7 +24,7 @@ pub type TaskList<T> = Snapshot<Vec<T>>;
 pub struct Sight<K> {
     /// The tasks of the table.
     pub tasks: K,
-    /// The place whose word the seat read last.
+    /// The index whose word the seat read last.
     pub place: usize,
     /// The number that was in that word.
     pub found: u64,

@@ -73,7 +73,7 @@ impl<T: TaskKind> TaskTable<T> {
         self.count
     }
 
-    /// Takes a seat.
+    /// Takes a seat. Does not allocate.
     pub fn seat(&self) -> TaskSeat<T>
         requires { 0 < length self.now.table.shared.key.value.items }
         ensures of { result.table_id ≡ self.now.table.shared.table_id }
@@ -83,7 +83,7 @@ impl<T: TaskKind> TaskTable<T> {
         self.table.shared.load_new_seat::<Sit>(0).1
     }
 
-    /// Claims the task at a place. `None` only if the seat read in the task's word that a hart claimed the task.
+    /// Claims the task at an index. `None` only if the seat read in the task's word that a hart claimed the task.
     pub fn claim(&self, seat: &mut TaskSeat<T>, place: usize) -> Option<T>
         requires of { seat.old.table_id ≡ self.now.table.shared.table_id }
         requires knows { seat.old.me.0.tasks ≡ self.now.table.shared.key }
@@ -110,7 +110,7 @@ impl<T: TaskKind> TaskTable<T> {
         None
     }
 
-    /// Gives the outcome of the task that this seat claimed last.
+    /// Stores the outcome of the task that this seat claimed last.
     pub fn give(&self, seat: &mut TaskSeat<T>, place: usize, outcome: Outcome<T>)
         requires of { seat.old.table_id ≡ self.now.table.shared.table_id }
         requires knows { seat.old.me.0.tasks ≡ self.now.table.shared.key }
@@ -129,7 +129,7 @@ impl<T: TaskKind> TaskTable<T> {
         self.table.shared.store::<Give>(seat, place, 2);
     }
 
-    /// Collects the outcome of the task at a place. `None` only if the seat read in the task's word that no outcome is there.
+    /// Collects the outcome of the task at an index. `None` only if the seat read in the task's word that there is no outcome.
     pub fn collect(&self, seat: &mut TaskSeat<T>, place: usize) -> Option<Outcome<T>>
         requires of { seat.old.table_id ≡ self.now.table.shared.table_id }
         requires knows { seat.old.me.0.tasks ≡ self.now.table.shared.key }

@@ -22,7 +22,7 @@ impl TaskKind for Twice {
     ghost depth = { λ _. 0 };
 }
 
-// Runs the task at a place. Returns whether the seat got it.
+// Runs the task at an index. Returns whether the seat got it.
 fn run_at(table: &TaskTable<Twice>, seat: &mut TaskSeat<Twice>, place: usize) -> bool
     requires of { seat.old.table_id ≡ table.now.table.shared.table_id }
     requires knows { seat.old.me.0.tasks ≡ table.now.table.shared.key }
@@ -37,7 +37,7 @@ fn run_at(table: &TaskTable<Twice>, seat: &mut TaskSeat<Twice>, place: usize) ->
     true
 }
 
-// Collects the output of the task at a place, if it is there.
+// Collects the output of the task at an index, if there is one.
 fn output_at(table: &TaskTable<Twice>, seat: &mut TaskSeat<Twice>, place: usize) -> Option<u64>
     requires of { seat.old.table_id ≡ table.now.table.shared.table_id }
     requires knows { seat.old.me.0.tasks ≡ table.now.table.shared.key }

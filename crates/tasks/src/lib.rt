@@ -1,13 +1,14 @@
 //! Tasks of any kind on harts: a task may run tasks inside it on the harts that run it, nested as deep as it states.
 //!
-//! An author says what tasks of a kind output ([`TaskKind`]) and how a task is run ([`Task`]). Inside `run`, the author calls
-//! [`Harts::fork_join`] with a list of tasks, and gets their outputs in order, or the error of the first task that failed.
-//! How many harts there are, and which hart runs which task, is a matter of the type that implements [`Harts`]: this crate has
-//! one hart, which runs the tasks in order.
+//! An author states what tasks of a kind output ([`TaskKind`]) and how a task runs ([`Task`]). Inside `run`, the author calls
+//! [`Harts::fork_join`] with a list of tasks, and gets their outputs in order, or the error of the first task that failed. The
+//! type that implements [`Harts`] decides how many harts there are, and which hart runs which task: this crate has one hart,
+//! which runs the tasks in order.
 //!
 //! # Example
 //!
-//! The length of a text, by halves of the text. The task borrows the text, may be cut so many times, and has no error of its own.
+//! The length of a text, by halves of the text. The task borrows the text, may be cut so many times, and has no error of its
+//! own.
 //!
 //! ```text
 //! #[derive(Drop)]

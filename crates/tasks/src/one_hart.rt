@@ -82,6 +82,10 @@ pub fn in_order<T: Task, H: Harts<T>>(
 /// # Errors
 ///
 /// An error of the task's own, or an allocation failure.
+///
+/// # Memory
+///
+/// What the task allocates, and a list of outputs for each `fork_join`.
 pub fn run_alone<T: Task>(alloc: Global, task: T) -> Result<T::Output, T::Error>
     requires { T.depth task ≤ 16 }
     ensures output { IfOk result (λ output. T.gives task output) }

@@ -5,15 +5,15 @@ ghost use Rattle.tasks.specs.Failures.{FirstFailure};
 
 use std::alloc::{AllocError, Global};
 
-/// What tasks of a kind output, and how they fail.
+/// The outputs and the errors of tasks of a kind.
 pub trait TaskKind: Drop {
-    /// What a task comes to.
+    /// The output of a task.
     type Output: Drop;
 
     /// Why a task fails. An allocation failure becomes such an error by `From`.
     type Error: Drop + From<AllocError>;
 
-    /// The outputs that a task may give, on whatever hart it runs.
+    /// The outputs that a task may have, on any hart.
     ghost gives: { Self → Self.Output → Type 0 };
 
     /// The errors that a task may fail with, beside an allocation failure.
@@ -23,10 +23,10 @@ pub trait TaskKind: Drop {
     ghost depth: { Self → ℕ };
 }
 
-/// How a task is run.
+/// How a task runs.
 ///
-/// Why a trait of its own: a library's procedure needs to know what tasks give, and not how the tasks around it are run. So
-/// [`Harts`] asks for a [`TaskKind`] alone, and the procedure runs inside tasks of any kind.
+/// Why a trait of its own: a library's procedure needs to know the outputs of tasks, and not how the tasks around it run. So
+/// [`Harts`] requires only a [`TaskKind`], and the procedure runs inside tasks of any kind.
 pub trait Task: TaskKind {
     /// Runs the task on a hart. The task may run tasks inside it by `harts`.
     ///

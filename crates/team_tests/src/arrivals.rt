@@ -17,7 +17,7 @@ use std::test::Fail;
 const TWENTY_MEMBERS: &[u8] = b"array a[20]; array b[20];
     team i in 0..20 by 20 { a[i] = i + 1; } barrier { b[i] = a[19 - i]; }";
 
-// What the first phase writes, and the second.
+// The writes of the first phase, and of the second.
 const RISING: [(u16, i64); 20] = [
     (0, 1),
     (1, 2),
@@ -64,7 +64,7 @@ const FALLING: [(u16, i64); 20] = [
     (39, 1),
 ];
 
-// What a test looks at.
+// The checks of the tests.
 #[derive(Clone, Copy)]
 enum Look {
     Backwards,
@@ -73,7 +73,7 @@ enum Look {
     Fails,
 }
 
-// What became of a piece.
+// The result for a piece.
 #[derive(Clone, Copy, PartialEq, Eq, Drop)]
 enum Outcome {
     Kept,
@@ -81,7 +81,7 @@ enum Outcome {
     Opened { rising: bool, falling: bool },
 }
 
-// What an arrival tells.
+// The result of an arrival.
 fn outcome_of(arrival: Arrival) -> Outcome {
     match arrival {
         Arrival::Kept => Outcome::Kept,
@@ -105,8 +105,7 @@ fn bring<'a, 'r, 'p, R: Wait + 'a>(
     Ok(outcome_of(hand.arrive(rt, piece)?))
 }
 
-// Brings the first phase's pieces but that of the first place, the last place first, by two hands in turn. Whether each is
-// kept.
+// Brings the first phase's pieces but the first, the last one first, by two hands in turn. Returns whether each is kept.
 fn bring_rest<'a, 'r, 's, 'p, R: Wait + 'a>(
     rt: &'a R,
     one: &TeamHand<'a, 'r, 'p, R>,
@@ -126,7 +125,7 @@ fn bring_rest<'a, 'r, 's, 'p, R: Wait + 'a>(
     Ok(kept)
 }
 
-// Brings all of them. Whether the last one opens the phase, with what it wrote.
+// Brings all of them. Returns whether the last one opens the phase, with its writes.
 fn opens_first<'a, 'r, 's, 'p, R: Wait + 'a>(
     rt: &'a R,
     one: &TeamHand<'a, 'r, 'p, R>,
@@ -152,8 +151,8 @@ fn begin_second<'a, 'r, 'p, R: Wait + 'a>(
     Ok(pieces)
 }
 
-// Begins all members of the second phase, and brings their pieces, the last one first. Whether the last that comes opens the
-// phase, with what it wrote.
+// Begins all members of the second phase, and brings their pieces, the last one first. Returns whether the last that comes
+// opens the phase, with its writes.
 fn opens_second<'a, 'r, 's, 'p, R: Wait + 'a>(
     rt: &'a R,
     one: &mut TeamHand<'a, 'r, 'p, R>,
@@ -183,7 +182,7 @@ fn is_kept_once<'a, 'r, 's, 'p, R: Wait + 'a>(
     Ok(first == Outcome::Kept && second == Outcome::Stranger)
 }
 
-// Whether a piece whose phase is over is a stranger.
+// Whether a piece of an earlier phase is a stranger.
 fn is_late<'a, 'r, 's, 'p, R: Wait + 'a>(
     rt: &'a R,
     one: &TeamHand<'a, 'r, 'p, R>,
@@ -196,7 +195,7 @@ fn is_late<'a, 'r, 's, 'p, R: Wait + 'a>(
     Ok(opens && late == Outcome::Stranger)
 }
 
-// Whether a place fails the team, and not if its piece has come.
+// Whether a failed piece fails the team, and not if the piece has come.
 fn fails_where_open<'a, 'r, 's, 'p, R: Wait + 'a>(
     rt: &'a R,
     one: &TeamHand<'a, 'r, 'p, R>,

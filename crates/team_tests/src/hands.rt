@@ -25,7 +25,7 @@ pub fn shared_team<'p>(alloc: Global, program: &'p Program) -> Result<SharedTeam
     Ok(SharedTeam::new(alloc, team_of(alloc, program)?)?)
 }
 
-// What a test looks at.
+// The checks of the tests.
 #[derive(Clone, Copy)]
 enum Look {
     Whole,
@@ -98,7 +98,7 @@ fn holds<R: Wait>(rt: &R, alloc: Global, look: Look) -> Result<bool, Fail> {
     holds_of_team(rt, &shared, &table, &mut seat, alloc, &jobs, look)
 }
 
-// Runs the three members of a phase in their order. What the phase wrote.
+// Runs the three members of a phase in their order. Returns the phase's writes.
 fn run_phase<'a, 'r, 'p, R: Wait + 'a>(
     rt: &'a R,
     hand: &mut TeamHand<'a, 'r, 'p, R>,
@@ -114,7 +114,7 @@ fn run_phase<'a, 'r, 'p, R: Wait + 'a>(
     Err(Fail::new("it didn't open"))
 }
 
-// Runs two phases. Whether each wrote what it should, and the team wasn't handed out after the first.
+// Runs two phases. Returns whether each had the right writes, and the team wasn't handed out after the first.
 fn runs_two<'a, 'r, 'p, R: Wait + 'a>(
     rt: &'a R,
     hand: &mut TeamHand<'a, 'r, 'p, R>,
@@ -126,7 +126,7 @@ fn runs_two<'a, 'r, 'p, R: Wait + 'a>(
     Ok(first && goes_on && second)
 }
 
-// Hands a team out; whether it gives all that its phases wrote.
+// Hands a team out. Returns whether its writes are those of its phases.
 fn gives_all<'a, 'r, 'p, R: Wait + 'a>(rt: &'a R, hand: &TeamHand<'a, 'r, 'p, R>) -> bool {
     match hand.take_out(rt) {
         Some(team) => gives(team, BOTH_PHASES.as_slice()),
@@ -134,14 +134,14 @@ fn gives_all<'a, 'r, 'p, R: Wait + 'a>(rt: &'a R, hand: &TeamHand<'a, 'r, 'p, R>
     }
 }
 
-// Whether a team is handed out that gives all, and no second time.
+// Whether a team is handed out with all writes, and no second time.
 fn gives_once<'a, 'r, 'p, R: Wait + 'a>(rt: &'a R, hand: &TeamHand<'a, 'r, 'p, R>) -> bool {
     let all = gives_all(rt, hand);
     let out = stays(rt, hand);
     all && out
 }
 
-// Runs the whole team. Whether each phase and all together wrote what they should.
+// Runs the whole team. Returns whether each phase and all together had the right writes.
 fn runs_whole<'a, 'r, 'p, R: Wait + 'a>(
     rt: &'a R,
     hand: &mut TeamHand<'a, 'r, 'p, R>,
@@ -158,7 +158,7 @@ fn phases_run_by_hands(rt: HostRuntime) -> Result<(), Fail> {
     Ok(())
 }
 
-// Whether members go before the wish of the child that is left.
+// Whether members go before the wish of the remaining child.
 fn members_go_first<'a, 'r, 'p, R: Wait + 'a>(
     rt: &'a R,
     hand: &mut TeamHand<'a, 'r, 'p, R>,
@@ -173,7 +173,7 @@ fn a_hand_answers_as_the_team_does(rt: HostRuntime) -> Result<(), Fail> {
     Ok(())
 }
 
-// Puts four contexts back. Whether there was room for three, and they go before the members.
+// Puts four contexts back. Returns whether there was room for three, and they go before the members.
 fn contexts_go_first<'a, 'r, 'p, R: Wait + 'a>(
     rt: &'a R,
     hand: &mut TeamHand<'a, 'r, 'p, R>,
@@ -191,12 +191,12 @@ fn a_hand_puts_contexts_back(rt: HostRuntime) -> Result<(), Fail> {
     Ok(())
 }
 
-// Whether a team has failed, and whether it is over.
+// Whether a team has failed, and whether it is done.
 fn state<'a, 'r, 'p, R: Wait + 'a>(rt: &'a R, hand: &TeamHand<'a, 'r, 'p, R>) -> (bool, bool) {
     (hand.has_failed(rt), hand.is_over(rt))
 }
 
-// Tries to fail a place that isn't there, then one that is. Whether the team was failed and over at the end alone.
+// Tries to fail a piece that doesn't exist, then one that does. Returns whether the team was failed and done only at the end.
 fn fails<'a, 'r, 'p, R: Wait + 'a>(rt: &'a R, hand: &TeamHand<'a, 'r, 'p, R>) -> bool {
     hand.fail(rt, 3);
     let goes_on = state(rt, hand) == (false, false);
@@ -205,7 +205,7 @@ fn fails<'a, 'r, 'p, R: Wait + 'a>(rt: &'a R, hand: &TeamHand<'a, 'r, 'p, R>) ->
     goes_on && ends
 }
 
-// Fails a team and hands it out. Whether it gives nothing.
+// Fails a team and hands it out. Returns whether it has no writes.
 fn hands_out_failed<'a, 'r, 'p, R: Wait + 'a>(rt: &'a R, hand: &TeamHand<'a, 'r, 'p, R>) -> bool {
     if !fails(rt, hand) {
         return false;
@@ -216,12 +216,12 @@ fn hands_out_failed<'a, 'r, 'p, R: Wait + 'a>(rt: &'a R, hand: &TeamHand<'a, 'r,
     }
 }
 
-// Whether a team isn't handed out, since it was before or isn't over.
+// Whether a team isn't handed out, since it was before or isn't done.
 fn stays<'a, 'r, 'p, R: Wait + 'a>(rt: &'a R, hand: &TeamHand<'a, 'r, 'p, R>) -> bool {
     hand.take_out(rt).is_none()
 }
 
-// Of a team that was handed out, whether it isn't again, and is over and not failed also after a place failed.
+// For a team that was handed out: whether it isn't handed out again, and is done and not failed, even after a piece failed.
 fn stays_over<'a, 'r, 'p, R: Wait + 'a>(rt: &'a R, hand: &TeamHand<'a, 'r, 'p, R>) -> bool {
     hand.fail(rt, 0);
     let out = stays(rt, hand);
@@ -229,7 +229,7 @@ fn stays_over<'a, 'r, 'p, R: Wait + 'a>(rt: &'a R, hand: &TeamHand<'a, 'r, 'p, R
     out && over
 }
 
-// Fails a team, hands it out, and looks again. Whether it gives nothing and stays over.
+// Fails a team, hands it out, and checks again. Returns whether it has no writes and stays done.
 fn is_handed_out_once<'a, 'r, 'p, R: Wait + 'a>(rt: &'a R, hand: &TeamHand<'a, 'r, 'p, R>) -> bool {
     hands_out_failed(rt, hand) && stays_over(rt, hand)
 }
@@ -251,7 +251,7 @@ fn is_stranger<'a, 'r, 'p, R: Wait + 'a>(
     Ok(matches!(hand.arrive(rt, piece)?, Arrival::Stranger(_)))
 }
 
-// Of a team that was handed out: whether it has nothing for a hart, no room for a context, and no place for a piece.
+// For a team that was handed out: whether it has nothing for a hart, no room for a context, and no slot for a piece.
 fn has_nothing<'a, 'r, 'p, R: Wait + 'a>(
     rt: &'a R,
     hand: &mut TeamHand<'a, 'r, 'p, R>,
@@ -283,8 +283,8 @@ fn nothing_is_left_of_a_team_that_is_handed_out(rt: HostRuntime) -> Result<(), F
     Ok(())
 }
 
-// Whether a hand on a team of three members tells its site, and each call that a scheduler hears, before and after its team
-// is handed out.
+// Whether a hand on a team of three members returns its site, and receipts with each call that a scheduler gets, before and
+// after its team is handed out.
 fn tells_all<'a, 'r, 'p, R: Wait + 'a>(rt: &'a R, hand: &mut TeamHand<'a, 'r, 'p, R>) -> bool {
     let shape = (hand.site(), hand.shared.nested().members()) == (1, 3);
     let before = tells_each(hand, rt);
@@ -299,7 +299,7 @@ fn a_hand_tells_what_it_hears(rt: HostRuntime) -> Result<(), Fail> {
     Ok(())
 }
 
-// Whether the rows of a table fit a team from this one on.
+// Whether the claim counters of a table fit a team from this counter on.
 fn fit(alloc: Global, shared: &SharedTeam, row: u16) -> Result<bool, Fail> {
     let (table, _seat) = table_of(alloc)?;
     Ok(rows_fit(&table, row, shared.nested()))

@@ -1,4 +1,4 @@
-//! Teams of small programs, and what a hart does with one or with its hand on one.
+//! Teams of small programs, and the moves of a hart on a team or by a hand.
 
 use array_eval::Overlay;
 use array_jobs::{Job, Piece, piece_of};
@@ -16,13 +16,13 @@ use step_eval::{Kind, StepMachine};
 pub const THREE_PHASES: &[u8] = b"array a[2]; array b[2]; array c[2];
     team i in 0..2 by 2 { a[i] = i + 1; } barrier { b[i] = a[1 - i]; } barrier { c[i] = b[1 - i] + 10; }";
 
-/// What its third phase writes.
+/// The writes of its third phase.
 pub const THIRD_PHASE: [(u16, i64); 2] = [(4, 11), (5, 12)];
 
-/// What all three write.
+/// The writes of all three.
 pub const ALL_PHASES: [(u16, i64); 6] = [(0, 1), (1, 2), (2, 2), (3, 1), (4, 11), (5, 12)];
 
-/// What a hart finds of three members, and nothing else.
+/// What a hart finds: three members, and then nothing.
 pub const MEMBERS: &[Answer] = &[
     Answer::Begins(0),
     Answer::Begins(1),
@@ -31,7 +31,7 @@ pub const MEMBERS: &[Answer] = &[
     Answer::Nothing,
 ];
 
-/// The same where child 5 wishes for a hart.
+/// The same if child 5 wishes for a hart.
 pub const MEMBERS_THEN_WISH: &[Answer] = &[
     Answer::Begins(0),
     Answer::Begins(1),
@@ -40,7 +40,7 @@ pub const MEMBERS_THEN_WISH: &[Answer] = &[
     Answer::Nothing,
 ];
 
-/// The same where three contexts are ready.
+/// The same if three contexts are ready.
 pub const CONTEXTS_THEN_MEMBERS: &[Answer] = &[
     Answer::GoesOn,
     Answer::GoesOn,
@@ -65,6 +65,10 @@ pub const THREE_OF_FOUR: &[bool] = &[true, true, true, false];
 pub const NONE_OF_FOUR: &[bool] = &[false, false, false, false];
 
 /// The team of a program that begins with one.
+///
+/// # Errors
+///
+/// A failure of the test if the program begins with no team, or an allocation fails.
 pub fn team_of<'p>(alloc: Global, program: &'p Program) -> Result<Team<'p>, Fail> {
     let nested = first_construct(alloc, program)?;
     match nested.kind() {
@@ -73,7 +77,7 @@ pub fn team_of<'p>(alloc: Global, program: &'p Program) -> Result<Team<'p>, Fail
     }
 }
 
-// What `enter` gives: a member is told by its place.
+// The result of `enter`, with a member's index.
 fn answer_of(next: Next<TeamWork>) -> Answer {
     match next {
         Next::Run(TeamWork::Begin(job)) => Answer::Begins(job.place),
@@ -88,7 +92,7 @@ pub fn entered<'p, S: Scheduler<Ctx = TeamWork<'p>>>(scheduler: &mut S, hold: S:
     answer_of(scheduler.enter(hold))
 }
 
-/// Whether a hart finds this again and again.
+/// Whether a hart finds this, one after another.
 pub fn finds<'p, S: Scheduler<Ctx = TeamWork<'p>>>(
     scheduler: &mut S,
     hold: S::Hold,
@@ -102,12 +106,12 @@ pub fn finds<'p, S: Scheduler<Ctx = TeamWork<'p>>>(
     true
 }
 
-/// Whether a scheduler tells each call that it hears.
+/// Whether a scheduler's receipts have each call that it gets.
 pub fn tells_each<S: Scheduler>(scheduler: &mut S, hold: S::Hold) -> bool {
     tells(scheduler, hold) == TOLD
 }
 
-// The job of a member that begins. It fails where anything else was found.
+// The job of a member that begins. Returns a failure if anything else was found.
 fn member<'p>(next: Next<TeamWork<'p>>) -> Result<Job<'p>, Fail> {
     match next {
         Next::Run(TeamWork::Begin(job)) => Ok(job),
@@ -117,7 +121,11 @@ fn member<'p>(next: Next<TeamWork<'p>>) -> Result<Job<'p>, Fail> {
     }
 }
 
-/// The piece of what a hart found, which must be this member of this phase.
+/// The piece that a hart found, which must be this member of this phase.
+///
+/// # Errors
+///
+/// A failure of the test if it is another, or an allocation fails.
 pub fn piece_of_found<'p>(
     found: Next<TeamWork<'p>>,
     alloc: Global,
@@ -132,6 +140,10 @@ pub fn piece_of_found<'p>(
 }
 
 /// The piece of the member that begins next, which must be this one of this phase.
+///
+/// # Errors
+///
+/// A failure of the test if it is another, or an allocation fails.
 pub fn begun<'p, S: Scheduler<Ctx = TeamWork<'p>>>(
     scheduler: &mut S,
     hold: S::Hold,
@@ -142,7 +154,7 @@ pub fn begun<'p, S: Scheduler<Ctx = TeamWork<'p>>>(
     piece_of_found(scheduler.enter(hold), alloc, phase, place)
 }
 
-// Puts a context back; whether there was room.
+// Puts a context back. Returns whether there was room.
 fn unblocked<'p, S: Scheduler<Ctx = TeamWork<'p>>>(
     scheduler: &mut S,
     hold: S::Hold,
@@ -154,7 +166,7 @@ fn unblocked<'p, S: Scheduler<Ctx = TeamWork<'p>>>(
     }
 }
 
-// Puts four contexts back; whether there was room for each.
+// Puts four contexts back. Returns whether there was room for each.
 fn put_back<'p, S: Scheduler<Ctx = TeamWork<'p>>>(
     scheduler: &mut S,
     hold: S::Hold,
@@ -180,14 +192,18 @@ pub fn has_room<'p, S: Scheduler<Ctx = TeamWork<'p>>>(
     Ok(rooms.as_slice() == expected)
 }
 
-/// Children 2 and 5 ask for a hart each, and child 2 leaves.
+/// Children 2 and 5 request a hart each, and child 2 leaves.
 pub fn one_of_two_leaves<S: Scheduler>(scheduler: &mut S, hold: S::Hold) {
     scheduler.request(hold, 2, 1);
     scheduler.request(hold, 5, 1);
     scheduler.unregister(hold, 2);
 }
 
-/// What a phase wrote, where the piece was its last one. A stranger is a failure.
+/// The writes of a phase, if the piece was its last one.
+///
+/// # Errors
+///
+/// A failure of the test if the piece is a stranger.
 pub fn opened_by(arrival: Arrival) -> Result<Option<Overlay>, Fail> {
     match arrival {
         Arrival::Kept => Ok(None),
@@ -196,7 +212,7 @@ pub fn opened_by(arrival: Arrival) -> Result<Option<Overlay>, Fail> {
     }
 }
 
-// What a team gives that is over. A failed one, and one that isn't over, give nothing.
+// The writes of a team that is done. A failed team, and one that isn't done, return none.
 fn taken(team: Team) -> Option<Overlay> {
     if !team.is_over() {
         return None;
@@ -204,7 +220,7 @@ fn taken(team: Team) -> Option<Overlay> {
     team.take_all().ok()
 }
 
-// Whether a team is over, and has failed or not.
+// Whether a team is done, and has failed or not.
 fn is_over(team: &Team, failed: bool) -> bool {
     let over = team.is_over();
     over && team.has_failed() == failed
@@ -218,14 +234,14 @@ fn is_written(overlay: Option<Overlay>, expected: &[(u16, i64)]) -> bool {
     }
 }
 
-/// Whether a team is over, hasn't failed, and gives these writes.
+/// Whether a team is done, hasn't failed, and has these writes.
 pub fn gives(team: Team, expected: &[(u16, i64)]) -> bool {
     let whole = is_over(&team, false);
     let written = is_written(taken(team), expected);
     whole && written
 }
 
-/// Whether a team is over, has failed, and gives nothing.
+/// Whether a team is done, has failed, and has no writes.
 pub fn gives_nothing(team: Team) -> bool {
     let failed = is_over(&team, true);
     let nothing = taken(team).is_none();

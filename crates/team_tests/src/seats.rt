@@ -1,5 +1,5 @@
 //! Two hands on one team, each with a seat of its own.
-ghost use Rattle.std.specs.Prelude.{◌≡◌, ◌≤◌, length, map, vec_len};
+ghost use Rattle.std.specs.Prelude.{◌≡◌, ◌≤◌, map, vec_len};
 ghost use Rattle.claim_words.specs.Seats.{AreAll, IsOf, kin};
 ghost use Rattle.loop_team.specs.Rows.{RowsFit};
 
@@ -15,7 +15,7 @@ use std::alloc::Global;
 use std::sync::Wait;
 use std::test::Fail;
 
-// Adds the piece of the member that a hart begins next by its seat, which must be this one of this phase.
+// Adds the piece of the member that a hart begins next by its seat. It must be this member of this phase.
 fn takes_up<'a, 'p, R: Wait + 'a>(
     rt: &'a R,
     shared: &'a SharedTeam<'p>,
@@ -52,7 +52,7 @@ fn finds_nothing<'a, 'p, R: Wait + 'a>(
     matches!(hand.enter(rt), Next::Nothing)
 }
 
-// Brings the last of the pieces. Whether it is kept, and the phase doesn't open.
+// Brings the last of the pieces. Returns whether it is kept, and the phase doesn't open.
 fn is_kept<'a, 'p, R: Wait + 'a>(
     rt: &'a R,
     shared: &'a SharedTeam<'p>,
@@ -71,7 +71,7 @@ fn is_kept<'a, 'p, R: Wait + 'a>(
     Ok(opened_by(arrival)?.is_none())
 }
 
-// Two harts take up the three members of a phase in turn, and bring their pieces. Whether neither found a further member
+// Two harts begin the three members of a phase in turn, and bring their pieces. Returns whether neither found another member
 // before the last piece came.
 fn share_phase<'a, 'p, R: Wait + 'a>(
     rt: &'a R,
@@ -98,7 +98,7 @@ fn share_phase<'a, 'p, R: Wait + 'a>(
     Ok(none && first && second && !third)
 }
 
-// Hands the team out; whether it gives what both phases write.
+// Hands the team out. Returns whether it has the writes of both phases.
 fn gives_both<'a, 'p, R: Wait + 'a>(
     rt: &'a R,
     shared: &'a SharedTeam<'p>,
@@ -115,7 +115,7 @@ fn gives_both<'a, 'p, R: Wait + 'a>(
     }
 }
 
-// Two harts run both phases. Whether each member ran once, and the team gives what they wrote.
+// Two harts run both phases. Returns whether each member ran once, and the team has their writes.
 fn share_team<'a, 'p, R: Wait + 'a>(
     rt: &'a R,
     shared: &'a SharedTeam<'p>,
@@ -134,7 +134,7 @@ fn share_team<'a, 'p, R: Wait + 'a>(
     Ok(first && second && none && gives_both(rt, shared, table, one)?)
 }
 
-// Takes two seats out of the list, and puts them back.
+// Takes two seats from the list, and puts them back.
 fn share_by_all<'a, 'p, R: Wait + 'a>(
     rt: &'a R,
     shared: &'a SharedTeam<'p>,
@@ -159,7 +159,7 @@ fn share_by_all<'a, 'p, R: Wait + 'a>(
     ran
 }
 
-// Two harts run a team by all seats of a table. Whether they share it as they should.
+// Two harts run a team by all seats of a table. Returns whether they share it as they should.
 fn is_shared<R: Wait>(rt: &R, alloc: Global, shared: &SharedTeam) -> Result<bool, Fail> {
     let (table, mut seats) = ClaimTable::new(alloc, &TWO_ROWS, 2)?;
     if !rows_fit(&table, 0, shared.nested()) {

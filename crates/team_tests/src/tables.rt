@@ -1,18 +1,18 @@
 //! Tables by which the members of small teams are claimed.
-ghost use Rattle.std.specs.Prelude.{◌≡◌, ◌≤◌, length, map, vec_len, IfOk};
-ghost use Rattle.claim_words.specs.Seats.{AreAll, IsOf, kin};
+ghost use Rattle.std.specs.Prelude.{◌≡◌, ◌≤◌, IfOk};
+ghost use Rattle.claim_words.specs.Seats.{IsOf, kin};
 
 use loop_team::{ClaimSeat, ClaimTable};
 use std::alloc::Global;
 use std::test::Fail;
 
-/// A row for each of two phases of three members.
+/// A claim counter for each of two phases of three members.
 pub const TWO_ROWS: [u8; 2] = [3, 3];
 
-// A row for each of two phases of twenty members.
+// A claim counter for each of two phases of twenty members.
 const TWENTY_ROWS: [u8; 2] = [20, 20];
 
-/// A table of these rows, and its one seat.
+/// A table of these counters, and its one seat.
 pub fn table_of(alloc: Global) -> Result<(ClaimTable, ClaimSeat), Fail>
     ensures { IfOk result (λ t. IsOf t.0 (kin t.1)) }
 {
@@ -23,21 +23,21 @@ pub fn table_of(alloc: Global) -> Result<(ClaimTable, ClaimSeat), Fail>
     Ok((table, seat))
 }
 
-/// A table of these rows, and its two seats.
+/// A table of these counters, and its two seats.
 pub fn table_of_two(alloc: Global) -> Result<(ClaimTable, ClaimSeat, ClaimSeat), Fail>
     ensures { IfOk result (λ t. IsOf t.0 (kin t.1) × IsOf t.0 (kin t.2)) }
 {
     two_seats(alloc, TWO_ROWS)
 }
 
-/// A table of a row for each of two phases of twenty members, and its two seats.
+/// A table with a counter for each of two phases of twenty members, and its two seats.
 pub fn table_of_twenty(alloc: Global) -> Result<(ClaimTable, ClaimSeat, ClaimSeat), Fail>
     ensures { IfOk result (λ t. IsOf t.0 (kin t.1) × IsOf t.0 (kin t.2)) }
 {
     two_seats(alloc, TWENTY_ROWS)
 }
 
-// A table of these rows, and its two seats.
+// A table of these counters, and its two seats.
 fn two_seats(alloc: Global, rows: [u8; 2]) -> Result<(ClaimTable, ClaimSeat, ClaimSeat), Fail>
     ensures { IfOk result (λ t. IsOf t.0 (kin t.1) × IsOf t.0 (kin t.2)) }
 {

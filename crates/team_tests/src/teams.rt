@@ -16,7 +16,7 @@ use sched_api::Scheduler;
 use std::alloc::Global;
 use std::test::Fail;
 
-// What a test looks at.
+// The checks of the tests.
 #[derive(Clone, Copy)]
 enum Look {
     Second,
@@ -50,12 +50,12 @@ fn holds(alloc: Global, text: &[u8], look: Look) -> Result<bool, Fail> {
     holds_of(team_of(alloc, &program)?, alloc, &jobs, look)
 }
 
-// Brings a piece. What its phase wrote, where it was the last one.
+// Brings a piece. Returns the phase's writes, if it was the last one.
 fn opened<'p>(team: &mut Team<'p>, piece: Piece<'p>) -> Result<Option<Overlay>, Fail> {
     opened_by(team.arrive(piece)?)
 }
 
-// Runs the member that begins next, which must be this one. What its phase wrote, where it was the last one.
+// Runs the member that begins next, which must be this one. Returns the phase's writes, if it was the last one.
 fn run_member(
     team: &mut Team,
     alloc: Global,
@@ -66,7 +66,7 @@ fn run_member(
     opened(team, piece)
 }
 
-// Runs the members of a phase in their order. What the phase wrote.
+// Runs the members of a phase in their order. Returns the phase's writes.
 fn run_phase(team: &mut Team, alloc: Global, phase: u8, members: u8) -> Result<Overlay, Fail> {
     for place in 0..members {
         if let Some(written) = run_member(team, alloc, phase, place)? {
@@ -76,7 +76,7 @@ fn run_phase(team: &mut Team, alloc: Global, phase: u8, members: u8) -> Result<O
     Err(Fail::new("it didn't open"))
 }
 
-// Runs the members of a phase in their order. Whether the phase wrote this.
+// Runs the members of a phase in their order. Returns whether the phase has these writes.
 fn writes(
     team: &mut Team,
     alloc: Global,
@@ -88,12 +88,12 @@ fn writes(
     Ok(written.pairs() == expected)
 }
 
-// Whether nobody finds anything.
+// Whether no hart finds anything.
 fn is_idle(team: &mut Team) -> bool {
     entered(team, ()) == Answer::Nothing
 }
 
-// Runs two phases of three members. Whether each wrote what it should, and the team was over after the second alone.
+// Runs two phases of three members. Returns whether each had the right writes, and the team was done only after the second.
 fn runs_two(team: &mut Team, alloc: Global) -> Result<bool, Fail> {
     let first = writes(team, alloc, 0, 3, FIRST_PHASE.as_slice())?;
     let over = team.is_over();
@@ -101,7 +101,7 @@ fn runs_two(team: &mut Team, alloc: Global) -> Result<bool, Fail> {
     Ok(first && !over && second)
 }
 
-// Runs two phases. Whether that leaves nothing to do, and the team gives what both wrote.
+// Runs two phases. Returns whether that leaves nothing to do, and the team has the writes of both.
 fn second_follows(mut team: Team, alloc: Global) -> Result<bool, Fail> {
     let ran = runs_two(&mut team, alloc)?;
     let idle = is_idle(&mut team);
@@ -115,7 +115,7 @@ fn a_second_phase_follows_the_first(rt: HostRuntime) -> Result<(), Fail> {
     Ok(())
 }
 
-// Runs three phases of two members. Whether the last one wrote what it should, and the team wasn't over before it.
+// Runs three phases of two members. Returns whether the last one had the right writes, and the team wasn't done before it.
 fn runs_three(team: &mut Team, alloc: Global) -> Result<bool, Fail> {
     run_phase(team, alloc, 0, 2)?;
     run_phase(team, alloc, 1, 2)?;
@@ -124,7 +124,7 @@ fn runs_three(team: &mut Team, alloc: Global) -> Result<bool, Fail> {
     Ok(!over && third)
 }
 
-// Runs three phases. Whether the team gives what all wrote.
+// Runs three phases. Returns whether the team has the writes of all.
 fn third_follows(mut team: Team, alloc: Global) -> Result<bool, Fail> {
     let ran = runs_three(&mut team, alloc)?;
     let all = gives(team, ALL_PHASES.as_slice());
@@ -148,7 +148,7 @@ fn opens<'p>(
     Ok(opened(team, piece)?.is_some())
 }
 
-// Brings the piece of one of the jobs. Whether its phase doesn't open, and nobody begins.
+// Brings the piece of one of the jobs. Returns whether its phase doesn't open, and no member begins.
 fn waits<'p>(
     team: &mut Team<'p>,
     alloc: Global,
@@ -160,7 +160,7 @@ fn waits<'p>(
     Ok(!opens && idle)
 }
 
-// Brings the pieces of all three members. Whether nobody begins before the last of them.
+// Brings the pieces of all three members. Returns whether no member begins before the last of them.
 fn waits_for_all<'p>(team: &mut Team<'p>, alloc: Global, jobs: &[Job<'p>]) -> Result<bool, Fail> {
     let third = waits(team, alloc, jobs, 2)?;
     let first = waits(team, alloc, jobs, 0)?;
@@ -168,7 +168,7 @@ fn waits_for_all<'p>(team: &mut Team<'p>, alloc: Global, jobs: &[Job<'p>]) -> Re
     Ok(third && first && second)
 }
 
-// Runs the first phase. Whether its members and those of the second began, and nobody in between.
+// Runs the first phase. Returns whether its members and those of the second began, and no member in between.
 fn waits_between<'p>(mut team: Team<'p>, alloc: Global, jobs: &[Job<'p>]) -> Result<bool, Fail> {
     let begins = finds(&mut team, (), MEMBERS);
     let waits = waits_for_all(&mut team, alloc, jobs)?;
@@ -182,7 +182,7 @@ fn the_next_phase_waits_for_the_barrier(rt: HostRuntime) -> Result<(), Fail> {
     Ok(())
 }
 
-// Whether members go before the wish of the child that is left.
+// Whether members go before the wish of the remaining child.
 fn members_go_first(mut team: Team) -> bool {
     one_of_two_leaves(&mut team, ());
     finds(&mut team, (), MEMBERS_THEN_WISH)
@@ -194,7 +194,7 @@ fn members_go_before_wishes(rt: HostRuntime) -> Result<(), Fail> {
     Ok(())
 }
 
-// Puts four contexts back. Whether there was room for three, and they go before the members.
+// Puts four contexts back. Returns whether there was room for three, and they go before the members.
 fn contexts_go_first<'p>(
     mut team: Team<'p>,
     alloc: Global,
@@ -231,7 +231,7 @@ fn a_piece_of_an_earlier_phase_is_a_stranger(rt: HostRuntime) -> Result<(), Fail
     Ok(())
 }
 
-// Tells that the member at place 1 found no memory, where its piece is still to come. Whether it is.
+// Reports that an allocation failed for member 1, if its piece is outstanding. Returns whether it is.
 fn fails_one(team: &mut Team) -> bool {
     if team.has_failed() || !team.is_open(1) {
         return false;
@@ -240,7 +240,7 @@ fn fails_one(team: &mut Team) -> bool {
     true
 }
 
-// Whether a team one of whose members fails gives nothing.
+// Whether a team with a failed member has no writes.
 fn fails(mut team: Team) -> bool {
     let failed = fails_one(&mut team);
     let nothing = gives_nothing(team);
@@ -253,7 +253,7 @@ fn a_failed_team_is_over(rt: HostRuntime) -> Result<(), Fail> {
     Ok(())
 }
 
-// Whether a team of three members tells its site, and each call that a scheduler hears.
+// Whether a team of three members returns its site, and receipts with each call that a scheduler gets.
 fn tells_all(mut team: Team) -> bool {
     let shape = (team.site(), team.nested().members()) == (1, 3);
     let told = tells_each(&mut team, ());

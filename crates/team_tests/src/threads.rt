@@ -16,7 +16,7 @@ use std::sync::atomic::{AtomicU64, Ordering};
 use std::test::Fail;
 use std::thread::{Threads, for_each_mut};
 
-// How often each of three members began each of two phases, in eight bits each.
+// The number of times that each of three members began each of two phases, in eight bits each.
 #[derive(Drop)]
 struct Begun {
     counts: AtomicU64,
@@ -49,7 +49,7 @@ fn run_member<'a, 'r, 'p, R: Wait + 'a>(
     }
 }
 
-// Runs members until the team is over.
+// Runs members until the team is done.
 fn run_members<'a, 'r, 'p, R: Wait + 'a>(
     rt: &'a R,
     hand: &mut TeamHand<'a, 'r, 'p, R>,
@@ -69,7 +69,7 @@ fn run_members<'a, 'r, 'p, R: Wait + 'a>(
     }
 }
 
-// What one hart does.
+// The moves of one hart.
 fn run_by_seat<'a, 'p, R: Wait + 'a>(
     rt: &'a R,
     shared: &'a SharedTeam<'p>,
@@ -97,7 +97,7 @@ struct Runner<'x, 'p> {
     ghost fits: { RowsFit table.now.counts.items 0 shared.now },
 }
 
-// What it does.
+// Its moves.
 fn run<'x, 'p, R: Wait>(rt: &R, alloc: Global, runner: &mut Runner<'x, 'p>) {
     run_by_seat(
         rt,
@@ -109,7 +109,7 @@ fn run<'x, 'p, R: Wait>(rt: &R, alloc: Global, runner: &mut Runner<'x, 'p>) {
     );
 }
 
-// All do so at once.
+// All harts run at once.
 fn run_by_all<'x, 'p: 'x, R: Threads + Wait + Sync>(
     rt: &'x R,
     alloc: Global,

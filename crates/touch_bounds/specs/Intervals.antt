@@ -7,14 +7,14 @@ pub record LiesIn (within : Interval) (value : ℤ) : Type 0 where
   pub low : within.least ≤ℤ value
   pub high : value ≤ℤ within.greatest
 
--- Whatever lies in an interval, what comes of it lies in the reported one.
+-- If a value lies in an interval, the function's result lies in the reported one.
 abbrev pub LeadsInto : (ℤ → ℤ) → Interval → Interval → Type 0
 LeadsInto f within told = (x : ℤ) → LiesIn within x → LiesIn told (f x)
 
--- Whatever two values lie each in its interval, what comes of them lies in the reported one.
+-- If two values lie each in its interval, the function's result lies in the reported one.
 abbrev pub LeadInto : (ℤ → ℤ → ℤ) → Interval → Interval → Interval → Type 0
 LeadInto f left right told = (x y : ℤ) → LiesIn left x → LiesIn right y → LiesIn told (f x y)
 
--- The interval has one value alone.
+-- The interval with one value.
 abbrev pub exactly : ℤ → Interval
 exactly value = record { least = value; greatest = value }

@@ -13,7 +13,7 @@ use Rattle.touch_bounds.specs.Touches.{DoClash, touch_at, AreVisitsTold}
 abbrev pub tables_of : List Piece → List (List Touch)
 tables_of pieces = map (λ p. p.touches.items) pieces
 
--- The recorded stretches of each piece are true.
+-- The recorded stretches of each piece include all cells that the piece touches.
 abbrev pub ArePiecesTold : Arrays → List (List Touch) → List Steps → Type 0
 ArePiecesTold arrays [] [] = Unit {0}
 ArePiecesTold arrays [] (piece ∷ more) = ⊥
@@ -21,31 +21,31 @@ ArePiecesTold arrays (t ∷ rest) [] = ⊥
 ArePiecesTold arrays (t ∷ rest) (piece ∷ more) =
     AreVisitsTold arrays t (walk arrays piece) × ArePiecesTold arrays rest more
 
--- A round has its pieces, by the values of the variables around.
+-- The pieces of a round, by the values of the variables around.
 abbrev pub Round : Type 0
 Round = Vars → List Steps
 
--- The recorded stretches of each piece are true, whatever values the variables have between their bounds.
+-- The recorded stretches of each piece are right, for any values of the variables between their bounds.
 abbrev pub IsRoundTold : Arrays → List (List Touch) → Bounds → Round → Type 0
 IsRoundTold arrays tables bounds round =
     (vars : Vars) → AreWithin bounds vars → ArePiecesTold arrays tables (round vars)
 
--- The pieces are apart, whatever values the variables have between their bounds.
+-- The pieces are apart, for any values of the variables between their bounds.
 abbrev pub IsRoundApart : Arrays → Bounds → Round → Type 0
 IsRoundApart arrays bounds round =
     (vars : Vars) → AreWithin bounds vars → IsApart arrays (round vars)
 
--- The rounds of a construct, and the sites of a text, by the values of the variables around: all are so.
+-- In each round of a construct the pieces are apart, for any values of the variables between their bounds.
 abbrev pub AreAllRoundsApart : Arrays → Bounds → (Vars → List (List Steps)) → Type 0
 AreAllRoundsApart arrays bounds rounds =
     (vars : Vars) → AreWithin bounds vars → AreRoundsApart arrays (rounds vars)
 
--- At each site the pieces are apart, whatever values the variables have between their bounds.
+-- At each site the pieces are apart, for any values of the variables between their bounds.
 abbrev pub AreAllSitesApart : Arrays → Bounds → (Vars → List Site) → Type 0
 AreAllSitesApart arrays bounds sites =
     (vars : Vars) → AreWithin bounds vars → AreSitesApart arrays (sites vars)
 
--- One piece clashes with none of these on an array.
+-- The piece clashes with none of these pieces on an array.
 abbrev pub IsClearOf : ℕ → Touch → List (List Touch) → Type 0
 IsClearOf number touch [] = Unit {0}
 IsClearOf number touch (other ∷ more) =
@@ -56,7 +56,7 @@ abbrev pub AreClear : ℕ → List (List Touch) → Type 0
 AreClear number [] = Unit {0}
 AreClear number (t ∷ more) = IsClearOf number (touch_at t number) more × AreClear number more
 
--- Pieces are apart if their recorded stretches are true and clash on no array.
+-- Pieces are apart if their recorded stretches are right and clash on no array.
 abbrev pub ClearPiecesAreApart : Type 0
 ClearPiecesAreApart = (arrays : Arrays) (tables : List (List Touch)) (pieces : List Steps)
     → ArePiecesTold arrays tables pieces →

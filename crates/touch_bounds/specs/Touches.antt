@@ -20,11 +20,11 @@ Includes cells cell = (cells.from ≤ cell) × (cell < cells.to)
 abbrev pub no_cells : Stretch
 no_cells = record { from = 18446744073709551615; to = 0 }
 
--- The result is the least stretch that has the cells of both.
+-- The least stretch that contains the cells of both.
 abbrev pub hull : Stretch → Stretch → Stretch
 hull a b = record { from = min a.from b.from; to = max a.to b.to }
 
--- The side of a touch is what is written, or what is read.
+-- The stretch of written cells of a touch, or that of read cells.
 abbrev pub side : Touch → Bool → Stretch
 side touch true = touch.written
 side touch false = touch.read
@@ -40,7 +40,7 @@ pub record DoClash (one other : Touch) : Type 0 where
       ⊎ (Includes one.written cell × Includes other.written cell
       ⊎ Includes one.read cell × Includes other.written cell)
 
--- An array has these recorded stretches, by its place among the arrays.
+-- The recorded stretches of the array with this index.
 abbrev pub touch_at : List Touch → ℕ → Touch
 touch_at touches number = slice_index_or touches number untouched
 
@@ -50,60 +50,59 @@ pub record Widens (before after : List Touch) : Type 0 where
       → Includes (side (touch_at before number) writes) cell
       → Includes (side (touch_at after number) writes) cell
 
--- The values of an interval are all inside an array of this length, and their cells, counted from its first one, are
--- these.
+-- The values of an interval are all inside an array of this length, and the array's cells at these values are in the stretch.
 pub record AreCellsWithin (base count : ℕ) (within : Interval) (cells : Stretch) : Type 0 where
   pub inside : (x : ℤ) → LiesIn within x → (pos 0 ≤ℤ x) × (x <ℤ pos count)
   pub covered : (x : ℤ) → LiesIn within x → Includes cells (base + unsigned_abs x)
 
--- The index of a visit, whatever values the variables have between their bounds, is inside its array where it is static,
--- and the cells that it touches are in the stretch.
+-- For any values of the variables between their bounds: the index of a visit is inside its array if it is static, and the cells
+-- that it touches are in the stretch.
 pub record IsReach (arrays : Arrays) (array : List ℕ) (index : Option ℤ)
     (cells : Stretch) : Type 0 where
   pub inside : IsTrue (is_inside (length_of arrays array) index)
   pub covered : (cell : ℕ) → Covers arrays array index cell → Includes cells cell
 
--- The cells are a reach of the index, whatever values the variables have between their bounds.
+-- The cells are a reach of the index, for any values of the variables between their bounds.
 abbrev pub IsReachOf : Arrays → List ℕ → Expression → Bounds → Stretch → Type 0
 IsReachOf arrays array index bounds cells =
     (vars : Vars) → AreWithin bounds vars
     → IsReach arrays array (visit arrays 0 false vars array index).index cells
 
--- The recorded stretches hold for a visit: its array is one of the program, its index is inside, and each cell that it touches
--- is in a stretch of the array, as read or as written.
+-- The recorded stretches cover a visit: its array is one of the program, its index is inside, and each cell that it touches is
+-- in a stretch of the array, as read or as written.
 pub record IsVisitTold (arrays : Arrays) (touches : List Touch) (v : Visit) : Type 0 where
   pub known : number_of arrays v.array < length arrays
   pub reach : IsReach arrays v.array v.index
       (side (touch_at touches (number_of arrays v.array)) v.writes)
 
--- The recorded stretches hold for each of the visits.
+-- The recorded stretches cover each of the visits.
 abbrev pub AreVisitsTold : Arrays → List Touch → List Visit → Type 0
 AreVisitsTold arrays touches [] = Unit {0}
 AreVisitsTold arrays touches (v ∷ more) =
     IsVisitTold arrays touches v × AreVisitsTold arrays touches more
 
--- The recorded stretches hold for a visit under an index, whatever values the variables have between their bounds.
+-- The recorded stretches cover a visit with an index, for any values of the variables between their bounds.
 abbrev pub IsIndexTold : Arrays → List Touch → Bounds → Bool → List ℕ → Expression → Type 0
 IsIndexTold arrays touches bounds writes array index =
     (line : ℕ) (vars : Vars) → AreWithin bounds vars
     → IsVisitTold arrays touches (visit arrays line writes vars array index)
 
--- The recorded stretches hold for the reads of an expression.
+-- The recorded stretches cover the reads of an expression.
 abbrev pub AreReadsTold : Arrays → List Touch → Bounds → Expression → Type 0
 AreReadsTold arrays touches bounds expr = (line : ℕ) (vars : Vars) → AreWithin bounds vars
     → AreVisitsTold arrays touches (reads_in arrays line vars expr)
 
--- The recorded stretches hold for a work.
+-- The recorded stretches cover a work.
 abbrev pub IsWorkTold : Arrays → List Touch → Bounds → Work → Type 0
 IsWorkTold arrays touches bounds work =
     (vars : Vars) → AreWithin bounds vars → AreVisitsTold arrays touches (walk arrays (work vars))
 
--- The recorded stretches hold for an assignment, on whatever line.
+-- The recorded stretches cover an assignment, on any line.
 abbrev pub IsAssignTold : Arrays → List Touch → Bounds → List ℕ → Expression → Expression → Type 0
 IsAssignTold arrays touches bounds array index value =
     (line : ℕ) → IsWorkTold arrays touches bounds (statement_work (Assign line array index value))
 
--- The recorded stretches hold for an `if`, on whatever line.
+-- The recorded stretches cover an `if`, on any line.
 abbrev pub IsChoiceTold : Arrays → List Touch → Bounds → Expression → Sequence → Sequence → Type 0
 IsChoiceTold arrays touches bounds test then_block else_block =
     (line : ℕ) → IsWorkTold arrays touches bounds

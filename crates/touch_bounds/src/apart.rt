@@ -12,7 +12,7 @@ pub(crate) struct Piece {
     pub(crate) touches: Vec<Touch>,
 }
 
-// The recorded stretches of an array. Behind the last array there are none.
+// The recorded stretches of an array. After the last array there are none.
 fn touch_at(touches: &[Touch], number: usize) -> Touch
     ensures { result ≡ touch_at touches.now number }
 {
@@ -23,7 +23,8 @@ fn touch_at(touches: &[Touch], number: usize) -> Touch
     }
 }
 
-// Whether what a piece does to an array clashes with what another one of these does. Nothing clashes with nothing.
+// Whether the touches of a piece on an array clash with those of another one of these pieces. An array without touches never
+// clashes.
 #[tactic(auto, using(crate::proofs::PieceLemmas::untouched_clear))]
 fn clashes_with_any(touch: Touch, others: &[Piece], number: usize) -> bool
     ensures clear { OnFalse result (IsClearOf number touch (tables_of others.now)) }

@@ -1,4 +1,4 @@
-//! Bounds of what an expression gives.
+//! Bounds of the values of expressions.
 ghost use Rattle.std.specs.Prelude.{IfSome};
 ghost use Rattle.array_tree.specs.Trees.{expression_of};
 ghost use Rattle.touch_bounds.specs.Ranges.{bounds_of, IsTold};
@@ -7,8 +7,8 @@ use crate::interval::{Interval, applied, minus};
 use crate::ranges::Ranges;
 use array_tree::Expr;
 
-/// Bounds of the values of an expression, whatever values the variables have between theirs. There are none for what
-/// reads an array, and where arithmetic may wrap.
+/// Bounds of the values of an expression, for any values of the variables between theirs. `None` if the expression reads an
+/// array, or its arithmetic may wrap.
 pub fn interval_of(expr: &Expr, ranges: &Ranges) -> Option<Interval>
     ensures { IfSome result (λ told. IsTold (bounds_of ranges.now) (expression_of expr.now) told) }
 {

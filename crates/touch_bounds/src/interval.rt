@@ -1,11 +1,11 @@
-//! Intervals of values, and what operators make of them.
+//! Intervals of values, and operators on them.
 ghost use Rattle.std.specs.Prelude.{◌≡◌, ℤ, pos, ◌≤ℤ◌, ◌<ℤ◌, IfSome};
 ghost use Rattle.array_meaning.specs.Values.{applied, quotient, remainder, wrapping_difference, wrapping_minus, wrapping_product, wrapping_sum};
 ghost use Rattle.touch_bounds.specs.Intervals.{exactly, LeadInto, LeadsInto, LiesIn};
 
 use array_tree::Op;
 
-/// A least and a greatest value. What lies between them, both included, lies in the interval.
+/// The values from the least to the greatest, both included.
 #[derive(Clone, Copy, PartialEq, Eq, Debug, Drop)]
 pub struct Interval {
     pub least: i64,
@@ -24,7 +24,7 @@ impl Interval {
     }
 }
 
-// What a comparison gives.
+// The values of a comparison.
 const TRUTH: Interval = Interval {
     least: 0,
     greatest: 1,
@@ -73,7 +73,7 @@ fn between(one: i64, other: i64) -> Interval
     }
 }
 
-// The least interval with all that lies in two others.
+// The least interval that contains two others.
 fn joined(one: Interval, other: Interval) -> Interval
     ensures one { (x : ℤ) → LiesIn one x → LiesIn result x }
     ensures other { (x : ℤ) → LiesIn other x → LiesIn result x }
@@ -107,7 +107,7 @@ fn quotient(left: Interval, divisor: i64) -> Option<Interval>
     Some(between(low, high))
 }
 
-// A number that no remainder is below.
+// A lower bound of the remainders.
 fn lowest_remainder(left: Interval, divisor: i64) -> i64
     requires { pos 0 <ℤ divisor }
     ensures { (x : ℤ) → LiesIn left x → result ≤ℤ remainder x divisor }
@@ -115,7 +115,7 @@ fn lowest_remainder(left: Interval, divisor: i64) -> i64
     if left.least < 0 { 1 - divisor } else { 0 }
 }
 
-// A number that no remainder is above.
+// An upper bound of the remainders.
 fn highest_remainder(left: Interval, divisor: i64) -> i64
     requires { pos 0 <ℤ divisor }
     ensures { (x : ℤ) → LiesIn left x → remainder x divisor ≤ℤ result }
@@ -153,8 +153,8 @@ fn constant(within: Interval) -> Option<i64>
     }
 }
 
-/// What an operator makes of two values. There is none where a result may wrap, or where it depends on a divisor that
-/// isn't a constant, or on a negative one of a remainder.
+/// The values of an operator on two intervals. `None` if a result may wrap, if it depends on a divisor that isn't a constant,
+/// or if it is a remainder by a negative constant.
 pub(crate) fn applied(op: Op, left: Interval, right: Interval) -> Option<Interval>
     ensures { IfSome result (λ told. LeadInto (applied op) left right told) }
 {

@@ -1,7 +1,8 @@
-//! What expressions and statements can come to, seen from their text: bounds of values, and the cells that are touched.
+//! Static analysis of a program's text: bounds of the values of expressions, and of the cells that statements touch.
 //!
-//! Checkers ask it before they walk: if the text shows that the pieces of a round are apart, the round isn't walked. Begin with
-//! `branches_are_apart` in `round.rt` and its law in `laws.rt`; the tests of `bound_tests` show what is settled and what isn't.
+//! The checkers use it before they walk: if the text shows that the pieces of a round are apart, they don't walk the round.
+//! Begin with `branches_are_apart` in `round.rt` and its law in `laws.rt`; the tests of `bound_tests` show which texts are
+//! settled and which aren't.
 #![tactic(auto)]
 
 mod apart;

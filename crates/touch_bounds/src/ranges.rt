@@ -6,12 +6,12 @@ use crate::interval::Interval;
 use array_eval::Scope;
 use array_tree::Name;
 
-/// The loop variables around a place in a program, the innermost first: each has a value, or bounds.
+/// The loop variables around a position in a program, the innermost first: each has a value, or bounds.
 #[derive(Drop)]
 pub enum Ranges<'s> {
-    /// Variables that have their values.
+    /// Variables with their values.
     Fixed(&'s Scope<'s>),
-    /// A loop, and between what numbers its variable lies in all its turns.
+    /// A loop, and the bounds of its variable over all its turns.
     Loop {
         name: &'s Name,
         within: Interval,
@@ -20,7 +20,7 @@ pub enum Ranges<'s> {
 }
 
 impl Ranges<'_> {
-    /// The bounds of a variable. Where there is none of the name its value is 0.
+    /// The bounds of a variable. A name without a variable has the value 0.
     #[tactic(auto, using(crate::proofs::RangeLemmas::fixed_interval))]
     pub fn get(&self, name: &Name) -> Interval
         ensures { result ≡ interval_of (bounds_of self.now) name.now }

@@ -1,4 +1,4 @@
-//! Which cells an index leads to.
+//! The cells to which an index leads.
 ghost use Rattle.std.specs.Prelude.{◌≤◌, IfSome};
 ghost use Rattle.array_tree.specs.Trees.{expression_of};
 ghost use Rattle.array_meaning.specs.Bounds.{most_cells};
@@ -12,7 +12,7 @@ use crate::touch::Stretch;
 use array_eval::{Layout, Place, is_dynamic};
 use array_tree::{Expr, Name};
 
-// The cells of an array at the numbers of an interval, where all are inside it.
+// The cells of an array at the numbers of an interval, if all are inside the array.
 fn cells_within(place: Place, within: Interval) -> Option<Stretch>
     requires base { place.base ≤ most_cells }
     requires length { place.length ≤ most_cells }
@@ -30,8 +30,8 @@ fn cells_within(place: Place, within: Interval) -> Option<Stretch>
     })
 }
 
-/// The cells that an index of an array leads to, whatever values the variables have between their bounds. There are none
-/// where the index may be outside the array. A dynamic one leads to each cell.
+/// The cells to which an index of an array leads, for any values of the variables between their bounds. `None` if the index may
+/// be outside the array. A dynamic index leads to every cell.
 pub(crate) fn reach(layout: &Layout, array: &Name, index: &Expr, ranges: &Ranges) -> Option<Stretch>
     ensures { IfSome result (λ cells.
         IsReachOf layout.now array.now (expression_of index.now) (bounds_of ranges.now) cells) }

@@ -38,7 +38,7 @@ fn told_block<'s>(
     }
 }
 
-// The same of a block that is run for each number from low to before high.
+// The same for a block that runs for each number from low to before high.
 fn told_loop<'s>(
     alloc: Global,
     layout: &Layout,
@@ -103,9 +103,9 @@ fn told_members<'s>(
     Some(pieces)
 }
 
-/// Whether the branches of a `par` are seen to be apart, whatever values the variables have between their bounds: what each
-/// touches, array by array, is a stretch that no other one writes into. Where they aren't seen to be, or an allocation fails,
-/// they may yet be.
+/// Whether the text shows that the branches of a `par` are apart, for any values of the variables between their bounds: each
+/// touches, in each array, a stretch of cells that no other one writes. If the result is false, they may still be apart, or an
+/// allocation failed.
 pub fn branches_are_apart<'s>(
     alloc: Global,
     layout: &Layout,
@@ -121,7 +121,7 @@ pub fn branches_are_apart<'s>(
     }
 }
 
-/// Whether the members of a `team` are seen to be apart in one phase, likewise.
+/// Whether the text shows that the members of a `team` are apart in one phase, in the same way.
 pub fn members_are_apart<'s>(
     alloc: Global,
     layout: &Layout,
@@ -141,8 +141,8 @@ pub fn members_are_apart<'s>(
     }
 }
 
-/// Whether each static index of a statement is seen to be inside its array. Where one isn't, or an allocation fails, it may
-/// yet be.
+/// Whether the text shows that each static index of a statement is inside its array. If the result is false, all may still be
+/// inside, or an allocation failed.
 pub fn indices_are_inside<'s>(
     alloc: Global,
     layout: &Layout,

@@ -13,7 +13,7 @@ use array_eval::Layout;
 use array_tree::{Block, Blocks, Name, Stmt};
 use std::alloc::Global;
 
-// Whether the members of a `team` are seen to be apart in each phase.
+// Whether the text shows that the members of a `team` are apart in each phase.
 fn phases_are_apart<'s>(
     alloc: Global,
     layout: &Layout,
@@ -35,8 +35,8 @@ fn phases_are_apart<'s>(
     true
 }
 
-// Whether at each site of a block the pieces of each round are seen to be apart, whatever values the variables have between
-// their bounds. Where they aren't seen to be, or an allocation fails, they may yet be.
+// Whether the text shows that at each site of a block the pieces of each round are apart, for any values of the variables
+// between their bounds. If the result is false, they may still be apart, or an allocation failed.
 #[cycle(settle)]
 fn block_is_settled<'s>(
     alloc: Global,
@@ -55,7 +55,7 @@ fn block_is_settled<'s>(
     true
 }
 
-// The same of a statement.
+// The same for a statement.
 #[cycle(settle)]
 fn statement_is_settled<'s>(
     alloc: Global,
@@ -108,11 +108,12 @@ fn statement_is_settled<'s>(
     }
 }
 
-/// Whether at each site that a block enters, run for each number from `low` to before `high`, the pieces of each round are
-/// seen to be apart, whatever values the variables have between their bounds. Where they aren't seen to be, or an
-/// allocation fails, they may yet be. It costs the text, however many turns there are.
+/// Whether the text shows that the pieces of each round are apart at each site that a block enters, for any number from `low`
+/// to before `high`. It holds for any values of the variables between their bounds. If the result is false, they may still be
+/// apart, or an allocation failed. The time is in proportion to the text, for any number of turns.
 ///
-/// Pieces that are apart in each turn, but meet across turns, aren't settled. The caller looks at their rounds turn by turn.
+/// Pieces that are apart in each turn, but overlap across turns, aren't settled. The caller then checks their rounds turn by
+/// turn.
 #[cycle(settle)]
 pub fn loop_is_settled<'s>(
     alloc: Global,
@@ -140,7 +141,7 @@ pub fn loop_is_settled<'s>(
     block_is_settled(alloc, layout, body, &turns)
 }
 
-// The same of the branches of a `par`.
+// The same for the branches of a `par`.
 #[cycle(settle)]
 fn branches_are_settled<'s>(
     alloc: Global,
@@ -159,7 +160,7 @@ fn branches_are_settled<'s>(
     true
 }
 
-// The same of the phases of a `team`.
+// The same for the phases of a `team`.
 #[cycle(settle)]
 fn phases_are_settled<'s>(
     alloc: Global,

@@ -1,4 +1,5 @@
-//! Bounds of the cells that statements touch: for each array a stretch of cells that are read and one of cells that are written.
+//! Bounds of the cells that statements touch: for each array a stretch of cells that are read and one of cells that are
+//! written.
 //!
 //! If the bounds of an index leave its array, or a name is no array's, the bounds are unknown, and the caller walks the round.
 //! So bounds need no premise.
@@ -14,7 +15,7 @@ use crate::touch::{Stretch, Touch};
 use array_eval::Layout;
 use array_tree::{Expr, Name};
 
-// Adds cells to the recorded stretches of an array. The result is whether the array is one of the program.
+// Adds cells to the recorded stretches of an array. Returns whether the array is one of the program.
 fn add_cells(number: usize, writes: bool, cells: Stretch, touches: &mut [Touch]) -> bool
     ensures wider { Widens touches.old touches.new }
     ensures known { OnTrue result (number < length touches.old) }
@@ -29,8 +30,7 @@ fn add_cells(number: usize, writes: bool, cells: Stretch, touches: &mut [Touch])
     true
 }
 
-// Records an index of an array. The result, here and below, is whether all is known; if not, nothing is known of what was
-// recorded.
+// Records an index of an array. Here and below, the result is whether all is known. If not, the record means nothing.
 fn tell_index(
     layout: &Layout,
     writes: bool,

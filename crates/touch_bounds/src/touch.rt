@@ -1,9 +1,9 @@
-//! Which cells are touched.
+//! Stretches of touched cells.
 ghost use Rattle.std.specs.Prelude.{◌≡◌, ℕ, ◌↔◌, IsTrue, not};
 ghost use Rattle.touch_bounds.specs.Touches.{DoClash, Includes, hull, side};
 
-/// Cells from one to before another, numbered over all arrays in order of declaration. There are none where the first
-/// isn't before the second.
+/// The cells from one to before another, numbered over all arrays in order of declaration. None if the first isn't before the
+/// second.
 #[derive(Clone, Copy, PartialEq, Eq, Debug, Drop)]
 pub struct Stretch {
     pub from: usize,
@@ -11,7 +11,7 @@ pub struct Stretch {
 }
 
 impl Stretch {
-    /// The least stretch that has the cells of both.
+    /// The least stretch that contains the cells of both.
     pub(crate) fn with(self, other: Stretch) -> Stretch
         ensures { result ≡ hull self other }
     {
@@ -21,7 +21,7 @@ impl Stretch {
         }
     }
 
-    /// Whether both have a cell.
+    /// Whether the two have a common cell.
     pub(crate) fn meets(self, other: Stretch) -> bool
         ensures { IsTrue result ↔ ((cell : ℕ) × Includes self cell × Includes other cell) }
     {
@@ -29,7 +29,7 @@ impl Stretch {
     }
 }
 
-/// The recorded stretches of an array: it may be that no other cells of it are read, and no others written.
+/// The recorded stretches of an array: all its cells that may be read, and all that may be written.
 #[derive(Clone, Copy, PartialEq, Eq, Debug, Drop)]
 pub struct Touch {
     pub read: Stretch,
@@ -41,14 +41,14 @@ const NO_CELLS: Stretch = Stretch {
     to: 0,
 };
 
-/// Nothing is touched.
+/// No cell is touched.
 pub const UNTOUCHED: Touch = Touch {
     read: NO_CELLS,
     written: NO_CELLS,
 };
 
 impl Touch {
-    /// With more that is written, or read.
+    /// This touch with more cells that are written, or read.
     pub(crate) fn with(self, writes: bool, cells: Stretch) -> Touch
         ensures side { side result writes ≡ hull (side self writes) cells }
         ensures other { side result (not writes) ≡ side self (not writes) }
@@ -66,7 +66,7 @@ impl Touch {
         }
     }
 
-    /// Whether one writes what the other touches.
+    /// Whether one writes a cell that the other touches.
     pub(crate) fn clashes(self, other: Touch) -> bool
         ensures { IsTrue result ↔ DoClash self other }
     {

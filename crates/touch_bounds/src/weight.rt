@@ -1,12 +1,13 @@
-//! Whether it pays to look at a text before its work is walked through. Nothing is promised of that: what is asked and
-//! isn't settled is walked through.
+//! Whether the analysis of a text is worth its time, compared with a walk through its work. No contract depends on it: a text
+//! that isn't settled is walked.
 use array_eval::span;
 use array_tree::{Block, Blocks, Stmt};
 
 /// The greatest number of members of a `team`.
 const MOST_MEMBERS: u64 = 64;
 
-// How many statements stand in a text, and how many run, loops included. The greatest number stands for all above it.
+// The number of statements in a text, and the number that run, loops included. The greatest number of 64 bits also stands for
+// all greater numbers.
 #[derive(Clone, Copy, Drop)]
 struct Weight {
     text: u64,
@@ -14,7 +15,7 @@ struct Weight {
 }
 
 impl Weight {
-    // Nothing.
+    // No statement.
     fn none() -> Weight {
         Weight { text: 0, work: 0 }
     }
@@ -27,7 +28,7 @@ impl Weight {
         }
     }
 
-    // One and the other.
+    // The sum of both.
     fn and(self, other: Weight) -> Weight {
         Weight {
             text: self.text.saturating_add(other.text),
@@ -43,25 +44,25 @@ impl Weight {
         }
     }
 
-    // Whether its work is more than ten times that of looking at so many texts and at each two of so many pieces. A look
-    // at two pieces costs about a thirtieth of a statement.
+    // Whether its work is more than ten times the work of analysing so many texts and comparing each two of so many pieces.
+    // Comparing two pieces costs about a thirtieth of a statement.
     fn pays(self, texts: u64, pieces: u64) -> bool {
         let pairs = pieces.saturating_mul(pieces) / 32;
         self.work / 10 >= self.text.saturating_mul(texts).saturating_add(pairs)
     }
 }
 
-/// Whether it pays to look at a statement's text.
+/// Whether analysing a statement's text is worth its time.
 pub fn statement_pays(statement: &Stmt) -> bool {
     weigh_statement(statement).pays(1, 1)
 }
 
-/// Whether it pays to look at the texts of branches.
+/// Whether analysing the texts of branches is worth its time.
 pub fn branches_pay(branches: &Blocks) -> bool {
     weigh_blocks(branches).pays(1, branches.blocks.len() as u64)
 }
 
-/// Whether it pays to look at a phase's text for each member of a team that has so many iterations.
+/// Whether analysing a phase's text for each member of a team with so many iterations is worth its time.
 pub fn phase_pays(phase: &Block, iterations: u64, members: u64) -> bool {
     weigh_block(phase)
         .and_one()
@@ -69,15 +70,15 @@ pub fn phase_pays(phase: &Block, iterations: u64, members: u64) -> bool {
         .pays(members, members)
 }
 
-/// Whether it pays to look at the text of a loop's body once, for all its turns. Each phase's text may be looked at for each
-/// of as many members as there may be, and each two of as many pieces be compared.
+/// Whether analysing the text of a loop's body once, for all its turns, is worth its time. The text of each phase may be
+/// analysed for each of up to 64 members, and each two of as many pieces compared.
 pub fn loop_pays(body: &Block, turns: u64) -> bool {
     weigh_block(body)
         .times(turns)
         .pays(MOST_MEMBERS, MOST_MEMBERS)
 }
 
-// What a block weighs: all that stands in it, in all turns of the loops inside.
+// The weight of a block: all its statements, in all turns of the loops inside.
 #[cycle(weigh)]
 fn weigh_block(block: &Block) -> Weight {
     let mut weight = Weight::none();
@@ -87,7 +88,7 @@ fn weigh_block(block: &Block) -> Weight {
     weight
 }
 
-// The same of branches or phases.
+// The same for branches or phases.
 #[cycle(weigh)]
 fn weigh_blocks(blocks: &Blocks) -> Weight {
     let mut weight = Weight::none();
@@ -97,8 +98,8 @@ fn weigh_blocks(blocks: &Blocks) -> Weight {
     weight
 }
 
-// The same of a statement. Both sides of an `if` count, since the walk goes through both. What stands in a loop or a team
-// with no turn doesn't, since the walk doesn't go there: to look into it could cost more than the walk.
+// The same for a statement. Both sides of an `if` count, since the walk visits both. The body of a loop or a team without a
+// turn doesn't count. Why: the walk doesn't visit it, so analysing it could cost more than the walk.
 #[cycle(weigh)]
 fn weigh_statement(statement: &Stmt) -> Weight {
     match statement {

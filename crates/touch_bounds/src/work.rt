@@ -13,11 +13,10 @@ use crate::touch::Touch;
 use array_eval::Layout;
 use array_tree::{Block, Blocks, Name, Stmt};
 
-/// Records, for each array, the cells that a block touches, whatever values the variables have between their bounds,
-/// besides what was recorded before. Both sides of an `if` count, and a loop without turns touches nothing.
+/// Records, for each array, the cells that a block touches, for any values of the variables between their bounds, besides those
+/// recorded before. Both sides of an `if` count, and a loop without turns touches nothing.
 ///
-/// The result is whether all are known: each index that isn't dynamic is then inside its array. If not, nothing is
-/// known of what was recorded here.
+/// Returns whether all are known: each static index is then inside its array. If not, the record means nothing.
 #[cycle(tell)]
 pub fn tell_block<'s>(
     layout: &Layout,
@@ -39,7 +38,7 @@ pub fn tell_block<'s>(
     true
 }
 
-/// The same of a statement.
+/// The same for a statement.
 #[cycle(tell)]
 pub(crate) fn tell_statement<'s>(
     layout: &Layout,
@@ -92,7 +91,7 @@ pub(crate) fn tell_statement<'s>(
     }
 }
 
-/// The same of a block that is run for each number from `low` to before `high`.
+/// The same for a block that runs for each number from `low` to before `high`.
 #[cycle(tell)]
 pub(crate) fn tell_loop<'s>(
     layout: &Layout,
@@ -123,7 +122,7 @@ pub(crate) fn tell_loop<'s>(
     tell_block(layout, body, &turns, touches)
 }
 
-// The same of the branches of a `par`.
+// The same for the branches of a `par`.
 #[cycle(tell)]
 fn tell_branches<'s>(
     layout: &Layout,
@@ -145,7 +144,7 @@ fn tell_branches<'s>(
     true
 }
 
-// The same of the phases of a `team`.
+// The same for the phases of a `team`.
 #[cycle(tell)]
 fn tell_phases<'s>(
     layout: &Layout,

@@ -1,8 +1,8 @@
-//! Times the transfers of harts that share a board, by owners (the word board) and by guests (the wide board).
+//! Measures the time of a transfer for harts that share a board, by owners (the word board) and by guests (the wide board).
 //!
-//! Each hart registers, closes, looks at and unregisters sites of its own, which lie under the base. The time of the
-//! slowest hart, divided by all Register and Unregister, goes to the standard error, in nanoseconds: the best and the
-//! median of many fresh boards.
+//! Each hart registers, closes, checks and unregisters sites of its own, which lie under the base. The program prints to
+//! standard error, in nanoseconds, the time of the slowest hart divided by the number of all Register and Unregister: the best
+//! and the median of 150 new boards. `docs/PERFORMANCE.md` has its table. Begin with `rounds` in `rounds.rt`.
 #![tactic(auto)]
 
 mod rounds;

@@ -1,4 +1,4 @@
-//! Boards on which so many harts visit their sites, and how long that takes.
+//! Boards whose sites the harts visit, and the time that it takes.
 ghost use Rattle.std.specs.Prelude.{◌≡◌, map, IfOk};
 ghost use Rattle.std.specs.List.{All};
 ghost use Rattle.board_rule.specs.Layouts.{HasRoom};
@@ -17,13 +17,13 @@ use std::thread::{Threads, for_each_mut};
 use std::time::{Clock, Instant};
 use transfer_table::{Plan, PlanFault};
 
-/// On so many boards.
+/// The number of boards.
 const ROUNDS: usize = 150;
 
-/// With so many sites each.
+/// The number of sites of each board.
 const SITES: usize = 4092;
 
-/// How long a transfer takes, in nanoseconds.
+/// The time of a transfer, in nanoseconds.
 #[derive(Drop)]
 pub struct Times {
     pub best: u64,
@@ -31,6 +31,14 @@ pub struct Times {
 }
 
 /// The times of so many harts, over all rounds.
+///
+/// # Errors
+///
+/// An error if the plan isn't made, an allocation fails, or a board can't be made.
+///
+/// # Memory
+///
+/// It allocates the plan, the times, and a new board for each round.
 pub fn rounds<L: Laid + Sync, R: Threads + Clock + Sync>(
     rt: &R,
     alloc: Global,
@@ -78,7 +86,7 @@ fn ports_of<'a, L: Laid>(
     Ok(ports)
 }
 
-// How long a transfer of the slowest hart takes on a fresh board, in nanoseconds.
+// The time of a transfer of the slowest hart on a new board, in nanoseconds.
 fn round<L: Laid + Sync, R: Threads + Clock + Sync>(
     rt: &R,
     alloc: Global,
@@ -99,7 +107,7 @@ fn round<L: Laid + Sync, R: Threads + Clock + Sync>(
     Ok(slowest.unwrap_or(0) / transfers)
 }
 
-// All harts visit their sites at once, each in a thread. The time of each goes to its place.
+// All harts visit their sites at once, each in a thread. The time of each goes to its index.
 fn visit_at_once<R: Threads + Clock + Sync, P: Port<Hold = ()> + Send>(
     rt: &R,
     plan: &Plan,
@@ -122,7 +130,7 @@ fn visit_at_once<R: Threads + Clock + Sync, P: Port<Hold = ()> + Send>(
     for_each_mut(rt, ports, parts, &go);
 }
 
-// How long the hart takes for its share of the sites, in nanoseconds; 0 where the clock can't be read.
+// The time that the hart takes for its share of the sites, in nanoseconds; 0 if the clock can't be read.
 fn time_of<P: Port<Hold = ()>>(clock: &impl Clock, plan: &Plan, port: &mut P, hart: usize) -> u64
     requires flat { IsFlat plan.now }
     requires new { IsNew plan.now (P.seen port.old) }

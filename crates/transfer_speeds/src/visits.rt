@@ -1,4 +1,4 @@
-//! A hart that leads sites of its own, one after another.
+//! A hart that is the home of sites of its own, one after another.
 ghost use Rattle.std.specs.Prelude.{◌≡◌, ◌≤◌, true};
 ghost use Rattle.transfer_table.specs.Plan.{IsSite, site_count};
 ghost use Rattle.transfer_speeds.specs.Flat.{IsFlat};
@@ -18,7 +18,7 @@ pub fn is_flat(plan: &Plan) -> bool
     true
 }
 
-// The hart registers the site and unregisters it. Whether it is back in the base.
+// The hart registers the site and unregisters it. Returns whether the hart is back in the base.
 fn come_and_go<P: Port>(port: &mut P, hold: P::Hold, site: u16) -> bool
     requires known { IsSite (P.seen port.old).plan site }
     requires flat { IsFlat (P.seen port.old).plan }
@@ -37,7 +37,7 @@ fn come_and_go<P: Port>(port: &mut P, hold: P::Hold, site: u16) -> bool
     true
 }
 
-/// The hart does so at the sites from `first + 1` to `last`.
+/// The hart registers and unregisters each of the sites from `first + 1` to `last`.
 pub fn visit_all<P: Port>(port: &mut P, hold: P::Hold, first: u16, last: u16)
     requires base { (P.seen port.old).owner ≡ 0 }
     requires flat { IsFlat (P.seen port.old).plan }

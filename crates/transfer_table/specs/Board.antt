@@ -16,7 +16,7 @@ pub record IsCount (p : Plan) (rows : List Row) (counts : List ℕ) : Type 0 whe
   pub size : length counts ≡ site_count p + 1
   pub counted : (s : ℕ) → s ≤ site_count p → slice_index counts s ≡ count_left p.parents rows s
 
--- what a board keeps: its plan and state fit together, no site has more wishes than it asked for, and its counts are right
+-- a board's invariant: its plan and state fit together, no site has more wishes than it requested, and its counts are right
 pub record IsBoard (b : Position) (counts : List ℕ) : Type 0 where
   pub position : IsPosition b
   pub wished : (s : ℕ) → (row b.state s).wishes ≤ (row b.state s).asked

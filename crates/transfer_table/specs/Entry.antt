@@ -32,6 +32,7 @@ count_of (Yield h s) = 0
 count_of (Unregister h s) = 0
 count_of (Skip h s) = 0
 
+-- whether the entry is a Register
 abbrev pub is_register : Entry → Bool
 is_register (Register h s) = true
 is_register (Request h s k) = false
@@ -40,6 +41,7 @@ is_register (Yield h s) = false
 is_register (Unregister h s) = false
 is_register (Skip h s) = false
 
+-- whether the entry is an Enter
 abbrev pub is_enter : Entry → Bool
 is_enter (Register h s) = false
 is_enter (Request h s k) = false
@@ -48,6 +50,7 @@ is_enter (Yield h s) = false
 is_enter (Unregister h s) = false
 is_enter (Skip h s) = false
 
+-- whether the entry is an Unregister
 abbrev pub is_unregister : Entry → Bool
 is_unregister (Register h s) = false
 is_unregister (Request h s k) = false
@@ -56,6 +59,7 @@ is_unregister (Yield h s) = false
 is_unregister (Unregister h s) = true
 is_unregister (Skip h s) = false
 
+-- whether the entry is a Skip
 abbrev pub is_skip : Entry → Bool
 is_skip (Register h s) = false
 is_skip (Request h s k) = false

@@ -96,7 +96,7 @@ lacking meant es (Ok t) = option_map (λ why. record { place = length es; why = 
     (lacks meant (has_register es) t)
 lacking meant es (Err why) = None
 
--- The place and the refusal of the first refused entry. Where none is refused, the list's length, and the least site that isn't
+-- The index and the refusal of the first refused entry. Where none is refused, the list's length, and the least site that isn't
 -- gone; where all are gone, the least that has a Register and isn't meant, or is meant and has none. Nothing for a complete
 -- list.
 abbrev pub first_fault_of : Plan → List Bool → List Entry → Option Fault

@@ -85,13 +85,14 @@ pub record IsCounted (p : Plan) (es : List Entry) (t : TableState) (s : ℕ) : T
   pub skipped : skips_over p s es
       ≡ (if (is_gone (row t s).stage && not (is_some (row t s).home)) then 1 else 0)
 
+-- In each reachable state, the rows count the entries so.
 abbrev pub RowsTellEntries : Type 0
 RowsTellEntries = (p : Plan) (es : List Entry) (t : TableState) → IsPlan p → Reaches p es t
     → (s : ℕ) → IsSite p s → IsCounted p es t s
 
--- How a site begins and ends, by its own entries: it is registered or skipped at most once; a new site is neither, a live one is
--- registered; what was unregistered, or skipped itself, is gone. A gone site that was neither registered nor skipped itself was
--- skipped with a site around it, so its parent is a site that is gone.
+-- How a site begins and ends, by its own entries: it is registered or skipped at most once; a new site is neither, a live one
+-- is registered; what was unregistered, or skipped itself, is gone. A gone site that was neither registered nor skipped itself
+-- was skipped with a site around it, so its parent is a site that is gone.
 pub record BeginsOnce (p : Plan) (es : List Entry) (t : TableState) (s : ℕ) : Type 0 where
   pub once : registers s es + skips s es ≤ 1
   pub fresh : (row t s).stage ≡ New → (registers s es + skips s es ≡ 0) × (unregisters s es ≡ 0)
@@ -102,6 +103,7 @@ pub record BeginsOnce (p : Plan) (es : List Entry) (t : TableState) (s : ℕ) : 
   pub left_out : (row t s).stage ≡ Gone → registers s es + skips s es ≡ 0
       → IsSite p (parent p s) × ((row t (parent p s)).stage ≡ Gone)
 
+-- In each reachable state, each site has begun at most once in this way.
 abbrev pub SitesBeginOnce : Type 0
 SitesBeginOnce = (p : Plan) (es : List Entry) (t : TableState) → IsPlan p → Reaches p es t
     → (s : ℕ) → IsSite p s → BeginsOnce p es t s

@@ -5,11 +5,12 @@ use Rattle.transfer_table.specs.Causes.{cause_if, first_cause}
 use Rattle.transfer_table.specs.declared.plan.PlanFault.{PlanFault}
 use Rattle.transfer_table.specs.declared.plan.PlanFault.TheVariants as fault
 
--- the number of harts, and the parent of each site, that of site s at place s - 1; site 0 is the base
+-- the number of harts, and the parent of each site, that of site s at index s - 1; site 0 is the base
 pub record Plan : Type 0 where
   pub harts : ℕ
   pub parents : List ℕ
 
+-- the number of a plan's sites
 abbrev pub site_count : Plan → ℕ
 site_count p = length p.parents
 
@@ -43,9 +44,11 @@ is_within p s o = leads_up p s o o
 abbrev pub most_harts : ℕ
 most_harts = 16
 
+-- the greatest number of sites
 abbrev pub most_sites : ℕ
 most_sites = 4095
 
+-- the greatest number of entries of a legal list
 abbrev pub most_entries : ℕ
 most_entries = 65535
 
@@ -53,8 +56,8 @@ most_entries = 65535
 abbrev pub room : Plan → ℕ
 room p = site_count p * (3 * p.harts - 1)
 
--- At least one hart, not too many harts and sites, a legal list isn't too long, and each site's parent is smaller than the site.
--- `short` doesn't follow from the other limits: 16 harts and 4,095 sites would have room for 192,465 entries.
+-- At least one hart, not too many harts and sites, a legal list isn't too long, and each site's parent is smaller than the
+-- site. `short` doesn't follow from the other limits: 16 harts and 4,095 sites would have room for 192,465 entries.
 pub record IsPlan (p : Plan) : Type 0 where
   pub some_hart : 1 ≤ p.harts
   pub few_harts : p.harts ≤ most_harts

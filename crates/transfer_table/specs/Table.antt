@@ -11,7 +11,7 @@ use Rattle.transfer_table.specs.declared.entry.Entry.TheVariants.{Register, Requ
 use Rattle.transfer_table.specs.declared.entry.NotAdmitted.{NotAdmitted}
 use Rattle.transfer_table.specs.declared.entry.NotAdmitted.TheVariants as refusal
 
--- the owner of each hart, and a row for each site, that of site s at place s - 1
+-- the owner of each hart, and a row for each site, that of site s at index s - 1
 pub record TableState : Type 0 where
   pub owners : List ℕ
   pub rows : List Row
@@ -32,21 +32,25 @@ owner t h = slice_index t.owners h
 abbrev pub row : TableState → ℕ → Row
 row t s = slice_index_or t.rows (s - 1) blank
 
+-- whether a site is new
 abbrev pub is_new : Stage → Bool
 is_new New = true
 is_new Live = false
 is_new Gone = false
 
+-- whether a site is live
 abbrev pub is_live : Stage → Bool
 is_live New = false
 is_live Live = true
 is_live Gone = false
 
+-- whether a site is gone
 abbrev pub is_gone : Stage → Bool
 is_gone New = false
 is_gone Live = false
 is_gone Gone = true
 
+-- whether the hart is the home
 abbrev pub is_home : Option ℕ → ℕ → Bool
 is_home None h = false
 is_home (Some g) h = g == h
@@ -81,6 +85,7 @@ least_left (q ∷ qs) (r ∷ rs) s k =
 abbrev pub child_left : Plan → TableState → ℕ → Option ℕ
 child_left p t s = least_left p.parents t.rows s 1
 
+-- whether the plan has no such site
 abbrev pub no_such_site : Plan → ℕ → Bool
 no_such_site p s = (s == 0) || nat_lt (site_count p) s
 
@@ -132,8 +137,8 @@ moved t h s = slice_set t.owners h s
 abbrev pub with_row : TableState → ℕ → Row → List Row
 with_row t s r = slice_set t.rows (s - 1) r
 
--- The row of a site that is gone and has no home. Why: a skipped site differs from an unregistered one by its missing home, so a
--- row needs no fourth stage.
+-- The row of a site that is gone and has no home. Why: a skipped site differs from an unregistered one by its missing home, so
+-- a row needs no fourth stage.
 abbrev pub swept_row : Row → Row
 swept_row r = record r { stage = Gone; home = None }
 
@@ -168,6 +173,7 @@ effect_of p t (Unregister h s) = record {
 }
 effect_of p t (Skip h s) = record t { rows = swept p s t.rows 1 }
 
+-- the state, or the refusal
 abbrev pub unless_refused : Option NotAdmitted → TableState → Result TableState NotAdmitted
 unless_refused None t = Ok t
 unless_refused (Some why) t = Err why

@@ -4,7 +4,7 @@ ghost use Rattle.transfer_table.specs.Plan.{IsHart, IsSite, IsPlan, parent, site
 ghost use Rattle.transfer_table.specs.Table.{admit_of, IsAnswer, common_refusals, first_state, IsPosition, hart_inside, child_left, owner, row, blank, is_gone, is_home, home_number, swept, swept_row, with_row};
 ghost use Rattle.transfer_table.specs.Causes.{first_cause};
 ghost use Rattle.transfer_table.specs.Journal.{unfinished};
-ghost use Rattle.transfer_table.specs.Board.{IsCount, count_left};
+ghost use Rattle.transfer_table.specs.Board.{IsCount};
 
 use crate::entry::{Entry, NotAdmitted, Row, Stage};
 use crate::plan::Plan;

@@ -69,7 +69,8 @@ pub enum NotAdmitted {
     NotHome { home: u8 },
     /// The site has no unmet wish.
     NoWish,
-    /// With this count the site would have requested more harts than all but its home. `asked` is the sum of its requests so far.
+    /// With this count the site would have requested more harts than all but its home. `asked` is the sum of its requests so
+    /// far.
     TooManyWished { asked: u8 },
     /// The hart is the site's home, which doesn't yield.
     IsHome,

@@ -17,8 +17,8 @@ pub enum Why {
     Refused(NotAdmitted),
     /// The table refuses no entry, and the site, the least such, isn't gone at the end.
     Unfinished { site: u16 },
-    /// The table refuses no entry, and every site is gone at the end. The site is the least that was registered and isn't meant, or
-    /// is meant and wasn't registered; the flag is true if it is meant.
+    /// The table refuses no entry, and every site is gone at the end. The site is the least that was registered and isn't
+    /// meant, or is meant and wasn't registered; the flag is true if it is meant.
     Unmeant { site: u16, registered: bool },
 }
 

@@ -1,4 +1,4 @@
--- What a scheduler by turns answers and hears.
+-- The results of the calls of a scheduler by turns.
 use Rattle.std.specs.Prelude.{◌≡◌, ℕ, ◌<◌, ◌≤◌, List, [], ◌∷◌, ◌++◌, length, Result, Ok, Err}
 use Rattle.sched_api.specs.declared.hearing.Told.{Told}
 use Rattle.sched_api.specs.declared.hearing.Call.{Call}
@@ -7,14 +7,15 @@ use Rattle.sched_api.specs.declared.scheduler.Next.{Next}
 use Rattle.sched_api.specs.declared.scheduler.Next.TheVariants.{Run, Lend, Nothing}
 use Rattle.turn_sched.specs.Ring.{RingParts, with_wishes, without_child, TakesTurn}
 
--- what contracts see of it: its site, its contexts, how many of them there is room for, and the ring of its children
+-- The view that contracts have of the scheduler: its site, its contexts, the number of contexts for which there is room, and
+-- the ring of its children.
 pub record TurnsState (C : Type 0) : Type 0 where
   pub site : ℕ
   pub ready : List C
   pub room : ℕ
   pub ring : RingParts
 
--- one with no context and no wish yet
+-- The scheduler without contexts and wishes.
 abbrev pub new_turns : {C : Type 0} → ℕ → ℕ → ℕ → TurnsState C
 new_turns site room children = record {
   site = site;
@@ -23,7 +24,7 @@ new_turns site room children = record {
   ring = record { places = []; room = children };
 }
 
--- One call of `enter`: the first context runs. Where there is none, the hart is lent to the child whose turn it is.
+-- One call of `enter`: the first context runs. If there is none, the hart is lent to the child whose turn it is.
 abbrev pub RunsOrLends : {C : Type 0} → TurnsState C → Next C → TurnsState C → Type 0
 RunsOrLends before (Run c) after = before ≡ record after { ready = c ∷ after.ready }
 RunsOrLends before (Lend child) after =
@@ -32,7 +33,7 @@ RunsOrLends before (Lend child) after =
 RunsOrLends before Nothing after =
     (before.ready ≡ []) × (before.ring.places ≡ []) × (after ≡ before)
 
--- the ring after a callback: a request adds wishes, the child's going takes its place, and the others change nothing
+-- The ring after a callback: a request adds wishes, an unregister removes the child's place, and the others change nothing.
 abbrev pub ring_by : Call → ℕ → ℕ → RingParts → RingParts
 ring_by Registered child count ring = ring
 ring_by Unregistered child count ring = without_child child ring
@@ -40,6 +41,7 @@ ring_by Requested child count ring = with_wishes child count ring
 ring_by Yielded child count ring = ring
 ring_by Blocked child count ring = ring
 
+-- The ring after a callback of a receipt.
 abbrev pub ring_after : Told → RingParts → RingParts
 ring_after told ring = ring_by told.call told.child told.count ring
 
@@ -47,7 +49,7 @@ ring_after told ring = ring_by told.call told.child told.count ring
 abbrev pub HearsOf : {C : Type 0} → TurnsState C → Told → TurnsState C → Type 0
 HearsOf before told after = after ≡ record before { ring = ring_after told before.ring }
 
--- A context goes last, or is given back exactly where all room is filled.
+-- A context goes last. It is returned exactly if all room is filled.
 abbrev pub PutsLast : {C : Type 0} → TurnsState C → C → Result (Unit {0}) C → TurnsState C → Type 0
 PutsLast before c (Ok done) after =
     (length before.ready < before.room) × (after ≡ record before { ready = before.ready ++ c ∷ [] })

@@ -6,7 +6,7 @@ use sched_api::{Next, Scheduler};
 use std::marker::PhantomData;
 use std::sync::{Mutex, Wait};
 
-/// A `Turns` that harts share: its site stands beside the lock, since no call changes it.
+/// A `Turns` that harts share. Why its site is beside the lock: no call changes it.
 #[derive(Drop)]
 pub struct SharedTurns<C> {
     site: u16,
@@ -14,7 +14,7 @@ pub struct SharedTurns<C> {
 }
 
 impl<C: Drop> SharedTurns<C> {
-    /// Puts the scheduler behind a lock.
+    /// Puts the scheduler under a lock.
     pub fn new(turns: Turns<C>) -> SharedTurns<C>
         ensures { result.site ≡ turns.site }
     {
@@ -25,8 +25,7 @@ impl<C: Drop> SharedTurns<C> {
     }
 }
 
-/// One hart's hand on a shared `Turns`. Its calls do what those of `Turns` do, under the lock, for which each but `site` may
-/// wait.
+/// One hart's hand on a shared `Turns`. Its calls do what those of `Turns` do, under the lock. Each but `site` may block.
 pub struct TurnsHand<'a, C, R> {
     site: u16,
     lock: &'a Mutex<Turns<C>>,
@@ -44,7 +43,7 @@ impl<'a, C, R> Drop for TurnsHand<'a, C, R> {
 }
 
 impl<'a, C, R> TurnsHand<'a, C, R> {
-    /// A hand on the scheduler. It doesn't wait.
+    /// A hand on the scheduler. Does not block.
     pub fn new(shared: &'a SharedTurns<C>) -> TurnsHand<'a, C, R>
         ensures { result.site ≡ shared.now.site }
     {
@@ -57,7 +56,11 @@ impl<'a, C, R> TurnsHand<'a, C, R> {
 }
 
 impl<'a, C: Drop + 'a, R: Wait + 'a> TurnsHand<'a, C, R> {
-    /// What `put_last` of the scheduler does.
+    /// What `put_last` of the scheduler does, under the lock.
+    ///
+    /// # Errors
+    ///
+    /// The context itself if all room is filled.
     pub fn put_last(&self, rt: &R, c: C) -> Result<(), C>
         ensures { IfErr result (λ back. back ≡ c) }
     {
@@ -74,7 +77,7 @@ impl<'a, C: Drop + 'a, R: Wait + 'a> Scheduler for TurnsHand<'a, C, R> {
 
     ghost site_of = { λ hand. hand.site };
 
-    // Nothing is known of what the lock holds, so any answer may come.
+    // Why: contracts know only the type of the lock-protected scheduler, so any result is possible.
     ghost answers = { λ _ _ _. Unit {0} };
 
     ghost hears = { λ _ _ _. Unit {0} };

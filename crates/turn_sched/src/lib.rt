@@ -1,7 +1,8 @@
-//! A small scheduler, complete with its proofs, for authors of schedulers to learn from.
+//! A small scheduler, complete with its proofs, as an example for authors of schedulers.
 //!
 //! It runs its contexts in turn, and lends harts to its children by turns. `Turns` is for one thread. Harts share a
-//! `SharedTurns`, each by a `TurnsHand` of its own. `laws` has what a user may rest on over any run of calls.
+//! `SharedTurns`, each by a `TurnsHand` of its own. `laws` has what a user may rely on over any run of calls. Begin with
+//! `Turns` in `turns.rt`; `src/tests.rt` has an example, and `turn_tests` runs programs with it.
 #![tactic(auto)]
 
 mod hand;

@@ -7,7 +7,7 @@ use std::alloc::{AllocError, Global};
 use std::collections::VecDeque;
 use std::marker::Model;
 
-/// A child's place in the ring, with how many of its wishes are unmet.
+/// A child's place in the ring, with the number of its unmet wishes.
 #[derive(Clone, Copy, Debug, PartialEq, Eq)]
 pub struct Place {
     pub child: u16,
@@ -34,7 +34,15 @@ impl Model for Ring {
 }
 
 impl Ring {
-    /// No place, with room for so many.
+    /// An empty ring, with room for `room` places.
+    ///
+    /// # Errors
+    ///
+    /// `AllocError` if an allocation fails.
+    ///
+    /// # Memory
+    ///
+    /// It allocates the room. No other call allocates.
     pub fn new(alloc: Global, room: usize) -> Result<Ring, AllocError>
         ensures { IfOk result (λ r. r ≡ record { places = []; room = room }) }
     {
@@ -44,7 +52,7 @@ impl Ring {
         })
     }
 
-    /// Adds wishes to the child's place. One that has none gets the last, if there is room.
+    /// Adds wishes to the child's place. A child without a place gets the last one, if there is room.
     pub fn add(&mut self, child: u16, count: u8)
         ensures { self.new ≡ with_wishes child count self.old }
     {
@@ -59,7 +67,7 @@ impl Ring {
         }
     }
 
-    /// Takes a wish of the child whose turn it is, which goes last while it has wishes left.
+    /// Takes a wish of the child whose turn it is. The child goes last if it has wishes left.
     pub fn take_turn(&mut self) -> Option<u16>
         ensures some { IfSome result (λ child. TakesTurn self.old.places child self.new.places) }
         ensures none { IfNone result ((self.old.places ≡ []) × (self.new.places ≡ [])) }
@@ -76,7 +84,7 @@ impl Ring {
         Some(child)
     }
 
-    /// Takes the child's place.
+    /// Removes the child's place.
     pub fn remove(&mut self, child: u16)
         ensures { self.new ≡ without_child child self.old }
     {
@@ -84,7 +92,7 @@ impl Ring {
     }
 }
 
-// Adds wishes to the child's place. Whether it has one.
+// Adds wishes to the child's place. Returns whether it has one.
 fn add_to_place(places: &mut VecDeque<Place>, child: u16, count: u8) -> bool
     ensures has { result ≡ has_place child places.old.items }
     ensures items { places.new.items ≡ with_more child count places.old.items }

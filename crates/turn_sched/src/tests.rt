@@ -94,7 +94,7 @@ fn callbacks_tell_what_they_were_told(rt: HostRuntime) -> Result<(), Fail> {
     Ok(())
 }
 
-// What a hart does next that comes to a shared scheduler by a hand of its own.
+// The next action of a hart that comes to a shared scheduler by a hand of its own.
 fn next<'a, R: Wait + 'a>(rt: &'a R, shared: &'a SharedTurns<char>) -> Next<char> {
     let mut hand = TurnsHand::new(shared);
     hand.enter(rt)

@@ -9,7 +9,7 @@ use std::alloc::{AllocError, Global};
 use std::collections::VecDeque;
 use std::marker::Model;
 
-/// What a callback gives.
+/// The receipt of a callback.
 #[derive(Drop)]
 pub struct TurnsHeard {
     told: Told,
@@ -31,7 +31,7 @@ impl Hearing for TurnsHeard {
     }
 }
 
-// Only the callbacks below call it.
+// Only the callbacks below call this function.
 fn heard(call: Call, child: u16, count: u8) -> TurnsHeard
     ensures { result ≡ record { call = call; child = child; count = count } }
 {
@@ -40,7 +40,7 @@ fn heard(call: Call, child: u16, count: u8) -> TurnsHeard
     }
 }
 
-/// A scheduler of contexts of any type. A hart that comes runs the first context, and where there is none it is lent to the
+/// A scheduler of contexts of any type. A hart that comes runs the first context. If there is none, the hart is lent to the
 /// child whose turn it is.
 #[derive(Drop)]
 pub struct Turns<C> {
@@ -63,8 +63,15 @@ impl<C> Model for Turns<C> {
 }
 
 impl<C: Drop> Turns<C> {
-    /// A scheduler of the site, with memory for `room` contexts and for places of so many children. No other call takes
-    /// memory.
+    /// A scheduler of the site, with memory for `room` contexts and for the places of `children` children.
+    ///
+    /// # Errors
+    ///
+    /// `AllocError` if an allocation fails.
+    ///
+    /// # Memory
+    ///
+    /// It allocates all room. No other call allocates.
     pub fn new(
         alloc: Global,
         site: u16,
@@ -81,7 +88,11 @@ impl<C: Drop> Turns<C> {
         })
     }
 
-    /// Puts a context last: one that isn't begun, or one that was paused. Where all room is filled, it is given back.
+    /// Puts a context last, either one that isn't begun or one that was paused.
+    ///
+    /// # Errors
+    ///
+    /// The context itself if all room is filled.
     pub fn put_last(&mut self, c: C) -> Result<(), C>
         ensures { PutsLast self.old c result self.new }
     {

@@ -1,25 +1,25 @@
--- A parent and its two children, and what each of three harts has seen among them.
+-- A parent and its two children, and the views of three harts among them.
 use Rattle.std.specs.Prelude.{ℕ, [], ◌∷◌}
 use Rattle.transfer_table.specs.Plan.{Plan}
 use Rattle.hart_port.specs.PortView.{PortView, registered, requested_by, entered}
 use Rattle.hart_port.specs.Locked.{first_locked}
 
--- three harts; the parent at site 1, and its children at sites 2 and 3
+-- Three harts; the parent at site 1, and its children at sites 2 and 3.
 abbrev pub family_plan : Plan
 family_plan = record { harts = 3; parents = 0 ∷ 1 ∷ 1 ∷ [] }
 
--- a hart before it made a transfer
+-- A hart before its first transfer.
 abbrev pub new_hart : ℕ → PortView
 new_hart hart = (first_locked family_plan hart).view
 
--- the hart has opened a site, and asked for two more
+-- The hart has opened a site, and requested two more.
 abbrev pub opened : PortView → ℕ → PortView
 opened view site = requested_by (registered view site) site 2
 
--- the home of the parent and of the first child
+-- The home of the parent and of the first child.
 abbrev pub home_of_both : PortView
 home_of_both = opened (opened (new_hart 0) 1) 2
 
--- the home of the second child, which came into the parent
+-- The home of the second child, which came into the parent.
 abbrev pub home_of_team : PortView
 home_of_team = opened (entered (new_hart 1) 1) 3

@@ -1,2 +1,2 @@
--- What the tests' contracts cite.
+-- Definitions for the tests' contracts.
 pub mod Family

@@ -14,7 +14,7 @@ use std::test::Fail;
 use transfer_table::{Entries, Entry, Plan, first_fault};
 use turn_sched::Turns;
 
-// Has so many steps to do.
+// A task with so many steps to do.
 #[derive(Drop)]
 struct Task {
     name: char,
@@ -37,7 +37,7 @@ impl Machine for Task {
     }
 }
 
-// Puts a context last that has so many steps to do.
+// Puts a context with so many steps to do last.
 fn put(alloc: Global, turns: &mut Turns<Paused<Task>>, name: char, left: u8) -> Result<(), Fail> {
     match ctx_init(alloc, Task { name, left }) {
         Ok(fresh) => match turns.put_last(ctx_pause(ctx_run(fresh))) {
@@ -57,7 +57,7 @@ fn three_contexts(alloc: Global) -> Result<Turns<Paused<Task>>, Fail> {
     Ok(turns)
 }
 
-// Runs a step of the first context, and gives it back unless it is done. Whose step it was, if there was one.
+// Runs a step of the first context, and puts it last unless it is done. Returns whose step it was, if there was one.
 fn run_step(turns: &mut Turns<Paused<Task>>) -> Option<char> {
     let Next::Run(context) = sched_reenter(turns, ()) else {
         return None;
@@ -76,7 +76,7 @@ fn run_step(turns: &mut Turns<Paused<Task>>) -> Option<char> {
     }
 }
 
-// Whether all contexts run a step at a time, and it is their turn in this order.
+// Whether all contexts run a step at a time, with their turns in this order.
 fn are_run(turns: &mut Turns<Paused<Task>>, names: &[char]) -> bool {
     for name in names {
         if run_step(turns) != Some(*name) {
@@ -95,7 +95,7 @@ fn is_opened(port: &mut PlainPort, base: &mut Base) -> bool
     sched_register(port, (), base, (), 1).is_ok()
 }
 
-// Whether the home of the site closes it, and goes back to the base.
+// Whether the home of the site closes it, and returns to the base.
 fn is_left(port: &mut PlainPort, base: &mut Base) -> bool
     requires plan { port.old.view.plan ≡ record { harts = 1; parents = 0 ∷ [] } }
     requires home { port.old.view ≡ registered (first_view port.old.view.plan) 1 }
@@ -108,7 +108,7 @@ fn is_left(port: &mut PlainPort, base: &mut Base) -> bool
     true
 }
 
-// The entries of a hart that runs all contexts in its site. It fails where the turns are others.
+// The entries of a hart that runs all contexts in its site. Returns a failure if the turns differ.
 fn entries_of(alloc: Global, plan: &Plan, turns: &mut Turns<Paused<Task>>) -> Result<Entries, Fail>
     requires { plan.now ≡ record { harts = 1; parents = 0 ∷ [] } }
 {
@@ -124,7 +124,7 @@ fn entries_of(alloc: Global, plan: &Plan, turns: &mut Turns<Paused<Task>>) -> Re
     }
 }
 
-// Whether these are two entries, and complete. They are counted first, since `first_fault` asks for fewer than 2 ^ 32.
+// Whether these are two entries, and complete. Why it counts them first: `first_fault` requires fewer than 2 ^ 32.
 fn are_two(alloc: Global, plan: &Plan, entries: &[Entry]) -> Result<bool, Fail> {
     let all = vec![in alloc; true; plan.sites() as usize]?;
     Ok(entries.len() == 2 && first_fault(alloc, plan, &all, entries)? == None)

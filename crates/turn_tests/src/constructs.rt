@@ -19,13 +19,13 @@ pub const TWO_CONSTRUCTS: &[u8] = b"array a[4]; array b[6]; par {
     { team i in 0..6 by 3 { b[i] = i + 1; } }
 }";
 
-/// What the branches of the inner `par` write, each a cell.
+/// The writes of the branches of the inner `par`, each of one cell.
 pub const BY_BRANCHES: [[(u16, i64); 1]; 3] = [[(0, 1)], [(1, 2)], [(2, 3)]];
 
-/// What the members of the `team` write.
+/// The writes of the members of the `team`.
 pub const BY_MEMBERS: [[(u16, i64); 2]; 3] = [[(4, 1), (5, 2)], [(6, 3), (7, 4)], [(8, 5), (9, 6)]];
 
-// The construct that a job begins with.
+// The construct with which a job begins.
 fn construct_of<'p>(alloc: Global, job: &Job<'p>) -> Result<Nested<'p>, Fail> {
     let mut machine = StepMachine::new(alloc, job.copy()?)?;
     match machine.step() {
@@ -34,7 +34,7 @@ fn construct_of<'p>(alloc: Global, job: &Job<'p>) -> Result<Nested<'p>, Fail> {
     }
 }
 
-// The construct that a branch begins with.
+// The construct with which a branch begins.
 fn construct_in<'p>(
     alloc: Global,
     program: &'p Program,
@@ -48,15 +48,23 @@ fn construct_in<'p>(
 }
 
 /// The pool of the first branch.
+///
+/// # Errors
+///
+/// A failure of the test if an allocation fails.
 pub fn pool_in<'p>(alloc: Global, program: &'p Program) -> Result<Pool<'p>, Fail> {
     let nested = construct_in(alloc, program, 0)?;
-    // By its count a construct has a first phase.
+    // Why: reading its phases makes it known that the construct has a first phase.
     let _phases = nested.phases();
     let jobs = jobs_of(alloc, &nested, 0, &nested.store)?;
     Ok(Pool::new(alloc, jobs)?)
 }
 
 /// The team of the second branch.
+///
+/// # Errors
+///
+/// A failure of the test if an allocation fails.
 pub fn team_in<'p>(alloc: Global, program: &'p Program) -> Result<Team<'p>, Fail> {
     let nested = construct_in(alloc, program, 1)?;
     match nested.kind() {

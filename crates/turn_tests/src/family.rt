@@ -1,6 +1,6 @@
-//! A parent by turns and its two children, and what three harts do there, whatever their ports.
+//! A parent by turns and its two children, and the moves of three harts there, for any ports.
 //!
-//! Hart 0 is the home of the parent and of the pool, and hart 1 that of the team. Hart 2 is lent to both.
+//! Hart 0 is the home of the parent and of the pool, and hart 1 of the team. Hart 2 is lent to both.
 ghost use Rattle.std.specs.Prelude.{◌≡◌, ◌<◌, true, false, IfSome};
 ghost use Rattle.hart_port.specs.PortView.{is_in, entered};
 ghost use Rattle.turn_tests.specs.Family.{family_plan, new_hart, home_of_both, home_of_team};
@@ -13,7 +13,7 @@ use sched_api::{Lent, Next, Scheduler, sched_enter, sched_reenter, sched_yield};
 use std::alloc::Global;
 use turn_sched::Turns;
 
-// A hart that the base lends comes into the parent. What it is to do there.
+// A hart that the base lends comes into the parent. Returns its next action there.
 fn comes<P: Port>(
     port: &mut P,
     hold: P::Hold,
@@ -72,7 +72,7 @@ fn goes_round<P: Port, C: Child, D: Child>(
         )
 }
 
-/// Whether hart 2 comes from the base, goes round twice, finds nothing more, and goes back.
+/// Whether hart 2 comes from the base, goes round twice, finds nothing more, and returns.
 pub fn helps<P: Port, C: Child, D: Child>(
     guest: &mut P,
     hold: P::Hold,
@@ -109,7 +109,7 @@ pub fn opens_team<P: Port>(
     comes(second, hold, base, turns) == Some(Next::Run('t')) && opens(second, hold, turns, 3, 2)
 }
 
-/// Whether it leaves that site, and goes back to the base.
+/// Whether hart 1 leaves that site, and returns to the base.
 pub fn leaves_team<P: Port>(
     second: &mut P,
     hold: P::Hold,
@@ -140,7 +140,7 @@ pub fn opens_both<P: Port>(
         && opens(home, hold, turns, 2, 2)
 }
 
-/// Whether it leaves both.
+/// Whether hart 0 leaves both.
 pub fn leaves_both<P: Port>(
     home: &mut P,
     hold: P::Hold,

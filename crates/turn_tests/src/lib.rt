@@ -1,6 +1,6 @@
-//! Tests of the scheduler by turns, under the port of a single hart and over the ports of three harts.
+//! Tests of the scheduler by turns, with the port of a single hart and with the ports of three harts.
 //!
-//! They stand apart since a crate is proved a second time with its tests.
+//! Why a crate of its own: a crate is proved a second time with its tests.
 #![tactic(auto)]
 
 #[cfg(test)]

@@ -1,7 +1,7 @@
-//! A parent by turns, and a pool and a team as its children, over the ports of three harts on one ledger.
+//! A parent by turns, and a pool and a team as its children, with the ports of three harts on one ledger.
 //!
-//! One thread makes the calls of all three in a fixed order. So each answer is known beforehand and the whole journal is
-//! compared, and no call waits, since the lock is free at each.
+//! One thread makes the calls of all three in a fixed order. So each result is known beforehand and the whole journal is
+//! compared, and no call blocks, since the lock is free at each.
 ghost use Rattle.std.specs.Prelude.{◌≡◌};
 ghost use Rattle.turn_tests.specs.Family.{family_plan};
 
@@ -136,7 +136,7 @@ fn is_journal(alloc: Global, plan: &Plan, entries: &[Entry]) -> Result<bool, All
     Ok(first_fault(alloc, plan, &all, entries)? == None)
 }
 
-// Whether all three do so, under a base.
+// Whether all three harts do their moves, under a base.
 fn is_done<R: Threads + Wait + Sync, C: Child, D: Child>(
     rt: &R,
     alloc: Global,
@@ -156,7 +156,7 @@ fn is_done<R: Threads + Wait + Sync, C: Child, D: Child>(
     has_both(rt, alloc, lock, plan, &mut base, &mut turns, pool, team)
 }
 
-// Whether they do so, and their ledger is the journal.
+// Whether they do their moves, and their ledger is the journal.
 fn is_shared<R: Threads + Wait + Sync, C: Child, D: Child>(
     rt: &R,
     alloc: Global,

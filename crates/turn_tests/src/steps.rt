@@ -1,4 +1,4 @@
-//! What a hart does at a site, whatever its port and its scheduler.
+//! The moves of a hart at a site, for any port and scheduler.
 ghost use Rattle.std.specs.Prelude.{◌≡◌, ◌+◌, ◌-◌, ◌≤◌, ◌<◌, true, false};
 ghost use Rattle.transfer_table.specs.Plan.{IsSite, parent as parent_of};
 ghost use Rattle.hart_port.specs.PortView.{is_in, registered, requested_by, closes, sees_empty, unregistered, ChildrenSeenGone};
@@ -12,14 +12,15 @@ use std::alloc::Global;
 
 /// A scheduler whose pieces a hart runs.
 pub trait Child: Scheduler<Hold = ()> {
-    /// Runs the piece that the hart is to begin, and brings it. Whether there was one that wrote these cells, and it is kept.
+    /// Runs the piece that the hart begins, and brings it. Returns whether there was one that wrote these cells, and it is
+    /// kept.
     fn bring(&mut self, alloc: Global, next: Next<Self::Ctx>, writes: &[(u16, i64)]) -> bool;
 
     /// Whether all pieces have come.
     fn is_finished(&self) -> bool;
 }
 
-/// Whether the hart registers the site, as its home, and asks the parent for so many more.
+/// Whether the hart registers the site, as its home, and requests so many more from the parent.
 pub fn opens<P: Port, S: Scheduler<Hold = ()>>(
     port: &mut P,
     hold: P::Hold,
@@ -42,7 +43,7 @@ pub fn opens<P: Port, S: Scheduler<Hold = ()>>(
     true
 }
 
-/// Whether the home of a site finds it empty once it is closed, and goes back to the parent.
+/// Whether the home of a site finds it empty once it is closed, and returns to the parent.
 pub fn leaves<P: Port, S: Scheduler<Hold = ()>>(port: &mut P, hold: P::Hold, parent: &mut S) -> bool
     requires home { is_in (P.seen port.old).homes (P.seen port.old).owner ≡ true }
     requires open_yet { is_in (P.seen port.old).closed (P.seen port.old).owner ≡ false }
@@ -59,7 +60,7 @@ pub fn leaves<P: Port, S: Scheduler<Hold = ()>>(port: &mut P, hold: P::Hold, par
     true
 }
 
-/// Whether a hart comes into the child, and runs a piece there that writes these cells. It is back afterwards.
+/// Whether a hart enters the child, runs a piece there that writes these cells, and returns.
 pub fn visits<P: Port, S: Scheduler<Hold = ()>, C: Child>(
     port: &mut P,
     hold: P::Hold,

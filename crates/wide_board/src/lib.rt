@@ -1,5 +1,8 @@
-//! The table of lent harts as atomic words, for any plan: the first word is a clock, and the word of a
-//! site counts its guests. `lent_board` has its calls.
+//! The table of lent harts as atomic words, for any plan: the first word is the number of entries, and the word of a site
+//! counts its guests.
+//!
+//! The crate names the types of `lent_board`, which has the calls, for this layout. `docs/BOARD.md` explains the protocol, and
+//! `wide_tests` has examples.
 #![tactic(auto)]
 
 pub use hart_port::{Entered, Seen, Taken};
@@ -9,11 +12,11 @@ use lent_board::{Board, BoardPort, ByGuests};
 /// The board.
 pub type WideBoard = Board<ByGuests>;
 
-/// The port of a hart of it.
+/// The port of a hart of the board.
 pub type WidePort<'a> = BoardPort<'a, ByGuests>;
 
 /// The journal of a board that was closed.
 pub type WideClosed = lent_board::Closed<ByGuests>;
 
-/// There was no memory for the journal. Nothing has changed: the board and the seats come back.
+/// The allocation of the journal failed. The board and the seats come back unchanged.
 pub type WideRefused = lent_board::CloseRefused<ByGuests>;

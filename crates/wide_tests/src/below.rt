@@ -1,4 +1,4 @@
-//! A guest of a site that is the home of one below it: it counts as a guest of the upper site until it yields.
+//! A guest of a site that is the home of a site below it: it counts as a guest of the upper site until it yields.
 ghost use Rattle.std.specs.Prelude.{◌≡◌, ◌<◌, ◌-◌, [], ◌∷◌, true, false};
 ghost use Rattle.hart_port.specs.PortView.{is_in};
 ghost use Rattle.board_words.specs.Words.{width};
@@ -18,7 +18,7 @@ fn has(board: &WideBoard, clock: u64, upper: u64, lower: u64) -> bool
     board.peek(0) == clock && board.peek(1) == upper && board.peek(2) == lower
 }
 
-// Whether the guest comes into the upper site, which is closed then, and is the home of the lower one.
+// Whether the guest enters the upper site, which then closes, and becomes the home of the lower one.
 fn is_below(board: &WideBoard, home: &mut WideSeat, guest: &mut WideSeat) -> bool
     requires plan { board.now.plan ≡ record { harts = 2; parents = 0 ∷ 1 ∷ [] } }
     requires of { IsOf board.now home.old × IsOf board.now guest.old }
@@ -45,7 +45,7 @@ fn is_below(board: &WideBoard, home: &mut WideSeat, guest: &mut WideSeat) -> boo
     has(board, 4, 65539, 1)
 }
 
-// Whether the guest leaves the lower site and then the upper one, which has it as a guest until then.
+// Whether the guest leaves the lower site and then the upper one, whose guest it is until then.
 fn is_left(board: &WideBoard, home: &mut WideSeat, guest: &mut WideSeat) -> bool
     requires plan { board.now.plan ≡ record { harts = 2; parents = 0 ∷ 1 ∷ [] } }
     requires of { IsOf board.now home.old × IsOf board.now guest.old }

@@ -1,6 +1,6 @@
 //! Tests of harts that share a table, call by call, on the wide board.
 //!
-//! They stand apart since a crate is proved a second time with its tests.
+//! Why a crate of its own: a crate is proved a second time with its tests.
 #![tactic(auto)]
 
 #[cfg(test)]

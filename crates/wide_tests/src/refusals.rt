@@ -1,4 +1,4 @@
-//! What a hart is refused, and a run that isn't complete.
+//! Refusals of a hart, and a run that isn't complete.
 ghost use Rattle.std.specs.Prelude.{◌≡◌, ◌≤◌, ◌-◌, [], ◌∷◌};
 ghost use Rattle.board_rule.specs.Views.{fresh_view};
 ghost use Rattle.wide_board.specs.Of.{IsOf};
@@ -8,7 +8,7 @@ use std::test::Fail;
 use transfer_table::{Fault, Plan, Why, first_fault};
 use wide_board::{Entered, Seen, Taken, WideBoard, WideSeat};
 
-// Whether a guest is refused at a site that is unclaimed, that wants nobody, and that is closing with a want.
+// Whether a guest is refused at a site that is unclaimed, that wants no hart, and that is closing with a want.
 fn is_not_wanted(board: &WideBoard, home: &mut WideSeat, guest: &mut WideSeat) -> bool
     requires plan { (board.now.plan.parents ≡ 0 ∷ []) × (2 ≤ board.now.plan.harts) }
     requires of { IsOf board.now home.old × IsOf board.now guest.old }
@@ -41,7 +41,7 @@ fn a_hart_that_is_not_wanted(rt: HostRuntime) -> Result<(), Fail> {
     Ok(())
 }
 
-// Whether a site that its home has left refuses a guest, another home and a skip by the word of one that is gone.
+// Whether a site that its home has left refuses a guest, another home and a skip by the word of a site that is gone.
 fn is_gone(board: &WideBoard, home: &mut WideSeat, other: &mut WideSeat) -> bool
     requires plan { board.now.plan.parents ≡ 0 ∷ [] }
     requires of { IsOf board.now home.old × IsOf board.now other.old }

@@ -48,7 +48,7 @@ pub(crate) fn has(board: &WideBoard, clock: u64, site: u64) -> bool
     board.peek(0) == clock && board.peek(1) == site
 }
 
-// Whether one hart registers the site and asks for two, of whom one comes then and not before.
+// Whether one hart registers the site and requests two, of whom one comes then and not before.
 fn has_come(board: &WideBoard, home: &mut WideSeat, guest: &mut WideSeat) -> bool
     requires plan { (board.now.plan.parents ≡ 0 ∷ []) × (3 ≤ board.now.plan.harts) }
     requires of { IsOf board.now home.old × IsOf board.now guest.old }
@@ -78,8 +78,8 @@ fn has_come(board: &WideBoard, home: &mut WideSeat, guest: &mut WideSeat) -> boo
     has(board, 3, 65793)
 }
 
-// Whether the site, once it is closed, has the guest, wants no other hart, is empty without the guest, and gone when its home
-// has left.
+// Whether the site, once closed, has the guest, wants no other hart, is empty without the guest, and gone when its home has
+// left.
 fn has_gone(board: &WideBoard, home: &mut WideSeat, guest: &mut WideSeat) -> bool
     requires plan { board.now.plan.parents ≡ 0 ∷ [] }
     requires of { IsOf board.now home.old × IsOf board.now guest.old }

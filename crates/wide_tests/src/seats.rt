@@ -9,7 +9,7 @@ use std::alloc::{AllocError, Global};
 use transfer_table::Plan;
 use wide_board::{WideBoard, WideClosed, WideSeat};
 
-/// A board, with the first seat, the last one, and those between.
+/// A board, with the first seat, the last one, and the seats between.
 pub(crate) struct Opened {
     pub board: WideBoard,
     pub first: WideSeat,

@@ -27,7 +27,7 @@ fn has(board: &WideBoard, clock: u64, sites: [u64; 3]) -> bool
         && board.peek(3) == sites[2]
 }
 
-// Whether one hart skips site 1, and the other is refused there. The word of site 2, which is below it, stays untouched.
+// Whether one hart skips site 1, and the other is refused there. The word of site 2, which is below it, is unchanged.
 fn is_skipped(board: &WideBoard, one: &mut WideSeat, other: &mut WideSeat) -> bool
     requires plan { board.now.plan ≡ record { harts = 2; parents = 0 ∷ 1 ∷ 0 ∷ [] } }
     requires of { IsOf board.now one.old × IsOf board.now other.old }
@@ -45,7 +45,7 @@ fn is_skipped(board: &WideBoard, one: &mut WideSeat, other: &mut WideSeat) -> bo
         && has(board, 1, [5, 0, 0])
 }
 
-// Whether a skipped site is seen gone by its word, and one below it isn't.
+// Whether a skipped site is seen gone by its word, and a site below it isn't.
 fn is_seen(board: &WideBoard, seat: &mut WideSeat) -> bool
     requires plan { board.now.plan ≡ record { harts = 2; parents = 0 ∷ 1 ∷ 0 ∷ [] } }
     requires of { IsOf board.now seat.old }
@@ -80,7 +80,7 @@ fn has_come_and_gone(board: &WideBoard, seat: &mut WideSeat) -> bool
     registered && closing && has(board, 3, [5, 0, 7]) && board.see_gone(seat, 3)
 }
 
-// Whether the entries are these, and lack nothing where just site 3 is meant.
+// Whether the entries are these, and complete if only site 3 is meant to be entered.
 fn is_told(alloc: Global, plan: &Plan, entries: &[Entry]) -> Result<bool, Fail>
     requires { site_count plan.now ≡ 3 }
 {

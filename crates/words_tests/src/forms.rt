@@ -3,7 +3,7 @@ use command_words::{Command, command_of};
 use std::alloc::Global;
 use std::test::Fail;
 
-// The command of words that a bar parts from one another.
+// The command of words that are separated by bars.
 fn asked(alloc: Global, text: &str) -> Result<Option<Command>, Fail> {
     let mut words = Vec::new(alloc);
     for word in text.split('|') {

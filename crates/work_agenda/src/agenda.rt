@@ -9,7 +9,7 @@ use std::alloc::{AllocError, Global};
 use std::collections::VecDeque;
 use std::marker::Model;
 
-/// For how many wishes the scheduler of a construct has room: fifteen of each site that a plan may have.
+/// The room for wishes of a construct's scheduler: fifteen for each site that a plan may have.
 pub const MOST_WISHES: usize = 61_425;
 
 /// What a scheduler has for the harts that come to it: contexts that are ready to go on, contexts that are not begun,
@@ -35,8 +35,15 @@ impl<C> Model for Agenda<C> {
 }
 
 impl<C: Drop> Agenda<C> {
-    /// An agenda of contexts that are not begun, with memory for `room` ready contexts and for `wishes` wishes. No other
-    /// call takes memory.
+    /// An agenda of contexts that are not begun, with memory for `room` ready contexts and for `wishes` wishes.
+    ///
+    /// # Errors
+    ///
+    /// `AllocError` if an allocation fails.
+    ///
+    /// # Memory
+    ///
+    /// It allocates the room for contexts and wishes. No other call allocates.
     pub fn new(
         alloc: Global,
         room: usize,
@@ -58,7 +65,7 @@ impl<C: Drop> Agenda<C> {
         })
     }
 
-    /// What a hart does next, which is taken off.
+    /// The next action of a hart, which is removed.
     pub fn take_next(&mut self) -> Next<C>
         ensures { TakesNext self.old result self.new }
     {
@@ -88,7 +95,7 @@ impl<C: Drop> Agenda<C> {
         self.ready.pop_front()
     }
 
-    /// Takes the first context that is not begun, if there is one, also where contexts are ready.
+    /// Takes the first context that isn't begun, if there is one, even if contexts are ready.
     pub fn take_unbegun(&mut self) -> Option<C>
         ensures { GivesUnbegun self.old result self.new }
     {
@@ -109,7 +116,11 @@ impl<C: Drop> Agenda<C> {
         self.unbegun.pop_back()
     }
 
-    /// Puts a context last among those that are ready. Where they fill their room, it is given back.
+    /// Puts a context last among the ready ones.
+    ///
+    /// # Errors
+    ///
+    /// The context itself if all room is filled.
     pub fn put_ready(&mut self, c: C) -> Result<(), C>
         ensures { PutsReady self.old c result self.new }
     {
@@ -121,21 +132,21 @@ impl<C: Drop> Agenda<C> {
         }
     }
 
-    /// Hands out these contexts as those that are not begun, in place of any that are left.
+    /// Replaces the contexts that aren't begun by these.
     pub fn begin(&mut self, unbegun: VecDeque<C>)
         ensures { self.new ≡ record self.old { unbegun = unbegun.items } }
     {
         self.unbegun = unbegun;
     }
 
-    /// Notes the wish of a child for `count` harts, as far as there is room.
+    /// Adds `count` wishes of a child, as far as there is room.
     pub fn add_wishes(&mut self, child: u16, count: u8)
         ensures { self.new ≡ record self.old { wishes = with_wishes self.old.wishes child count } }
     {
         self.wishes.add(child, count);
     }
 
-    /// Takes all wishes of a child off.
+    /// Removes all wishes of a child.
     pub fn remove_wishes(&mut self, child: u16)
         ensures { self.new ≡ record self.old { wishes = without_child self.old.wishes child } }
     {

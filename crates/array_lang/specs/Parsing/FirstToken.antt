@@ -19,21 +19,26 @@ pull_at Comparison = 1
 pull_at Addition = 2
 pull_at Product = 3
 
+-- the binding strength of an operator, and 0 for none
 abbrev pub operator_pull : Option (Strength × Op) → ℕ
 operator_pull None = 0
 operator_pull (Some o) = pull_at o.0
 
+-- the binding strength of a token
 abbrev pub pull_of : Lexeme → ℕ
 pull_of l = operator_pull (operator_of l)
 
+-- the binding strength of the first token
 abbrev pub pull : List Spot → ℕ
 pull [] = 0
 pull (t ∷ ts) = pull_of t.lexeme
 
+-- the first token
 abbrev pub head_of : List Spot → Option Lexeme
 head_of [] = None
 head_of (t ∷ ts) = Some t.lexeme
 
+-- tokens, as the parser borrows them
 abbrev pub Tokens : Type 0
 Tokens = Bor (List Token)
 
@@ -62,6 +67,7 @@ abbrev pub IsRestAfterWord : List Spot → Word → Result Tokens Stop → Type 
 IsRestAfterWord s w (Ok t) = StartsWith (word w) s (spots t.now)
 IsRestAfterWord s w (Err e) = IsRefused (head_of s ≢ Some (word w)) s e
 
+-- whether the token is a name
 abbrev pub is_name : Option Lexeme → Bool
 is_name (Some (name b)) = true
 is_name l = false
@@ -71,6 +77,7 @@ abbrev pub IsName : List Spot → Parsed (Bor (List ℕ)) → Type 0
 IsName s (Ok r) = StartsWith (name r.0.now) s (spots r.1.now)
 IsName s (Err e) = IsRefused (is_name (head_of s) ≡ false) s e
 
+-- whether the token is a number
 abbrev pub is_number : Option Lexeme → Bool
 is_number (Some (number v)) = true
 is_number l = false
@@ -82,6 +89,7 @@ pub record StartsWithNumber (value_of : ℕ → ℤ) (s : List Spot) (value : �
   pub starts : StartsWith (number literal) s t
   pub is : value ≡ value_of literal
 
+-- the number at the front and the tokens after it, or the refusal of another token
 abbrev pub IsNumberBy : (ℕ → ℤ) → List Spot → Parsed ℤ → Type 0
 IsNumberBy value_of s (Ok r) = StartsWithNumber value_of s r.0 (spots r.1.now)
 IsNumberBy value_of s (Err e) = IsRefused (is_number (head_of s) ≡ false) s e
@@ -94,6 +102,7 @@ IsNumber s r = IsNumberBy pos s r
 abbrev pub IsNegated : List Spot → Parsed ℤ → Type 0
 IsNegated s r = IsNumberBy (λ v. neg_ℤ (pos v)) s r
 
+-- the tokens s begin with this operator, and t follows it
 pub record StartsWithOperator (s : List Spot) (strength : Strength) (op : Op)
     (t : List Spot) : Type 0 where
   pub lexeme : Lexeme
@@ -110,6 +119,7 @@ pub record StartsWithArray (s : List Spot) (line : ℕ) (t : List Spot) : Type 0
   pub at : ℕ
   pub all : s ≡ spot (word words.Array) at line ∷ t
 
+-- the line of the word `array` at the front and the tokens after it; none for another token
 abbrev pub IsArray : List Spot → Option (ℕ × Tokens) → Type 0
 IsArray s (Some r) = StartsWithArray s r.0 (spots r.1.now)
 IsArray s None = head_of s ≢ Some (word words.Array)

@@ -1,5 +1,5 @@
 -- Reading tokens one after another, with what is under way kept in a state. The machine says nothing that the grammar
--- doesn't: what it reads is what the grammar spells. It gives the place where a text first goes wrong.
+-- doesn't: what it reads is what the grammar spells. It finds the position at which a text first goes wrong.
 use Rattle.std.specs.Prelude.{ℕ, zero, suc, ℤ, pos, neg_ℤ, List, [], ◌∷◌, ◌++◌, Option, Some, None, Result, Ok, Err}
 use Rattle.array_tokens.specs.Lexemes.{Lexeme, name, number, word, sign, Spot}
 use Rattle.array_tokens.specs.declared.token.Word.TheVariants as words
@@ -21,17 +21,21 @@ pub record Level : Type 0 where
   pub term : Left
   pub minus : ℕ
 
+-- an expression of which nothing is read
 abbrev pub fresh : Level
 fresh = record { compare = None; sum = None; term = None; minus = 0 }
 
+-- the expression x, joined to the waiting left side
 abbrev pub joined : Left → Expression → Expression
 joined None x = x
 joined (Some w) x = Binary w.1 w.0 x
 
+-- the expression x under n minus signs
 abbrev pub negs : ℕ → Expression → Expression
 negs zero x = x
 negs (suc n) x = negs n (Neg x)
 
+-- the term that ends with the operand x
 abbrev pub term_value : Level → Expression → Expression
 term_value l x = joined l.term (negs l.minus x)
 
@@ -51,6 +55,7 @@ pub data Operand : Type 0 where
   bare : (x : Expression) → Operand
   called : (b : List ℕ) → Operand
 
+-- the expression of an operand
 abbrev pub operand_value : Operand → Expression
 operand_value (bare x) = x
 operand_value (called b) = Var b
@@ -73,6 +78,7 @@ pub record Crew : Type 0 where
   pub high : ℤ
   pub members : ℤ
 
+-- the team with these phases
 abbrev pub team_of : Crew → List Sequence → Statement
 team_of c ps = Team c.line c.var c.low c.high c.members (sequences ps)
 
@@ -128,25 +134,32 @@ pub record Nest : Type 0 where
   pub done : List Statement
   pub frames : List Frame
 
+-- the nest of these parts
 abbrev pub nest : List Declaration → List Statement → List Frame → Nest
 nest ds d f = record { arrays = ds; done = d; frames = f }
 
+-- the machine's state: its mode and its nest
 pub record State : Type 0 where
   pub mode : Mode
   pub nest : Nest
 
+-- the state of these parts
 abbrev pub state : Mode → Nest → State
 state m n = record { mode = m; nest = n }
 
+-- the nest with one more declaration
 abbrev pub with_array : Nest → Declaration → Nest
 with_array n d = nest (n.arrays ++ d ∷ []) n.done n.frames
 
+-- the nest with one more statement
 abbrev pub with_done : Nest → Statement → Nest
 with_done n c = nest n.arrays (n.done ++ c ∷ []) n.frames
 
+-- the state after a block has opened
 abbrev pub opened : Nest → Branch → State
 opened n b = state statement (nest n.arrays [] (record { before = n.done; branch = b } ∷ n.frames))
 
+-- the state after a token that ends an outermost expression, if it may come
 abbrev pub ends : Nest → Expression → Top → Lexeme → Option State
 ends n x (target line b) (sign signs.CloseIndex) = Some (state (equals line b x) n)
 ends n x (value line b i) (sign signs.Semicolon) =
@@ -154,6 +167,7 @@ ends n x (value line b i) (sign signs.Semicolon) =
 ends n x (condition line) (sign signs.OpenBlock) = Some (opened n (then_side line x))
 ends n x top l = None
 
+-- the state after a token that closes a group or an index, or ends the expression
 abbrev pub closes : Nest → Expression → List Outer → Top → Lexeme → Option State
 closes n x [] top l = ends n x top l
 closes n x (group o ∷ outers) top (sign signs.CloseGroup) =
@@ -189,12 +203,14 @@ goes_on n None s x outers top l (Some (comparison, op)) =
 goes_on n (Some c) s x outers top l (Some (comparison, op)) = None
 goes_on n c s x outers top l None = closes n (joined c (joined s x)) outers top l
 
+-- the state after a token that follows an operand
 abbrev pub step_after : Nest → Operand → Level → List Outer → Top → Lexeme → Option State
 step_after n (called b) l outers top (sign signs.OpenIndex) =
     Some (state (operand fresh (index b l ∷ outers) top) n)
 step_after n x l outers top t =
     goes_on n l.compare l.sum (term_value l (operand_value x)) outers top t (operator_of t)
 
+-- the state after a token in place of an operand
 abbrev pub step_operand : Nest → Level → List Outer → Top → Lexeme → Option State
 step_operand n l outers top (number v) = Some (state (after (bare (Number (pos v))) l outers top) n)
 step_operand n l outers top (name b) = Some (state (after (called b) l outers top) n)
@@ -217,11 +233,13 @@ close_into n (in_for line b low high) p = state statement (with_done n (For line
 close_into n (in_par line ps) p = state (par_side line ps p) n
 close_into n (in_team c ps) p = state (phase_closed c ps p) n
 
+-- the state after the `}` of a block
 abbrev pub close_block : List Declaration → List Statement → List Frame → Option State
 close_block ds done [] = None
 close_block ds done (f ∷ frames) =
     Some (close_into (nest ds f.before frames) f.branch (sequence done))
 
+-- the state after a token that begins a statement
 abbrev pub step_statement : Nest → ℕ → Lexeme → Option State
 step_statement n line (name b) = Some (state (array line b) n)
 step_statement n line (word words.For) = Some (state (header (range_name looping line)) n)
@@ -236,6 +254,7 @@ abbrev pub bounded : Slot → ℤ → Position
 bounded (low_of r line b) v = range_dots r line b v
 bounded (high_of r line b low) v = range_over r line b low v
 
+-- the state after a token of a declaration's or a statement's head
 abbrev pub step_header : Position → Nest → Lexeme → Option State
 step_header (array_name line) n (name b) = Some (state (header (array_open line b)) n)
 step_header (array_open line b) n (sign signs.OpenIndex) =
@@ -267,6 +286,7 @@ step_header (team_members line b low high) n (number v) =
     }) []) n)
 step_header at n t = None
 
+-- the state after a token, in any mode
 abbrev pub step : Mode → Nest → ℕ → Lexeme → Option State
 step declaring n line (word words.Array) = Some (state (header (array_name line)) n)
 step declaring n line t = step_statement n line t
@@ -296,10 +316,11 @@ step (phase_closed c ps p) n line (word words.Barrier) =
     Some (state (phase_open c (ps ++ p ∷ [])) n)
 step (phase_closed c ps p) n line t = step_statement (with_done n (team_of c (ps ++ p ∷ []))) line t
 
+-- the program of these declarations and statements
 abbrev pub program : List Declaration → List Statement → ProgramTree
 program ds done = record { arrays = ds; body = sequence done }
 
--- the program, where the tokens end here
+-- the program, if the tokens end here
 abbrev pub at_end : Mode → List Declaration → List Statement → List Frame
     → Result ProgramTree (List Spot)
 at_end declaring ds done [] = Ok (program ds done)
@@ -308,6 +329,7 @@ at_end (closed line x p) ds done [] = Ok (program ds (done ++ If line x p ended 
 at_end (phase_closed c ps p) ds done [] = Ok (program ds (done ++ team_of c (ps ++ p ∷ []) ∷ []))
 at_end m ds done frames = Err []
 
+-- the result from the next state on, or an error at this token
 abbrev pub continued : Option State → (State → Result ProgramTree (List Spot)) → List Spot
     → Result ProgramTree (List Spot)
 continued None go here = Err here
@@ -318,8 +340,10 @@ abbrev pub run : Mode → Nest → List Spot → Result ProgramTree (List Spot)
 run m n [] = at_end m n.arrays n.done n.frames
 run m n (t ∷ ts) = continued (step m n t.line t.lexeme) (λ s. run s.mode s.nest ts) (t ∷ ts)
 
+-- the nest before the first token
 abbrev pub top_nest : Nest
 top_nest = nest [] [] []
 
+-- the result of the machine over all tokens
 abbrev pub parse_of : List Spot → Result ProgramTree (List Spot)
 parse_of tokens = run declaring top_nest tokens

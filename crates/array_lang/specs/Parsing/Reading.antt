@@ -34,57 +34,67 @@ Stops (Unexpected rest) at = at (spots rest.now)
 -- many tokens as the part has at least. Where the reader stops, each such run does. One of these for each number of
 -- arguments that say which run it is.
 
+-- the machine goes from s to t, for each argument
 pub record Takes1 {A : Type 0} (least : ℕ) (waits goes_on : A → State)
     (s t : List Spot) : Type 0 where
   pub shorter : length t + least ≤ length s
   pub runs : (a : A) → run_from (waits a) s ≡ run_from (goes_on a) t
 
+-- the result of a function that reads so, for each argument
 abbrev pub Reads1 : {A X : Type 0} → ℕ → (A → State) → (X → A → State) → List Spot
     → Parsed X → Type 0
 Reads1 least waits goes_on s (Ok r) = Takes1 least waits (goes_on r.0) s (spots r.1.now)
 Reads1 {A} least waits goes_on s (Err e) =
     Stops e (λ rest. (a : A) → run_from (waits a) s ≡ Err rest)
 
+-- the same for two arguments
 pub record Takes2 {A B : Type 0} (least : ℕ) (waits goes_on : A → B → State)
     (s t : List Spot) : Type 0 where
   pub shorter : length t + least ≤ length s
   pub runs : (a : A) (b : B) → run_from (waits a b) s ≡ run_from (goes_on a b) t
 
+-- the same result for two arguments
 abbrev pub Reads2 : {A B X : Type 0} → ℕ → (A → B → State) → (X → A → B → State) → List Spot
     → Parsed X → Type 0
 Reads2 least waits goes_on s (Ok r) = Takes2 least waits (goes_on r.0) s (spots r.1.now)
 Reads2 {A} {B} least waits goes_on s (Err e) =
     Stops e (λ rest. (a : A) (b : B) → run_from (waits a b) s ≡ Err rest)
 
+-- the same for three arguments
 pub record Takes3 {A B C : Type 0} (least : ℕ) (waits goes_on : A → B → C → State)
     (s t : List Spot) : Type 0 where
   pub shorter : length t + least ≤ length s
   pub runs : (a : A) (b : B) (c : C) → run_from (waits a b c) s ≡ run_from (goes_on a b c) t
 
+-- the same result for three arguments
 abbrev pub Reads3 : {A B C X : Type 0} → ℕ → (A → B → C → State) → (X → A → B → C → State)
     → List Spot → Parsed X → Type 0
 Reads3 least waits goes_on s (Ok r) = Takes3 least waits (goes_on r.0) s (spots r.1.now)
 Reads3 {A} {B} {C} least waits goes_on s (Err e) =
     Stops e (λ rest. (a : A) (b : B) (c : C) → run_from (waits a b c) s ≡ Err rest)
 
+-- the same for four arguments
 pub record Takes4 {A B C D : Type 0} (least : ℕ) (waits goes_on : A → B → C → D → State)
     (s t : List Spot) : Type 0 where
   pub shorter : length t + least ≤ length s
   pub runs : (a : A) (b : B) (c : C) (d : D)
       → run_from (waits a b c d) s ≡ run_from (goes_on a b c d) t
 
+-- the same result for four arguments
 abbrev pub Reads4 : {A B C D X : Type 0} → ℕ → (A → B → C → D → State) → (X → A → B → C → D → State)
     → List Spot → Parsed X → Type 0
 Reads4 least waits goes_on s (Ok r) = Takes4 least waits (goes_on r.0) s (spots r.1.now)
 Reads4 {A} {B} {C} {D} least waits goes_on s (Err e) =
     Stops e (λ rest. (a : A) (b : B) (c : C) (d : D) → run_from (waits a b c d) s ≡ Err rest)
 
+-- the same for five arguments
 pub record Takes5 {A B C D E : Type 0} (least : ℕ) (waits goes_on : A → B → C → D → E → State)
     (s t : List Spot) : Type 0 where
   pub shorter : length t + least ≤ length s
   pub runs : (a : A) (b : B) (c : C) (d : D) (e : E)
       → run_from (waits a b c d e) s ≡ run_from (goes_on a b c d e) t
 
+-- the same result for five arguments
 abbrev pub Reads5 : {A B C D E X : Type 0} → ℕ → (A → B → C → D → E → State)
     → (X → A → B → C → D → E → State) → List Spot → Parsed X → Type 0
 Reads5 least waits goes_on s (Ok r) = Takes5 least waits (goes_on r.0) s (spots r.1.now)
@@ -97,9 +107,11 @@ abbrev pub IsFollowed : {X : Type 0} → ℕ → Parsed X → Type 0
 IsFollowed k (Ok r) = pull (spots r.1.now) ≤ k
 IsFollowed k (Err e) = Unit {0}
 
+-- the state before an operand
 abbrev pub before_operand : Nest → Level → List Outer → Top → State
 before_operand n l outers top = state (operand l outers top) n
 
+-- the state after an operand
 abbrev pub behind_operand : Expression → Nest → Level → List Outer → Top → State
 behind_operand x n l outers top = state (after (bare x) l outers top) n
 
@@ -117,9 +129,11 @@ IsAfterName b s r = Reads4 0 (λ n l outers top. state (after (called b) l outer
 abbrev pub waiting : Left → Left → Level
 waiting c z = record { compare = c; sum = z; term = None; minus = 0 }
 
+-- the state before a term
 abbrev pub before_term : Nest → Left → Left → List Outer → Top → State
 before_term n c z outers top = before_operand n (waiting c z) outers top
 
+-- the state after a term
 abbrev pub behind_term : Expression → Nest → Left → Left → List Outer → Top → State
 behind_term x n c z outers top = behind_operand x n (waiting c z) outers top
 
@@ -127,12 +141,15 @@ behind_term x n c z outers top = behind_operand x n (waiting c z) outers top
 abbrev pub TakesTerm : ℕ → List Spot → List Spot → Expression → Type 0
 TakesTerm k s t x = Takes5 1 before_term (behind_term x) s t × (pull t ≤ k)
 
+-- the result of reading a term
 abbrev pub IsTerm : List Spot → Parsed Expr → Type 0
 IsTerm s r = Reads5 1 before_term (λ (x : Expr). behind_term (expression_of x)) s r × IsFollowed 2 r
 
+-- the state before a sum
 abbrev pub before_sum : Nest → Left → List Outer → Top → State
 before_sum n c outers top = before_operand n (waiting c None) outers top
 
+-- the state after a sum
 abbrev pub behind_sum : Expression → Nest → Left → List Outer → Top → State
 behind_sum x n c outers top = behind_operand x n (waiting c None) outers top
 
@@ -140,6 +157,7 @@ behind_sum x n c outers top = behind_operand x n (waiting c None) outers top
 abbrev pub TakesSum : ℕ → List Spot → List Spot → Expression → Type 0
 TakesSum k s t x = Takes4 1 before_sum (behind_sum x) s t × (pull t ≤ k)
 
+-- the result of reading a sum
 abbrev pub IsSum : List Spot → Parsed Expr → Type 0
 IsSum s r = Reads4 1 before_sum (λ (x : Expr). behind_sum (expression_of x)) s r × IsFollowed 1 r
 
@@ -169,6 +187,7 @@ abbrev pub IsRange : List Spot → Parsed LoopRange → Type 0
 IsRange s r = Reads3 1 (λ n of line. state (header (range_name of line)) n)
     (λ (x : LoopRange) n of line. state (header (range_over of line x.var.now x.low x.high)) n) s r
 
+-- the team of a head, without its phases
 abbrev pub crew_of : ℕ → TeamHead → Crew
 crew_of line h = record {
   line = line;
@@ -200,21 +219,27 @@ abbrev pub IsElseBlock : List Spot → Parsed Block → Type 0
 IsElseBlock s r = Reads4 0 (λ n line x p. state (closed line x p) n) (λ (q : Block) n line x p.
     behind (If line x p (sequence_of q)) n) s r
 
+-- the result of reading the rest of an assignment
 abbrev pub IsAssign : ℕ → List ℕ → List Spot → Parsed Stmt → Type 0
 IsAssign line b s r = IsRestOf (array line b) s r
 
+-- the result of reading the rest of an `if`
 abbrev pub IsChoice : ℕ → List Spot → Parsed Stmt → Type 0
 IsChoice line s r = IsRestOf (operand fresh [] (condition line)) s r
 
+-- the result of reading the rest of a `for`
 abbrev pub IsLoop : ℕ → List Spot → Parsed Stmt → Type 0
 IsLoop line s r = IsRestOf (header (range_name looping line)) s r
 
+-- the result of reading the rest of a `par`
 abbrev pub IsPar : ℕ → List Spot → Parsed Stmt → Type 0
 IsPar line s r = IsRestOf (par_begun line) s r
 
+-- the result of reading the rest of a `team`
 abbrev pub IsTeam : ℕ → List Spot → Parsed Stmt → Type 0
 IsTeam line s r = IsRestOf (header (range_name teaming line)) s r
 
+-- the sequences of blocks
 abbrev pub sequence_list : List Block → List Sequence
 sequence_list blocks = map sequence_of blocks
 
@@ -225,6 +250,7 @@ pub record TakesBranches (line : ℕ) (s t : List Spot) (all : List Sequence) : 
   pub whole : all ≡ ps ++ q ∷ []
   pub takes : Takes1 1 (state (par_begun line)) (state (par_side line ps q)) s t
 
+-- the state before the phases of a team
 abbrev pub before_phases : Nest → Crew → State
 before_phases n c = state (phase_open c []) n
 
@@ -240,6 +266,7 @@ abbrev pub IsPhases : List Spot → Parsed (Vec Block Global) → Type 0
 IsPhases s r = Reads2 1 before_phases (λ (blocks : Vec Block Global) n c.
     behind (team_of c (sequence_list blocks.items)) n) s r
 
+-- whether a statement begins with the token
 abbrev pub starts : Lexeme → Bool
 starts (name b) = true
 starts (word words.For) = true
@@ -258,6 +285,7 @@ abbrev pub IsStatement : List Spot → Option (Parsed Stmt) → Type 0
 IsStatement s (Some r) = IsRestOf statement s r
 IsStatement s None = statement_follows s ≡ false
 
+-- the models of statements
 abbrev pub statements_of : List Stmt → List Statement
 statements_of statements = map statement_of statements
 
@@ -282,6 +310,7 @@ IsDeclaration line s r =
     Reads1 1 (state (header (array_name line))) (λ (d : ArrayDecl) n.
     state declaring (with_array n (declaration_of d))) s r
 
+-- the models of declarations
 abbrev pub declaration_list : List ArrayDecl → List Declaration
 declaration_list declarations = map declaration_of declarations
 
@@ -302,6 +331,7 @@ IsBody s (Ok b) = (ds : List Declaration)
 IsBody s (Err e) = Stops e
     (λ rest. (ds : List Declaration) → run statement (nest ds [] []) s ≡ Err rest)
 
+-- the result of parsing all tokens
 abbrev pub IsProgram : List Spot → Result Program Stop → Type 0
 IsProgram s (Ok p) = parse_of s ≡ Ok (program_of p)
 IsProgram s (Err e) = Stops e (λ rest. parse_of s ≡ Err rest)

@@ -8,6 +8,7 @@ use Rattle.array_lang.specs.Nesting.{most_marks, most_open, marks_after, first_o
 use Rattle.array_lang.specs.declared.nesting.Reach.{Reach}
 use Rattle.array_lang.specs.declared.nesting.Reach.TheVariants.{Outside, Target, Inside}
 
+-- the number of marks of the outermost expression so far
 abbrev pub marks_of : Reach → ℕ
 marks_of (Inside m) = m
 marks_of r = 0
@@ -24,15 +25,17 @@ reach_after Outside (name b) = Target
 reach_after Target (sign signs.OpenIndex) = Inside 0
 reach_after r l = Outside
 
+-- the number of open blocks after this token
 abbrev pub depth_after : ℕ → Lexeme → ℕ
 depth_after depth (sign signs.OpenBlock) = depth + 1
 depth_after depth (sign signs.CloseBlock) = depth - 1
 depth_after depth l = depth
 
+-- whether a limit on nesting is passed
 abbrev pub is_over : ℕ → Reach → Bool
 is_over depth r = nat_lt most_open depth || nat_lt most_marks (marks_of r)
 
--- the place in the list of the first token that passes a limit
+-- the index of the first token that passes a limit
 abbrev pub nested_at : Reach → ℕ → List Spot → Option ℕ
 nested_at r depth [] = None
 nested_at r depth (t ∷ ts) =

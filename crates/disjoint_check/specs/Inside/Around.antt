@@ -1,4 +1,4 @@
--- What stands around a place in a program.
+-- The surroundings of a position in a program.
 -- Only the private contracts and the proofs of this crate need these.
 use Rattle.std.specs.Prelude.{ℕ, List, [], ◌∷◌}
 use Rattle.disjoint_check.specs.declared.around.Loops.{Loops, Outermost, Within'}

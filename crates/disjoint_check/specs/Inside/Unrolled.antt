@@ -7,11 +7,11 @@ use Rattle.array_meaning.specs.Limits.{count_of}
 use Rattle.disjoint_check.specs.Shapes.{Shape}
 use Rattle.disjoint_check.specs.declared.unroll.Site.{Site}
 
--- The unrolled sites stand in a list, one row for each site.
+-- The unrolled sites, a row for each.
 abbrev pub Rows : Type 0
 Rows = List Site
 
--- The parents are those of the rows, in their order.
+-- The parents of the rows, in their order.
 abbrev pub parents_in : Rows → List ℕ
 parents_in rows = map (λ r. r.parent) rows
 
@@ -19,23 +19,23 @@ parents_in rows = map (λ r. r.parent) rows
 abbrev pub shape : Site → Shape
 shape site = (site.members, site.phases)
 
--- The shapes are those of the rows, in their order.
+-- The shapes of the rows, in their order.
 abbrev pub shapes_in : Rows → List Shape
 shapes_in rows = map shape rows
 
--- The number of the last site is the greatest of 16 bits, if it is above that.
+-- The number of the last site, at most the greatest of 16 bits.
 abbrev pub last_site : Rows → ℕ
 last_site rows = min (length rows) 65535
 
--- A number of parts is the greatest of 8 bits, if it is above that.
+-- A number of parts, at most the greatest of 8 bits.
 abbrev pub parts : ℕ → ℕ
 parts n = min n 255
 
--- A row has a site's parent, its members and its phases.
+-- The row of a site: its parent, its members and its phases.
 abbrev pub row : ℕ → ℕ → ℕ → Site
 row parent members phases = record { parent = parent; members = members; phases = phases }
 
--- The rows have the same added so many times.
+-- The rows with the same added so many times.
 abbrev pub repeat : ℕ → (Rows → Rows) → Rows → Rows
 repeat zero more rows = rows
 repeat (suc n) more rows = repeat n more (more rows)

@@ -1,4 +1,4 @@
--- What is marked as the pieces of a phase are walked through.
+-- The marks that a walk through the pieces of a phase makes.
 -- Only the private contracts and the proofs of this crate need these.
 use Rattle.std.specs.Prelude.{ℕ, ◌+◌, Bool, false, List, [], ◌∷◌, Option, Some, None, ℤ}
 use Rattle.array_meaning.specs.Stores.{Arrays, cell_of}
@@ -8,24 +8,24 @@ use Rattle.array_eval.specs.Layouts.{number_of}
 use Rattle.pipe_walk.specs.Inside.Members.{touch_by}
 use Rattle.pipe_walk.specs.Inside.Tables.{TableParts, added}
 
--- The table has a member's visit of an array under an index added.
+-- The table with a member's visit of an array by an index.
 abbrev pub with_touch : Arrays → ℕ → Bool → List ℕ → Option ℤ → TableParts → TableParts
 with_touch arrays member writes array None table =
     record table { everywhere = added (number_of arrays array) (touch_by member writes) table.everywhere }
 with_touch arrays member writes array (Some index) table =
     record table { cells = added (cell_of arrays array false index) (touch_by member writes) table.cells }
 
--- The table has the visits of a member added.
+-- The table with the visits of a member.
 abbrev pub with_visits : Arrays → ℕ → List Visit → TableParts → TableParts
 with_visits arrays member [] table = table
 with_visits arrays member (v ∷ more) table =
     with_visits arrays member more (with_touch arrays member v.writes v.array v.index table)
 
--- The table has all that a member does added.
+-- The table with all that a member does.
 abbrev pub with_piece : Arrays → ℕ → Steps → TableParts → TableParts
 with_piece arrays member steps table = with_visits arrays member (walk arrays steps) table
 
--- The table has all that members do added, numbered from one on.
+-- The table with all that members do, numbered from one on.
 abbrev pub with_pieces : Arrays → ℕ → List Steps → TableParts → TableParts
 with_pieces arrays member [] table = table
 with_pieces arrays member (steps ∷ more) table =

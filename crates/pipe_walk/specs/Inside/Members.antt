@@ -1,11 +1,11 @@
--- Which members of a `team` did something to a cell in a phase.
+-- The members of a `team` that touched a cell in a phase.
 -- Only the private contracts and the proofs of this crate need these.
 use Rattle.std.specs.Prelude.{ℕ, Bool, false, List, min, max, nat_lt, slice_index_or, if◌then◌else◌}
 use Rattle.pipe_walk.specs.declared.members.Members.{Members}
 use Rattle.pipe_walk.specs.declared.members.Members.TheVariants.{Nobody, Between}
 use Rattle.pipe_walk.specs.declared.touch.Touch.{Touch}
 
--- The set has the members of one set or another.
+-- The members of both sets.
 abbrev pub joined_members : Members → Members → Members
 joined_members Nobody other = other
 joined_members (Between first last) Nobody = Between first last
@@ -16,12 +16,12 @@ abbrev pub starts_below : ℕ → Members → Bool
 starts_below member Nobody = false
 starts_below member (Between first last) = nat_lt first member
 
--- The result is the last of the members, and 0 also if there is none.
+-- The last of the members; 0 also if there is none.
 abbrev pub last_of : Members → ℕ
 last_of Nobody = 0
 last_of (Between first last) = last
 
--- The touch has what was done in either.
+-- The touches of both.
 abbrev pub joined : Touch → Touch → Touch
 joined a b = record { read = joined_members a.read b.read; changed = joined_members a.changed b.changed }
 
@@ -29,11 +29,11 @@ joined a b = record { read = joined_members a.read b.read; changed = joined_memb
 abbrev pub untouched : Touch
 untouched = record { read = Nobody; changed = Nobody }
 
--- The touch is what was done at a place of a list, nothing behind its end.
+-- The touch at an index of a list; none after its end.
 abbrev pub touch_in : List Touch → ℕ → Touch
 touch_in list place = slice_index_or list place untouched
 
--- The touch is that of one member, which reads or changes.
+-- The touch of one member, which reads or changes the cell.
 abbrev pub touch_by : ℕ → Bool → Touch
 touch_by member writes = record {
   read = if writes then Nobody else Between member member;

@@ -3,7 +3,7 @@
 use Rattle.std.specs.Prelude.{ℕ, ◌+◌, List, [], ◌∷◌, ◌++◌, replicate}
 use Rattle.array_meaning.specs.Stores.{Arrays}
 
--- The owners have for each cell the place of its array, if the first array has this place.
+-- For each cell the index of its array, if the first array has this index.
 abbrev pub owners_from : ℕ → Arrays → List ℕ
 owners_from number [] = []
 owners_from number (a ∷ more) = replicate a.1 number ++ owners_from (number + 1) more

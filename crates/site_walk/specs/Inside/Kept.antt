@@ -1,4 +1,4 @@
--- What the walk keeps as it goes: what was found before, or else what is found here.
+-- What the walk keeps as it goes: an earlier fault, or else the first one found here.
 -- Only the private contracts and the proofs of this crate need these.
 use Rattle.std.specs.Prelude.{List, Option}
 use Rattle.std.specs.Option.{option_or}
@@ -10,10 +10,10 @@ use Rattle.site_walk.specs.declared.fault.WalkFault.{WalkFault}
 use Rattle.site_walk.specs.Outside.{first_outside}
 use Rattle.site_walk.specs.FirstOverlap.{first_overlap}
 
--- The result is what was found, or else the first fault of an index in the walk through steps.
+-- An earlier fault, or else the first fault of an index in the walk through steps.
 abbrev pub or_outside : Arrays → Steps → Option WalkFault → Option WalkFault
 or_outside arrays steps found = option_or found (first_outside arrays (walk arrays steps))
 
--- The result is what was found, or else the first overlap of sites.
+-- An earlier fault, or else the first overlap of sites.
 abbrev pub or_overlap : Arrays → List Site → Option WalkFault → Option WalkFault
 or_overlap arrays sites found = option_or found (first_overlap arrays sites)

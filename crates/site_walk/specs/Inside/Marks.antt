@@ -1,4 +1,4 @@
--- What is marked as the pieces of a round are walked through.
+-- The marks that a walk through the pieces of a round makes.
 -- Only the private contracts and the proofs of this crate need these.
 use Rattle.std.specs.Prelude.{◌≡◌, ℕ, ◌+◌, cond, Bool, false, not, ◌||◌, List, [], ◌∷◌, length, replicate, Option, Some, None, ℤ, slice_set}
 use Rattle.array_meaning.specs.Stores.{Arrays, length_of, cell_of, cells_of}
@@ -12,7 +12,7 @@ use Rattle.site_walk.specs.Inside.Touched.{joined, clashes, touched_at, untouche
 use Rattle.array_eval.specs.Layouts.{number_of}
 use Rattle.site_walk.specs.Inside.Numbers.{array_at}
 
--- The table has so many cells and so many arrays, and nothing is done to them.
+-- A table for so many cells and so many arrays, without a mark.
 abbrev pub nothing_done : ℕ → ℕ → Table
 nothing_done cells arrays = record {
   cells = replicate cells untouched;
@@ -22,7 +22,7 @@ nothing_done cells arrays = record {
   suspect = false;
 }
 
--- A cleared table has the same size, and nothing is marked in it.
+-- A table of the same size, without a mark.
 abbrev pub cleared : Table → Table
 cleared table = record {
   cells = replicate (length table.cells) untouched;
@@ -32,18 +32,18 @@ cleared table = record {
   suspect = false;
 }
 
--- The table has a place for each cell and for each array.
+-- The table has an entry for each cell and for each array.
 pub record HasPlaces (arrays : Arrays) (table : Table) : Type 0 where
   pub cells : length table.cells ≡ cells_of arrays
   pub everywhere : length table.everywhere ≡ length arrays
   pub read : length table.read ≡ length arrays
   pub written : length table.written ≡ length arrays
 
--- The layer has more done at a place.
+-- The layer with a further touch at an index.
 abbrev pub added : ℕ → Touched → List Touched → List Touched
 added place touch layer = slice_set layer place (joined touch (touched_at layer place))
 
--- With a touch of a cell by a static index of an array. An index outside its array is suspect, since its cell is
+-- The table with a touch of a cell by a static index of an array. An index outside its array is suspect, since its cell is
 -- another array's.
 unfoldable pub with_static : ℕ → ℕ → Bool → Touched → Table → Table
 with_static number cell inside touch table =
@@ -57,7 +57,7 @@ with_static number cell inside touch table =
           || clashes (joined all (touched_at table.everywhere number));
     }
 
--- With a touch of all cells of an array.
+-- The table with a touch of all cells of an array.
 unfoldable pub with_dynamic : ℕ → Touched → Table → Table
 with_dynamic number touch table =
     let all = joined touch (touched_at table.everywhere number) in
@@ -70,7 +70,7 @@ with_dynamic number touch table =
           || clashes (joined all (touched_at table.written number));
     }
 
--- The table has a visit of an array under an index added.
+-- The table with a visit of an array by an index.
 abbrev pub with_touch : Arrays → Touched → List ℕ → Option ℤ → Table → Table
 with_touch arrays touch array None table = with_dynamic (number_of arrays array) touch table
 with_touch arrays touch array (Some index) table =
@@ -81,24 +81,24 @@ with_touch arrays touch array (Some index) table =
 abbrev pub touch_of : ℕ → Bool → Touched
 touch_of piece writes = record { by = One piece; written = writes }
 
--- The table has the visits of a piece added.
+-- The table with the visits of a piece.
 abbrev pub with_visits : Arrays → ℕ → List Visit → Table → Table
 with_visits arrays piece [] table = table
 with_visits arrays piece (v ∷ more) table =
     with_visits arrays piece more
     (with_touch arrays (touch_of piece v.writes) v.array v.index table)
 
--- The table has all that a piece does added.
+-- The table with all that a piece does.
 abbrev pub with_piece : Arrays → ℕ → Steps → Table → Table
 with_piece arrays piece steps table = with_visits arrays piece (walk arrays steps) table
 
--- The table has all that pieces do added, numbered from one on.
+-- The table with all that pieces do, numbered from one on.
 abbrev pub with_pieces : Arrays → ℕ → List Steps → Table → Table
 with_pieces arrays piece [] table = table
 with_pieces arrays piece (steps ∷ more) table =
     with_pieces arrays (piece + 1) more (with_piece arrays piece steps table)
 
--- This is what was done to a cell, by static and by dynamic indexes.
+-- The touches of a cell, by static and by dynamic indexes.
 abbrev pub done_at : Arrays → Table → ℕ → Touched
 done_at arrays table cell =
     joined (touched_at table.cells cell) (touched_at table.everywhere (array_at arrays cell))

@@ -1,11 +1,11 @@
--- What pieces of a round do to a cell.
+-- What the pieces of a round do to a cell.
 -- Only the private contracts and the proofs of this crate need these.
 use Rattle.std.specs.Prelude.{ℕ, cond, Bool, true, false, ◌&&◌, ◌||◌, nat_eq, List, slice_index_or}
 use Rattle.site_walk.specs.declared.touched.Pieces.{Pieces}
 use Rattle.site_walk.specs.declared.touched.Pieces.TheVariants.{Nobody, One, Several}
 use Rattle.site_walk.specs.declared.touched.Touched.{Touched}
 
--- The set has the pieces of one set or another.
+-- The pieces of both sets.
 abbrev pub joined_pieces : Pieces → Pieces → Pieces
 joined_pieces Nobody other = other
 joined_pieces (One p) Nobody = One p
@@ -19,7 +19,7 @@ are_several Nobody = false
 are_several (One p) = false
 are_several Several = true
 
--- The touch has what was done in either.
+-- The touches of both.
 abbrev pub joined : Touched → Touched → Touched
 joined a b = record { by = joined_pieces a.by b.by; written = a.written || b.written }
 
@@ -31,6 +31,6 @@ clashes t = t.written && are_several t.by
 abbrev pub untouched : Touched
 untouched = record { by = Nobody; written = false }
 
--- The touch is what was done at a place of a list, nothing behind its end.
+-- The touch at an index of a list; none after its end.
 abbrev pub touched_at : List Touched → ℕ → Touched
 touched_at layer place = slice_index_or layer place untouched

@@ -6,16 +6,19 @@ use base.Stored.{Gv, gnil, gnum, gcons, Coded, coded_ℕ, coded_ℤ, coded_list}
 use Rattle.array_tree.specs.contracts.tree.Op as op_type
 use Rattle.array_tree.specs.Trees.{Expression, Number, Var, Read, Neg, Binary, Statement, Assign, For, If, Par, Team, Sequence, ended, followed, Sequences, no_more, beside}
 
+-- The first part of a code.
 abbrev head : Gv → Gv
 head gnil = gnil
 head (gnum n) = gnil
 head (gcons a b) = a
 
+-- The second part of a code.
 abbrev tail : Gv → Gv
 tail gnil = gnil
 tail (gnum n) = gnil
 tail (gcons a b) = b
 
+-- The codes of names.
 abbrev name_code : Coded (List ℕ)
 name_code = coded_list coded_ℕ
 
@@ -30,7 +33,7 @@ expression_code (Binary op a b) =
     gcons (gnum 4) (gcons (op_type.the_row.coded.code op)
     (gcons (expression_code a) (expression_code b)))
 
--- Expressions with one code are equal.
+-- Expressions with the same code are equal.
 pub expression_inj : (x y : Expression) → expression_code x ≡ expression_code y → x ≡ y
 expression_inj (Number n) (Number m) p = ap Number (coded_ℤ.inj n m (ap tail p))
 expression_inj (Var v) (Var w) p = ap Var (name_code.inj v w (ap tail p))
@@ -44,6 +47,7 @@ expression_inj (Binary o a b) (Binary q c d) p =
     let right = expression_inj b d (ap (λ g. tail (tail (tail g))) p) in cc
 expression_inj x y p = cc
 
+-- The codes of statements, sequences, and branches or phases: a number for the kind, and the codes of the parts.
 abbrev mutual
   pub statement_code : Statement → Gv
   statement_code (Assign line array index value) =
@@ -72,15 +76,19 @@ abbrev mutual
   sequences_code no_more = gnil
   sequences_code (beside first rest) = gcons (sequence_code first) (sequences_code rest)
 
+-- The part of a code at index 2.
 abbrev at_2 : Gv → Gv
 at_2 g = head (tail (tail g))
 
+-- The part of a code at index 3.
 abbrev at_3 : Gv → Gv
 at_3 g = head (tail (tail (tail g)))
 
+-- The part of a code at index 4.
 abbrev at_4 : Gv → Gv
 at_4 g = head (tail (tail (tail (tail g))))
 
+-- The parts of a code from index 4 on.
 abbrev from_4 : Gv → Gv
 from_4 g = tail (tail (tail (tail g)))
 
@@ -128,6 +136,6 @@ mutual
       let rest = sequences_inj x y (ap tail p) in cc
   sequences_inj x y p = cc
 
--- Sequences have codes.
+-- The codes of sequences.
 abbrev pub coded_sequence : Coded Sequence
 coded_sequence = record { code = sequence_code; inj = sequence_inj }

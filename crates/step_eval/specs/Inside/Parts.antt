@@ -1,4 +1,4 @@
--- What a machine keeps inside, and what its parts do.
+-- The private parts of a machine, and the calls on them.
 -- Only the private contracts and the proofs of this crate need these.
 use Rattle.std.specs.Prelude.{◌≡◌, ℕ, ◌≤◌, List, [], Option, Some, None, length}
 use Rattle.std.specs.Borrow.{Bor}
@@ -24,8 +24,8 @@ use Rattle.step_eval.specs.Nests.{NestedParts, nested_of}
 use Rattle.step_eval.specs.Machines.{Progress, IsKept, next_construct, next_nest, next_pass}
 use Rattle.step_eval.specs.Inside.Frames.{works_of, IsStacked, HaveMoved}
 
--- A machine that isn't failed keeps this of its parts: each loop that has begun has its variable, and there is room for a pair
--- for each cell.
+-- The invariant of a machine that isn't failed: each loop that has begun has its variable, and there is room for a pair for
+-- each cell.
 pub record IsWhole (stage : Stage) (job : JobParts) (frames : Frames) (store : Trace) (room : Laid)
     (next : ℕ) : Type 0 where
   pub kept : IsKept stage (job_of job) (works_of frames job.vars) store next
@@ -33,17 +33,17 @@ pub record IsWhole (stage : Stage) (job : JobParts) (frames : Frames) (store : T
   pub none : room.pairs ≡ []
   pub roomy : length store.cells ≤ room.room
 
--- A machine keeps its parts so, unless it is failed.
+-- The invariant of any machine.
 abbrev pub IsSound : Stage → JobParts → Frames → Trace → Laid → ℕ → Type 0
 IsSound Going job frames store room next = IsWhole Going job frames store room next
 IsSound Awaiting job frames store room next = IsWhole Awaiting job frames store room next
 IsSound Failed job frames store room next = Unit {0}
 
--- The arrays that a machine finds are those of its job.
+-- The arrays of a machine's layout are those of its job.
 abbrev pub IsLayoutOf : Arrays → JobParts → Type 0
 IsLayoutOf layout job = layout ≡ arrays_of (declarations_of job.arrays)
 
--- A machine that goes on stands so.
+-- The progress of a machine that goes on.
 abbrev pub while_going : JobParts → List WorkAt → Trace → ℕ → Progress
 while_going job rest store next = record {
   job = job;
@@ -53,7 +53,7 @@ while_going job rest store next = record {
   stage = Going;
 }
 
--- This is what a step in which no allocation failed does to the rest, to the store and to the number of the next site.
+-- The change of the works, the store and the next site's number by a step in which no allocation failed.
 abbrev pub Advanced : Progress → Step Found → List WorkAt → Trace → ℕ → Type 0
 Advanced before step.More rest store next =
     (next_nest before ≡ None) × (next_pass before ≡ None)
@@ -70,15 +70,15 @@ Advanced before step.Finished rest store next =
     (before.rest ≡ []) × (rest ≡ before.rest) × (store ≡ before.store) × (next ≡ before.next)
 Advanced before step.NoMemory rest store next = ⊥
 
--- The construct that is next is handed out.
+-- The next construct is handed out.
 abbrev pub IsHandedOut : Progress → NestedParts → Type 0
 IsHandedOut machine nested = next_nest machine ≡ Some (nested_of nested)
 
--- This construct is to be run next.
+-- This construct is the next one.
 abbrev pub IsConstructNext : Statement → List WorkAt → Type 0
 IsConstructNext construct rest = next_construct rest ≡ Some construct
 
--- How a machine stands after a step in which no allocation failed.
+-- The stage of a machine after a step in which no allocation failed.
 abbrev pub stage_by : Step Found → Stage
 stage_by step.More = Going
 stage_by (step.Nest (found.Pass first end)) = Going
@@ -86,13 +86,13 @@ stage_by (step.Nest (found.Nest nested)) = Awaiting
 stage_by step.Finished = Going
 stage_by step.NoMemory = Going
 
--- This is what a step comes to that hands out no construct: nothing is left, or the first work has moved.
+-- The result of a step that hands out no construct: no work remains, or the first work has moved.
 abbrev pub step_by : Option Told → Step Found
 step_by None = step.Finished
 step_by (Some Nothing) = step.More
 step_by (Some (Skips first end)) = step.Nest (found.Pass first end)
 
--- The number says how many sites the construct has, and is 0 if there is none.
+-- The number of the construct's sites; 0 if there is none.
 abbrev pub sites_seen : Option (Bor Stmt) → ℕ
 sites_seen None = 0
 sites_seen (Some construct) = capped (statement_sites_in (statement_of construct.now))

@@ -1,6 +1,5 @@
 use Rattle.std.proofs.Common.{◌≡◌, ◌<◌, ◌∙◌, ℕ, List, All, sym, subst, inl, inr, ⊎_elim}
 use Rattle.std.specs.List.{AllZip}
-use Rattle.tasks.specs.Failures.{FirstFailure}
 use Rattle.held_tasks.proofs.Held.{all_map, zip_map, first_held}
 use Rattle.held_tasks.proofs.run.fork_join_as.Goals as goal
 

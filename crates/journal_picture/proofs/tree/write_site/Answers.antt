@@ -1,4 +1,4 @@
-use Rattle.std.proofs.Common.{◌≡◌, ◌++◌, OnOk, string_bytes, rules, ◌∙◌}
+use Rattle.std.proofs.Common.{◌≡◌, ◌++◌, OnOk, string_bytes, rules}
 use Rattle.std.specs.Prelude.{codes}
 use Rattle.transfer_table.specs.Table.{row}
 use Rattle.journal_picture.specs.TextPicture.{depth_of, site_start, fate_text, visit_cells, wish_cells}

@@ -5,7 +5,7 @@ use Rattle.transfer_table.specs.declared.entry.Entry.TheVariants.{Register}
 use Rattle.journal_picture.specs.Drawn.{or_same}
 use Rattle.journal_picture.specs.Visits.{followed}
 use Rattle.journal_picture.specs.declared.visits.Visits.{Visits}
-use Rattle.journal_picture.proofs.Visited.{SoFar, so_far_first, so_far_last, so_far_next}
+use Rattle.journal_picture.proofs.Visited.{SoFar, so_far_last, so_far_next}
 use Rattle.journal_picture.proofs.visits.visits_of.Goals as goal
 
 -- the numbers go on by the entry

@@ -1,4 +1,4 @@
-use Rattle.std.proofs.Common.{◌≡◌, ◌∙◌, ◌∷◌, [], ℕ, List, map, option_map, string_bytes, codes, Some, None, Bor, sym, ap}
+use Rattle.std.proofs.Common.{◌≡◌, ◌∙◌, ◌∷◌, [], ℕ, List, map, option_map, string_bytes, codes, Some, Bor, sym, ap}
 use Rattle.command_words.specs.Form.{form_of}
 use Rattle.picture_call.specs.Words.{form_named, run_asked}
 use Rattle.picture_call.proofs.Asked.{all_given, no_count, no_form, no_runner, no_values, unasked}

@@ -1,4 +1,4 @@
-use Rattle.std.proofs.Common.{◌≡◌, ◌∙◌, ap, sym, subst}
+use Rattle.std.proofs.Common.{◌∙◌, ap, subst}
 use Rattle.array_tree.specs.declared.tree.Program.{Program}
 use Rattle.array_tree.specs.Trees.{program_of}
 use Rattle.array_meaning.proofs.InsideLemmas.{sized_in_range}
@@ -8,8 +8,8 @@ use Rattle.phase_order.specs.Crossings.{HasNoCrossings}
 use Rattle.pipe_walk.specs.FirstCrossing.{IsFaultOf}
 use Rattle.run_picture.specs.Seen.{picture_seen}
 use Rattle.lithe_call.proofs.Piping.{check_told, crossing_told}
-use Rattle.picture_call.specs.Pictures.{IsRunBy}
 use Rattle.picture_call.specs.declared.runner.Runner.TheVariants as runner
+use Rattle.picture_call.specs.Pictures.{teams_of}
 use Rattle.picture_call.proofs.Refusing.{pipe_no_picture, plan_no_picture, plan_picture, plan_runs, right_plan}
 use Rattle.picture_call.proofs.drawing.of_pipe.Goals as goal
 
@@ -44,7 +44,7 @@ returns-clause-runs c =
 pub returns-clause-drawn : goal.returns-clause-drawn
 returns-clause-drawn c =
     let program = program_of c.args.program.now in
-    plan_picture c.by_plan.result picture_seen c.args.form c.args.harts program c.plan.result.now c.args.output.now
+    plan_picture c.by_plan.result picture_seen c.args.form (teams_of runner.Pipe) c.args.harts program c.plan.result.now c.args.output.now
     (right_plan c.plan.result.now c.in-Ok.accepted.plan program c.args.harts c.plan.ensures.same
     (c.plan.ensures.kept.parents ∙ ap (λ (p : Program). plan_of (program_of p)) c.in-Ok.ensures.program) c.in-Ok.ensures.harts)
     c.by_plan.ensures.drawn

@@ -1,13 +1,12 @@
-use Rattle.std.proofs.Common.{◌≡◌, ◌∙◌, ap, sym, subst}
+use Rattle.std.proofs.Common.{◌∙◌, ap}
 use Rattle.array_tree.specs.declared.tree.Program.{Program}
 use Rattle.array_tree.specs.Trees.{program_of}
 use Rattle.array_meaning.proofs.InsideLemmas.{sized_in_range}
 use Rattle.array_meaning.specs.Plans.{plan_of}
 use Rattle.transfer_table.specs.Plan.{Plan}
 use Rattle.run_picture.specs.Seen.{picture_seen}
-use Rattle.lithe_call.specs.Programs.{table_plan}
-use Rattle.lithe_call.proofs.Runs.{told_plan}
 use Rattle.picture_call.specs.declared.runner.Runner.TheVariants as runner
+use Rattle.picture_call.specs.Pictures.{teams_of}
 use Rattle.picture_call.proofs.Refusing.{check_no_picture, plan_no_picture, plan_picture, plan_runs, right_plan}
 use Rattle.picture_call.proofs.drawing.of_run.Goals as goal
 
@@ -28,7 +27,7 @@ returns-clause-runs c = plan_runs c.by_plan.result runner.Run c.args.harts (prog
 pub returns-clause-drawn : goal.returns-clause-drawn
 returns-clause-drawn c =
     let program = program_of c.args.program.now in
-    plan_picture c.by_plan.result picture_seen c.args.form c.args.harts program c.plan.result.now c.args.output.now
+    plan_picture c.by_plan.result picture_seen c.args.form (teams_of runner.Run) c.args.harts program c.plan.result.now c.args.output.now
     (right_plan c.plan.result.now c.in-Ok.accepted.plan program c.args.harts c.plan.ensures.same
     (c.plan.ensures.kept.parents ∙ ap (λ (p : Program). plan_of (program_of p)) c.in-Ok.ensures.program) c.in-Ok.ensures.harts)
     c.by_plan.ensures.drawn

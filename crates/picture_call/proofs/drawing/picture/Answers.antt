@@ -1,4 +1,3 @@
-use Rattle.std.proofs.Common.{List, ℕ}
 use Rattle.array_tree.specs.Trees.{program_of}
 use Rattle.run_picture.specs.Seen.{picture_seen}
 use Rattle.lithe_call.proofs.Causes.{syntax_line_told}

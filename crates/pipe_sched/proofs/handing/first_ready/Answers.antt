@@ -1,4 +1,4 @@
-use Rattle.std.proofs.Common.{◌≡◌, ◌+◌, ◌*◌, ◌<◌, ◌≤◌, length, get_or, sym, ◌∙◌, arith}
+use Rattle.std.proofs.Common.{◌≡◌, ◌+◌, ◌*◌, ◌<◌, ◌≤◌, length, ◌∙◌, arith}
 use Rattle.pipe_sched.proofs.Next.{row_within, none_in_row, none_before_next}
 use Rattle.pipe_sched.proofs.handing.first_ready.Goals as goal
 

@@ -14,8 +14,8 @@ use Rattle.run_picture.proofs.picture.picture_by.Goals as goal
 pub pictured-requires-clause-shapes : goal.pictured-requires-clause-shapes
 pictured-requires-clause-shapes c =
     let program = program_of c.args.program.now in
-    let shapes : c.deref.result.now ≡ shapes_of program = c.deref.ensures.value ∙ c.in_ok-shapes.ensures in
-    ap length shapes ∙ shape_count program ∙ sym (ap length c.requires.parents)
+    let shapes : c.deref.result.now ≡ shapes_of c.args.teams program = c.deref.ensures.value ∙ c.in_ok-shapes.ensures in
+    ap length shapes ∙ shape_count c.args.teams program ∙ sym (ap length c.requires.parents)
 
 pub returns : goal.returns
 returns c =
@@ -31,9 +31,9 @@ returns c =
     counted ∙ sym (length-map c.args.program.now.arrays.declarations.items declaration_of) in
     let list : c.as_slice.result.now ≡ entries_behind plan (length program.arrays) output =
     c.as_slice.ensures ∙ c.in_ok-list.ensures.same ∙ ap (λ (n : ℕ). entries_behind plan n output) many in
-    let shapes : c.deref.result.now ≡ shapes_of program = c.deref.ensures.value ∙ c.in_ok-shapes.ensures in
+    let shapes : c.deref.result.now ≡ shapes_of c.args.teams program = c.deref.ensures.value ∙ c.in_ok-shapes.ensures in
     let whole = ap (λ (m : List Bool). pictured form plan m c.deref.result.now verdict c.as_slice.result.now) c.requires.entered
     ∙ ap (λ (s : List Shape). pictured form plan (entered_of program) s verdict c.as_slice.result.now) shapes
-    ∙ ap (λ (l : List Entry). pictured form plan (entered_of program) (shapes_of program) verdict l) list in
+    ∙ ap (λ (l : List Entry). pictured form plan (entered_of program) (shapes_of c.args.teams program) verdict l) list in
     same_answer c.pictured.result picture_seen (pictured form plan meant c.deref.result.now verdict c.as_slice.result.now)
-    (pictured form plan (entered_of program) (shapes_of program) verdict (entries_behind plan (length program.arrays) output)) whole c.pictured.ensures
+    (pictured form plan (entered_of program) (shapes_of c.args.teams program) verdict (entries_behind plan (length program.arrays) output)) whole c.pictured.ensures

@@ -13,7 +13,7 @@ use Rattle.run_picture.proofs.picture.picture_of.Goals as goal
 pub returns-clause-picture : goal.returns-clause-picture
 returns-clause-picture c =
     let program = program_of c.args.program.now in
-    go_on (λ (v : Verdict). v) picture_seen (λ (v : Verdict). picture_by c.args.form program c.args.plan.now c.args.output.now v)
+    go_on (λ (v : Verdict). v) picture_seen (λ (v : Verdict). picture_by c.args.form c.args.teams program c.args.plan.now c.args.output.now v)
     (audit_of c.args.plan.now (entered_of program) (array_text program (final_store program)) c.args.output.now) c.in_ok-verdict.verdict c.in_ok-picture.picture
     c.in_ok-verdict.ensures c.in_ok-picture.ensures
 

@@ -6,15 +6,15 @@ use Rattle.run_picture.proofs.shapes.+shapes.Given as goal
 -- the shapes so far, and those of the rest
 abbrev pub invariant-add_block-loop-statement : goal.invariant-add_block-loop-statement
 invariant-add_block-loop-statement l =
-    l.shapes.items ++ sequence_shapes (sequence (map statement_of (drop l.statement-index l.statement-items)))
-    ≡ l.fn.shapes.items ++ sequence_shapes (sequence_of l.block)
+    l.shapes.items ++ sequence_shapes l.teams (sequence (map statement_of (drop l.statement-index l.statement-items)))
+    ≡ l.fn.shapes.items ++ sequence_shapes l.teams (sequence_of l.block)
 
 abbrev pub invariant-add_branches-loop-branch : goal.invariant-add_branches-loop-branch
 invariant-add_branches-loop-branch l =
-    l.shapes.items ++ branches_shapes (sequences (map sequence_of (drop l.branch-index l.branch-items)))
-    ≡ l.fn.shapes.items ++ branches_shapes (sequences_of l.branches)
+    l.shapes.items ++ branches_shapes l.teams (sequences (map sequence_of (drop l.branch-index l.branch-items)))
+    ≡ l.fn.shapes.items ++ branches_shapes l.teams (sequences_of l.branches)
 
 abbrev pub invariant-add_phases-loop-phase : goal.invariant-add_phases-loop-phase
 invariant-add_phases-loop-phase l =
-    l.shapes.items ++ phases_shapes (sequences (map sequence_of (drop l.phase-index l.phase-items))) l.iterations
-    ≡ l.fn.shapes.items ++ phases_shapes (sequences_of l.phases) l.iterations
+    l.shapes.items ++ phases_shapes l.teams (sequences (map sequence_of (drop l.phase-index l.phase-items))) l.iterations
+    ≡ l.fn.shapes.items ++ phases_shapes l.teams (sequences_of l.phases) l.iterations

@@ -1,4 +1,4 @@
-use Rattle.std.proofs.Common.{◌≡◌, ◌≤◌, ℕ, [], All, ap, arith, length, refl, sym, subst, ◌∙◌, rules}
+use Rattle.std.proofs.Common.{◌≡◌, ◌≤◌, ℕ, [], All, ap, arith, length, refl, sym, subst, ◌∙◌}
 use Rattle.std.specs.Vec.Iter.{into_iter_items, into_iter_len}
 use Rattle.tasks.proofs.Rest.{none_of, none_yet, one_more, no_more, first_of, others_of}
 use Rattle.tasks.proofs.one_hart.in_order.Goals as goal

@@ -3,7 +3,7 @@ use Rattle.std.proofs.lemmas.List.{length-replicate}
 use Rattle.pipe_sched.specs.declared.slot.Slot.TheVariants as slot
 use Rattle.step_eval.specs.Nests.{NestedParts, nested_of, IsFitNest}
 use Rattle.pipe_sched.specs.Slots.{phases_in, members_in}
-use Rattle.pipe_sched.specs.Inside.{mark_of, AreNext}
+use Rattle.pipe_sched.specs.Inside.{mark_of}
 use Rattle.pipe_sched.proofs.Kept.{kept_new, told_new}
 use Rattle.pipe_sched.proofs.Told.{new_is_told}
 use Rattle.pipe_sched.proofs.Next.{next_new}

@@ -1,6 +1,5 @@
 use Rattle.std.proofs.Common.{◌≡◌, ◌<◌, ap, ◌∙◌, rules}
 use Rattle.std.proofs.lemmas.Result.{IfOk-weaker}
-use Rattle.step_eval.specs.Nests.{NestedParts}
 use Rattle.pipe_sched.specs.Slots.{PipeParts}
 use Rattle.pipe_sched.proofs.Stores.{above_is_told, first_is_told, below_filled}
 use Rattle.pipe_sched.proofs.state.PipeState.store_in_first.Goals as goal
