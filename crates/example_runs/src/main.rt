@@ -1,6 +1,6 @@
-//! Runs each example that its words name on one hart, and compares what it writes and tells with what stands beside it. Of a word
-//! `NAME.tally` it tallies `NAME`, of `NAME.pipe` it pipes `NAME`, and of a word with `.svg` behind it, it draws the output on two
-//! harts that stands there, and compares the picture.
+//! Runs each example that its words name on one hart, and compares its output, followed by its messages, with the stored file. For
+//! a word `NAME.tally` it runs `tally` on `NAME`, for `NAME.pipe` it runs `pipe`, and for a word that ends in `.svg` it draws the
+//! stored output on two harts and compares the picture with the stored one.
 #![tactic(auto)]
 
 use lithe_call::lithe;
@@ -12,7 +12,7 @@ use std::sync::Wait;
 use std::thread::Threads;
 use std::{env, fs, io};
 
-// More bytes than an example writes or tells.
+// More bytes than the output or the messages of an example have.
 const ROOM: usize = 65_536;
 
 // The words of a command.
@@ -25,7 +25,7 @@ fn words(alloc: Global, command: &str, options: &[&str]) -> Result<Vec<String>, 
     Ok(words)
 }
 
-// What the command writes for the text, with what it tells behind it, and its status.
+// The command's output for the text, followed by its messages, and its status.
 fn run_text<R: Threads + Wait + Sync>(
     rt: &R,
     alloc: Global,
@@ -50,7 +50,7 @@ fn run_text<R: Threads + Wait + Sync>(
     Ok((all, status.number()))
 }
 
-// The picture of the command's output that stands behind the program, with what is told behind it, and its status.
+// The picture of the command's output that follows the program, followed by the messages, and the status.
 fn draw_text(alloc: Global, command: &str, text: &[u8]) -> Result<(Vec<u8>, u8), AllocError> {
     let words = words(alloc, "svg", &["--harts=2", "--of", command])?;
     let mut source = MemSource::new(alloc, text, ROOM, &[])?;

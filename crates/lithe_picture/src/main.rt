@@ -14,8 +14,8 @@ use picture_call::{no_memory_for_picture, no_picture_for_words, serve_picture};
 use std::alloc::Global;
 use std::process::ExitCode;
 
-// Serves the words as `serve_picture` does, where they could be had. Else want of memory is told as such, and what isn't text
-// is no form; then nothing is read, and nothing written to the output.
+// Serves the words as `serve_picture` does. If there are none, because an allocation failed or they aren't text, it writes the
+// cause to `err`, reads nothing and writes nothing to the output. Words that aren't text are no form.
 fn serve<A: Source, B: Sink, E: Sink>(
     alloc: Global,
     words: Result<Vec<String>, NoWords>,
@@ -31,7 +31,7 @@ fn serve<A: Source, B: Sink, E: Sink>(
     ensures nothing_read { IfErr words (λ _. source.new ≡ source.old) }
     ensures nothing_written { IfErr words (λ _. out.new ≡ out.old) }
 
-    // Where the words could be had, all that the contract of `serve_picture` says of them.
+    // If there are words, the contract of `serve_picture` holds for them.
     ensures shown { IfOk words (λ list. AreShown (record {
       left = A.left;
       read_faults = A.faults;

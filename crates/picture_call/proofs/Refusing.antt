@@ -28,7 +28,7 @@ use Rattle.lithe_call.proofs.Tallying.{untallied_line}
 use Rattle.lithe_call.proofs.Piping.{unpiped_line}
 use Rattle.picture_call.specs.declared.runner.Runner.{Runner}
 use Rattle.picture_call.specs.declared.runner.Runner.TheVariants.{Run, Tally, Pipe}
-use Rattle.picture_call.specs.Causes.{AreRefused, HaveNoPicture, TellsNoOutput, TellsNoPicture}
+use Rattle.picture_call.specs.Causes.{AreRefused, HaveNoPicture, ReportsNoOutput, ReportsNoPicture}
 use Rattle.picture_call.specs.Pictures.{AreDrawn, IsRunBy, teams_of}
 
 -- a text that spells no program has no picture
@@ -43,72 +43,72 @@ no_run_no_picture runner harts first second fault.Memory h = tt
 
 -- what is so of the program is so of the bytes that spell it
 pub program_no_picture : (runner : Runner) (harts : ℕ) (first second : List ℕ) (program : ProgramTree) (why : Fault) → length first ≤ 65536 → Spells first program
-    → TellsNoPicture runner harts program second why → HaveNoPicture runner harts first second why
-program_no_picture runner harts first second program fault.Usage short spelled tells = absurd tells
-program_no_picture runner harts first second program fault.TooLong short spelled tells = absurd tells
-program_no_picture runner harts first second program fault.ReadFault short spelled tells = absurd tells
-program_no_picture runner harts first second program (fault.Syntax line) short spelled tells =
-    inr (record { program = program; input = record { short = short; spelled = spelled; run = tells.0 }; is = tells.1 })
-program_no_picture Run harts first second program (fault.Refused line) short spelled tells = record {
+    → ReportsNoPicture runner harts program second why → HaveNoPicture runner harts first second why
+program_no_picture runner harts first second program fault.Usage short spelled reported = absurd reported
+program_no_picture runner harts first second program fault.TooLong short spelled reported = absurd reported
+program_no_picture runner harts first second program fault.ReadFault short spelled reported = absurd reported
+program_no_picture runner harts first second program (fault.Syntax line) short spelled reported =
+    inr (record { program = program; input = record { short = short; spelled = spelled; run = reported.0 }; is = reported.1 })
+program_no_picture Run harts first second program (fault.Refused line) short spelled reported = record {
   short = short;
   program = program;
   spelled = spelled;
-  refused = λ accepted. let bad : None ≡ Some tells.fault = sym (none_of_accepted program harts accepted) ∙ tells.is in cc bad;
-  first = tells;
+  refused = λ accepted. let bad : None ≡ Some reported.fault = sym (none_of_accepted program harts accepted) ∙ reported.is in cc bad;
+  first = reported;
 }
-program_no_picture Tally harts first second program (fault.Refused line) short spelled tells = untallied_line harts first program (fault.Refused line) short spelled tells
-program_no_picture Pipe harts first second program (fault.Refused line) short spelled tells = unpiped_line harts first program (fault.Refused line) short spelled tells
-program_no_picture runner harts first second program fault.Memory short spelled tells = tt
+program_no_picture Tally harts first second program (fault.Refused line) short spelled reported = untallied_line harts first program (fault.Refused line) short spelled reported
+program_no_picture Pipe harts first second program (fault.Refused line) short spelled reported = unpiped_line harts first program (fault.Refused line) short spelled reported
+program_no_picture runner harts first second program fault.Memory short spelled reported = tt
 
 -- the check refuses the program to `run`
 pub check_no_picture : (harts : ℕ) (program : ProgramTree) (output : List ℕ) (cause : CheckFault) (why : Fault) → TellsRefusal program cause why
-    → (cause ≡ check.Memory) ⊎ (check_fault_of program harts ≡ Some cause) → TellsNoPicture Run harts program output why
-check_no_picture harts program output cause fault.Usage tells first = absurd tells
-check_no_picture harts program output cause fault.TooLong tells first = absurd tells
-check_no_picture harts program output cause fault.ReadFault tells first = absurd tells
-check_no_picture harts program output cause (fault.Syntax line) tells first = absurd tells
-check_no_picture harts program output cause (fault.Refused line) tells first = elim first [
-  | inl memory ↦ absurd (tells.0 memory)
-  | inr is ↦ record { fault = cause; is = is; real = tells.0; told = tells.1 }
+    → (cause ≡ check.Memory) ⊎ (check_fault_of program harts ≡ Some cause) → ReportsNoPicture Run harts program output why
+check_no_picture harts program output cause fault.Usage reported first = absurd reported
+check_no_picture harts program output cause fault.TooLong reported first = absurd reported
+check_no_picture harts program output cause fault.ReadFault reported first = absurd reported
+check_no_picture harts program output cause (fault.Syntax line) reported first = absurd reported
+check_no_picture harts program output cause (fault.Refused line) reported first = elim first [
+  | inl memory ↦ absurd (reported.0 memory)
+  | inr is ↦ record { fault = cause; is = is; real = reported.0; told = reported.1 }
 ]
-check_no_picture harts program output cause fault.Memory tells first = tt
+check_no_picture harts program output cause fault.Memory reported first = tt
 
 -- it is refused to `tally`, or to `pipe`
-pub tally_no_picture : (harts : ℕ) (program : ProgramTree) (output : List ℕ) (why : Fault) → TellsUntallied harts program why → TellsNoPicture Tally harts program output why
-tally_no_picture harts program output fault.Usage tells = absurd tells
-tally_no_picture harts program output fault.TooLong tells = absurd tells
-tally_no_picture harts program output fault.ReadFault tells = absurd tells
-tally_no_picture harts program output (fault.Syntax line) tells = absurd tells
-tally_no_picture harts program output (fault.Refused line) tells = tells
-tally_no_picture harts program output fault.Memory tells = tt
+pub tally_no_picture : (harts : ℕ) (program : ProgramTree) (output : List ℕ) (why : Fault) → TellsUntallied harts program why → ReportsNoPicture Tally harts program output why
+tally_no_picture harts program output fault.Usage reported = absurd reported
+tally_no_picture harts program output fault.TooLong reported = absurd reported
+tally_no_picture harts program output fault.ReadFault reported = absurd reported
+tally_no_picture harts program output (fault.Syntax line) reported = absurd reported
+tally_no_picture harts program output (fault.Refused line) reported = reported
+tally_no_picture harts program output fault.Memory reported = tt
 
-pub pipe_no_picture : (harts : ℕ) (program : ProgramTree) (output : List ℕ) (why : Fault) → TellsUnpiped harts program why → TellsNoPicture Pipe harts program output why
-pipe_no_picture harts program output fault.Usage tells = absurd tells
-pipe_no_picture harts program output fault.TooLong tells = absurd tells
-pipe_no_picture harts program output fault.ReadFault tells = absurd tells
-pipe_no_picture harts program output (fault.Syntax line) tells = absurd tells
-pipe_no_picture harts program output (fault.Refused line) tells = tells
-pipe_no_picture harts program output fault.Memory tells = tt
+pub pipe_no_picture : (harts : ℕ) (program : ProgramTree) (output : List ℕ) (why : Fault) → TellsUnpiped harts program why → ReportsNoPicture Pipe harts program output why
+pipe_no_picture harts program output fault.Usage reported = absurd reported
+pipe_no_picture harts program output fault.TooLong reported = absurd reported
+pipe_no_picture harts program output fault.ReadFault reported = absurd reported
+pipe_no_picture harts program output (fault.Syntax line) reported = absurd reported
+pipe_no_picture harts program output (fault.Refused line) reported = reported
+pipe_no_picture harts program output fault.Memory reported = tt
 
 -- the output is refused by the program's plan
 output_no_picture : (runner : Runner) (harts : ℕ) (program : ProgramTree) (output : List ℕ) (why : Fault) → IsRunBy runner harts program
-    → TellsNoOutput (table_plan program harts) program output why → TellsNoPicture runner harts program output why
-output_no_picture runner harts program output fault.Usage run tells = absurd tells
-output_no_picture runner harts program output fault.TooLong run tells = absurd tells
-output_no_picture runner harts program output fault.ReadFault run tells = absurd tells
-output_no_picture runner harts program output (fault.Syntax line) run tells = (run, tells)
-output_no_picture runner harts program output (fault.Refused line) run tells = absurd tells
-output_no_picture runner harts program output fault.Memory run tells = tt
+    → ReportsNoOutput (table_plan program harts) program output why → ReportsNoPicture runner harts program output why
+output_no_picture runner harts program output fault.Usage run reported = absurd reported
+output_no_picture runner harts program output fault.TooLong run reported = absurd reported
+output_no_picture runner harts program output fault.ReadFault run reported = absurd reported
+output_no_picture runner harts program output (fault.Syntax line) run reported = (run, reported)
+output_no_picture runner harts program output (fault.Refused line) run reported = absurd reported
+output_no_picture runner harts program output fault.Memory run reported = tt
 
 pub right_plan : (plan own : Plan) (program : ProgramTree) (harts : ℕ) → plan ≡ own → own.parents ≡ plan_of program → own.harts ≡ harts → plan ≡ table_plan program harts
 right_plan plan own program harts same parents count =
     same ∙ told_plan own program parents ∙ ap (table_plan program) count
 
 pub plan_no_picture : {X : Type 0} (result : Result X Fault) (runner : Runner) (harts : ℕ) (program : ProgramTree) (plan : Plan) (output : List ℕ) → plan ≡ table_plan program harts
-    → IsRunBy runner harts program → IfErr result (TellsNoOutput plan program output) → IfErr result (TellsNoPicture runner harts program output)
-plan_no_picture (Ok x) runner harts program plan output same run tells = tt
-plan_no_picture (Err why) runner harts program plan output same run tells =
-    output_no_picture runner harts program output why run (subst (λ (p : Plan). TellsNoOutput p program output why) same tells)
+    → IsRunBy runner harts program → IfErr result (ReportsNoOutput plan program output) → IfErr result (ReportsNoPicture runner harts program output)
+plan_no_picture (Ok x) runner harts program plan output same run reported = tt
+plan_no_picture (Err why) runner harts program plan output same run reported =
+    output_no_picture runner harts program output why run (subst (λ (p : Plan). ReportsNoOutput p program output why) same reported)
 
 pub plan_picture : {X : Type 0} (result : Result X Fault) (seen : X → Pictured) (form : Form) (teams : Kind) (harts : ℕ) (program : ProgramTree) (plan : Plan) (output : List ℕ) → plan ≡ table_plan program harts
     → IfOk result (λ x. picture_of form teams program plan output ≡ Ok (seen x)) → IfOk result (λ x. picture_of form teams program (table_plan program harts) output ≡ Ok (seen x))
@@ -121,15 +121,15 @@ plan_runs (Err why) runner harts program is = tt
 
 -- a fault of the output's text
 pub text_no_output : (plan : Plan) (program : ProgramTree) (output : List ℕ) (cause : TextFault) (why : Fault) → TellsText cause why
-    → ((cause ≡ text.Memory → ⊥) → audit_of plan (entered_of program) (array_text program (final_store program)) output ≡ Err cause) → TellsNoOutput plan program output why
-text_no_output plan program output cause fault.Usage tells found = absurd tells
-text_no_output plan program output cause fault.TooLong tells found = absurd tells
-text_no_output plan program output cause fault.ReadFault tells found = absurd tells
-text_no_output plan program output cause (fault.Syntax line) tells found = record { fault = cause; found = found tells.0; real = tells.0; told = tells.1 }
-text_no_output plan program output cause (fault.Refused line) tells found = absurd tells
-text_no_output plan program output cause fault.Memory tells found = tt
+    → ((cause ≡ text.Memory → ⊥) → audit_of plan (entered_of program) (array_text program (final_store program)) output ≡ Err cause) → ReportsNoOutput plan program output why
+text_no_output plan program output cause fault.Usage reported found = absurd reported
+text_no_output plan program output cause fault.TooLong reported found = absurd reported
+text_no_output plan program output cause fault.ReadFault reported found = absurd reported
+text_no_output plan program output cause (fault.Syntax line) reported found = record { fault = cause; found = found reported.0; real = reported.0; told = reported.1 }
+text_no_output plan program output cause (fault.Refused line) reported found = absurd reported
+text_no_output plan program output cause fault.Memory reported found = tt
 
--- what reading found, where it isn't want of memory
+-- what reading found, if no allocation failed
 pub read_found : {A B : Type 0} (same : A → B) (wanted : Result B TextFault) (cause : TextFault) → Reads same wanted (Err cause) → (cause ≡ text.Memory → ⊥) → wanted ≡ Err cause
 read_found same wanted (text.BadLine line) reads real = reads
 read_found same wanted (text.BadNumber line) reads real = reads
@@ -145,6 +145,6 @@ module _ {X : Type 0} (seen : X → Pictured) (form : Form) (runner : Runner) (h
   drawn_of (Ok x) run drawn = record { program = program; input = record { short = short; spelled = spelled; run = run }; drawn = drawn }
   drawn_of (Err why) run drawn = tt
 
-  pub not_drawn_of : (result : Result X Fault) → IfErr result (TellsNoPicture runner harts program second) → IfErr result (HaveNoPicture runner harts first second)
-  not_drawn_of (Ok x) tells = tt
-  not_drawn_of (Err why) tells = program_no_picture runner harts first second program why short spelled tells
+  pub not_drawn_of : (result : Result X Fault) → IfErr result (ReportsNoPicture runner harts program second) → IfErr result (HaveNoPicture runner harts first second)
+  not_drawn_of (Ok x) reported = tt
+  not_drawn_of (Err why) reported = program_no_picture runner harts first second program why short spelled reported

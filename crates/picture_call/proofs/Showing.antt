@@ -61,15 +61,15 @@ picture_of_given seen words form runner harts (Ok x) bytes left left' named aske
 picture_of_given seen words form runner harts (Err why) bytes left left' named asked given has = tt
 
 -- ---- what a fault's text says is the status's text
-why_told : (words : List (List ℕ)) (why : Fault) (left left' taken : Option (List ℕ)) (faults faults' told : ℕ) (taken' : Option (List ℕ)) (told' : ℕ)
+why_written : (words : List (List ℕ)) (why : Fault) (left left' taken : Option (List ℕ)) (faults faults' told : ℕ) (taken' : Option (List ℕ)) (told' : ℕ)
     → IsFault words why left left' faults faults' → Tells taken told (fault_text why) taken' told'
     → TellsWhy words (status_of why) left left' taken told taken' told'
-why_told words fault.Usage left left' taken faults faults' told taken' told' is tells = record { text = fault_text fault.Usage; right = refl; tells = tells }
-why_told words fault.TooLong left left' taken faults faults' told taken' told' is tells = record { text = fault_text fault.TooLong; right = refl; tells = tells }
-why_told words fault.ReadFault left left' taken faults faults' told taken' told' is tells = record { text = fault_text fault.ReadFault; right = refl; tells = tells }
-why_told words (fault.Syntax line) left left' taken faults faults' told taken' told' is tells = record { text = line.items; right = is; tells = tells }
-why_told words (fault.Refused line) left left' taken faults faults' told taken' told' is tells = record { text = line.items; right = is; tells = tells }
-why_told words fault.Memory left left' taken faults faults' told taken' told' is tells = record { text = fault_text fault.Memory; right = refl; tells = tells }
+why_written words fault.Usage left left' taken faults faults' told taken' told' is appended = record { text = fault_text fault.Usage; right = refl; tells = appended }
+why_written words fault.TooLong left left' taken faults faults' told taken' told' is appended = record { text = fault_text fault.TooLong; right = refl; tells = appended }
+why_written words fault.ReadFault left left' taken faults faults' told taken' told' is appended = record { text = fault_text fault.ReadFault; right = refl; tells = appended }
+why_written words (fault.Syntax line) left left' taken faults faults' told taken' told' is appended = record { text = line.items; right = is; tells = appended }
+why_written words (fault.Refused line) left left' taken faults faults' told taken' told' is appended = record { text = line.items; right = is; tells = appended }
+why_written words fault.Memory left left' taken faults faults' told taken' told' is appended = record { text = fault_text fault.Memory; right = refl; tells = appended }
 
 -- with a fault nothing was written
 unwritten : (why : Fault) → (status_of why ≢ status.Done) × (status_of why ≢ status.Illegal) × (status_of why ≢ status.WriteFault)
@@ -80,7 +80,7 @@ unwritten (fault.Syntax line) = (λ e. cc e, λ e. cc e, λ e. cc e)
 unwritten (fault.Refused line) = (λ e. cc e, λ e. cc e, λ e. cc e)
 unwritten fault.Memory = (λ e. cc e, λ e. cc e, λ e. cc e)
 
--- words that are no form ask for nothing
+-- words that are no form request nothing
 formless : {X : Type 0} (words : List (List ℕ)) (run : Runner × ℕ) → run_asked words ≡ Some run → run_asked words ≡ None → X
 formless words run is none = let bad : Some run ≡ None = sym is ∙ none in cc bad
 
@@ -124,7 +124,7 @@ read_fault_told words fault.Memory left left' faults faults' h e = cc e
 -- ---- an input with a verdict has no other fault than an allocation failure, while the source doesn't fail
 module _ (words : List (List ℕ)) (runner : Runner) (harts : ℕ) (asked : run_asked words ≡ Some (runner, harts))
     (bytes : List ℕ) (left left' : Option (List ℕ)) (input : left ≡ Some bytes) (ended : Status) (ends : EndsAs runner harts bytes ended) where
-  -- what the words ask for, and what was read, are the same
+  -- what the words request, and what was read, are the same
   same_run : (other : Runner) (count : ℕ) → run_asked words ≡ Some (other, count) → (other ≡ runner) × (count ≡ harts)
   same_run other count is =
       let same : (other, count) ≡ (runner, harts) = same_Some (other, count) (runner, harts) (sym is ∙ asked) in
@@ -164,7 +164,7 @@ module _ {A B E : Type 0} (see : Outside A B E) (words : List (List ℕ)) (sourc
       → IsFault words why (see.left source) (see.left source') (see.read_faults source) (see.read_faults source')
       → Tells (see.told err) (see.tell_faults err) (fault_text why) (see.told err') (see.tell_faults err')
       → AreShown see words (status_of why) source source' out out err err'
-  fault_shown why out err err' is tells =
+  fault_shown why out err err' is appended =
       let left = see.left source in
       let left' = see.left source' in
       let faults = see.read_faults source in
@@ -178,7 +178,7 @@ module _ {A B E : Type 0} (see : Outside A B E) (words : List (List ℕ)) (sourc
         too_long = too_long_told words why left left' faults faults' is;
         read_fault = read_fault_told words why left left' faults faults' is;
         write_fault = λ e. absurd ((unwritten why).2 e);
-        lines = λ not_done not_illegal. why_told words why left left' (see.told err) faults faults' (see.tell_faults err) (see.told err') (see.tell_faults err') is tells;
+        lines = λ not_done not_illegal. why_written words why left left' (see.told err) faults faults' (see.tell_faults err) (see.told err') (see.tell_faults err') is appended;
         prefix = λ e. absurd ((unwritten why).2 e);
         source_stays = stays;
         out_stays = λ not_done not_illegal not_write. refl;
@@ -190,7 +190,7 @@ module _ {A B E : Type 0} (see : Outside A B E) (words : List (List ℕ)) (sourc
     pub part_shown : Rose (see.write_faults out) (see.write_faults out') → AppendsPrefix (see.taken out) text (see.taken out')
         → Tells (see.told err) (see.tell_faults err) (own_text status.WriteFault) (see.told err') (see.tell_faults err')
         → AreShown see words status.WriteFault source source' out out' err err'
-    part_shown rose taken tells = record {
+    part_shown rose taken appended = record {
       done = λ e. cc e;
       illegal = λ e. cc e;
       complete = λ runner harts asked bytes input ended ends calm quiet. absurd (quiet rose);
@@ -199,7 +199,7 @@ module _ {A B E : Type 0} (see : Outside A B E) (words : List (List ℕ)) (sourc
       too_long = λ e. cc e;
       read_fault = λ e. cc e;
       write_fault = λ e. rose;
-      lines = λ not_done not_illegal. record { text = own_text status.WriteFault; right = refl; tells = tells };
+      lines = λ not_done not_illegal. record { text = own_text status.WriteFault; right = refl; tells = appended };
       prefix = λ e. record { status = status_by found; text = text; picture = picture; written = taken };
       source_stays = stays;
       out_stays = λ not_done not_illegal not_write. absurd (not_write refl);

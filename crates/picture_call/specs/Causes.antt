@@ -38,19 +38,19 @@ IsRefusedBy Run harts program line = IsToldFault (check_fault_of program harts) 
 IsRefusedBy Tally harts program line = IsUntallied harts program line
 IsRefusedBy Pipe harts program line = IsUnpiped harts program line
 
--- The bytes are no output's text for the program with this plan, as the fault reports; or memory ran out.
-abbrev pub TellsNoOutput : Plan → ProgramTree → List ℕ → Fault → Type 0
-TellsNoOutput plan program output (fault.Syntax line) = IsNoOutput plan program output line.items
-TellsNoOutput plan program output fault.Memory = Unit {0}
-TellsNoOutput plan program output why = ⊥
+-- The bytes are no output's text for the program with this plan, as the fault reports; or an allocation failed.
+abbrev pub ReportsNoOutput : Plan → ProgramTree → List ℕ → Fault → Type 0
+ReportsNoOutput plan program output (fault.Syntax line) = IsNoOutput plan program output line.items
+ReportsNoOutput plan program output fault.Memory = Unit {0}
+ReportsNoOutput plan program output why = ⊥
 
--- The fault reports why the program and the output have no picture, or memory ran out.
-abbrev pub TellsNoPicture : Runner → ℕ → ProgramTree → List ℕ → Fault → Type 0
-TellsNoPicture runner harts program output (fault.Syntax line) =
+-- The fault reports why the program and the output have no picture, or an allocation failed.
+abbrev pub ReportsNoPicture : Runner → ℕ → ProgramTree → List ℕ → Fault → Type 0
+ReportsNoPicture runner harts program output (fault.Syntax line) =
     IsRunBy runner harts program × IsNoOutput (table_plan program harts) program output line.items
-TellsNoPicture runner harts program output (fault.Refused line) = IsRefusedBy runner harts program line.items
-TellsNoPicture runner harts program output fault.Memory = Unit {0}
-TellsNoPicture runner harts program output why = ⊥
+ReportsNoPicture runner harts program output (fault.Refused line) = IsRefusedBy runner harts program line.items
+ReportsNoPicture runner harts program output fault.Memory = Unit {0}
+ReportsNoPicture runner harts program output why = ⊥
 
 -- A first part that spells a program that the command runs, and a second that is no output's text.
 pub record AreNoOutput (runner : Runner) (harts : ℕ) (line first second : List ℕ) : Type 0 where
@@ -94,14 +94,14 @@ HasNoPicture runner harts bytes (fault.Syntax line) = HasNoText runner harts byt
 HasNoPicture runner harts bytes (fault.Refused line) = HasRefused runner harts bytes line.items
 HasNoPicture runner harts bytes fault.Memory = Unit {0}
 
--- The words ask for no picture, or memory ran out while they were read.
+-- The words request no picture, or an allocation failed while they were read.
 abbrev pub IsUnasked : List (List ℕ) → Fault → Type 0
 IsUnasked words fault.Usage = run_asked words ≡ None
 IsUnasked words fault.Memory = Unit {0}
 IsUnasked words why = ⊥
 
 -- The line reports why the bytes that the source gave to its end aren't what the words' command takes, or why it refuses them.
-pub record IsToldBy (IsSo : Runner → ℕ → List ℕ → List ℕ → Type 0) (words : List (List ℕ))
+pub record IsReportedBy (IsSo : Runner → ℕ → List ℕ → List ℕ → Type 0) (words : List (List ℕ))
     (left left' : Option (List ℕ)) (line : List ℕ) : Type 0 where
   pub runner : Runner
   pub harts : ℕ
@@ -118,7 +118,7 @@ pub record GivesLong (words : List (List ℕ)) (left left' : Option (List ℕ)) 
   pub longer : GivesMore left most_audited left'
       ⊎ ((bytes : List ℕ) × GivesWithin most_audited left bytes left' × IsLong bytes)
 
--- The source failed while words that ask for a picture were served, by its count of faults before and after.
+-- The source failed while words that request a picture were served, by its count of faults before and after.
 pub record FailsFor (words : List (List ℕ)) (faults faults' : ℕ) : Type 0 where
   pub runner : Runner
   pub harts : ℕ
@@ -131,6 +131,6 @@ abbrev pub IsFault : List (List ℕ) → Fault → Option (List ℕ) → Option 
 IsFault words fault.Usage left left' faults faults' = run_asked words ≡ None
 IsFault words fault.TooLong left left' faults faults' = GivesLong words left left'
 IsFault words fault.ReadFault left left' faults faults' = FailsFor words faults faults'
-IsFault words (fault.Syntax line) left left' faults faults' = IsToldBy HasNoText words left left' line.items
-IsFault words (fault.Refused line) left left' faults faults' = IsToldBy HasRefused words left left' line.items
+IsFault words (fault.Syntax line) left left' faults faults' = IsReportedBy HasNoText words left left' line.items
+IsFault words (fault.Refused line) left left' faults faults' = IsReportedBy HasRefused words left left' line.items
 IsFault words fault.Memory left left' faults faults' = Unit {0}

@@ -72,7 +72,7 @@ pub record AreDrawn (form : Form) (runner : Runner) (harts : ℕ) (picture : Pic
 abbrev pub HasPicture : Form → Runner → ℕ → List ℕ → Pictured → Type 0
 HasPicture form runner harts bytes picture = HasParts (AreDrawn form runner harts picture) bytes
 
--- The text is the picture that the words ask for of the bytes that the source gave to its end, no more than an audit may have,
+-- The text is the picture that the words request of the bytes that the source gave to its end, no more than an audit may have,
 -- and the status is that of its verdict.
 pub record IsPictureFor (words : List (List ℕ)) (left left' : Option (List ℕ)) (status : Status)
     (text : List ℕ) : Type 0 where

@@ -6,7 +6,7 @@ use Rattle.lithe_call.specs.declared.status.Status.TheVariants.{Done, Illegal, U
 use Rattle.lithe_call.specs.Served.{Outside}
 use Rattle.lithe_call.specs.Telling.{AppendsPrefix, Tells}
 use Rattle.picture_call.specs.declared.runner.Runner.{Runner}
-use Rattle.picture_call.specs.Causes.{GivesLong, HasNoText, HasRefused, IsToldBy}
+use Rattle.picture_call.specs.Causes.{GivesLong, HasNoText, HasRefused, IsReportedBy}
 use Rattle.picture_call.specs.Pictures.{EndsAs, IsPictureFor}
 use Rattle.picture_call.specs.Texts.{own_text}
 use Rattle.picture_call.specs.Words.{run_asked}
@@ -28,8 +28,8 @@ pub record WritesPart (words : List (List ℕ))
 
 -- The text is the status's, for what the source gave.
 abbrev pub IsToldFor : List (List ℕ) → Status → Option (List ℕ) → Option (List ℕ) → List ℕ → Type 0
-IsToldFor words Syntax left left' text = IsToldBy HasNoText words left left' text
-IsToldFor words Refused left left' text = IsToldBy HasRefused words left left' text
+IsToldFor words Syntax left left' text = IsReportedBy HasNoText words left left' text
+IsToldFor words Refused left left' text = IsReportedBy HasRefused words left left' text
 IsToldFor words status left left' text = text ≡ own_text status
 
 -- The status's text was written to the sink, with its count of faults before and after.
@@ -46,10 +46,10 @@ pub record AreShown {A B E : Type 0} (see : Outside A B E) (words : List (List �
   -- The picture is of the output that the source gave behind its program, and has its verdict.
   pub done : status ≡ Done
       → WritesPicture words (see.left source) (see.left source') Done (see.taken out) (see.taken out')
-  -- The same of an output that isn't one of the command's for the program.
+  -- The same of an output that the command can't write for the program.
   pub illegal : status ≡ Illegal
       → WritesPicture words (see.left source) (see.left source') Illegal (see.taken out) (see.taken out')
-  -- What has a verdict ends with the status of that verdict, unless memory runs out or the outside fails.
+  -- What has a verdict ends with the status of that verdict, unless an allocation or the outside fails.
   pub complete : (runner : Runner) (harts : ℕ) → run_asked words ≡ Some (runner, harts)
       → (bytes : List ℕ) → see.left source ≡ Some bytes
       → (ended : Status) → EndsAs runner harts bytes ended
@@ -57,7 +57,7 @@ pub record AreShown {A B E : Type 0} (see : Outside A B E) (words : List (List �
       → (Rose (see.write_faults out) (see.write_faults out') → ⊥)
       → (status ≡ ended) ⊎ (status ≡ NoMemory)
   -- When each other status comes. The texts of Syntax and Refused have their causes. Words that are no form are Usage,
-  -- unless memory runs out while they are read.
+  -- unless an allocation fails while they are read.
   pub usage : status ≡ Usage → run_asked words ≡ None
   pub no_form : run_asked words ≡ None → (status ≡ Usage) ⊎ (status ≡ NoMemory)
   pub too_long : status ≡ TooLong → GivesLong words (see.left source) (see.left source')

@@ -14,7 +14,7 @@ form_named word =
     if bytes_eq word (codes "text") then Some Text else
     if bytes_eq word (codes "svg") then Some Svg else None
 
--- The words ask for a picture of this form.
+-- The words request a picture of this form.
 abbrev pub form_asked : List (List ℕ) → Option Form
 form_asked [] = None
 form_asked (word ∷ options) = form_named word
@@ -40,12 +40,12 @@ run_given options =
     (runner_named (value_of (codes "of") options))
     else None
 
--- The same of the words behind a word that names a form, or doesn't.
+-- The same of the words behind a first word; if that word names no form, there is none.
 abbrev pub run_behind : Option Form → List (List ℕ) → Option (Runner × ℕ)
 run_behind None words = None
 run_behind (Some form) words = option_and_then run_given (options_of words)
 
--- The command whose output the words ask to see, and its number of harts.
+-- The command whose output the words request a picture of, and its number of harts.
 abbrev pub run_asked : List (List ℕ) → Option (Runner × ℕ)
 run_asked [] = None
 run_asked (word ∷ options) = run_behind (form_named word) options

@@ -1,4 +1,4 @@
-//! What the words ask for.
+//! What the words request.
 ghost use Rattle.std.specs.Prelude.{◌≡◌, ◌≤◌, ◌∷◌, [], Some, IfOk, IfErr, map, option_map, string_bytes, codes};
 ghost use Rattle.picture_call.specs.Causes.{IsUnasked};
 ghost use Rattle.picture_call.specs.Words.{form_asked, form_named, run_asked, runner_named};
@@ -9,7 +9,7 @@ use lithe_call::{Fault, asked_command, harts};
 use run_picture::Form;
 use std::alloc::{AllocError, Global};
 
-/// What the words ask for: a picture of this form, of an output of this command on so many harts, 1 to 16.
+/// What the words request: a picture of this form, of an output of this command on so many harts, 1 to 16.
 #[derive(Clone, Copy, Debug, PartialEq, Eq)]
 pub struct Wanted {
     pub form: Form,
@@ -17,11 +17,11 @@ pub struct Wanted {
     pub harts: u8,
 }
 
-/// What the words ask for: the first word names the form of the picture, and the options are behind it.
+/// Reads the words: the first names the form of the picture, and the options follow it.
 ///
 /// # Errors
 ///
-/// `Fault::Usage` if the words ask for no picture, and `Fault::Memory` if an allocation fails.
+/// `Fault::Usage` if the words request no picture, and `Fault::Memory` if an allocation fails.
 pub fn asked(alloc: Global, words: &[String]) -> Result<Wanted, Fault>
     ensures named { IfOk result
         (λ asked. form_asked (map string_bytes words.now) ≡ Some asked.form) }

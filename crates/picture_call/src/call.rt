@@ -25,7 +25,7 @@ use std::alloc::Global;
 /// `text --harts N` and `svg --harts N`, N from 1 to 16, write it as text and as SVG, of an output of `run`; with `--of tally` or
 /// `--of pipe` of an output of that command, which then checks the program. The input, the statuses and their texts are those of
 /// `lithe` for `audit --harts N`, except that a program is refused as that command refuses it, and that the status Usage lists
-/// the forms of these words. If the output isn't one of the command for the program, the status is Illegal; the picture then shows
+/// the forms of these words. If the command can't write the output for the program, the status is Illegal; the picture then shows
 /// the journal up to its first fault, and names the fault. The whole picture is built before its first byte is written.
 pub fn serve_picture<A: Source, B: Sink, E: Sink>(
     alloc: Global,
@@ -56,7 +56,7 @@ pub fn serve_picture<A: Source, B: Sink, E: Sink>(
     }
 }
 
-/// Ends a call whose words aren't text, and so are no form: writes so to `err`, as `serve_picture` does of words that are no
+/// Ends a call whose words aren't text, and so are no form: writes to `err` what `serve_picture` writes for words that are no
 /// form.
 pub fn no_picture_for_words<E: Sink>(err: &mut E) -> Status
     ensures same { result ≡ Status.Usage }
@@ -66,7 +66,7 @@ pub fn no_picture_for_words<E: Sink>(err: &mut E) -> Status
     tell(err, Status::Usage)
 }
 
-/// Ends a call that could not allocate its words: writes so to `err`, as `serve_picture` does of an allocation failure.
+/// Ends a call that could not allocate its words: writes to `err` what `serve_picture` writes for an allocation failure.
 pub fn no_memory_for_picture<E: Sink>(err: &mut E) -> Status
     ensures same { result ≡ Status.NoMemory }
     ensures told { Tells (E.taken err.old) (E.faults err.old) (own_text Status.NoMemory)
@@ -105,7 +105,7 @@ fn tell<E: Sink>(err: &mut E, status: Status) -> Status
     status
 }
 
-// The picture that the words ask for, of what the source gives.
+// The picture that the words request, of what the source gives.
 fn picture_for<A: Source>(alloc: Global, words: &[String], source: &mut A) -> Result<Picture, Fault>
     ensures picture { IfOk result (λ picture. IsPictureFor (map string_bytes words.now)
         (A.left source.old) (A.left source.new) (status_by picture.verdict) picture.text.items) }

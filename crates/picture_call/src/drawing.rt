@@ -8,7 +8,7 @@ ghost use Rattle.run_audit.specs.Parts.{most_audited};
 ghost use Rattle.run_picture.specs.Picture.{picture_of};
 ghost use Rattle.run_picture.specs.Seen.{picture_seen};
 ghost use Rattle.lithe_call.specs.Programs.{table_plan};
-ghost use Rattle.picture_call.specs.Causes.{HasNoPicture, HaveNoPicture, TellsNoOutput, TellsNoPicture};
+ghost use Rattle.picture_call.specs.Causes.{HasNoPicture, HaveNoPicture, ReportsNoOutput, ReportsNoPicture};
 ghost use Rattle.picture_call.specs.Pictures.{AreDrawn, HasPicture, IsRunBy, teams_of};
 
 use crate::asking::Wanted;
@@ -73,7 +73,7 @@ fn picture_by(
     ensures drawn { IfOk result (λ picture. picture_of wanted.form
         (teams_of wanted.runner) (program_of program.now) (table_plan (program_of program.now) wanted.harts) output.now ≡ Ok (picture_seen picture)) }
     ensures fault { IfErr result
-        (TellsNoPicture wanted.runner wanted.harts (program_of program.now) output.now) }
+        (ReportsNoPicture wanted.runner wanted.harts (program_of program.now) output.now) }
 {
     match wanted.runner {
         Runner::Run => of_run(alloc, wanted.form, wanted.harts, program, output),
@@ -97,7 +97,7 @@ fn of_run(
     ensures drawn { IfOk result (λ picture. picture_of form (teams_of Runner.Run)
         (program_of program.now) (table_plan (program_of program.now) harts) output.now ≡ Ok (picture_seen picture)) }
     ensures fault { IfErr result
-        (TellsNoPicture Runner.Run harts (program_of program.now) output.now) }
+        (ReportsNoPicture Runner.Run harts (program_of program.now) output.now) }
 {
     let accepted = match check(alloc, program, harts) {
         Ok(accepted) => accepted,
@@ -122,7 +122,7 @@ fn of_tally(
     ensures drawn { IfOk result (λ picture. picture_of form (teams_of Runner.Tally)
         (program_of program.now) (table_plan (program_of program.now) harts) output.now ≡ Ok (picture_seen picture)) }
     ensures fault { IfErr result
-        (TellsNoPicture Runner.Tally harts (program_of program.now) output.now) }
+        (ReportsNoPicture Runner.Tally harts (program_of program.now) output.now) }
 {
     let rows = with_rows(alloc, harts, program)?;
     let accepted = match check(alloc, &rows, harts) {
@@ -147,7 +147,7 @@ fn of_pipe(
     ensures drawn { IfOk result (λ picture. picture_of form (teams_of Runner.Pipe)
         (program_of program.now) (table_plan (program_of program.now) harts) output.now ≡ Ok (picture_seen picture)) }
     ensures fault { IfErr result
-        (TellsNoPicture Runner.Pipe harts (program_of program.now) output.now) }
+        (ReportsNoPicture Runner.Pipe harts (program_of program.now) output.now) }
 {
     let accepted = match check(alloc, program, harts) {
         Ok(accepted) => accepted,
@@ -173,7 +173,7 @@ fn by_plan(
     requires parents { plan.now.parents ≡ plan_of (program_of program.now) }
     ensures drawn { IfOk result (λ picture. picture_of form (teams_of runner)
         (program_of program.now) plan.now output.now ≡ Ok (picture_seen picture)) }
-    ensures fault { IfErr result (TellsNoOutput plan.now (program_of program.now) output.now) }
+    ensures fault { IfErr result (ReportsNoOutput plan.now (program_of program.now) output.now) }
 {
     match picture_of(alloc, form, teams_of(runner), program, plan, output) {
         Ok(picture) => Ok(picture),

@@ -21,7 +21,7 @@ pub go_on : {A B C D : Type 0} (same : A → B) (seen : C → D) (f : B → D) (
     → Reads same wanted (Ok x) → seen y ≡ f (same x) → Reads seen (and_then (λ b. Ok (f b)) wanted) (Ok y)
 go_on same seen f wanted x y is next = subst (λ d. and_then (λ b. Ok (f b)) wanted ≡ Ok d) (sym next) (ap (and_then (λ b. Ok (f b))) is)
 
--- an answer that is the same as one is the same as what that is
+-- a result that shows one thing shows whatever equals it
 pub same_answer : {A B F : Type 0} (r : Result A F) (view : A → B) (a b : B) → a ≡ b → IfOk r (λ x. view x ≡ a) → IfOk r (λ x. view x ≡ b)
 same_answer (Ok x) view a b same is = is ∙ same
 same_answer (Err why) view a b same is = tt

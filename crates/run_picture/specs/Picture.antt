@@ -1,4 +1,4 @@
--- What a picture of an output tells and shows.
+-- What a picture of an output shows.
 use Rattle.std.specs.Prelude.{ℕ, Bool, nat_lt, if◌then◌else◌, List, [], length, drop, Result, Ok, Err}
 use Rattle.transfer_table.specs.Plan.{Plan}
 use Rattle.transfer_table.specs.declared.entry.Entry.{Entry}
@@ -36,12 +36,12 @@ or_none (Err fault) = []
 abbrev pub entries_behind : Plan → ℕ → List ℕ → List Entry
 entries_behind plan arrays output = or_none (journal_behind plan arrays output)
 
--- a list of entries as a picture, by the sites that are meant to be entered, with a line that tells a verdict
+-- a list of entries as a picture, by the sites that are meant to be entered, with a line that reports a verdict
 abbrev pub drawn_in : Form → Plan → List Bool → List Shape → List Entry → List ℕ → List ℕ
 drawn_in Text plan meant shapes list told = text_picture plan meant shapes list told
 drawn_in Svg plan meant shapes list told = svg_picture plan meant shapes list told
 
--- a verdict, and a picture that tells it
+-- a verdict, and a picture that has it as a line
 pub record Pictured : Type 0 where
   pub verdict : Verdict
   pub text : List ℕ
@@ -56,7 +56,7 @@ picture_by form teams program plan output verdict =
     (entries_behind plan (length program.arrays) output)
 
 -- The verdict of the audit on an output of a program's run by this plan, with schedulers of this kind for its teams, and the picture of the output's journal; or the first
--- fault of the output's text, as the audit tells it.
+-- fault of the output's text, as the audit reports it.
 abbrev pub picture_of : Form → Kind → ProgramTree → Plan → List ℕ → Result Pictured TextFault
 picture_of form teams program plan output =
     and_then (λ verdict. Ok (picture_by form teams program plan output verdict))

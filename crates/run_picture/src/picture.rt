@@ -32,7 +32,7 @@ pub enum Form {
     Svg,
 }
 
-/// A picture, and the verdict of the audit that it tells.
+/// A picture, and the verdict of the audit, which the picture has as a line.
 #[derive(Drop)]
 pub struct Picture {
     pub verdict: Verdict,
@@ -180,7 +180,7 @@ fn behind(lines: usize, text: &[u8]) -> Result<&[u8], TextFault>
     Ok(rest)
 }
 
-// The list as a picture that tells the verdict.
+// The list as a picture that has the verdict as a line.
 fn pictured(
     alloc: Global,
     form: Form,
