@@ -12,6 +12,14 @@ abbrev pub turns_of : ℕ → List Shape → List Shape
 turns_of zero body = []
 turns_of (suc n) body = body ++ turns_of n body
 
+-- The shape of the site of a `par` in this line.
+abbrev pub par_shape : ℕ → Shape
+par_shape line = record { kind = pool; phased = false; line = line }
+
+-- The shape of the site of a `team` in this line, with a scheduler of this kind.
+abbrev pub team_shape : Kind → ℕ → Shape
+team_shape teams line = record { kind = teams; phased = true; line = line }
+
 -- A construct comes before those inside it.
 abbrev mutual
   pub statement_shapes : Kind → Statement → List Shape
@@ -19,10 +27,9 @@ abbrev mutual
   statement_shapes teams (For line var low high body) = turns_of (span low high) (sequence_shapes teams body)
   statement_shapes teams (If line cond then_block else_block) =
       sequence_shapes teams then_block ++ sequence_shapes teams else_block
-  statement_shapes teams (Par line branches) =
-      record { kind = pool; phased = false; line = line } ∷ branches_shapes teams branches
+  statement_shapes teams (Par line branches) = par_shape line ∷ branches_shapes teams branches
   statement_shapes teams (Team line var low high members phases) =
-      record { kind = teams; phased = true; line = line } ∷ phases_shapes teams phases (span low high)
+      team_shape teams line ∷ phases_shapes teams phases (span low high)
 
   pub sequence_shapes : Kind → Sequence → List Shape
   sequence_shapes teams ended = []

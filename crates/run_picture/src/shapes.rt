@@ -1,7 +1,7 @@
 //! The kinds of a program's sites, and the lines of their constructs.
-ghost use Rattle.std.specs.Prelude.{◌≡◌, ◌++◌, IfOk, OnOk};
+ghost use Rattle.std.specs.Prelude.{◌≡◌, ◌++◌, ◌∷◌, IfOk, OnOk};
 ghost use Rattle.array_tree.specs.Trees.{statement_of, sequence_of, sequences_of, program_of};
-ghost use Rattle.run_picture.specs.Shapes.{branches_shapes, phases_shapes, sequence_shapes, shapes_of, statement_shapes, turns_of};
+ghost use Rattle.run_picture.specs.Shapes.{branches_shapes, par_shape, phases_shapes, sequence_shapes, shapes_of, statement_shapes, team_shape, turns_of};
 
 use array_eval::span;
 use array_tree::{Block, Blocks, Program, Stmt};
@@ -65,32 +65,59 @@ fn add_statement(
             add_block(alloc, teams, then_block, shapes)?;
             add_block(alloc, teams, else_block, shapes)
         }
-        Stmt::Par { line, branches } => {
-            shapes.push(Shape {
-                kind: Kind::POOL,
-                phased: false,
-                line: *line,
-            })?;
-            add_branches(alloc, teams, branches, shapes)
-        }
+        Stmt::Par { line, branches } => add_par(alloc, teams, *line, branches, shapes),
         Stmt::Team {
             line,
             low,
             high,
             phases,
             ..
-        } => {
-            shapes.push(Shape {
-                kind: teams,
-                phased: true,
-                line: *line,
-            })?;
-            add_phases(alloc, teams, phases, span(*low, *high), shapes)
-        }
+        } => add_team(alloc, teams, *line, phases, span(*low, *high), shapes),
     }
 }
 
-// The same of the branches of a `par`.
+// Adds the shape of a `par`, and those in its branches.
+#[cycle(shapes)]
+fn add_par(
+    alloc: Global,
+    teams: Kind,
+    line: u32,
+    branches: &Blocks,
+    shapes: &mut Vec<Shape>,
+) -> Result<(), AllocError>
+    ensures { OnOk result (shapes.new.items ≡ shapes.old.items
+        ++ (par_shape line ∷ branches_shapes teams (sequences_of branches.now))) }
+{
+    shapes.push(Shape {
+        kind: Kind::POOL,
+        phased: false,
+        line,
+    })?;
+    add_branches(alloc, teams, branches, shapes)
+}
+
+// Adds the shape of a `team`, and those in its phases, each over all its iterations.
+#[cycle(shapes)]
+fn add_team(
+    alloc: Global,
+    teams: Kind,
+    line: u32,
+    phases: &Blocks,
+    iterations: u64,
+    shapes: &mut Vec<Shape>,
+) -> Result<(), AllocError>
+    ensures { OnOk result (shapes.new.items ≡ shapes.old.items
+        ++ (team_shape teams line ∷ phases_shapes teams (sequences_of phases.now) iterations)) }
+{
+    shapes.push(Shape {
+        kind: teams,
+        phased: true,
+        line,
+    })?;
+    add_phases(alloc, teams, phases, iterations, shapes)
+}
+
+// Adds those of the branches of a `par`.
 #[cycle(shapes)]
 fn add_branches(
     alloc: Global,
