@@ -27,6 +27,10 @@ use std::alloc::Global;
 /// `lithe` for `audit --harts N`, except that a program is refused as that command refuses it, and that the status Usage lists
 /// the forms of these words. If the command can't write the output for the program, the status is Illegal; the picture then shows
 /// the journal up to its first fault, and names the fault. The whole picture is built before its first byte is written.
+///
+/// # Memory
+///
+/// It allocates the input, the program, the entries of the journal and the picture.
 pub fn serve_picture<A: Source, B: Sink, E: Sink>(
     alloc: Global,
     words: &[String],

@@ -1,4 +1,4 @@
-//! The picture.
+//! From a program and an output of it to the picture of the output's journal.
 ghost use Rattle.std.specs.Prelude.{◌≡◌, ◌≤◌, IfOk, MatchResult, Ok, Err, length};
 ghost use Rattle.array_tree.specs.Trees.{declarations_of, program_of};
 ghost use Rattle.transfer_table.specs.Plan.{site_count, most_entries};
@@ -39,12 +39,18 @@ pub struct Picture {
     pub text: Vec<u8>,
 }
 
-/// The picture of the journal of an output of at most 4,194,304 bytes, with the verdict on the output, or the first fault of its
-/// text, as `audit` returns it. A journal that isn't legal is drawn up to its first fault, which is marked.
+/// The picture of the journal of an output of at most 4,194,304 bytes, with the verdict on the output. A journal that isn't legal is
+/// drawn up to its first fault, which is marked. The schedulers of the program's teams are of the kind `teams`.
 ///
-/// The schedulers of the program's teams are of the kind `teams`.
+/// Each array of the program must have a cell, and all together at most 4,096. The plan's sites must be the program's.
 ///
-/// Each array of the program must have a cell, and all at most 4,096; the plan's sites must be the program's.
+/// # Errors
+///
+/// `TextFault::Memory` if an allocation fails, else the first fault of the output's text, as `audit` returns it.
+///
+/// # Memory
+///
+/// It allocates the entries of the journal, the shapes of the sites and the picture.
 #[tactic(auto, using(crate::proofs::Reading::stop))]
 pub fn picture_of(
     alloc: Global,
