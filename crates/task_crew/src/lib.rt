@@ -19,4 +19,4 @@ mod error;
 mod run;
 
 pub use error::RunError;
-pub use run::{MOST_HARTS, MOST_LEVELS, run_on};
+pub use run::{MOST_HARTS, MOST_LEVELS, run_observed, run_on};

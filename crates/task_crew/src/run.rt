@@ -12,9 +12,9 @@ use std::marker::Brand;
 use std::sync::Wait;
 use std::thread;
 use std::thread::Threads;
-use task_sites::{Crew, Hart, Levels, Naming, NoLevel, OneMore, serve_base};
+use task_sites::{Crew, Hart, Levels, Naming, NoLevel, Observer, OneMore, Unobserved, serve_base};
 use task_table::Outcome;
-use tasks::{Task, run_alone};
+use tasks::Task;
 
 /// The most harts of a run.
 pub const MOST_HARTS: u8 = 64;
@@ -35,9 +35,40 @@ type FourMore<L> = OneMore<OneMore<OneMore<OneMore<L>>>>;
 ///
 /// # Memory
 ///
-/// On two harts and more: `64 * (harts * levels + 1)` bytes for the board, a few words for each of the `harts * levels` sites,
-/// and some cache lines for each hart.
+/// `64 * (harts * levels + 1)` bytes for the board, a few words for each of the `harts * levels` sites, and some cache lines
+/// for each hart.
 pub fn run_on<T: Task + Send, R: Threads + Wait + Sync>(
+    rt: &R,
+    alloc: Global,
+    harts: u8,
+    levels: u8,
+    task: T,
+) -> Result<T::Output, RunError<T::Error>>
+where
+    T::Output: Send,
+    T::Error: Send,
+    requires { T.depth task ≤ levels }
+    ensures output { IfOk result (λ output. T.gives task output) }
+    ensures error { IfErr result
+        (RunFails harts levels (T.fails task) (T.Error.from_gives alloc_error)) }
+    ensures harts { (harts ≡ 0) ⊎ (64 < harts) → result ≡ Err (RunError.HartCount harts) }
+    ensures levels { (1 ≤ harts) → (harts ≤ 64) → (16 < levels) → result
+        ≡ Err (RunError.LevelCount levels) }
+{
+    let unobserved = Unobserved::new(rt);
+    run_observed::<T, Unobserved<'_, R>>(&unobserved, alloc, harts, levels, task)
+}
+
+/// Runs a task as [`run_on`] does, with an observer: `rt` gets a call when a task begins and when it ends.
+///
+/// # Errors
+///
+/// As [`run_on`]'s.
+///
+/// # Memory
+///
+/// As [`run_on`]'s.
+pub fn run_observed<T: Task + Send, R: Threads + Observer + Sync>(
     rt: &R,
     alloc: Global,
     harts: u8,
@@ -61,12 +92,6 @@ where
     if levels > MOST_LEVELS {
         return Err(RunError::LevelCount(levels));
     }
-    if harts == 1 {
-        return match run_alone(alloc, task) {
-            Ok(output) => Ok(output),
-            Err(error) => Err(RunError::Task(error)),
-        };
-    }
     match OpenBoard::new(alloc, harts, levels.max(1)) {
         Ok((board, seats)) => run_named::<Brand, T, R>(rt, alloc, board, seats, levels, task),
         Err(error) => Err(RunError::Task(T::Error::from(error))),
@@ -74,7 +99,7 @@ where
 }
 
 // Runs a task on the harts of a board, and ends the board.
-fn run_named<B: Naming + Send + Sync, T: Task + Send, R: Threads + Wait + Sync>(
+fn run_named<B: Naming + Send + Sync, T: Task + Send, R: Threads + Observer + Sync>(
     rt: &R,
     alloc: Global,
     board: OpenBoard,
@@ -143,7 +168,7 @@ fn run_crew<B, T, R>(
 where
     B: Naming + Send + Sync,
     T: Task + Send,
-    R: Threads + Wait + Sync,
+    R: Threads + Observer + Sync,
     T::Output: Send,
     T::Error: Send,
     requires seats { All (IsSeatOf B.table B.size) seats.items }
@@ -169,7 +194,7 @@ fn run_over_four<B, T, R, L>(
 where
     B: Naming + Send + Sync,
     T: Task + Send,
-    R: Threads + Wait + Sync,
+    R: Threads + Observer + Sync,
     L: Levels<T, R, B> + Send + Sync,
     T::Output: Send,
     T::Error: Send,
@@ -197,7 +222,7 @@ fn run_over_eight<B, T, R, L>(
 where
     B: Naming + Send + Sync,
     T: Task + Send,
-    R: Threads + Wait + Sync,
+    R: Threads + Observer + Sync,
     L: Levels<T, R, B> + Send + Sync,
     T::Output: Send,
     T::Error: Send,
@@ -225,7 +250,7 @@ fn run_over_twelve<B, T, R, L>(
 where
     B: Naming + Send + Sync,
     T: Task + Send,
-    R: Threads + Wait + Sync,
+    R: Threads + Observer + Sync,
     L: Levels<T, R, B> + Send + Sync,
     T::Output: Send,
     T::Error: Send,
@@ -253,7 +278,7 @@ fn run_crew_with<B, T, R, L>(
 where
     B: Naming + Send + Sync,
     T: Task + Send,
-    R: Threads + Wait + Sync,
+    R: Threads + Observer + Sync,
     L: Levels<T, R, B> + Send + Sync,
     T::Output: Send,
     T::Error: Send,
@@ -296,7 +321,7 @@ fn seated<'c, B: Naming, T: Task, R>(
 }
 
 // Runs a task on a hart, and ends the run.
-fn run_home<'c, B: Naming, T: Task, R: Wait, L: Levels<T, R, B>>(
+fn run_home<'c, B: Naming, T: Task, R: Observer, L: Levels<T, R, B>>(
     alloc: Global,
     crew: &Crew<T, B>,
     home: Hart<'c, T, R, B>,
@@ -321,7 +346,7 @@ fn serve_all<'c, B, T, R, L>(
 where
     B: Naming + Send + Sync,
     T: Task + Send,
-    R: Threads + Wait + Sync,
+    R: Threads + Observer + Sync,
     L: Levels<T, R, B> + Send + Sync,
     T::Output: Send,
     T::Error: Send,
