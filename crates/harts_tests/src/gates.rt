@@ -57,11 +57,14 @@ impl NotingGate {
         self.notes.lock(rt).reports.len()
     }
 
-    /// The number of different harts that reported a piece.
-    pub fn harts<R: Wait>(&self, rt: &R) -> usize {
+    /// The number of different harts that reported a piece, of this phase if one is given.
+    pub fn harts<R: Wait>(&self, rt: &R, phase: Option<u8>) -> usize {
         let notes = self.notes.lock(rt);
         let mut came = [false; 16];
         for report in notes.reports.iter() {
+            if phase.is_some_and(|wanted| wanted != report.phase) {
+                continue;
+            }
             if let Some(has_come) = came.get_mut(usize::from(report.hart)) {
                 *has_come = true;
             }
@@ -204,7 +207,7 @@ impl CrowdGate {
     fn hold<R: Wait>(&self, rt: &R) {
         let backoff = Backoff::new();
         for _ in 0..LOOKS {
-            if self.noted.harts(rt) >= self.harts || self.has_run_out(rt) {
+            if self.noted.harts(rt, None) >= self.harts || self.has_run_out(rt) {
                 return;
             }
             backoff.snooze();
@@ -296,5 +299,63 @@ impl Gate for OvertakingGate {
         if phase == self.held.phase && place == self.held.place {
             self.hold(rt);
         }
+    }
+}
+
+/// A gate that holds each hart until two harts have reported a piece of the same phase, for a bounded number of looks.
+#[derive(Drop)]
+pub struct PhaseGate {
+    noted: NotingGate,
+    looks: u32,
+    ran_out: Mutex<bool>,
+}
+
+impl PhaseGate {
+    /// A gate that no hart has passed, and that holds a hart for at most so many looks.
+    ///
+    /// # Errors
+    ///
+    /// An error if an allocation fails.
+    pub fn new(alloc: Global, looks: u32) -> Result<PhaseGate, AllocError> {
+        Ok(PhaseGate {
+            noted: NotingGate::new(alloc)?,
+            looks,
+            ran_out: Mutex::new(false),
+        })
+    }
+
+    /// The reports.
+    pub fn noted(&self) -> &NotingGate {
+        &self.noted
+    }
+
+    /// Whether a hart was held until its looks ran out.
+    pub fn has_run_out<R: Wait>(&self, rt: &R) -> bool {
+        *self.ran_out.lock(rt)
+    }
+
+    // Looks until two harts have reported a piece of this phase.
+    fn hold<R: Wait>(&self, rt: &R, phase: u8) {
+        let backoff = Backoff::new();
+        for _ in 0..self.looks {
+            if self.noted.harts(rt, Some(phase)) >= 2 || self.has_run_out(rt) {
+                return;
+            }
+            backoff.snooze();
+        }
+        *self.ran_out.lock(rt) = true;
+    }
+}
+
+impl Gate for PhaseGate {
+    fn passed<R: Threads + Wait + Sync>(&self, rt: &R, hart: u8, site: u16, phase: u8, place: u8) {
+        let report = Report {
+            hart,
+            site,
+            phase,
+            place,
+        };
+        let _ = self.noted.note(rt, report);
+        self.hold(rt, phase);
     }
 }

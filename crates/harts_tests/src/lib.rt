@@ -7,7 +7,11 @@ mod gates;
 #[cfg(test)]
 mod meeting;
 #[cfg(test)]
+mod phases;
+#[cfg(test)]
 mod pipes;
+#[cfg(test)]
+mod rounds;
 #[cfg(test)]
 mod runs;
 #[cfg(test)]

@@ -98,7 +98,7 @@ fn sixteen_harts_are_inside_one_site(rt: HostRuntime) -> Result<(), Fail> {
     assert!(rt; !gate.has_run_out(&rt));
     assert!(rt; output.starts_with(b"a = 1 2 3 4 5 6 7 8 9 10 11 12 13 14 15 16\n"));
     let reports = gate.noted().reports(&rt, rt.alloc())?;
-    assert!(rt; reports.len() == 16 && gate.noted().harts(&rt) == 16);
+    assert!(rt; reports.len() == 16 && gate.noted().harts(&rt, None) == 16);
     assert!(rt; are_brought(rt.alloc(), &output, &reports)?);
     Ok(())
 }

@@ -3,18 +3,15 @@ ghost use Rattle.std.specs.Prelude.{◌≤◌};
 
 use crate::gates::{LOOKS, OvertakingGate, Report, Spot};
 use crate::meeting::{are_brought, times};
-use crate::runs::{NESTED, TURNS, TWO_BRANCHES, is_right, output_of};
-use array_tree::Program;
+use crate::runs::{NESTED, TURNS, TWO_BRANCHES, output_of};
 use disjoint_check::check;
 use hart_loop::{Journal, run_piped};
 use outside_io::OpenGate;
 use pipe_walk::pipe_check;
 use sample_programs::parsed;
-use std::alloc::Global;
 use std::sync::Wait;
 use std::test::Fail;
 use std::thread::Threads;
-use transfer_table::first_fault;
 
 const PIPE: &[&str] = &["pipe", "--harts", "2"];
 
@@ -101,95 +98,13 @@ fn the_journal_is_that_of_its_ports(rt: HostRuntime) -> Result<(), Fail> {
     Ok(())
 }
 
-// In each of its four phases, a member reads what the two members below it wrote in the phase before.
-const FOUR_STEPS: &[u8] =
+/// In each of its four phases, a member reads what the two members below it wrote in the phase before.
+pub const FOUR_STEPS: &[u8] =
     b"array a[32]; array b[32]; array c[32]; array d[32]; team i in 0..32 by 8 { a[i] = i; } barrier { b[i] = a[i] + a[i / 2]; } barrier { c[i] = b[i] + b[i / 2]; } barrier { d[i] = c[i] + c[i / 2]; }";
 
 // Pools in the phases of a member.
 const POOLS: &[u8] =
     b"array a[8]; array b[8]; team i in 0..4 by 4 { par { { a[2 * i] = i; } { a[2 * i + 1] = 9; } } } barrier { par { { b[2 * i] = a[i]; } { b[2 * i + 1] = a[i] * 2; } } }";
 
-// The programs without a crossing of two pieces.
-const PIPED: &[&[u8]] = &[TWO_BRANCHES, NESTED, TURNS, TWO_STEPS, FOUR_STEPS, POOLS];
-
-// Whether the table accepts the journal of a run on so many harts as complete.
-fn is_complete<R: Threads + Wait + Sync>(
-    rt: &R,
-    alloc: Global,
-    program: &Program,
-    harts: u8,
-) -> Result<bool, Fail>
-    requires several { 2 ≤ harts }
-    requires few { harts ≤ 16 }
-{
-    let accepted = check(alloc, program, harts)?;
-    if let Err(_) = pipe_check(alloc, &accepted) {
-        return Err(Fail::new("a crossing"));
-    }
-    let outcome = run_piped(rt, alloc, &accepted, &OpenGate)?;
-    let all = vec![in alloc; true; accepted.plan().sites() as usize]?;
-    let fault = first_fault(alloc, accepted.plan(), &all, outcome.journal.entries())?;
-    Ok(fault.is_none())
-}
-
-// The same on two, three and four harts.
-fn are_complete<R: Threads + Wait + Sync>(
-    rt: &R,
-    alloc: Global,
-    program: &Program,
-) -> Result<bool, Fail> {
-    Ok(
-        is_complete(rt, alloc, program, 2)?
-            && is_complete(rt, alloc, program, 3)?
-            && is_complete(rt, alloc, program, 4)?,
-    )
-}
-
-#[test]
-fn each_journal_is_complete_many_times(rt: HostRuntime) -> Result<(), Fail> {
-    for text in PIPED {
-        let program = parsed(rt.alloc(), text)?;
-        for _ in 0..50 {
-            assert!(rt; are_complete(&rt, rt.alloc(), &program)?);
-        }
-    }
-    Ok(())
-}
-
-#[test]
-fn each_journal_of_sixteen_harts_is_complete_many_times(rt: HostRuntime) -> Result<(), Fail> {
-    for text in PIPED {
-        let program = parsed(rt.alloc(), text)?;
-        for _ in 0..50 {
-            assert!(rt; is_complete(&rt, rt.alloc(), &program, 16)?);
-        }
-    }
-    Ok(())
-}
-
-const PIPE_THREE: &[&str] = &["pipe", "--harts", "3"];
-
-const PIPE_FOUR: &[&str] = &["pipe", "--harts", "4"];
-
-const PIPE_SIXTEEN: &[&str] = &["pipe", "--harts", "16"];
-
-#[test]
-fn each_store_is_that_of_one_hart_many_times(rt: HostRuntime) -> Result<(), Fail> {
-    for program in PIPED {
-        for _ in 0..50 {
-            let few = is_right(&rt, PIPE, program)? && is_right(&rt, PIPE_THREE, program)?;
-            assert!(rt; few && is_right(&rt, PIPE_FOUR, program)?);
-        }
-    }
-    Ok(())
-}
-
-#[test]
-fn each_store_of_sixteen_harts_is_that_of_one_many_times(rt: HostRuntime) -> Result<(), Fail> {
-    for program in PIPED {
-        for _ in 0..50 {
-            assert!(rt; is_right(&rt, PIPE_SIXTEEN, program)?);
-        }
-    }
-    Ok(())
-}
+/// The programs without a crossing of two pieces.
+pub const PIPED: &[&[u8]] = &[TWO_BRANCHES, NESTED, TURNS, TWO_STEPS, FOUR_STEPS, POOLS];

@@ -32,7 +32,7 @@ pub const STENCIL: &[u8] =
     b"array g[64]; array h[64]; team i in 0..8 by 4 { for j in 0..8 { g[i * 8 + j] = i * 3 + j; } } for t in 0..2 { par { { team i in 0..4 by 2 { par { { for j in 0..4 { h[i * 8 + j] = g[i * 8 + j] + g[(i + 1) % 8 * 8 + j]; } } { for j in 4..8 { h[i * 8 + j] = g[i * 8 + j] + g[(i + 7) % 8 * 8 + j]; } } } } } { team i in 4..8 by 2 { for j in 0..8 { h[i * 8 + j] = g[i * 8 + j]; } } } } team i in 0..8 by 4 { for j in 0..8 { g[i * 8 + j] = h[i * 8 + j]; } } }";
 
 /// Choices by data, in members of a team and in turns of a loop, with sites on both sides.
-const CHOICES: &[u8] =
+pub const CHOICES: &[u8] =
     b"array a[8]; array b[8]; array c[32]; team i in 0..8 by 4 { a[i] = i % 3; } barrier { if a[i] { par { { b[i] = i; } { } } } else { par { { b[i] = 9; } { } { } } } } for i in 0..8 { if b[i] > 5 { par { { a[i] = 1; } { b[i] = 2; } } } else { team j in 0..4 by 4 { c[4 * i + j] = a[i]; } } }";
 
 /// All programs that enter each of their sites.
@@ -45,11 +45,9 @@ pub const THREE: &[&str] = &["run", "--harts", "3"];
 
 pub const FOUR: &[&str] = &["run", "--harts", "4"];
 
-const FIVE: &[&str] = &["run", "--harts", "5"];
+pub const FIVE: &[&str] = &["run", "--harts", "5"];
 
 pub const SIXTEEN: &[&str] = &["run", "--harts", "16"];
-
-const SOLO: &[&str] = &["solo"];
 
 /// The output of the words for the program.
 ///
@@ -93,51 +91,6 @@ const VISITED: &[u8] =
 fn the_second_hart_comes_or_does_not(rt: HostRuntime) -> Result<(), Fail> {
     let output = output_of(&rt, TWO, TWO_BRANCHES, &OpenGate)?;
     assert!(rt; output.as_slice() == ALONE || output.as_slice() == VISITED);
-    Ok(())
-}
-
-/// Whether the output begins with the arrays of the one-thread meaning.
-pub fn is_right<R: AllocGlobal + Threads + Wait + Sync>(
-    rt: &R,
-    words: &[&str],
-    program: &[u8],
-) -> Result<bool, Fail> {
-    let output = output_of(rt, words, program, &OpenGate)?;
-    let arrays = output_of(rt, SOLO, program, &OpenGate)?;
-    Ok(output.starts_with(&arrays))
-}
-
-#[test]
-fn all_programs_run_many_times(rt: HostRuntime) -> Result<(), Fail> {
-    for _ in 0..50 {
-        for program in PROGRAMS {
-            let right = is_right(&rt, TWO, program)?
-                && is_right(&rt, THREE, program)?
-                && is_right(&rt, FOUR, program)?;
-            assert!(rt; right);
-        }
-    }
-    Ok(())
-}
-
-#[test]
-fn all_programs_run_on_five_and_sixteen_harts(rt: HostRuntime) -> Result<(), Fail> {
-    for _ in 0..5 {
-        for program in PROGRAMS {
-            assert!(rt; is_right(&rt, FIVE, program)? && is_right(&rt, SIXTEEN, program)?);
-        }
-    }
-    Ok(())
-}
-
-#[test]
-fn choices_are_made_many_times(rt: HostRuntime) -> Result<(), Fail> {
-    for _ in 0..20 {
-        let right = is_right(&rt, TWO, CHOICES)?
-            && is_right(&rt, THREE, CHOICES)?
-            && is_right(&rt, FOUR, CHOICES)?;
-        assert!(rt; right && is_right(&rt, SIXTEEN, CHOICES)?);
-    }
     Ok(())
 }
 
