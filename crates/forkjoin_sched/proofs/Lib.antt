@@ -1,3 +1,6 @@
 pub mod PhaseBooks
 mod RowSteps
 mod Offered
+mod Starts
+mod Handed
+mod SameJobs

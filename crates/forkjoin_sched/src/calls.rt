@@ -1,10 +1,11 @@
 //! The calls of a hart's hand on a pool.
-ghost use Rattle.std.specs.Prelude.{◌≡◌, ◌≤◌, ◌+◌, length, IfSome, IfErr};
+ghost use Rattle.std.specs.Prelude.{◌≡◌, ◌≤◌, ◌+◌, [], length, IfSome, IfErr};
 ghost use Rattle.deque_rows.specs.Rows.{home_log, row_room};
 ghost use Rattle.join_book.specs.Books.{IsFull};
 ghost use Rattle.forkjoin_sched.specs.Shared.{Receives};
 ghost use Rattle.forkjoin_sched.specs.HandCalls.{AnswersHand, IsStill, Offers, TakesReadyBy, LooksBy};
 
+use crate::batch::PieceBatch;
 use crate::hand::PoolHand;
 use crate::pieces::take_piece;
 use crate::pool::{Pool, PoolHeard, heard};
@@ -49,6 +50,21 @@ impl<'a, 'r, 'p, R: Wait + 'a> PoolHand<'a, 'r, 'p, R> {
                 deposit
             }
             None => Deposit::Stranger(piece),
+        }
+    }
+
+    /// Puts all pieces of a batch into the pool, under one lock. Where the pool was handed out, they are dropped.
+    ///
+    /// Their jobs are compared as `deposit` compares them behind the lock, but that one store is compared for all of them.
+    pub fn hand_over(&self, rt: &R, batch: &mut PieceBatch<'p>)
+        ensures { batch.new ≡ record batch.old { pieces = [] } }
+    {
+        match self.shared.kept().lock(rt).as_mut() {
+            Some(pool) => {
+                batch.put_into(pool);
+                self.shared.show_full(pool);
+            }
+            None => batch.clear(),
         }
     }
 

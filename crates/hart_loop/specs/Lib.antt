@@ -2,3 +2,4 @@ pub mod Openings
 pub mod Offers
 pub mod Harts
 pub mod NoAccounts
+pub mod Owing

@@ -5,3 +5,4 @@ pub mod Hands
 pub mod Told
 pub mod Stocks
 pub mod Facts
+pub mod Keeping

@@ -1,5 +1,5 @@
 //! The tools of a hart for all sites: its deques, its seat, and the counters of each site.
-ghost use Rattle.std.specs.Prelude.{◌≡◌, ◌≢◌, ◌<◌, ◌≤◌, ◌+◌, ◌↔◌, ◌⊎◌, false, None, IsTrue, IfOk, IfSome, length, map, reverse, vec_len};
+ghost use Rattle.std.specs.Prelude.{◌≡◌, ◌≢◌, ◌<◌, ◌≤◌, ◌+◌, ◌↔◌, ◌⊎◌, [], false, None, IsTrue, IfOk, IfSome, length, map, option_map, reverse, vec_len};
 ghost use Rattle.std.specs.Option.{ForSome};
 ghost use Rattle.deque_rows.specs.Rows.{IsLevel, home_log, row_room, kin as rows_kin};
 ghost use Rattle.claim_words.specs.Seats.{IsOf, kin as seat_kin};
@@ -7,6 +7,7 @@ ghost use Rattle.hart_tools.specs.Places.{Fits, PoolFits, TeamFits, site_at};
 ghost use Rattle.hart_tools.specs.Hands.{HasTried, IsWhole};
 ghost use Rattle.hart_tools.specs.Stocks.{AreTools};
 ghost use Rattle.hart_tools.specs.Told.{inside};
+ghost use Rattle.hart_tools.specs.Keeping.{start_of, HandsOver, IsBareUnlessRun};
 ghost use Rattle.hart_port.specs.Count.{Rose};
 ghost use Rattle.hart_port.specs.PortView.{IsPortView, is_in, Registers, MayRequest, requested_by, yielded, MayUnregister, unregistered};
 ghost use Rattle.sched_api.specs.Calls.{RoseUnlessLent};
@@ -19,7 +20,7 @@ use crate::whole::Whole;
 use array_jobs::{Job, Piece};
 use crossbeam_utils::Backoff;
 use deque_rows::HartRows;
-use forkjoin_sched::SharedPool;
+use forkjoin_sched::{PieceBatch, SharedPool};
 use hart_port::{Port, Taken};
 use loop_team::{ClaimSeat, SharedTeam};
 use pipe_sched::PipeHand;
@@ -270,7 +271,10 @@ impl<'t> Tools<'t> {
         let backoff = Backoff::new();
         'tries: for _ in rt.forever() {
             match self.try_once(rt, grip, port, hold) {
-                Lent::Inside(Next::Run(None)) => return Some(self.next(rt, grip, false)),
+                Lent::Inside(Next::Run(None)) => {
+                    let mut kept = None;
+                    return Some(self.next(rt, grip, &mut kept, false));
+                }
                 Lent::Inside(Next::Run(Some(job))) => return Some(Next::Run(job)),
                 Lent::Inside(Next::Lend(child)) => return Some(Next::Lend(child)),
                 Lent::Inside(Next::Nothing) => return Some(Next::Nothing),
@@ -304,31 +308,82 @@ impl<'t> Tools<'t> {
     }
 
     /// The next action of a hart that is inside. A guest gets `Nothing` if there is nothing to do. The hart at the base and the
-    /// home back off until there is something to do, or their work is done.
+    /// home back off until there is something to do, or their work is done. A hart that gets no job hands its kept pieces over.
+    #[tactic(auto, using(crate::proofs::Keeping::hands_start, crate::proofs::Keeping::hands_bare))]
     pub fn next<'b, 'p, R: Wait + 'b>(
         &mut self,
         rt: &'b R,
         grip: Grip<'b, 'p>,
+        kept: &mut Option<PieceBatch<'p>>,
         is_home: bool,
     ) -> Next<Job<'p>>
         requires { Fits self.old grip }
-        ensures { self.new ≡ self.old }
+        ensures tools { self.new ≡ self.old }
+        ensures start { option_map start_of kept.new ≡ option_map start_of kept.old }
+        ensures bare { IsBareUnlessRun result kept.new }
     {
         let is_guest = !is_home && !matches!(grip, Grip::Base(_));
         let backoff = Backoff::new();
         'looks: for _ in rt.forever() {
             if self.is_over(rt, grip, is_home) {
+                let _ = self.hand_over(rt, grip, kept);
                 return Next::Nothing;
             }
             match self.look(rt, grip) {
                 Next::Run(Some(job)) => return Next::Run(job),
                 Next::Run(None) => {}
-                Next::Lend(child) => return Next::Lend(child),
-                Next::Nothing if is_guest => return Next::Nothing,
-                Next::Nothing => backoff.snooze(),
+                Next::Lend(child) => {
+                    let _ = self.hand_over(rt, grip, kept);
+                    return Next::Lend(child);
+                }
+                Next::Nothing => {
+                    let had_any = self.hand_over(rt, grip, kept);
+                    if is_guest {
+                        return Next::Nothing;
+                    }
+                    if !had_any {
+                        backoff.snooze();
+                    }
+                }
             }
         }
         unreachable!()
+    }
+
+    // Hands over the pieces that the hart has kept. Whether there were any.
+    fn hand_over<'b, 'p, R: Wait + 'b>(
+        &mut self,
+        rt: &'b R,
+        grip: Grip<'b, 'p>,
+        kept: &mut Option<PieceBatch<'p>>,
+    ) -> bool
+        requires { Fits self.old grip }
+        ensures tools { self.new ≡ self.old }
+        ensures kept { HandsOver kept.old result kept.new }
+    {
+        let Some(batch) = kept else { return false };
+        if batch.is_empty() {
+            return false;
+        }
+        self.empty(rt, grip, batch);
+        true
+    }
+
+    // Puts all pieces of a batch into the pool of their jobs. Only a pool's pieces are kept.
+    fn empty<'b, 'p, R: Wait + 'b>(
+        &mut self,
+        rt: &'b R,
+        grip: Grip<'b, 'p>,
+        batch: &mut PieceBatch<'p>,
+    )
+        requires { Fits self.old grip }
+        ensures tools { self.new ≡ self.old }
+        ensures batch { batch.new ≡ record batch.old { pieces = [] } }
+    {
+        match grip {
+            Grip::Pool(place) => place.hand::<R>(&mut self.rows).hand_over(rt, batch),
+            Grip::Base(_) | Grip::Team(_) | Grip::Pipe(_) | Grip::Nobody => batch.clear(),
+        }
     }
 
     // The action that the scheduler returns for a hart inside.

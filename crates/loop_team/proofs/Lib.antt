@@ -1,4 +1,4 @@
 pub mod Crossings
 mod TeamLemmas
 mod HandLemmas
-mod StripeLemmas
+pub mod StripeLemmas
