@@ -5,7 +5,7 @@ use Rattle.array_jobs.specs.PieceParts.{PieceParts}
 use Rattle.join_book.specs.Books.{BookParts, Puts}
 use Rattle.join_book.specs.declared.book.Deposit.{Deposit}
 
--- Contracts see these parts of a batch: the store from which the jobs of all its pieces start, and the pieces.
+-- The parts of a batch that contracts see: the store from which the jobs of all its pieces start, and the pieces.
 pub record BatchParts : Type 0 where
   pub start : Store
   pub pieces : List PieceParts
@@ -14,9 +14,10 @@ pub record BatchParts : Type 0 where
 abbrev pub Starts : Store → PieceParts → Type 0
 Starts start piece = piece.job.store ≡ start
 
--- A piece for the batch has this result and leaves this batch. The piece stays, or is given back if an allocation failed.
+-- A piece is kept only if its job starts from the batch's store. Otherwise it is returned, and the batch is unchanged.
 abbrev pub Adds : BatchParts → PieceParts → Result (Unit {0}) PieceParts → BatchParts → Type 0
-Adds before piece (Ok done) after = after ≡ record before { pieces = before.pieces ++ piece ∷ [] }
+Adds before piece (Ok done) after =
+    Starts before.start piece × (after ≡ record before { pieces = before.pieces ++ piece ∷ [] })
 Adds before piece (Err back) after = (back ≡ piece) × (after ≡ before)
 
 -- The last piece is taken off, if there is one.

@@ -27,7 +27,7 @@ site_of_jobs (job ∷ jobs) = job.site
 abbrev pub StartFrom : Store → List JobParts → Type 0
 StartFrom start jobs = (i : ℕ) (job : JobParts) → slice_get jobs i ≡ Some job → job.store ≡ start
 
--- All jobs start from one store. Why any two are compared, and not each with some store: a type can then keep it as a plain fact.
+-- All jobs start from one store. Why any two are compared, and not each with some store: so it can be a type's invariant.
 abbrev pub HaveOneStart : List JobParts → Type 0
 HaveOneStart jobs = (i k : ℕ) (a b : JobParts) → slice_get jobs i ≡ Some a → slice_get jobs k ≡ Some b
     → a.store ≡ b.store

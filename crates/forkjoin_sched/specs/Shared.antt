@@ -1,5 +1,5 @@
 -- A pool under a lock, without its lock-protected state.
-use Rattle.std.specs.Prelude.{◌≡◌, ℕ, List, slice_get, Some, Result, Ok, Err}
+use Rattle.std.specs.Prelude.{◌≡◌, ℕ, List, slice_get, Some}
 use Rattle.array_jobs.specs.Jobs.{JobParts, job_of}
 use Rattle.array_jobs.specs.PieceParts.{PieceParts}
 use Rattle.join_book.specs.declared.book.Deposit.{Deposit}
@@ -14,11 +14,6 @@ pub record SharedParts : Type 0 where
 abbrev pub HasJob : SharedParts → JobParts → Type 0
 HasJob shared job = (own : JobParts) × (slice_get shared.jobs job.place ≡ Some own)
     × (job_of own ≡ job_of job)
-
--- In a job's stead the pool gives its own of the same place, or the job back.
-abbrev pub GivesOwn : SharedParts → JobParts → Result JobParts JobParts → Type 0
-GivesOwn shared job (Ok own) = HasJob shared own × (own.place ≡ job.place)
-GivesOwn shared job (Err back) = back ≡ job
 
 -- The results of a deposit for any lock-protected state: a piece is kept, or is a `Double`, only if its job is the job of its
 -- index. A piece that isn't kept is returned.

@@ -1,4 +1,4 @@
-//! Pieces that a hart keeps to itself for a while.
+//! Pieces that a hart keeps for a while.
 ghost use Rattle.std.specs.Prelude.{◌≡◌, ◌↔◌, [], IsTrue};
 ghost use Rattle.forkjoin_sched.specs.Pools.{StartFrom, with_book};
 ghost use Rattle.forkjoin_sched.specs.Batches.{Starts, Adds, Takes, PutsAll};
@@ -11,7 +11,7 @@ use std::marker::Model;
 
 /// Pieces of one pool that a hart made and hasn't handed over yet. The jobs of all of them start from one store.
 ///
-/// Why a hart keeps pieces: the pool behind the lock compares that store once for all of them.
+/// Why a hart keeps pieces: it takes the pool's lock once for all of them, and under the lock only one store is compared.
 #[derive(Drop)]
 pub struct PieceBatch<'p> {
     start: Store,
@@ -35,7 +35,11 @@ impl<'p> Model for PieceBatch<'p> {
 }
 
 impl<'p> PieceBatch<'p> {
-    /// No pieces, of jobs that start from this store. It doesn't allocate.
+    /// No pieces. The jobs of the pieces to be added must start from this store.
+    ///
+    /// # Memory
+    ///
+    /// It doesn't allocate.
     pub fn new(alloc: Global, start: Store) -> PieceBatch<'p>
         ensures { result ≡ record { start = start.entry; pieces = [] } }
     {
@@ -52,15 +56,17 @@ impl<'p> PieceBatch<'p> {
         self.pieces.is_empty()
     }
 
-    /// Keeps a piece whose job starts from the batch's store.
+    /// Keeps a piece.
     ///
     /// # Errors
     ///
-    /// The piece, if an allocation fails.
+    /// The piece, if its job starts from another store, or an allocation fails.
     pub fn add(&mut self, piece: Piece<'p>) -> Result<(), Piece<'p>>
-        requires { Starts self.old.start piece }
         ensures { Adds self.old piece.entry result self.new }
     {
+        if piece.job.store != self.start {
+            return Err(piece);
+        }
         match self.pieces.push(piece) {
             Ok(()) => Ok(()),
             Err(failed) => Err(failed.value),
@@ -74,7 +80,7 @@ impl<'p> PieceBatch<'p> {
         self.pieces.clear();
     }
 
-    /// Puts all pieces into the pool of their jobs. The one store is compared with that of the pool's jobs.
+    /// Puts all pieces into the pool of their jobs. Their store is compared once with that of the pool's jobs.
     pub(crate) fn put_into(&mut self, pool: &mut Pool<'p>)
         ensures batch { self.new ≡ record self.old { pieces = [] } }
         ensures book { PutsAll self.old.pieces pool.old.book pool.new.book }

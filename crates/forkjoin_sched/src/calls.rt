@@ -53,9 +53,7 @@ impl<'a, 'r, 'p, R: Wait + 'a> PoolHand<'a, 'r, 'p, R> {
         }
     }
 
-    /// Puts all pieces of a batch into the pool, under one lock. Where the pool was handed out, they are dropped.
-    ///
-    /// Their jobs are compared as `deposit` compares them behind the lock, but that one store is compared for all of them.
+    /// Puts all pieces of a batch into the pool, under one lock. If the pool was handed out, it drops them.
     pub fn hand_over(&self, rt: &R, batch: &mut PieceBatch<'p>)
         ensures { batch.new ≡ record batch.old { pieces = [] } }
     {

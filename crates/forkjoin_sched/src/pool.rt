@@ -58,19 +58,18 @@ pub struct Pool<'p> {
     site: u16,
     agenda: Agenda<PoolWork<'p>>,
     book: MutexState<Book<'p>, ()>,
-    // Whether it is known that all jobs of the book start from one store.
+    // Whether all jobs of the book are known to start from one store.
     alike: bool,
 }
 
 impl<'p> Model for Pool<'p> {
-    ghost use Rattle.std.specs.Prelude.{◌≡◌};
+    ghost use Rattle.std.specs.Prelude.{◌≡◌, IsTrue};
     ghost use Rattle.std.specs.Coded.{codes};
     ghost use Rattle.array_tree.specs.contracts.tree.Arrays as arrays_type;
     ghost use Rattle.array_tree.specs.contracts.tree.Block as block_type;
     ghost use Rattle.step_eval.specs.contracts.stage.Stage as stage_type;
     ghost use Rattle.step_eval.specs.Inside.Codes.{coded_sequence};
     ghost use Rattle.lithe_mutex.specs.Mutex.{Free};
-    ghost use Rattle.std.specs.Prelude.{IsTrue};
     ghost use Rattle.forkjoin_sched.specs.Pools.{PoolParts, HaveOneStart, free_book};
 
     ghost Value = { PoolParts };
@@ -126,6 +125,10 @@ impl<'p> Pool<'p> {
     /// # Errors
     ///
     /// `AllocError` if an allocation fails.
+    ///
+    /// # Memory
+    ///
+    /// It allocates as `new` does.
     pub fn of_one_start(
         alloc: Global,
         jobs: Vec<Job<'p>>,
@@ -138,15 +141,15 @@ impl<'p> Pool<'p> {
         pool_of(alloc, jobs, wishes, true)
     }
 
-    // Whether it is known that all jobs start from one store.
+    // Whether all jobs are known to start from one store.
     pub(crate) fn has_one_start(&self) -> bool
         ensures { IsTrue result → HaveOneStart self.now.book.jobs }
     {
         self.alike
     }
 
-    /// The store from which all jobs start. It is None where it isn't known that they start from one: that is known of a pool that
-    /// `of_one_start` makes, as long as `put` puts no piece in.
+    /// The store from which all jobs start, if they are known to start from one: if `of_one_start` made the pool, and `put` hasn't
+    /// put a piece in.
     pub fn start(&self) -> Option<&Store>
         ensures { IfSome result (λ start. StartFrom start.now self.now.book.jobs) }
     {

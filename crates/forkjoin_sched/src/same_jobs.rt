@@ -5,14 +5,14 @@ ghost use Rattle.forkjoin_sched.specs.Pools.{HaveSameStart};
 
 use array_jobs::Job;
 
-/// Whether jobs are equal, each to that at its index.
+/// Whether jobs are equal, each to the one at its index.
 pub(crate) fn have_same_jobs(xs: &[Job], ys: &[Job]) -> bool
     ensures { IsTrue result ↔ (map job_of xs.now ≡ map job_of ys.now) }
 {
     xs == ys
 }
 
-/// Whether jobs that all start from one store are equal, each to that at its index. No stores are compared.
+/// Whether jobs that all start from one store are equal, each to the one at its index. No stores are compared.
 pub(crate) fn have_same_work(xs: &[Job], ys: &[Job]) -> bool
     requires { HaveSameStart xs.now ys.now }
     ensures { IsTrue result ↔ (map job_of xs.now ≡ map job_of ys.now) }

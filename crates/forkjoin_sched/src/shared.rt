@@ -2,7 +2,7 @@
 ghost use Rattle.std.specs.Prelude.{◌≡◌, ◌↔◌, length, map, IfOk, IfSome, IsTrue, vec_len};
 ghost use Rattle.array_jobs.specs.Jobs.{job_of};
 ghost use Rattle.forkjoin_sched.specs.Pools.{StartFrom, HaveOneStart, HaveSameStart};
-ghost use Rattle.forkjoin_sched.specs.Shared.{HasJob, GivesOwn};
+ghost use Rattle.forkjoin_sched.specs.Shared.{HasJob};
 
 use crate::pool::Pool;
 use crate::same_jobs::{have_same_jobs, have_same_work};
@@ -25,7 +25,7 @@ pub struct SharedPool<'p> {
     full: AtomicBool,
     slots: Vec<Mutex<Option<Job<'p>>>>,
     jobs: Vec<Job<'p>>,
-    // Whether it is known that all these jobs start from one store.
+    // Whether all these jobs are known to start from one store.
     alike: bool,
 }
 
@@ -87,7 +87,7 @@ impl<'p> SharedPool<'p> {
         &self.jobs
     }
 
-    /// The store from which all its jobs start. It is None where it isn't known that they start from one.
+    /// The store from which all its jobs start, if they are known to start from one.
     pub fn start(&self) -> Option<&Store>
         ensures { IfSome result (λ start. StartFrom start.now self.now.jobs) }
     {
@@ -100,32 +100,15 @@ impl<'p> SharedPool<'p> {
         }
     }
 
-    // Whether it is known that all jobs start from one store.
+    // Whether all jobs are known to start from one store.
     fn has_one_start(&self) -> bool
         ensures { IsTrue result → HaveOneStart self.now.jobs }
     {
         self.alike
     }
 
-    /// The pool's own job of the place that this job names, in its stead.
-    ///
-    /// # Errors
-    ///
-    /// The job, if the pool has no such place.
-    pub fn own(&self, job: Job<'p>) -> Result<Job<'p>, Job<'p>>
-        ensures { GivesOwn self.now job.entry result }
-    {
-        let Some(own) = self.jobs.get(usize::from(job.place)) else {
-            return Err(job);
-        };
-        match own.copy() {
-            Ok(own) if own.place == job.place => Ok(own),
-            _ => Err(job),
-        }
-    }
-
-    /// Whether the pool has just these jobs. Where the jobs of either start from one store, only those two stores are compared,
-    /// and of each job the rest.
+    /// Whether the pool has exactly these jobs. If the jobs of each are known to start from one store, only those two stores are
+    /// compared, and of each job the rest.
     pub fn has_jobs_of(&self, pool: &Pool<'p>) -> bool
         ensures { IsTrue result ↔ (map job_of pool.now.book.jobs ≡ map job_of self.now.jobs) }
     {
@@ -136,7 +119,7 @@ impl<'p> SharedPool<'p> {
         }
     }
 
-    // Whether it is known that all jobs of the pool start where all of these do.
+    // Whether all jobs of the pool are known to start from the store from which all of these do.
     fn starts_as(&self, pool: &Pool<'p>) -> bool
         ensures { IsTrue result → HaveSameStart pool.now.book.jobs self.now.jobs }
     {

@@ -3,4 +3,3 @@ pub mod Crews
 mod Boards
 mod Seats
 mod SameHarts
-mod Owing

@@ -2,4 +2,3 @@ pub mod Openings
 pub mod Offers
 pub mod Harts
 pub mod NoAccounts
-pub mod Owing

@@ -35,10 +35,6 @@ abbrev pub IsMadeFor : Option SharedSite → NestedParts → Type 0
 IsMadeFor None nested = ⊥
 IsMadeFor (Some shared) nested = IsMadeOf nested shared
 
--- The scheduler of a site that isn't the base.
-abbrev pub shared_of : {S : Type 0} → (S → SharedSite) → HartSite S → Option SharedSite
-shared_of held site = option_map held (kept_in site.keeper)
-
 -- The scheduler of a site that the hart opened was made for its construct.
 abbrev pub IsOpened : {S : Type 0} → (S → SharedSite) → HartSite S → Type 0
-IsOpened held site = IfSome site.opened (IsMadeFor (shared_of held site))
+IsOpened held site = IfSome site.opened (IsMadeFor (option_map held (kept_in site.keeper)))

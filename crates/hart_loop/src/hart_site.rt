@@ -1,21 +1,17 @@
 //! One site, as one of several harts has it.
-ghost use Rattle.std.specs.Prelude.{◌≡◌, [], IfOk, IsSome, IfSome, Some, None, option_map};
+ghost use Rattle.std.specs.Prelude.{◌≡◌, IfOk, IsSome, IfSome, Some, option_map};
 ghost use Rattle.step_eval.specs.Nests.{NestedParts, nested_of, nested_writes};
 ghost use Rattle.hart_tools.specs.Places.{Fits};
 ghost use Rattle.hart_tools.specs.Hands.{IsWhole};
-ghost use Rattle.hart_work.specs.Tasks.{HasAccount};
-ghost use Rattle.hart_loop.specs.Openings.{IsOpened, kept_in, shared_of};
-ghost use Rattle.hart_loop.specs.Owing.{IsSettled, IsOwed, IsOwn, IsSameSite, Begins, Keeps, pool_in, StartsBatch};
+ghost use Rattle.hart_loop.specs.Openings.{IsOpened, kept_in};
 
 use crate::in_directory::InDirectory;
 use crate::members::Members;
 use crate::opened::{publish, shared_site, written_by};
 use array_eval::Overlay;
-use array_jobs::{Job, Piece};
 use base_sched::SharedBase;
-use forkjoin_sched::{PieceBatch, SharedPool};
+use forkjoin_sched::PieceBatch;
 use hart_tools::{Grip, Tools, Whole};
-use hart_work::Task;
 use site_directory::{SharedSite, SiteLine};
 use std::alloc::{AllocError, Global};
 use std::sync::Wait;
@@ -41,10 +37,8 @@ pub struct HartSite<'a, 'p, S> {
     pub(crate) level: u8,
     // The greatest number of tasks that the hart may still get here. No run comes near its end.
     pub(crate) turns: u64,
-    // The pieces of a pool that this hart made and hasn't handed over yet.
-    pub(crate) batch: Option<PieceBatch<'p>>,
-    // Whether the job that the hart has out is known to be the pool's own.
-    pub(crate) known: bool,
+    // The pieces of the site's pool that this hart made and hasn't handed over.
+    pub(crate) kept: Option<PieceBatch<'p>>,
 }
 
 impl<'a, 'p, S: Drop> Drop for HartSite<'a, 'p, S> {
@@ -54,25 +48,8 @@ impl<'a, 'p, S: Drop> Drop for HartSite<'a, 'p, S> {
             opened: _,
             level: _,
             turns: _,
-            batch: _,
-            known: _,
+            kept: _,
         } = self;
-    }
-}
-
-impl<'a, S> Keeper<'a, S> {
-    /// What to make a hand on, of a site of this level.
-    pub(crate) fn grip<'x, 'p, 't>(&'x self, level: u8, tools: &Tools<'t>) -> Grip<'x, 'p>
-    where
-        't: 'x,
-        S: InDirectory<'p>,
-        ensures { Fits tools.now result }
-    {
-        match self {
-            Keeper::Base(base) => Grip::Base(base),
-            Keeper::Published(shared) => tools.grip(shared.shared(), level),
-            Keeper::Kept(shared) => tools.grip(shared.shared(), level),
-        }
     }
 }
 
@@ -81,28 +58,26 @@ impl<'a, 'p, S: InDirectory<'p>> HartSite<'a, 'p, S> {
     fn new(keeper: Keeper<'a, S>, opened: Option<Nested<'p>>, level: u8) -> HartSite<'a, 'p, S>
         ensures keeper { result.keeper ≡ keeper.entry }
         ensures opened { result.opened ≡ opened.entry }
-        ensures batch { result.batch ≡ None }
     {
         HartSite {
             keeper,
             opened,
             level,
             turns: u64::MAX,
-            batch: None,
-            known: false,
+            kept: None,
         }
     }
 
     /// The base.
     pub fn base(base: &'a SharedBase) -> HartSite<'a, 'p, S>
-        ensures { IsSettled S.held result }
+        ensures { IsOpened S.held result }
     {
         HartSite::new(Keeper::Base(base), None, 0)
     }
 
     /// A site that another hart opened.
     pub(crate) fn found(shared: &'a S, level: u8) -> HartSite<'a, 'p, S>
-        ensures { IsSettled S.held result }
+        ensures { IsOpened S.held result }
     {
         HartSite::new(Keeper::Published(shared), None, level)
     }
@@ -116,7 +91,7 @@ impl<'a, 'p, S: InDirectory<'p>> HartSite<'a, 'p, S> {
         nested: &Nested<'p>,
     ) -> Result<HartSite<'a, 'p, S>, AllocError>
         ensures opened { IfOk result (λ site. site.opened ≡ Some nested.now) }
-        ensures made { IfOk result (λ site. IsSettled S.held site) }
+        ensures made { IfOk result (λ site. IsOpened S.held site) }
     {
         let level = tools.level(nested.site);
         let own = nested.copy()?;
@@ -132,22 +107,13 @@ impl<'a, 'p, S: InDirectory<'p>> HartSite<'a, 'p, S> {
 
     // The scheduler of a site that isn't the base.
     fn shared(&self) -> Option<&SharedSite<'p>>
-        ensures { option_map (λ shared. shared.now) result ≡ shared_of S.held self.now }
+        ensures { option_map (λ shared. shared.now) result
+            ≡ option_map S.held (kept_in self.now.keeper) }
     {
         match &self.keeper {
             Keeper::Base(_) => None,
             Keeper::Published(shared) => Some(shared.shared()),
             Keeper::Kept(shared) => Some(shared.shared()),
-        }
-    }
-
-    // The site's pool, where it has one.
-    fn pool(&self) -> Option<&SharedPool<'p>>
-        ensures { option_map (λ pool. pool.now) result ≡ pool_in (shared_of S.held self.now) }
-    {
-        match self.shared() {
-            Some(shared) => pool_of(shared),
-            None => None,
         }
     }
 
@@ -157,108 +123,10 @@ impl<'a, 'p, S: InDirectory<'p>> HartSite<'a, 'p, S> {
         't: 'x,
         ensures { Fits tools.now result }
     {
-        self.keeper.grip(self.level, tools)
-    }
-
-    /// The task, with the pool's own job in place of an equal one. Then the job's piece needn't be compared when it comes back.
-    pub(crate) fn own(&mut self, task: Task<Job<'p>>) -> Task<Job<'p>>
-        requires { IsSettled S.held self.old }
-        ensures site { IsSameSite self.old self.new }
-        ensures settled { IsSettled S.held self.new }
-        ensures account { HasAccount (IsSettled S.held self.new) (IsOwed S.held self.new) result }
-    {
-        match task {
-            Task::Piece(job) => Task::Piece(self.own_job(job)),
-            Task::Visit(child) => Task::Visit(child),
-            Task::Nothing => Task::Nothing,
-        }
-    }
-
-    // The pool's own job of the place that this job names, or the job itself where there is none.
-    fn own_job(&mut self, job: Job<'p>) -> Job<'p>
-        requires { IsSettled S.held self.old }
-        ensures site { IsSameSite self.old self.new }
-        ensures owed { IsOwed S.held self.new result }
-    {
-        match self.find_own(job) {
-            Ok(own) => {
-                self.known = true;
-                own
-            }
-            Err(job) => {
-                self.known = false;
-                job
-            }
-        }
-    }
-
-    // The pool's own job of the place that this job names. The job is given back where there is none.
-    fn find_own(&self, job: Job<'p>) -> Result<Job<'p>, Job<'p>>
-        ensures { IfOk result (IsOwn (pool_in (shared_of S.held self.now))) }
-    {
-        match self.pool() {
-            Some(pool) => pool.own(job),
-            None => Err(job),
-        }
-    }
-
-    /// Keeps a piece to be handed over later. It is given back where its job isn't known to be the pool's own, or an
-    /// allocation failed.
-    pub(crate) fn keep(&mut self, alloc: Global, piece: Piece<'p>) -> Result<(), Piece<'p>>
-        requires { IsOwed S.held self.old piece.job }
-        ensures site { IsSameSite self.old self.new }
-        ensures settled { IsSettled S.held self.new }
-        ensures keeps { Keeps self.old.batch piece.entry result self.new.batch }
-    {
-        if self.known {
-            self.keep_own(alloc, piece)
-        } else {
-            Err(piece)
-        }
-    }
-
-    // Keeps a piece whose job is the pool's own.
-    fn keep_own(&mut self, alloc: Global, piece: Piece<'p>) -> Result<(), Piece<'p>>
-        requires settled { IsSettled S.held self.old }
-        requires own { IsOwn (pool_in (shared_of S.held self.old)) piece.job }
-        ensures site { IsSameSite self.old self.new }
-        ensures settled { IsSettled S.held self.new }
-        ensures keeps { Keeps self.old.batch piece.entry result self.new.batch }
-    {
-        self.begin_batch(alloc);
-        match &mut self.batch {
-            Some(batch) => batch.add(piece),
-            None => Err(piece),
-        }
-    }
-
-    // Begins a batch, if there is none and its pieces' store is known.
-    fn begin_batch(&mut self, alloc: Global)
-        requires { IsSettled S.held self.old }
-        ensures site { IsSameSite self.old self.new }
-        ensures settled { IsSettled S.held self.new }
-        ensures begins { Begins self.old.batch self.new.batch }
-    {
-        if self.batch.is_some() {
-            return;
-        }
-        self.batch = self.empty_batch(alloc);
-    }
-
-    // No pieces, of jobs that start where the pool's own do.
-    fn empty_batch(&self, alloc: Global) -> Option<PieceBatch<'p>>
-        ensures starts { IfSome result (StartsBatch (pool_in (shared_of S.held self.now))) }
-        ensures bare { IfSome result (λ batch. batch.pieces ≡ []) }
-    {
-        let Some(pool) = self.pool() else {
-            return None;
-        };
-        let Some(start) = pool.start() else {
-            return None;
-        };
-        match start.copy() {
-            Ok(start) => Some(PieceBatch::new(alloc, start)),
-            Err(AllocError) => None,
+        match &self.keeper {
+            Keeper::Base(base) => Grip::Base(base),
+            Keeper::Published(shared) => tools.grip(shared.shared(), self.level),
+            Keeper::Kept(shared) => tools.grip(shared.shared(), self.level),
         }
     }
 
@@ -315,15 +183,5 @@ impl<'a, 'p, S: InDirectory<'p>> HartSite<'a, 'p, S> {
         } else {
             Ok(whole)
         }
-    }
-}
-
-// The pool, where the scheduler is one.
-fn pool_of<'b, 'p>(shared: &'b SharedSite<'p>) -> Option<&'b SharedPool<'p>>
-    ensures { option_map (λ pool. pool.now) result ≡ pool_in (Some shared.now) }
-{
-    match shared {
-        SharedSite::Pool { home: _, pool } => Some(pool),
-        SharedSite::Team(_) | SharedSite::Pipe(_) | SharedSite::Alone => None,
     }
 }

@@ -3,7 +3,6 @@ ghost use Rattle.std.specs.Prelude.{◌≡◌};
 ghost use Rattle.hart_loop.specs.NoAccounts.{no_account};
 ghost use Rattle.hart_loop.specs.Offers.{task_told};
 ghost use Rattle.hart_loop.specs.Openings.{IsOpened};
-ghost use Rattle.hart_loop.specs.Owing.{IsSettled, IsOwed};
 
 use crate::hart_site::HartSite;
 use crate::in_directory::InDirectory;
@@ -81,7 +80,6 @@ fn task_of<'p>(next: Next<Job<'p>>) -> Task<Job<'p>>
 impl<'a, 'p, S: InDirectory<'p>, R: Wait> Schedulers<R, JobMachines<'p>>
     for HartSchedulers<'a, 'p, S> {
     ghost use Rattle.hart_loop.specs.Openings.{IsOpened};
-    ghost use Rattle.hart_loop.specs.Owing.{IsSettled, IsOwed};
     ghost use Rattle.hart_loop.specs.NoAccounts.{no_account};
 
     type Site = HartSite<'a, 'p, S>;
@@ -96,15 +94,15 @@ impl<'a, 'p, S: InDirectory<'p>, R: Wait> Schedulers<R, JobMachines<'p>>
 
     ghost construct = { λ site. site.opened };
 
-    // Why: lock-protected state may have changed at every look. So a site owes only that the job which is out is the pool's own,
-    // if the hart knows that.
-    ghost settled = { λ site. IsSettled S.held site };
+    // Why: lock-protected state may have changed at every look. So a site owes nothing, and counts as settled as soon as the
+    // scheduler was made for its construct.
+    ghost settled = { λ site. IsOpened S.held site };
 
     ghost serving = { λ _. no_account };
 
     ghost left = { λ site. site.turns };
 
-    ghost owed = { λ site job. IsOwed S.held site job };
+    ghost owed = { λ site _. IsOpened S.held site };
 
     ghost over = { λ site. IsOpened S.held site };
 
@@ -189,8 +187,8 @@ impl<'a, 'p, S: InDirectory<'p>, R: Wait> Schedulers<R, JobMachines<'p>>
         child: u16,
     ) -> Option<Task<Job<'p>>> {
         let grip = site.grip(&self.tools);
-        let next = self.tools.enter(rt, grip, port, hold, child)?;
-        Some(site.own(task_of(next)))
+        let told = self.tools.enter(rt, grip, port, hold, child)?;
+        Some(task_of(told))
     }
 
     fn give_back<P: Port>(
@@ -207,16 +205,24 @@ impl<'a, 'p, S: InDirectory<'p>, R: Wait> Schedulers<R, JobMachines<'p>>
     /// Blocks if there is nothing to do and the hart stays.
     fn next(&mut self, rt: &R, site: &mut HartSite<'a, 'p, S>, is_home: bool) -> Task<Job<'p>> {
         take_turn(rt, &mut site.turns);
-        let grip = site.keeper.grip(site.level, &self.tools);
-        let next = self.tools.next(rt, grip, &mut site.batch, is_home);
-        site.own(task_of(next))
+        let mut kept = site.kept.take();
+        let grip = site.grip(&self.tools);
+        let next = self.tools.next(rt, grip, &mut kept, is_home);
+        site.kept = kept;
+        task_of(next)
     }
 
-    fn deposit(&mut self, rt: &R, alloc: Global, site: &mut HartSite<'a, 'p, S>, piece: Piece<'p>) {
-        if let Err(piece) = site.keep(alloc, piece) {
-            let grip = site.grip(&self.tools);
-            self.tools.deposit(rt, grip, piece);
-        }
+    fn deposit(
+        &mut self,
+        rt: &R,
+        alloc: Global,
+        site: &mut HartSite<'a, 'p, S>,
+        piece: Piece<'p>,
+    ) {
+        let mut kept = site.kept.take();
+        let grip = site.grip(&self.tools);
+        self.tools.deposit(rt, alloc, grip, &mut kept, piece);
+        site.kept = kept;
     }
 
     fn fail(&mut self, rt: &R, site: &mut HartSite<'a, 'p, S>, phase: u8, place: u8) {

@@ -1,13 +1,12 @@
--- Pieces that are handed over.
-use Rattle.std.proofs.Common.{◌≡◌, Bool, Option, Some, None, ap, sym, subst, refl}
-use Rattle.std.specs.Option.{option_map}
-use Rattle.forkjoin_sched.specs.Batches.{BatchParts}
-use Rattle.hart_tools.specs.Keeping.{start_of, IsBare, HandsOver}
+-- Pieces that are kept for a pool.
+use Rattle.std.proofs.Common.{◌≡◌, ◌∙◌, List, ◌∷◌, [], ◌++◌, Option, Some, Result, Ok, Err, ap}
+use Rattle.array_jobs.specs.PieceParts.{PieceParts}
+use Rattle.forkjoin_sched.specs.Batches.{BatchParts, Adds}
+use Rattle.hart_tools.specs.Keeping.{pieces_of, Keeps}
 
-pub hands_start : (before : Option BatchParts) (any : Bool) (after : Option BatchParts) → HandsOver before any after → option_map start_of after ≡ option_map start_of before
-hands_start None any after h = ap (option_map start_of) h
-hands_start (Some batch) any after h = ap (option_map start_of) h.1
-
-pub hands_bare : (before : Option BatchParts) (any : Bool) (after : Option BatchParts) → HandsOver before any after → IsBare after
-hands_bare None any after h = subst IsBare (sym h) tt
-hands_bare (Some batch) any after h = subst IsBare (sym h.1) refl
+-- a piece was added to a batch of the pieces that are kept
+pub keeps_added : (before : Option BatchParts) (batch : BatchParts) (piece : PieceParts) (added : Result (Unit {0}) PieceParts) (after : BatchParts)
+    → batch.pieces ≡ pieces_of before → Adds batch piece added after → Keeps before piece added (Some after)
+keeps_added before batch piece (Ok done) after same adds =
+    ap (λ (b : BatchParts). b.pieces) adds.1 ∙ ap (λ (ps : List PieceParts). ps ++ piece ∷ []) same
+keeps_added before batch piece (Err back) after same adds = (adds.0, ap (λ (b : BatchParts). b.pieces) adds.1 ∙ same)

@@ -1,28 +1,23 @@
--- The pieces that a hart keeps to itself for a while.
-use Rattle.std.specs.Prelude.{◌≡◌, [], Bool, false, Option, Some, None}
-use Rattle.array_meaning.specs.Stores.{Store}
+-- The pieces of a pool that a hart keeps for a while.
+use Rattle.std.specs.Prelude.{◌≡◌, List, [], ◌∷◌, ◌++◌, Option, Some, None, Result, Ok, Err}
 use Rattle.array_jobs.specs.Jobs.{JobParts}
+use Rattle.array_jobs.specs.PieceParts.{PieceParts}
 use Rattle.sched_api.specs.declared.scheduler.Next.{Next}
 use Rattle.sched_api.specs.declared.scheduler.Next.TheVariants.{Run, Lend, Nothing}
 use Rattle.forkjoin_sched.specs.Batches.{BatchParts}
 
--- The jobs of the batch's pieces start from this store.
-abbrev pub start_of : BatchParts → Store
-start_of batch = batch.start
+-- The pieces that are kept. There are none before a batch begins.
+abbrev pub pieces_of : Option BatchParts → List PieceParts
+pieces_of None = []
+pieces_of (Some batch) = batch.pieces
 
--- No pieces are kept.
-abbrev pub IsBare : Option BatchParts → Type 0
-IsBare None = Unit {0}
-IsBare (Some batch) = batch.pieces ≡ []
+-- A piece is kept behind those that were kept before. Otherwise it is returned, and no kept piece is lost.
+abbrev pub Keeps : Option BatchParts → PieceParts → Result (Unit {0}) PieceParts → Option BatchParts → Type 0
+Keeps before piece (Ok done) after = pieces_of after ≡ pieces_of before ++ piece ∷ []
+Keeps before piece (Err back) after = (back ≡ piece) × (pieces_of after ≡ pieces_of before)
 
--- All pieces that were kept are handed over. The result is false only if there were none.
-abbrev pub HandsOver : Option BatchParts → Bool → Option BatchParts → Type 0
-HandsOver None any after = after ≡ None
-HandsOver (Some batch) any after =
-    (any ≡ false → batch.pieces ≡ []) × (after ≡ Some (record batch { pieces = [] }))
-
--- A hart that doesn't get a job keeps no pieces.
+-- A hart keeps pieces only while it gets jobs.
 abbrev pub IsBareUnlessRun : Next JobParts → Option BatchParts → Type 0
 IsBareUnlessRun (Run job) kept = Unit {0}
-IsBareUnlessRun (Lend child) kept = IsBare kept
-IsBareUnlessRun Nothing kept = IsBare kept
+IsBareUnlessRun (Lend child) kept = pieces_of kept ≡ []
+IsBareUnlessRun Nothing kept = pieces_of kept ≡ []

@@ -12,6 +12,7 @@ mod calls;
 mod claims;
 mod grip;
 mod hand;
+mod kept;
 mod tools;
 mod whole;
 mod work;

@@ -1,13 +1,13 @@
 //! The tools of a hart for all sites: its deques, its seat, and the counters of each site.
-ghost use Rattle.std.specs.Prelude.{◌≡◌, ◌≢◌, ◌<◌, ◌≤◌, ◌+◌, ◌↔◌, ◌⊎◌, [], false, None, IsTrue, IfOk, IfSome, length, map, option_map, reverse, vec_len};
+ghost use Rattle.std.specs.Prelude.{◌≡◌, ◌≢◌, ◌<◌, ◌≤◌, ◌+◌, ◌↔◌, ◌⊎◌, [], false, None, IsTrue, IfOk, IfSome, length, map, reverse, vec_len};
 ghost use Rattle.std.specs.Option.{ForSome};
 ghost use Rattle.deque_rows.specs.Rows.{IsLevel, home_log, row_room, kin as rows_kin};
 ghost use Rattle.claim_words.specs.Seats.{IsOf, kin as seat_kin};
 ghost use Rattle.hart_tools.specs.Places.{Fits, PoolFits, TeamFits, site_at};
 ghost use Rattle.hart_tools.specs.Hands.{HasTried, IsWhole};
+ghost use Rattle.hart_tools.specs.Keeping.{pieces_of, IsBareUnlessRun};
 ghost use Rattle.hart_tools.specs.Stocks.{AreTools};
 ghost use Rattle.hart_tools.specs.Told.{inside};
-ghost use Rattle.hart_tools.specs.Keeping.{start_of, HandsOver, IsBareUnlessRun};
 ghost use Rattle.hart_port.specs.Count.{Rose};
 ghost use Rattle.hart_port.specs.PortView.{IsPortView, is_in, Registers, MayRequest, requested_by, yielded, MayUnregister, unregistered};
 ghost use Rattle.sched_api.specs.Calls.{RoseUnlessLent};
@@ -16,6 +16,7 @@ ghost use Rattle.transfer_table.specs.Plan.{IsSite, parent as parent_of};
 use crate::claims::Claims;
 use crate::grip::{Grip, PoolPlace, TeamPlace};
 use crate::hand::Hand;
+use crate::kept::keep;
 use crate::whole::Whole;
 use array_jobs::{Job, Piece};
 use crossbeam_utils::Backoff;
@@ -308,8 +309,8 @@ impl<'t> Tools<'t> {
     }
 
     /// The next action of a hart that is inside. A guest gets `Nothing` if there is nothing to do. The hart at the base and the
-    /// home back off until there is something to do, or their work is done. A hart that gets no job hands its kept pieces over.
-    #[tactic(auto, using(crate::proofs::Keeping::hands_start, crate::proofs::Keeping::hands_bare))]
+    /// home back off until there is something to do, or their work is done. A hart that gets no job hands over the pieces that it
+    /// keeps.
     pub fn next<'b, 'p, R: Wait + 'b>(
         &mut self,
         rt: &'b R,
@@ -319,7 +320,6 @@ impl<'t> Tools<'t> {
     ) -> Next<Job<'p>>
         requires { Fits self.old grip }
         ensures tools { self.new ≡ self.old }
-        ensures start { option_map start_of kept.new ≡ option_map start_of kept.old }
         ensures bare { IsBareUnlessRun result kept.new }
     {
         let is_guest = !is_home && !matches!(grip, Grip::Base(_));
@@ -350,7 +350,7 @@ impl<'t> Tools<'t> {
         unreachable!()
     }
 
-    // Hands over the pieces that the hart has kept. Whether there were any.
+    // Hands over the pieces that the hart keeps. Returns whether there were any.
     fn hand_over<'b, 'p, R: Wait + 'b>(
         &mut self,
         rt: &'b R,
@@ -359,7 +359,8 @@ impl<'t> Tools<'t> {
     ) -> bool
         requires { Fits self.old grip }
         ensures tools { self.new ≡ self.old }
-        ensures kept { HandsOver kept.old result kept.new }
+        ensures bare { pieces_of kept.new ≡ [] }
+        ensures any { result ≡ false → pieces_of kept.old ≡ [] }
     {
         let Some(batch) = kept else { return false };
         if batch.is_empty() {
@@ -369,7 +370,7 @@ impl<'t> Tools<'t> {
         true
     }
 
-    // Puts all pieces of a batch into the pool of their jobs. Only a pool's pieces are kept.
+    // Puts all pieces of a batch into the pool. Only a pool's pieces are kept.
     fn empty<'b, 'p, R: Wait + 'b>(
         &mut self,
         rt: &'b R,
@@ -378,7 +379,7 @@ impl<'t> Tools<'t> {
     )
         requires { Fits self.old grip }
         ensures tools { self.new ≡ self.old }
-        ensures batch { batch.new ≡ record batch.old { pieces = [] } }
+        ensures batch { batch.new.pieces ≡ [] }
     {
         match grip {
             Grip::Pool(place) => place.hand::<R>(&mut self.rows).hand_over(rt, batch),
@@ -420,14 +421,24 @@ impl<'t> Tools<'t> {
         }
     }
 
-    /// Gives the scheduler a piece that is done. A piece that is a stranger to the scheduler is dropped.
-    pub fn deposit<'b, 'p, R: Wait + 'b>(&mut self, rt: &'b R, grip: Grip<'b, 'p>, piece: Piece<'p>)
+    /// Gives the scheduler a piece that is done. A pool's piece is kept, to hand it over with others. If it can't be kept, the
+    /// pool gets it at once. A piece that is a stranger to the scheduler is dropped.
+    pub fn deposit<'b, 'p, R: Wait + 'b>(
+        &mut self,
+        rt: &'b R,
+        alloc: Global,
+        grip: Grip<'b, 'p>,
+        kept: &mut Option<PieceBatch<'p>>,
+        piece: Piece<'p>,
+    )
         requires { Fits self.old grip }
         ensures { self.new ≡ self.old }
     {
         match grip {
             Grip::Pool(place) => {
-                let _ = place.hand::<R>(&mut self.rows).deposit(rt, piece);
+                if let Err(piece) = keep(alloc, place.pool, kept, piece) {
+                    let _ = place.hand::<R>(&mut self.rows).deposit(rt, piece);
+                }
             }
             Grip::Team(place) => {
                 let _ = place.hand::<R>(&mut self.seat).arrive(rt, piece);

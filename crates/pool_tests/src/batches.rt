@@ -2,7 +2,7 @@
 use crate::hands::{own_rows, shared_pool};
 use crate::stores::{AFTER_A_WRITE, second_piece};
 use array_jobs::Piece;
-use forkjoin_sched::{PieceBatch, PoolHand, SharedPool};
+use forkjoin_sched::{PieceBatch, PoolHand};
 use sample_programs::{TWO_BRANCHES, parsed, piece_at};
 use std::alloc::Global;
 use std::sync::Wait;
@@ -13,7 +13,7 @@ fn batch_of<'p>(alloc: Global, piece: Piece<'p>) -> Result<PieceBatch<'p>, Fail>
     let mut batch = PieceBatch::new(alloc, piece.job.store.copy()?);
     match batch.add(piece) {
         Ok(()) => Ok(batch),
-        Err(_) => Err(Fail::new("there is no memory")),
+        Err(_) => Err(Fail::new("the piece isn't kept")),
     }
 }
 
@@ -74,25 +74,23 @@ fn a_piece_of_another_store_that_is_handed_over_is_found(rt: HostRuntime) -> Res
     Ok(())
 }
 
-// Whether the pool gives its own second job in place of that of this piece.
-fn gives_own<'p>(shared: &SharedPool<'p>, piece: Piece<'p>) -> bool {
-    let differs = shared.jobs().get(1) != Some(&piece.job);
-    match shared.own(piece.job) {
-        Ok(own) => differs && shared.jobs().get(1) == Some(&own),
-        Err(_) => false,
-    }
+// Whether a batch of the pool's first piece returns a piece of another store.
+fn returns_another<'p>(alloc: Global, first: Piece<'p>, other: Piece<'p>) -> Result<bool, Fail> {
+    let mut batch = batch_of(alloc, first)?;
+    Ok(batch.add(other).is_err())
 }
 
-// The same of the piece of another store.
-fn gives_own_for_another(alloc: Global) -> Result<bool, Fail> {
+// The same of the pieces of two programs.
+fn keeps_one_store(alloc: Global) -> Result<bool, Fail> {
     let program = parsed(alloc, TWO_BRANCHES)?;
     let other = parsed(alloc, AFTER_A_WRITE)?;
     let shared = shared_pool(alloc, &program)?;
-    Ok(gives_own(&shared, second_piece(alloc, &other)?))
+    let first = piece_at(alloc, shared.jobs(), 0)?;
+    returns_another(alloc, first, second_piece(alloc, &other)?)
 }
 
 #[test]
-fn a_pool_gives_its_own_job_of_a_place(rt: HostRuntime) -> Result<(), Fail> {
-    assert!(rt; gives_own_for_another(rt.alloc())?);
+fn a_batch_returns_a_piece_of_another_store(rt: HostRuntime) -> Result<(), Fail> {
+    assert!(rt; keeps_one_store(rt.alloc())?);
     Ok(())
 }
