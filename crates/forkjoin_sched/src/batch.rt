@@ -41,7 +41,7 @@ impl<'p> PieceBatch<'p> {
     ///
     /// It doesn't allocate.
     pub fn new(alloc: Global, start: Store) -> PieceBatch<'p>
-        ensures { result ≡ record { start = start.entry; pieces = [] } }
+        ensures { result ≡ record { start = start; pieces = [] } }
     {
         PieceBatch {
             start,
