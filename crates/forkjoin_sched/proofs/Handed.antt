@@ -1,8 +1,5 @@
 -- Pieces that are put into a book one by one, the last first.
 use Rattle.std.proofs.Common.{◌≡◌, ◌<◌, List, [], ◌∷◌, ◌++◌, length, length-append, Some, None, append_assoc, append-nil, IsTrue, Bool, sym, ap, subst, ◌∙◌, refl, arith}
-use Rattle.std.specs.Prelude.{All}
-use Rattle.std.proofs.lemmas.List.{get_or_append_left}
-use Rattle.std.proofs.Math.Seq.{get_or-append_seam}
 use Rattle.array_meaning.specs.Stores.{Store}
 use Rattle.array_jobs.specs.PieceParts.{PieceParts}
 use Rattle.join_book.specs.Books.{BookParts, Puts}
@@ -60,12 +57,3 @@ fewer_left before piece after takes =
     let same = ap (λ (b : BatchParts). length b.pieces) takes.1 in
     let more = length-append after.pieces (piece ∷ []) in
     omega (arith, same, more)
-
--- ---- what holds of each of a list and of one more
-
-pub all_before : {X : Type 0} (P : X → Type 0) (xs : List X) (x : X) → All P (xs ++ x ∷ []) → All P xs
-all_before P xs x all k d below =
-    subst P (get_or_append_left xs (x ∷ []) d k below) (all k d (let more = length-append xs (x ∷ []) in omega (arith, below, more)))
-
-pub all_last : {X : Type 0} (P : X → Type 0) (xs : List X) (x : X) → All P (xs ++ x ∷ []) → P x
-all_last P xs x all = subst P (get_or-append_seam xs x [] x) (all (length xs) x (let more = length-append xs (x ∷ []) in omega (arith, more)))

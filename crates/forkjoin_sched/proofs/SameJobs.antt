@@ -1,13 +1,18 @@
 -- Lists of jobs that are equal, each to that at its index.
-use Rattle.std.proofs.Common.{◌≡◌, ◌<◌, ◌≤◌, ℕ, ◌+◌, List, [], ◌∷◌, ◌++◌, length, map, take, get_or, Some, slice_get, true, Bool, ◌&&◌, IsTrue, ◌↔◌, refl, sym, ap, subst, ◌∙◌, arith}
+use Rattle.std.proofs.Common.{◌≡◌, ◌<◌, ◌≤◌, ℕ, ◌+◌, List, [], ◌∷◌, ◌++◌, length, map, take, get_or, Some, slice_get, true, false, Bool, ◌&&◌, IsTrue, ◌↔◌, refl, sym, ap, subst, ◌∙◌, arith}
 use Rattle.std.specs.Option.{option_map}
 use Rattle.std.specs.Cmp.Lexicographic.{pointwise}
-use Rattle.std.proofs.lemmas.Bool.{and_parts}
-use Rattle.std.proofs.lemmas.List.{take_more, take_all, map-append}
+use Rattle.std.proofs.lemmas.Bool.{and_parts, false≢true}
+use Rattle.std.proofs.lemmas.List.{take_more, take_all, map-append, length-map}
 use Rattle.std.proofs.lemmas.Option.{same_Some, slice_get-map, slice_get_read}
 use Rattle.array_jobs.specs.Jobs.{JobParts, JobTree, job_of}
-use Rattle.array_jobs.specs.Equal.{job_eq}
-use Rattle.array_jobs.specs.EqualLaws.{job_same, job_refl}
+use Rattle.std.specs.Prelude.{nat_eq}
+use Rattle.array_tree.specs.Equal.{declarations_eq}
+use Rattle.array_eval.specs.Equal.{store_eq, vars_eq}
+use Rattle.array_eval.specs.EqualLaws.{store_decides}
+use Rattle.array_jobs.specs.Equal.{work_eq, job_eq}
+use Rattle.array_jobs.specs.EqualLaws.{job_same, job_refl, job_decides}
+use Rattle.forkjoin_sched.specs.Rests.{rest_eq}
 use Rattle.forkjoin_sched.specs.Pools.{HaveSameStart}
 
 pub same_stores : (xs ys : List JobParts) (i : ℕ) (x y : JobParts) → HaveSameStart xs ys → i < length xs → i < length ys
@@ -38,6 +43,36 @@ pub same_at : (xs ys : List JobParts) (i : ℕ) (x y : JobParts) → i < length 
     → map job_of xs ≡ map job_of ys → job_of x ≡ job_of y
 same_at xs ys i x y below within is at same =
     same_Some (job_of x) (job_of y) (sym (told_at xs i x below is) ∙ ap (λ (l : List JobTree). slice_get l i) same ∙ told_at ys i y within at)
+
+-- jobs that start from one store are equal if the rest of them is
+pub rest_same : (a b : JobTree) → a.store ≡ b.store → (r : Bool) → r ≡ rest_eq a b → IsTrue r ↔ (a ≡ b)
+rest_same a b start r tested =
+    let store : store_eq a.store b.store ≡ true = (store_decides a.store b.store).1 start in
+    let whole : job_eq a b ≡ rest_eq a b
+    = ap (λ (s : Bool). nat_eq a.site b.site && (nat_eq a.phase b.phase && (nat_eq a.place b.place && (nat_eq a.first b.first
+    && (work_eq a.work b.work && (vars_eq a.vars b.vars && (s && declarations_eq a.arrays b.arrays))))))) store in (
+      λ t. job_same a b (whole ∙ sym tested ∙ t),
+      λ same. tested ∙ sym whole ∙ (job_decides a b).1 same,
+    )
+
+-- a job that differs from the one at its index
+pub differ_at : (r : Bool) (xs ys : List JobParts) (i : ℕ) (x y : JobParts) → i < length xs → i < length ys → x ≡ get_or xs i x → y ≡ get_or ys i y
+    → IsTrue r ↔ (job_of x ≡ job_of y) → r ≡ false → IsTrue false ↔ (map job_of xs ≡ map job_of ys)
+differ_at r xs ys i x y below within is at tested no = (
+  λ t. absurd (false≢true t),
+  λ same. absurd (false≢true (sym no ∙ tested.1 (same_at xs ys i x y below within is at same))),
+)
+
+-- lists of two lengths
+pub differ_long : (xs ys : List JobParts) → ¬ (length xs ≡ length ys) → IsTrue false ↔ (map job_of xs ≡ map job_of ys)
+differ_long xs ys long = (
+  λ t. absurd (false≢true t),
+  λ same. absurd (long (sym (length-map job_of xs) ∙ ap (λ (l : List JobTree). length l) same ∙ length-map job_of ys)),
+)
+
+pub all_alike : (xs ys : List JobParts) (i : ℕ) → length xs ≤ i → length ys ≤ i → map job_of (take i xs) ≡ map job_of (take i ys)
+    → IsTrue true ↔ (map job_of xs ≡ map job_of ys)
+all_alike xs ys i end over same = (λ t. same_all xs ys i end over same, λ e. refl)
 
 -- ---- what is equal place by place is equal
 

@@ -4,3 +4,4 @@ pub mod Shared
 pub mod Hands
 pub mod HandCalls
 pub mod Batches
+pub mod Rests

@@ -64,9 +64,18 @@ impl<'p> PieceBatch<'p> {
     pub fn add(&mut self, piece: Piece<'p>) -> Result<(), Piece<'p>>
         ensures { Adds self.old piece.entry result self.new }
     {
-        if piece.job.store != self.start {
-            return Err(piece);
+        if piece.job.store == self.start {
+            self.push(piece)
+        } else {
+            Err(piece)
         }
+    }
+
+    // Keeps a piece whose job starts from the batch's store.
+    fn push(&mut self, piece: Piece<'p>) -> Result<(), Piece<'p>>
+        requires { Starts self.old.start piece }
+        ensures { Adds self.old piece.entry result self.new }
+    {
         match self.pieces.push(piece) {
             Ok(()) => Ok(()),
             Err(failed) => Err(failed.value),

@@ -2,6 +2,7 @@
 ghost use Rattle.std.specs.Prelude.{◌≡◌, ◌↔◌, IsTrue, map};
 ghost use Rattle.array_jobs.specs.Jobs.{job_of};
 ghost use Rattle.forkjoin_sched.specs.Pools.{HaveSameStart};
+ghost use Rattle.forkjoin_sched.specs.Rests.{rest_eq};
 
 use array_jobs::Job;
 
@@ -20,8 +21,8 @@ pub(crate) fn have_same_work(xs: &[Job], ys: &[Job]) -> bool
     if xs.len() != ys.len() {
         return false;
     }
-    for index in 0..xs.len() {
-        if !is_same_work(&xs[index], &ys[index]) {
+    for number in 0..xs.len() {
+        if !is_same_work(&xs[number], &ys[number]) {
             return false;
         }
     }
@@ -32,6 +33,13 @@ pub(crate) fn have_same_work(xs: &[Job], ys: &[Job]) -> bool
 fn is_same_work(a: &Job, b: &Job) -> bool
     requires { a.now.store ≡ b.now.store }
     ensures { IsTrue result ↔ (job_of a.now ≡ job_of b.now) }
+{
+    has_same_rest(a, b)
+}
+
+// Whether two jobs are equal but for their stores.
+fn has_same_rest(a: &Job, b: &Job) -> bool
+    ensures { result ≡ rest_eq (job_of a.now) (job_of b.now) }
 {
     a.site == b.site
         && a.phase == b.phase
