@@ -1,5 +1,5 @@
 -- The pieces of a pool that a hart keeps for a while.
-use Rattle.std.specs.Prelude.{◌≡◌, List, [], ◌∷◌, ◌++◌, Option, Some, None, Result, Ok, Err}
+use Rattle.std.specs.Prelude.{◌≡◌, ◌⊎◌, List, [], ◌∷◌, ◌++◌, Option, Some, None, Result, Ok, Err}
 use Rattle.array_jobs.specs.Jobs.{JobParts}
 use Rattle.array_jobs.specs.PieceParts.{PieceParts}
 use Rattle.sched_api.specs.declared.scheduler.Next.{Next}
@@ -16,8 +16,17 @@ abbrev pub Keeps : Option BatchParts → PieceParts → Result (Unit {0}) PieceP
 Keeps before piece (Ok done) after = pieces_of after ≡ pieces_of before ++ piece ∷ []
 Keeps before piece (Err back) after = (back ≡ piece) × (pieces_of after ≡ pieces_of before)
 
+-- No kept piece is lost, and at most this piece is kept behind them.
+abbrev pub StillKeeps : Option BatchParts → PieceParts → Option BatchParts → Type 0
+StillKeeps before piece after =
+    (pieces_of after ≡ pieces_of before) ⊎ (pieces_of after ≡ pieces_of before ++ piece ∷ [])
+
+-- All kept pieces stay, or all are handed over.
+abbrev pub HasAllOrNone : Option BatchParts → Option BatchParts → Type 0
+HasAllOrNone before after = (pieces_of after ≡ pieces_of before) ⊎ (pieces_of after ≡ [])
+
 -- A hart keeps pieces only while it gets jobs.
-abbrev pub IsBareUnlessRun : Next JobParts → Option BatchParts → Type 0
-IsBareUnlessRun (Run job) kept = Unit {0}
-IsBareUnlessRun (Lend child) kept = pieces_of kept ≡ []
-IsBareUnlessRun Nothing kept = pieces_of kept ≡ []
+abbrev pub HandsOver : Option BatchParts → Next JobParts → Option BatchParts → Type 0
+HandsOver before (Run job) after = HasAllOrNone before after
+HandsOver before (Lend child) after = pieces_of after ≡ []
+HandsOver before Nothing after = pieces_of after ≡ []

@@ -5,7 +5,7 @@ ghost use Rattle.deque_rows.specs.Rows.{IsLevel, home_log, row_room, kin as rows
 ghost use Rattle.claim_words.specs.Seats.{IsOf, kin as seat_kin};
 ghost use Rattle.hart_tools.specs.Places.{Fits, PoolFits, TeamFits, site_at};
 ghost use Rattle.hart_tools.specs.Hands.{HasTried, IsWhole};
-ghost use Rattle.hart_tools.specs.Keeping.{pieces_of, IsBareUnlessRun};
+ghost use Rattle.hart_tools.specs.Keeping.{pieces_of, HandsOver, StillKeeps};
 ghost use Rattle.hart_tools.specs.Stocks.{AreTools};
 ghost use Rattle.hart_tools.specs.Told.{inside};
 ghost use Rattle.hart_port.specs.Count.{Rose};
@@ -320,7 +320,7 @@ impl<'t> Tools<'t> {
     ) -> Next<Job<'p>>
         requires { Fits self.old grip }
         ensures tools { self.new ≡ self.old }
-        ensures bare { IsBareUnlessRun result kept.new }
+        ensures kept { HandsOver kept.old result kept.new }
     {
         let is_guest = !is_home && !matches!(grip, Grip::Base(_));
         let backoff = Backoff::new();
@@ -432,7 +432,8 @@ impl<'t> Tools<'t> {
         piece: Piece<'p>,
     )
         requires { Fits self.old grip }
-        ensures { self.new ≡ self.old }
+        ensures tools { self.new ≡ self.old }
+        ensures kept { StillKeeps kept.old piece.entry kept.new }
     {
         match grip {
             Grip::Pool(place) => {

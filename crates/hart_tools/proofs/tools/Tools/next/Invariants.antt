@@ -1,4 +1,5 @@
 use Rattle.std.proofs.Common.{◌≡◌}
+use Rattle.hart_tools.specs.Keeping.{HasAllOrNone}
 use Rattle.hart_tools.proofs.tools.Tools.next.Given as goal
 
 abbrev pub invariant-looks : goal.invariant-looks
@@ -6,4 +7,5 @@ invariant-looks g l = record {
   next : (goal.iterator-looks g).can_next l.iterator';
   finite : (goal.iterator-looks g).is_finite l.iterator';
   tools : l.self ≡ l.fn.self;
+  kept : HasAllOrNone l.fn.kept l.kept;
 }
