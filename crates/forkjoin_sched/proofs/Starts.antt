@@ -1,5 +1,5 @@
 -- Jobs that start from one store, and books whose jobs do.
-use Rattle.std.proofs.Common.{◌≡◌, ◌≢◌, ◌⊎◌, inl, inr, ℕ, Bool, List, ◌∙◌, Some, slice_get, slice_set, IsTrue, sym, ap, subst, refl}
+use Rattle.std.proofs.Common.{◌≡◌, ◌≢◌, ◌⊎◌, inl, inr, ℕ, Bool, List, ◌∙◌, Some, slice_get, slice_set, IsTrue, ◌↔◌, sym, ap, subst, refl}
 use Rattle.std.proofs.lemmas.Bool.{cases_eq}
 use Rattle.array_meaning.specs.Stores.{Store}
 use Rattle.array_jobs.specs.Jobs.{JobParts}
@@ -11,7 +11,7 @@ use Rattle.join_book.specs.Books.{BookParts, Deposits, Puts}
 use Rattle.join_book.specs.declared.book.Deposit.{Deposit}
 use Rattle.join_book.specs.declared.book.Deposit.TheVariants.{Kept, Double, Stranger}
 use Rattle.join_book.proofs.BookLemmas.{at_same, at_other}
-use Rattle.forkjoin_sched.specs.Pools.{StartFrom, HaveOneStart, free_book}
+use Rattle.forkjoin_sched.specs.Pools.{StartFrom, HaveOneStart, HaveSameStart, free_book}
 
 pub one_start : (start : Store) (jobs : List JobParts) → StartFrom start jobs → HaveOneStart jobs
 one_start start jobs from i k a b at there = from i a at ∙ sym (from k b there)
@@ -25,6 +25,13 @@ starts_set start jobs i own all new k job at = found (cases_eq k i)
     found : (k ≡ i) ⊎ (k ≢ i) → job.store ≡ start
     found (inl e) = ap (λ (j : JobParts). j.store) (at_same jobs i own job (subst (λ (n : ℕ). slice_get (slice_set jobs i own) n ≡ Some job) e at)) ∙ new
     found (inr ne) = all k job (sym (at_other jobs i k own ne) ∙ at)
+
+-- jobs that start from a store that passed the test with another
+pub starts_from : (a b : Store) (jobs : List JobParts) (r : Bool) → StartFrom a jobs → IsTrue r ↔ (a ≡ b) → IsTrue r → StartFrom b jobs
+starts_from a b jobs r all tested is = subst (λ (s : Store). StartFrom s jobs) (tested.0 is) all
+
+pub same_start : (a b : Store) (xs ys : List JobParts) (r : Bool) → StartFrom b xs → StartFrom a ys → IsTrue r ↔ (a ≡ b) → IsTrue r → HaveSameStart xs ys
+same_start a b xs ys r others own tested is = (b, others, starts_from a b ys r own tested is)
 
 -- a piece that is put in whose job starts from the store
 pub starts_put : (start : Store) (before : BookParts) (piece : PieceParts) (deposit : Deposit) (after : BookParts) → Puts before piece deposit after
