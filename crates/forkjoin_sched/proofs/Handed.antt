@@ -1,5 +1,6 @@
 -- Pieces that are put into a book one by one, the last first.
-use Rattle.std.proofs.Common.{◌≡◌, ◌<◌, List, [], ◌∷◌, ◌++◌, length, length-append, Some, None, append_assoc, append-nil, IsTrue, Bool, sym, ap, subst, ◌∙◌, refl, arith}
+use Rattle.std.proofs.Common.{◌≡◌, ◌<◌, List, [], ◌∷◌, ◌++◌, length, Some, None, append_assoc, append-nil, IsTrue, Bool, sym, ap, subst, ◌∙◌, refl, arith}
+use Rattle.std.proofs.lemmas.List.{length_push}
 use Rattle.array_meaning.specs.Stores.{Store}
 use Rattle.array_jobs.specs.PieceParts.{PieceParts}
 use Rattle.join_book.specs.Books.{BookParts, Puts}
@@ -50,10 +51,9 @@ all_put known before pool now after has none =
     subst (λ ps. PutsAll ps pool.book after.book) (sym same) has.puts
 
 pub bare_batch : (before now : BatchParts) → now.start ≡ before.start → now.pieces ≡ [] → now ≡ record before { pieces = [] }
-bare_batch before now start none = cc
+bare_batch before now start none = λ i. record { start = start i; pieces = none i }
 
 pub fewer_left : (before : BatchParts) (piece : PieceParts) (after : BatchParts) → Takes before (Some piece) after → length after.pieces < length before.pieces
 fewer_left before piece after takes =
-    let same = ap (λ (b : BatchParts). length b.pieces) takes.1 in
-    let more = length-append after.pieces (piece ∷ []) in
-    omega (arith, same, more)
+    let same : length before.pieces ≡ length (after.pieces ++ piece ∷ []) = ap (λ (b : BatchParts). length b.pieces) takes.1 in
+    omega (arith, same, length_push after.pieces piece)

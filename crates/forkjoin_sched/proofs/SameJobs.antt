@@ -67,7 +67,7 @@ differ_at r xs ys i x y below within is at tested no = (
 pub differ_long : (xs ys : List JobParts) → ¬ (length xs ≡ length ys) → IsTrue false ↔ (map job_of xs ≡ map job_of ys)
 differ_long xs ys long = (
   λ t. absurd (false≢true t),
-  λ same. absurd (long (sym (length-map job_of xs) ∙ ap (λ (l : List JobTree). length l) same ∙ length-map job_of ys)),
+  λ same. absurd (long (sym (length-map xs job_of) ∙ ap (λ (l : List JobTree). length l) same ∙ length-map ys job_of)),
 )
 
 pub all_alike : (xs ys : List JobParts) (i : ℕ) → length xs ≤ i → length ys ≤ i → map job_of (take i xs) ≡ map job_of (take i ys)
