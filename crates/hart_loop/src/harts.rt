@@ -212,13 +212,7 @@ impl<'a, 'p, S: InDirectory<'p>, R: Wait> Schedulers<R, JobMachines<'p>>
         task_of(next)
     }
 
-    fn deposit(
-        &mut self,
-        rt: &R,
-        alloc: Global,
-        site: &mut HartSite<'a, 'p, S>,
-        piece: Piece<'p>,
-    ) {
+    fn deposit(&mut self, rt: &R, alloc: Global, site: &mut HartSite<'a, 'p, S>, piece: Piece<'p>) {
         let mut kept = site.kept.take();
         let grip = site.grip(&self.tools);
         self.tools.deposit(rt, alloc, grip, &mut kept, piece);
