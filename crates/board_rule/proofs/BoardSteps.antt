@@ -74,8 +74,8 @@ guests_stay lay p plan es t e leads a vs id v w at elsewhere here y site = dite 
     (λ n. ap (λ (g : ℕ). g + (load y (set vs id w)).reserves + (load y (set vs id w)).lands + (load y (set vs id w)).leaves) (insiders_elsewhere lay p plan es t e leads a y site n)
     ∙ guests-load lay p t vs (set vs id w) y (load-same y vs id v w at (elsewhere y n)))
 
--- what a seat knows of the sites lasts over an entry that leaves its homes and the guests, and brings no hart into a site that
--- it saw empty
+-- A seat's knowledge of the sites survives an entry that leaves its homes and the guests, and brings no hart into a site
+-- that the seat saw empty.
 pub sites_moved : (p : Plan) (t : TableState) (e : Entry) → Fits p t → IsAllowed p t e → (h : ℕ) (m : Marks) (c : ℕ → Bool) (f f' : ℕ → ℕ)
     → ((y : ℕ) → IsSite p y → lives_with (effect_of p t e) y h ≡ lives_with t y h)
     → ((y : ℕ) → IsSite p y → f' y ≡ f y)
@@ -95,7 +95,7 @@ sites_moved p t e fits a h m c f f' homes stay arrives k = record {
   gone = λ x is. let r = k.gone x is in (r.0, gone_lasts p t e fits a x r.0 r.1);
 }
 
--- and over other numbers of guests that are the same at every site
+-- A seat's knowledge of the sites holds for any guest counts that are equal at every site.
 pub sites_same : (p : Plan) (t : TableState) (h : ℕ) (m : Marks) (c : ℕ → Bool) (f f' : ℕ → ℕ) → ((y : ℕ) → IsSite p y → f' y ≡ f y) → KnowsSites p t h m c f → KnowsSites p t h m c f'
 sites_same p t h m c f f' stay k = record {
   sized = k.sized;
@@ -108,7 +108,7 @@ sites_same p t h m c f f' stay k = record {
   gone = k.gone;
 }
 
--- what a seat is about lasts over an entry of another hart
+-- What a seat is in the middle of stays valid after an entry of another hart.
 pub does_lasting : (lay : Layout) (p : Plan) → IsPlan p → (es : List Entry) (t : TableState) (e : Entry) → Reaches p es t → Fits p t → IsAllowed p t e → (v : View) (d : Doing) → IsHart p v.hart → v.owner ≡ owner t v.hart → ((y : ℕ) → d ≡ Claiming y → y ≢ site_of e)
     → (d ≡ Reserved (site_of e) → (row t (site_of e)).stage ≡ Live → (row_after t e).stage ≡ Live)
     → DoesRight lay p es t v d → DoesRight lay p (es ++ e ∷ []) (effect_of p t e) v d

@@ -1,4 +1,4 @@
--- The two steps by which a seat comes to be about a site: a claim, and a reserve.
+-- The two steps by which a seat starts a call on a site: a claim, and a reserve.
 use Rattle.std.proofs.Common.{◌≡◌, ◌≢◌, ℕ, ◌+◌, ◌-◌, ◌/◌, ◌%◌, ◌<◌, ◌≤◌, Bool, true, false, eqb, cond, eq-eqb, ne_eqb, [], ◌∷◌, ◌++◌, set, slice_index, refl, sym, ap, ◌∙◌, subst, arith, bit_or}
 use mathlib.Core.Option.{some}
 use mathlib.Core.Logic.{dite}

@@ -1,4 +1,4 @@
--- Once all seats are joined nothing is drawn, so each place of the journal is written.
+-- Once all seats are joined no index is drawn but unwritten, so each journal word is written.
 use Rattle.std.proofs.Common.{◌≡◌, ◌≢◌, ℕ, suc, ◌+◌, ◌<◌, List, length, slice_index, slice_get, sym, ap, ◌∙◌, arith, Option, Some, None}
 use mathlib.Core.Option.{some, some-injective}
 use mathlib.Core.Logic.{dite}

@@ -59,6 +59,6 @@ small n (a ∷ b ∷ c ∷ d ∷ e ∷ os) len le f = absurd (omega arith)
 pub digits_small : (p : Plan) → IsPlan p → p.harts ≤ 4 → (es : List Entry) (t : TableState) → Reaches p es t → owner_digits t.owners < length_unit
 digits_small p plan four es t leads = small p.harts t.owners (legal_position p plan es t leads).owners four (owners_small p plan es t leads)
 
--- the board word tells the length
+-- The board word determines the length.
 pub entries_is : (n l : ℕ) (os : List ℕ) → n ≡ l * length_unit + owner_digits os → owner_digits os < length_unit → entries_in n ≡ l
 entries_is n l os is less = omega arith

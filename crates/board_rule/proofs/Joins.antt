@@ -33,7 +33,7 @@ use Rattle.board_rule.proofs.SiteSteps.{sites_other, guests-load}
 use Rattle.board_rule.proofs.Looks.{few_harts}
 use Rattle.board_rule.proofs.BoardSteps.{other_hart}
 
--- what both knew to be gone is known, and nothing is seen empty
+-- A site that either seat knew to be gone is known to be gone, and no site is seen empty.
 sites_joined : (p : Plan) (t : TableState) (h g : ℕ) (m n : Marks) (c : ℕ → Bool) (f : ℕ → ℕ) → KnowsSites p t h m c f → KnowsSites p t g n c f → KnowsSites p t h (record m { empty = no_site p; gone = union m.gone n.gone }) c f
 sites_joined p t h g m n c f k j = let none : (x : ℕ) → is_in (no_site p) x ≡ true → ⊥ = λ x is. let no = in-no_site p x in cc in record {
   sized = record { homes = k.sized.homes; closed = k.sized.closed; drained = k.sized.drained; empty = length-replicate (site_count p + 1) false; gone = length-union m.gone n.gone (k.sized.gone ∙ sym j.sized.gone) ∙ k.sized.gone };

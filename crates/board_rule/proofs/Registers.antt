@@ -38,7 +38,7 @@ use Rattle.board_rule.proofs.Claims.{turns_to, idle_part}
 use Rattle.board_rule.proofs.Looks.{home_live}
 use Rattle.board_words.proofs.Asked.{asked_by_home, is_home-some}
 
--- a site's word tells of its row where that is shown
+-- A site's word with a row is also its word with an equal row.
 pub word_row : {w : ℕ} {b : Bool} {c : Load} {r r' : Row} {m : ℕ} → r ≡ r' → IsSiteWord w b c r m → IsSiteWord w b c r' m
 word_row {w = w} {b = b} {c = c} {m = m} same word = subst (λ (r : Row). IsSiteWord w b c r m) same word
 

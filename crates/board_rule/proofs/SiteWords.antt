@@ -180,7 +180,7 @@ requested_word w n b c c' r m m' x shift inner i =
       word_is = omega arith;
     }
 
--- one that was reserved is inside, or landing
+-- A hart that was reserved is inside, or landing.
 pub entered_word : (w : ℕ) (b : Bool) (c c' d : Load) (r : Row) (m m' x : ℕ) → Shifts c c' (weight (Reserved x)) d → Comes d m m' → IsSiteWord w b c r m → IsSiteWord w b c' (record r { wishes = r.wishes - 1 }) m'
 entered_word w b c c' d r m m' x shift comes i =
     let a = i.wishes in let is = i.word_is in let one = i.claimed in let sealed = i.sealed in
@@ -196,7 +196,7 @@ entered_word w b c c' d r m m' x shift comes i =
       word_is = omega arith;
     }
 
--- one that was inside is leaving, or was not counted
+-- A hart that was inside is leaving, or wasn't counted.
 pub yielded_word : (w : ℕ) (b : Bool) (c c' d : Load) (r : Row) (m m' x : ℕ) → Shifts c c' no_load d → Goes d m m' → IsSiteWord w b c r m → IsSiteWord w b c' r m'
 yielded_word w b c c' d r m m' x shift goes i =
     let a = i.wishes in let is = i.word_is in let one = i.claimed in let sealed = i.sealed in

@@ -24,6 +24,6 @@ unwanted Live false = refl
 unwanted Gone true = refl
 unwanted Gone false = refl
 
--- the word of a site with no wish wants no hart
+-- The word of a site with no wish wants no hart.
 pub is_wanted-site_word : (r : Row) (b : Bool) → r.wishes ≡ 0 → is_wanted (site_word r b) ≡ false
 is_wanted-site_word r b none = let P : ℕ → Type 0 = λ w. is_wanted (stage_bits r.stage + closing_bit b + 256 * w) ≡ false in subst P (sym none) (unwanted r.stage b)

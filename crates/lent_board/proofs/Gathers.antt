@@ -1,4 +1,4 @@
--- What a view has taken in.
+-- What a view has after joins.
 use Rattle.std.proofs.Common.{◌≡◌, ◌≢◌, ℕ, zero, suc, ◌+◌, ◌-◌, ◌<◌, ◌≤◌, nat_le, Bool, true, false, not, cond, if◌then◌else◌, ◌||◌, ◌==◌, eq-eqb, eqb, List, [], ◌∷◌, length, take, get_or, slice_index_or, refl, sym, ap, ◌∙◌, subst, arith}
 use mathlib.Core.Option.{some}
 use mathlib.Core.Logic.{dite}
@@ -61,7 +61,7 @@ right_of : (a b : Bool) → b ≡ true → (a || b) ≡ true
 right_of true b e = refl
 right_of false b e = e
 
--- what either knew to be gone is known
+-- A site that either view knew to be gone is known to be gone.
 union-left : (f g : List Bool) (x : ℕ) → is_in f x ≡ true → is_in (union f g) x ≡ true
 union-left [] g x is = absurd (cc)
 union-left (a ∷ f) [] x is = is
@@ -91,7 +91,7 @@ fits_joined v w same a b = record {
   base = a.base;
 }
 
--- one more seat is taken in
+-- One more seat is joined in.
 pub has_more : (v w u : View) (all : List HartSeat) (n m : ℕ) → u ≡ joined_view v w → m ≡ n + 1 → HasFrom v all m → ((d : HartSeat) → (w.hart ≡ n + 1) × (w ≡ (slice_index_or all n d).seat.me.0)) → HasFrom u all n
 has_more v w u all n m is next old new i d low high = let P : View → Type 0 = λ z. HasOne z (i + 1) (slice_index_or all i d).seat.me.0 in subst P (sym is) (dite (ℕ_discrete i n)
     (λ z. let e = new d in
@@ -111,7 +111,7 @@ pub all_ended : (p : Plan) (v : View) (others : List HartSeat) (d : HartSeat) �
 all_ended p v others d count has h low lt = let o = has (h - 1) d (omega arith) (omega arith) in let m = total-one (ended_as h) v.ended o.at record { hart = h - 1 + 1; mine = (slice_index_or others (h - 1) d).seat.me.0.mine; places = (slice_index_or others (h - 1) d).seat.me.0.places } o.one in
     let one : one_if (eqb (h - 1 + 1) h) ≡ 1 = ap one_if (eq-eqb (h - 1 + 1) h (omega arith)) in omega arith
 
--- a hart registers a site no more often than all do
+-- A hart registers a site at most as often as all harts together.
 registers-fewer : (x h : ℕ) (es : List Entry) → registers x (made_by h es) ≤ registers x es
 registers-fewer x h es = let f : Entry → ℕ = λ e. cond (if site_of e == x then is_register e else false) 1 0 in let both = sum_by-filter_both (λ (e : Entry). hart_of e == h) (λ (e : Entry). not (hart_of e == h)) (λ _. refl) f es in omega arith
 

@@ -75,7 +75,7 @@ skipped_else p t u es e s r n up old = let z = skips-other s es e n in let f = o
   left_out = λ g h. ⊎_elim (λ k. inl (z ∙ k)) (λ y. inr (up y)) (old.left_out g h);
 }
 
--- the parent of what is swept with a site around it is swept
+-- The parent of a site that is skipped with a site around it is gone.
 covered_parent : (p : Plan) → IsPlan p → (t : TableState) (e : Entry) (s : ℕ) → Fits p t → IsAllowed p t e → IsSite p s → s ≢ site_of e → covers p e s ≡ true → HasGoneParent p (effect_of p t e) s
 covered_parent p plan t (Register h x) s fits a site n c = absurd (cc)
 covered_parent p plan t (Request h x k) s fits a site n c = absurd (cc)
@@ -128,7 +128,7 @@ legal_begins p plan es t is s site =
     over_of Live e some = absurd (let m = (legal_skips p plan es t is s site).not_yet (λ q. cc) in let w : unregisters s es ≡ 0 = (rows_tell p plan es t is s site).went ∙ ap (λ (x : Stage). if (is_gone x && is_some (row t s).home) then 1 else 0) e in omega arith)
     over_of Gone e some = e
 
--- a site that nobody registered asked for nothing
+-- A site that was never registered requested nothing.
 askless_here : (p : Plan) (t : TableState) (e : Entry) → IsAllowed p t e → ((row t (site_of e)).stage ≡ New → row t (site_of e) ≡ blank) → ((row t (site_of e)).stage ≡ Live → is_some (row t (site_of e)).home ≡ true)
     → (is_some (row t (site_of e)).home ≡ false → ((row t (site_of e)).wishes ≡ 0) × ((row t (site_of e)).asked ≡ 0)) → is_some (row_after t e).home ≡ false → ((row_after t e).wishes ≡ 0) × ((row_after t e).asked ≡ 0)
 askless_here p t (Register h s) a new live old none = absurd (cc)

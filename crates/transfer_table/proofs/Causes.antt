@@ -1,4 +1,4 @@
--- What it means that there is no cause.
+-- What the absence of a cause means.
 use Rattle.std.proofs.Common.{◌≡◌, Bool, true, false, List, ◌∷◌, Option, Some, None, refl}
 use Rattle.std.specs.Option.{option_map}
 use Rattle.transfer_table.specs.Causes.{cause_if, first_cause}

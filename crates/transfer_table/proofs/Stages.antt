@@ -48,7 +48,7 @@ not_around p t h s low live own new = let Q : ℕ → Type 0 = λ y. (row t y).s
 owner_live : (p : Plan) → IsPlan p → (es : List Entry) (t : TableState) → Reaches p es t → (h : ℕ) → IsHart p h → 1 ≤ owner t h → (row t (owner t h)).stage ≡ Live
 owner_live p plan es t leads h hart low = ⊎_elim (λ z. absurd (omega arith)) (λ r. r.1) (legal_owner p plan es t leads h hart)
 
--- the parent of a site that is swept with a site around it is swept too
+-- The parent of a site that is skipped with a site around it isn't new.
 swept_parent : (p : Plan) → IsPlan p → (t : TableState) (e : Entry) (c s : ℕ) → Fits p t → IsAllowed p t e → IsSite p c → parent p c ≡ s → IsSite p s → covers p e c ≡ true → c ≢ site_of e → (row (effect_of p t e) s).stage ≡ New → ⊥
 swept_parent p plan t (Register h x) c s fits a child up site cov n new = cc
 swept_parent p plan t (Request h x k) c s fits a child up site cov n new = cc
@@ -60,7 +60,7 @@ swept_parent p plan t (Skip h x) c s fits a child up site cov n new =
     let w : is_within p x s ≡ true = ap (is_within p x) (sym up) ∙ (sym (within-step p plan x c above child.1) ∙ cov) in
     let g : (row (effect_of p t (Skip h x)) s).stage ≡ Gone = ap (λ (r : Row). r.stage) (row-effect_covered p t (Skip h x) s fits site w) in cc
 
--- what is new now was new before
+-- A site that is new was new before.
 new_before : (p : Plan) (t : TableState) (e : Entry) (s : ℕ) → Fits p t → IsAllowed p t e → IsSite p s → (row (effect_of p t e) s).stage ≡ New → (row t s).stage ≡ New
 new_before p t e s fits a site new = at_site p t e s (λ x r. r.stage ≡ New → (row t x).stage ≡ New) fits a site (here e) (λ _ _ z. z) (λ _ _ z. absurd (cc)) new
   where
@@ -94,7 +94,7 @@ legal_new_children p plan es t is = lasts p plan (λ _ u. ChildrenAreNew p u) (�
     (λ n cov up' z. absurd (swept_parent p plan u e c s fits a child up' site cov n new))
     up (f s c site child up was)) es t is
 
--- what a skip covers was new
+-- A site that a skip covers was new.
 pub covered_new : (p : Plan) → IsPlan p → (es : List Entry) (t : TableState) (e : Entry) → Reaches p es t → IsAllowed p t e → (y : ℕ) → IsSite p y → covers p e y ≡ true → (row t y).stage ≡ New
 covered_new p plan es t (Register h x) leads a y site cov = absurd (cc)
 covered_new p plan es t (Request h x k) leads a y site cov = absurd (cc)
@@ -138,11 +138,11 @@ gone_after p t (Yield h s) a z = z
 gone_after p t (Unregister h s) a z = refl
 gone_after p t (Skip h s) a z = refl
 
--- what is gone stays gone
+-- A gone site stays gone.
 pub gone_lasts : (p : Plan) (t : TableState) (e : Entry) → Fits p t → IsAllowed p t e → (s : ℕ) → IsSite p s → (row t s).stage ≡ Gone → (row (effect_of p t e) s).stage ≡ Gone
 gone_lasts p t e fits a s site z = at_site p t e s (λ x r. (row t x).stage ≡ Gone → r.stage ≡ Gone) fits a site (gone_after p t e a) (λ _ _ y. y) (λ _ _ _. refl) z
 
--- an entry that skips nothing leaves the children of gone sites gone
+-- An entry that skips nothing leaves the children of gone sites gone.
 gone_plain : (p : Plan) (t : TableState) (e : Entry) → Fits p t → IsAllowed p t e → is_skip e ≡ false → ((y : ℕ) → covers p e y ≡ false) → ChildrenAreGone p t → ChildrenAreGone p (effect_of p t e)
 gone_plain p t e fits a plain none f s c site child up gone = gone_lasts p t e fits a c child
     (at_site p t e s (λ x r. x ≡ s → r.stage ≡ Gone → (row t c).stage ≡ Gone) fits a site
@@ -150,7 +150,7 @@ gone_plain p t e fits a plain none f s c site child up gone = gone_lasts p t e f
     (λ _ _ _ g. f s c site child up g)
     (λ _ cov _ _. absurd (let w : true ≡ false = sym cov ∙ none s in cc)) refl gone)
 
--- and so does a skip
+-- A skip leaves the children of gone sites gone.
 gone_skipped : (p : Plan) → IsPlan p → (t : TableState) (h x : ℕ) → Fits p t → IsAllowed p t (Skip h x) → ChildrenAreGone p t → ChildrenAreGone p (effect_of p t (Skip h x))
 gone_skipped p plan t h x fits a f s c site child up gone = split (is_within p x s) refl
   where

@@ -1,4 +1,4 @@
--- What a change of the ring keeps: who is ahead of a child, and that each child has one place.
+-- A change of the ring keeps who is ahead of a child, and that each child has one place.
 use Rattle.std.proofs.Common.{◌≡◌, ◌≢◌, ℕ, ◌+◌, ◌-◌, ◌≤◌, Bool, true, false, ◌||◌, not, ◌==◌, nat_lt, if◌then◌else◌, List, [], ◌∷◌, ◌++◌, length, refl, sym, ap, subst, ◌∙◌, arith, ne_eqb}
 use Rattle.std.specs.List.{filter}
 use Rattle.std.proofs.lemmas.Bool.{eqb-true}
@@ -142,7 +142,7 @@ none-children x (p ∷ ps) none = at (p.child == x) (none-children x ps) none
     at true rest h = let wrong = h in cc
     at false rest h = let e = rest h in omega (arith, e)
 
--- What holds in each case of a request holds after it.
+-- A property that each case of a request has holds after the request.
 pub wishes_by_cases : (P : RingParts → Type 0) (child count : ℕ) (ring : RingParts) → P ring →
     (has_place child ring.places ≡ true → P (record ring { places = with_more child count ring.places })) →
     (has_place child ring.places ≡ false → P (record ring { places = ring.places ++ record { child = child; wishes = count } ∷ [] })) →
@@ -169,7 +169,7 @@ pub record Keeps (x : ℕ) (before after : List Place) : Type 0 where
 pub keeps_same : (x : ℕ) (ps qs : List Place) → has_place x ps ≡ true → qs ≡ ps → Keeps x ps qs
 keeps_same x ps qs has is = subst (λ (rs : List Place). Keeps x ps rs) (sym is) record { has = has; ahead = λ f. omega arith }
 
--- So it is after each callback that doesn't tell that the child goes.
+-- A child keeps its place after each callback except its own unregister.
 pub hear_keeps : (x child count : ℕ) (call : Call) (ring : RingParts) → has_place x ring.places ≡ true → (call ≡ Unregistered → child ≢ x) →
     Keeps x ring.places (ring_by call child count ring).places
 hear_keeps x child count Registered ring has stays = keeps_same x _ _ has refl
@@ -182,7 +182,7 @@ hear_keeps x child count Requested ring has stays =
 hear_keeps x child count Yielded ring has stays = keeps_same x _ _ has refl
 hear_keeps x child count Blocked ring has stays = keeps_same x _ _ has refl
 
--- After a turn of another child, that one is ahead no more.
+-- After a turn of another child, that child is no longer ahead.
 pub turn_keeps : (x y : ℕ) (ps qs : List Place) → has_place x ps ≡ true → TakesTurn ps y qs → y ≢ x →
     (has_place x qs ≡ true) × ((f : ℕ → ℕ) → f y + weigh f (ahead_of x qs) ≤ weigh f (ahead_of x ps))
 turn_keeps x y [] qs has turn other = absurd turn
