@@ -7,7 +7,7 @@ use Rattle.array_meaning.specs.Steps.{followed_by, join}
 use Rattle.array_meaning.specs.Work.{sequence_work, branches_work}
 use Rattle.array_meaning.specs.Sites.{branch_works}
 
--- the array of a name has a cell, and where there is none its length is taken as 1
+-- The array of a name has a cell: a name without an array has length 1.
 pub some_cell : (arrays : Arrays) → HaveCells arrays → (name : List ℕ) → 0 < length_of arrays name
 some_cell [] have name = omega arith
 some_cell (a ∷ more) have name = cases (name_eq a.0 name) (some_cell more have.1 name)

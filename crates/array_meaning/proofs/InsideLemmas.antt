@@ -1,4 +1,4 @@
--- What a program that is in range, with known names and indices inside, touches lies inside its arrays.
+-- A program in range, with known names and indices inside, touches only cells of its arrays.
 use Rattle.std.proofs.Common.{◌≡◌, ℕ, zero, suc, ◌+◌, ◌<◌, ◌≤◌, Bool, true, false, cond, List, [], ◌∷◌, map, Option, Some, None, ℤ, pos, negsuc, refl, ap, arith}
 use Rattle.std.specs.Prelude.{◌&&◌, ◌||◌, int_le, int_lt, nat_le, unsigned_abs, IsTrue, length}
 use Rattle.std.proofs.lemmas.Bool.{false≢true, and_parts}

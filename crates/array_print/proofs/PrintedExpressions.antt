@@ -1,4 +1,4 @@
--- What is printed of an expression spells it, with no mark that its tree doesn't need.
+-- The printed text of an expression spells it, with no mark that its tree doesn't need.
 use Rattle.std.proofs.Common.{◌≡◌, ℕ, pos, negsuc, ◌+◌, ◌≤◌, List, [], ◌∷◌, ◌++◌, Bool, true, false, nat_lt, nat_le, Some, refl, arith}
 use Rattle.std.proofs.lemmas.Bool.Decides.{nat_tests}
 use Rattle.array_tokens.specs.Lexemes.{Lexeme, name, number, sign, Spot}
@@ -19,7 +19,7 @@ pub record IsExpression (x : Expression) (m : ℕ) (s t : List Spot) : Type 0 wh
   pub d : SpellsExpression s t x
   pub few : mark_count s ≤ mark_count t + m
 
--- The same at the strength k: what an operand of that strength may be.
+-- The same at the strength k of an operand.
 data Level (x : Expression) (m k : ℕ) : List Spot → List Spot → Type 0 where
   as_factor : {s t : List Spot} → (d : SpellsFactor s t x) → mark_count s ≤ mark_count t + m → Level x m k s t
   as_term : {s t : List Spot} → k ≤ 3 → (d : SpellsTerm s t x) → mark_count s ≤ mark_count t + m → Level x m k s t
@@ -56,7 +56,7 @@ more_marks m n h (as_term b d f) = as_term b d (omega arith)
 more_marks m n h (as_sum b d f) = as_sum b d (omega arith)
 more_marks m n h (as_expr b d f) = as_expr b d (omega arith)
 
--- The same at the strength j or a greater one.
+-- The same at strength j or greater.
 record AtLeast (x : Expression) (m j : ℕ) (s t : List Spot) : Type 0 where
   k : ℕ
   bound : j ≤ k
@@ -216,6 +216,6 @@ level_cuts (Binary op x y) p =
     (operand_cuts (op_strength op + 1) (groups_right op y) y (right_enough (strength_of y) (op_strength op)) (level_cuts y p.1)) (λ rest h. tt))
     (λ s t d. binary_level op x y (parens (groups_left op x) + marks_of x) (parens (groups_right op y) + marks_of y) d)
 
--- the text of an expression becomes tokens that spell it
+-- The text of an expression becomes tokens that spell it.
 pub expression_cuts : (x : Expression) → IsPrintable x → CutsInto (expression_text x) (IsExpression x (marks_of x)) NoName
 expression_cuts x p = cuts_as (level_cuts x p) (λ s t d. let e = to_expr d in record { d = e.0; few = e.1 })

@@ -10,7 +10,7 @@ use Rattle.array_tokens.specs.declared.token.Sign.{Sign}
 use Rattle.array_tokens.specs.declared.fault.TokenFault.{TokenFault}
 use Rattle.array_print.specs.Writable.{AreNameBytes, IsName}
 
--- A name is one that texts spell, and a number is no greater than they spell.
+-- A name that texts can spell, and a number that they can spell.
 abbrev pub IsGood : Lexeme → Type 0
 IsGood (name b) = IsName b
 IsGood (number v) = v ≤ greatest_literal
@@ -112,6 +112,6 @@ ascii_good (Some at) text = tt
 whole_good : (text : List ℕ) → ResultIsGood (tokens_of text)
 whole_good text = ascii_good _ text
 
--- the tokens of a text are good
+-- The tokens of a text are good.
 pub tokens_good : (text : List ℕ) (tokens : List Spot) → tokens_of text ≡ Ok tokens → AreGood tokens
 tokens_good text tokens e = subst ResultIsGood e (whole_good text)

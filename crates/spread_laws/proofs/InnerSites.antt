@@ -1,4 +1,4 @@
--- The sites inside a construct stay as they are, and their pieces touch the same cells in both programs.
+-- The sites inside a construct stay, and their pieces touch the same cells in both programs.
 use Rattle.std.proofs.Common.{◌≡◌, ℕ, zero, suc, ◌+◌, ◌-◌, ◌*◌, ◌/◌, ◌<◌, ◌≤◌, List, [], ◌∷◌, Option, Some, None, ℤ, pos, ◌+ℤ◌, ap, ◌∙◌, subst, arith}
 use Rattle.std.specs.Prelude.{◌↔◌, unsigned_abs}
 use Rattle.std.specs.Option.{option_or}
@@ -27,7 +27,7 @@ use Rattle.spread_laws.proofs.Rounds.{both_sides, AreTracked, round_agrees, AreA
 
 -- ---- the iterations of a member
 
--- the row of an iteration is that of the member that has it
+-- The row of an iteration is that of its member.
 pub member_of : (n m j t : ℕ) → 0 < m → t < n → first_of n m j ≤ t → t < first_of n m (j + 1) → ((t + 1) * m - 1) / n ≡ j
 member_of n m j t some less from below =
     let before : n * j < (t + 1) * m = (div-lt_iff_lt-mul some).0 (omega (arith, from)) in

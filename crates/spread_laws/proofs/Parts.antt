@@ -1,4 +1,4 @@
--- Parts of two programs side by side: from related stores they lead to related ones, and enter the same sites. One lemma shows
+-- Parts of two programs side by side lead from related stores to related stores and enter the same sites. One lemma shows
 -- both, since a part is its steps together with the sites that it enters.
 use Rattle.std.proofs.Common.{◌≡◌, ℕ, zero, suc, ◌<◌, Bool, true, false, cond, [], ◌∷◌, ◌++◌, replicate, ℤ, pos, ◌+ℤ◌, refl, sym, ap, ◌∙◌, subst, arith}
 use Rattle.std.proofs.lemmas.Int.{ints}
@@ -74,7 +74,7 @@ module _ (old new : Arrays) (R : Store → Store → Type 0) where
       let next : low +ℤ pos (suc i) ≡ low +ℤ pos 1 +ℤ pos i = omega (arith, ints) in
       subst (λ x. Mirror (f x) (g x)) next (each (suc i) (omega arith))))
 
-  -- what does and enters the same may stand for another part
+  -- A part may be replaced by one that does and enters the same.
   pub same_mirror : (p q q' : Part) → q'.0 ≡ q.0 → ((t : Store) → q'.1 t ≡ q.1 t) → Mirror p q → Mirror p q'
   same_mirror p q q' steps entering m = record {
     keeps = subst (Keep old new R p.0) (sym steps) m.keeps;
