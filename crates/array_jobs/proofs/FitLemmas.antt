@@ -1,4 +1,4 @@
--- What is known of a job that is fit.
+-- Facts on a fit job.
 use Rattle.std.proofs.Common.{◌≡◌, ◌<◌, true, ◌∷◌, length, ap, ◌∙◌}
 use Rattle.std.specs.Prelude.{All}
 use Rattle.std.proofs.lemmas.Bool.{and_parts}
@@ -27,7 +27,7 @@ known arrays names around (branch_of body) vars h = sequence_known arrays names 
 known arrays names around (member_of var low high body) vars h =
     loop_known arrays names body var low high around vars (and_parts (has_known_names body names (var ∷ around)) true h).0
 
--- so what is written lies inside the arrays
+-- The job's writes lie inside the arrays.
 pub inside : (job : JobTree) → IsFit job →
     All (λ w. w.0 < length job.store) (writes_of (arrays_of job.arrays) (steps_of job.work job.vars) job.store)
 inside job fit =
@@ -36,12 +36,12 @@ inside job fit =
     = rw (names_in_of job.arrays) (known arrays (names_of job.arrays) (names_around job.vars) job.work job.vars fit.known_names) in
     rw fit.cells (writes_inside arrays (sized job fit).each (steps_of job.work job.vars) job.store visited fit.indices)
 
--- what the work leaves marked is its piece
+-- The marked cells after the work are the job's piece.
 pub marked_piece : (job : JobTree) → IsFit job →
     last_writes (marked (traced (arrays_of job.arrays) (steps_of job.work job.vars) (fresh job.store))) ≡ piece_of_job job
 marked_piece job fit = marked_last (writes_of (arrays_of job.arrays) (steps_of job.work job.vars) job.store) job.store (inside job fit)
 
--- and the number of cells stays
+-- The number of cells stays.
 pub same_cells : (job : JobTree) → IsFit job →
     length (traced (arrays_of job.arrays) (steps_of job.work job.vars) (fresh job.store)).cells ≡ cells_of (arrays_of job.arrays)
 same_cells job fit =

@@ -1,4 +1,4 @@
--- There is no fault of names, ranges and size exactly where these conditions are met.
+-- There is no fault of names, ranges and size iff these conditions hold.
 use Rattle.std.proofs.Common.{◌≡◌, ◌<◌, ◌≤◌, ℕ, ℤ, pos, negsuc, Bool, true, ◌&&◌, List, [], ◌∷◌, length, Option, None, refl, sym, ◌∙◌, arith, nat_le, unsigned_abs}
 use Rattle.std.specs.Option.{option_map}
 use Rattle.std.proofs.lemmas.Bool.{and_parts, and_from}
@@ -99,7 +99,7 @@ have_cells (d ∷ ds) h =
     let both = and_parts (is_up_to (pos 4096) d.length) (have_right_lengths ds) h in
     (some_cells d.length both.0, have_cells ds both.1)
 
--- arrays inside their limits can be walked over
+-- A program in range has arrays that can be walked through.
 pub sized_from : (p : ProgramTree) → is_in_range p ≡ true → AreSized (arrays_of p.arrays)
 sized_from p h =
     let all = and_parts (have_right_lengths p.arrays && (nat_le (length p.arrays) 64 && nat_le (cells_of (arrays_of p.arrays)) 4096)) (has_right_ranges p.body) h in

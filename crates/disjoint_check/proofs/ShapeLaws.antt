@@ -1,4 +1,4 @@
--- The shapes of the sites that unrolling gives are those of the program.
+-- The shapes that unrolling gives are those of the program's sites.
 use Rattle.std.proofs.Common.{◌≡◌, ℕ, ℤ, pos, negsuc, zero, suc, ◌≤◌, true, ◌&&◌, List, [], ◌∷◌, ◌++◌, arith, ap, sym, ◌∙◌, append_assoc, int_le, unsigned_abs}
 use Rattle.std.proofs.lemmas.List.{append-nil, map-append}
 use Rattle.std.proofs.lemmas.Bool.{and_parts}

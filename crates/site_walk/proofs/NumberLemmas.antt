@@ -1,4 +1,4 @@
--- Which array a cell belongs to.
+-- The array that a cell belongs to.
 use Rattle.std.proofs.Common.{◌≡◌, ℕ, ◌+◌, ◌-◌, ◌<◌, ◌≤◌, cond, Bool, true, false, List, [], ◌∷◌, length, Some, None, ℤ, pos, negsuc, refl, ap, ◌∙◌, arith}
 use Rattle.std.specs.Prelude.{nat_eq, nat_lt}
 use Rattle.std.proofs.lemmas.Bool.{false≢true}
@@ -25,7 +25,7 @@ in_first c l rest h = grind (arith, nat_tests)
 in_later : (c l rest n : ℕ) → cond (nat_lt c l) 0 (1 + rest) ≡ 1 + n → (l ≤ c) × (rest ≡ n)
 in_later c l rest n h = (grind (arith, nat_tests), grind (arith, nat_tests))
 
--- a cell within the array of a name belongs to it
+-- A cell within the array of a name belongs to that array.
 pub number_within : (arrays : Arrays) (name : List ℕ) (c : ℕ) → c < cells_of arrays →
     base_of arrays name ≤ c → c < base_of arrays name + length_of arrays name → array_at arrays c ≡ number_of arrays name
 number_within [] name c small low high = absurd (omega arith)
@@ -41,7 +41,7 @@ number_within (a ∷ more) name c small low high =
         later_cell c a.1 (1 + array_at more (c - a.1)) (omega arith)
         ∙ ap (λ n. 1 + n) (rest (omega arith) (omega arith) (omega arith))
 
--- and back
+-- A cell that belongs to an array is within it.
 pub within_number : (arrays : Arrays) (name : List ℕ) (c : ℕ) → c < cells_of arrays → array_at arrays c ≡ number_of arrays name →
     (base_of arrays name ≤ c) × (c < base_of arrays name + length_of arrays name)
 within_number [] name c small e = absurd (omega arith)
@@ -60,7 +60,7 @@ within_number (a ∷ more) name c small e = cases (name_eq a.0 name) (λ s l. wi
         let to = rest.1 in
         (omega arith, omega arith)
 
--- the arrays that cells belong to are there
+-- The array of a cell exists.
 pub array_there : (arrays : Arrays) (c : ℕ) → c < cells_of arrays → array_at arrays c < length arrays
 array_there [] c small = absurd (omega arith)
 array_there (a ∷ more) c small = cases (nat_lt c a.1) (λ s. array_there more (c - a.1) s) refl
