@@ -31,7 +31,7 @@ get_alike n i x = elim (cases_lt i n) [
   | inr behind ↦ (let long = length-replicate n x in get_or_past (replicate n x) i x (omega (arith, long, behind)))
 ]
 
--- A zero slot has no copy.
+-- All slots are 0: there are no copies.
 pub slots_none : (n : ℕ) → AreSlots (replicate n 0) 0
 slots_none n =
     let slots : List ℕ = replicate n 0 in
@@ -83,7 +83,6 @@ slots_more slots n number right h e =
       free = omega (arith, long, one, all);
     }
 
--- One more copy, in the slots.
 pub slots_add : (slots : List ℕ) (n m number : ℕ) → AreSlots slots n → number < length slots → get_or slots number 0 ≡ 0 → m ≡ suc n →
     AreSlots (set slots number m) m
 slots_add slots n m number right h e more = subst (λ k. AreSlots (set slots number k) k) (sym more) (slots_more slots n number right h e)
@@ -140,7 +139,6 @@ copies_more pages page slots number right h =
           ∙ sym (get_or-set_other (map (copy_at pages) slots) number i (Some page) None other ∙ copy_of pages slots i)
     ])
 
--- One more copy, in the list of copies.
 pub copies_add : {A : Type 0} (pages : List A) (page : A) (slots : List ℕ) (number m : ℕ) → AreSlots slots (length pages) → number < length slots → m ≡ suc (length pages) →
     map (copy_at (pages ++ page ∷ [])) (set slots number m) ≡ set (map (copy_at pages) slots) number (Some page)
 copies_add pages page slots number m right h more =
@@ -317,7 +315,7 @@ at_zero [] number slot h e = absurd (omega (arith, h))
 at_zero (s ∷ slots) zero slot h e = e
 at_zero (s ∷ slots) (suc number) slot h e = at_zero slots number slot (omega (arith, h)) e
 
--- the copy at a slot
+-- The copy that is read at a page's slot is the page's copy.
 pub copy_was : (pages : List Trace) (slots : List ℕ) (number slot : ℕ) (old : Trace) → AreSlots slots (length pages) → slot ≡ get_or slots number 0 →
     IsSome (get_or (map (copy_at pages) slots) number None) → old ≡ get_or pages (slot - 1) old →
     get_or (map (copy_at pages) slots) number None ≡ Some old

@@ -1,4 +1,4 @@
--- The first array in a slot, and the array of a name from it on.
+-- The first array of a slot, and the array of a name from there on.
 use Rattle.std.proofs.Common.{◌≡◌, ℕ, zero, suc, ◌+◌, ◌<◌, ◌≤◌, Bool, true, false, cond, List, [], ◌∷◌, length, map, take, drop, replicate, get_or, slice_set, refl, sym, ap, subst, ◌∙◌, arith}
 use Rattle.std.specs.Prelude.{nat_eq, unsigned_abs}
 use Rattle.std.specs.Cmp.Lexicographic.{same_text}
@@ -122,7 +122,7 @@ pub declared_within : (ds : List ArrayDecl) → HaveCells (arrays_of (map declar
 declared_within [] h = omega arith
 declared_within (d ∷ ds) h = let more = declared_within ds h.1 in let some' = h.0 in omega arith
 
--- the cells before a declaration and its own
+-- The cells before a declaration, and its own.
 pub cells_with : (ds : List ArrayDecl) (n : ℕ) (d : ArrayDecl) → n < length ds →
     cells_of (arrays_of (map declaration_of (take (suc n) ds))) ≡ cells_of (arrays_of (map declaration_of (take n ds))) + unsigned_abs (get_or ds n d).length
 cells_with [] n d h = absurd (omega arith)

@@ -53,7 +53,7 @@ over_copied store copies number page inside none same = same_trace
     (seen_added value_in (at_cell store) copies (length store) number (fresh page) (pos 0) inside none same)
     (seen_added mark_in (λ cell. false) copies (length store) number (fresh page) false inside none (λ place in_page h. get_alike (length page) place false))
 
--- No copy exists.
+-- A missing copy stays missing under a map.
 pub none_there : {A B : Type 0} (f : A → B) (o : Option A) → is_some o ≡ false → option_map f o ≡ None
 none_there f None e = refl
 none_there f (Some x) e = cc

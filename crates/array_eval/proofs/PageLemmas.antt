@@ -132,7 +132,6 @@ pub put_or_not : {E : Type 0} (count cell : ℕ) (pages : List (List ℤ)) (page
 put_or_not count cell pages page new v (Ok u) right h ok err = rw ok (still_pages count cell pages page v right h)
 put_or_not count cell pages page new v (Err e) right h ok err = rw (err, set-get_or pages (cell / 64) page) right
 
--- One more page.
 pub one_more : (pages : List (List ℤ)) (i : ℕ) (d : List ℤ) → i < length pages → cells_on (take (i + 1) pages) ≡ cells_on (take i pages) ++ get_or pages i d
 one_more pages i d h =
     ap cells_on (take_more pages i d h) ∙ cells_append (take i pages) (get_or pages i d ∷ [])
@@ -243,7 +242,7 @@ laid_all cells pages laid =
     let long = length_filled cells in
     laid ∙ take_all (64 * pages_for (length cells)) (filled cells) (omega (arith, long))
 
--- all cells are laid out
+-- All cells are laid out.
 pub laid_pages : (cells : List ℤ) (pages : List (List ℤ)) → cells_on pages ≡ take (64 * pages_for (length cells)) (filled cells) → AreWhole pages →
     length pages ≡ pages_for (length cells) → ArePages (length cells) pages
 laid_pages cells pages laid whole many =
@@ -322,7 +321,7 @@ page_seen count number pages d right h =
     ∙ ap (take 64) (drop-append-le (64 * number) view (replicate behind (pos 0)) (omega (arith, start, seen)))
     ∙ take_filled 64 behind (drop (64 * number) view) (omega (arith, start, seen, long, room, h, many))
 
--- A flag within the list.
+-- A flag within the list reads the same for either default.
 pub no_flag : (flags : List Bool) (number : ℕ) → number < length flags → get_or flags number false ≡ false → get_or flags number true ≡ false
 no_flag [] number h e = absurd (omega (arith, h))
 no_flag (f ∷ flags) zero h e = e
@@ -369,7 +368,7 @@ one_changed changed before cells cell v all h =
           all.kept number (sym (get_or-set_other changed (cell / 64) number true true other) ∙ mark) ∙ sym (other_page cells cell number v other);
     }
 
--- ---- comparing cells one after another
+-- ---- comparing cells one by one
 
 and_assoc : (a b c : Bool) → (a && (b && c)) ≡ ((a && b) && c)
 and_assoc true b c = refl
@@ -385,7 +384,6 @@ one_after [] (b ∷ ys) x y e = absurd (omega (arith, e))
 one_after (a ∷ xs) [] x y e = absurd (omega (arith, e))
 one_after (a ∷ xs) (b ∷ ys) x y e = ap (λ r. int_eq a b && r) (one_after xs ys x y (omega (arith, e))) ∙ and_assoc (int_eq a b) (store_eq xs ys) (int_eq x y)
 
--- One more cell is compared.
 pub same_next : (a b : List ℤ) (i : ℕ) → i < length a → i < length b →
     (store_eq (take i a) (take i b) && int_eq (get_or a i (pos 0)) (get_or b i (pos 0))) ≡ store_eq (take (i + 1) a) (take (i + 1) b)
 same_next a b i h k =

@@ -1,4 +1,4 @@
--- The value of a variable, by a search that may find none; and variables that lie one after another.
+-- The value of a variable, by a search that may find none; and variables in sequence.
 use Rattle.std.proofs.Common.{◌≡◌, ℕ, ◌+◌, ◌<◌, Bool, true, false, cond, List, [], ◌∷◌, ◌++◌, map, length, take, reverse, get_or, Some, None, ℤ, pos, refl, ap, ◌∙◌}
 use Rattle.std.specs.Option.{unwrap_or}
 use Rattle.std.proofs.lemmas.List.{take_more, map-append, reverse-append}
@@ -41,6 +41,5 @@ bound_outside (v ∷ more) outer name e = cases (name_eq v.0 name) (bound_outsid
 pub stacked_push : (vars : List LoopVar) (v : LoopVar) → stacked (vars ++ v ∷ []) ≡ loop_var v ∷ stacked vars
 stacked_push vars v = ap reverse (map-append loop_var vars (v ∷ [])) ∙ reverse-append (map loop_var vars) (loop_var v ∷ [])
 
--- One more of the variables.
 pub stacked_more : (vars : List LoopVar) (n : ℕ) (d : LoopVar) → n < length vars → stacked (take (n + 1) vars) ≡ loop_var (get_or vars n d) ∷ stacked (take n vars)
 stacked_more vars n d h = ap stacked (take_more vars n d h) ∙ stacked_push (take n vars) (get_or vars n d)

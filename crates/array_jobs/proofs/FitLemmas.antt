@@ -16,11 +16,11 @@ use Rattle.array_jobs.specs.PieceParts.{piece_of_job}
 use Rattle.array_eval.specs.Traces.{fresh, traced, marked}
 use Rattle.array_eval.proofs.TraceLemmas.{cells_after, marked_last}
 
--- the arrays have cells, and not too many
+-- The arrays have cells, at most 4,096.
 pub sized : (job : JobTree) → IsFit job → AreSized (arrays_of job.arrays)
 sized job fit = sized_in_range (program_in job) fit.ranges
 
--- the walk visits known arrays alone
+-- The walk visits only known arrays.
 pub known : (arrays : _) (names around : _) (work : WorkTree) (vars : _) → has_known_names (statements_of work) names around ≡ true →
     are_known names (walk arrays (steps_of work vars)) ≡ true
 known arrays names around (branch_of body) vars h = sequence_known arrays names body around vars h

@@ -47,7 +47,7 @@ pub clear_first : (b c : Bool) → (not b && c) ≡ true → (b ≡ false) × (c
 clear_first false c h = (refl, h)
 clear_first true c h = cc
 
--- ranges and declarations have no mark and no brace
+-- Ranges and declarations have no mark and no brace.
 bound_clear : {s t : List Spot} {v : ℤ} (d : SpellsBound s t v) (rest : List Bool) → no_true rest ≡ true → no_true (bound_beyond d ++ rest) ≡ true
 bound_clear plain_bound rest h = h
 bound_clear negative_bound rest h = h
@@ -137,7 +137,7 @@ few_behind m (t ∷ ts) k h =
     let q = clear_first (is_mark t.lexeme && nat_le 64 m) (no_true (marks_beyond (marks_after m t.lexeme) ts)) h in
     few_behind (marks_after m t.lexeme) ts (few_after (is_mark t.lexeme) m k q.0) q.1
 
--- an outermost expression
+-- the number of marks in an outermost expression
 abbrev pub whole_marks : {s t : List Spot} {x : Expression} → SpellsExpression s t x → ℕ
 whole_marks {s} {t} d = marks_behind 0 (between s t)
 

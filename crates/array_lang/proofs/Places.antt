@@ -51,7 +51,7 @@ brace_over depth = grind (arith, nat_tests)
 deeper : (depth : ℕ) → nat_le 32 depth ≡ false → depth + 1 ≤ 32
 deeper depth h = grind (arith, nat_tests)
 
--- a token and where the scan stands after it
+-- The scan's state after one token.
 moves : (r r' : Reach) (depth depth' : ℕ) (t : Spot) (ts : List Spot) → reach_after r t.lexeme ≡ r' → depth_after depth t.lexeme ≡ depth' → nested_at r depth (t ∷ ts) ≡ first_over (is_over depth' r') (nested_at r' depth' ts)
 moves r r' depth depth' t ts e f =
     ap (λ q. first_over (is_over (depth_after depth t.lexeme) q) (nested_at q (depth_after depth t.lexeme) ts)) e

@@ -16,7 +16,7 @@ some_cell (a ∷ more) have name = cases (name_eq a.0 name) (some_cell more have
     cases true rest = have.0
     cases false rest = rest
 
--- the branches' works, one after another, are the work of the `par`
+-- The branches' works in sequence are the work of the `par`.
 pub join_branches : (branches : Sequences) (vars : Vars) → join (branch_works branches vars) ≡ branches_work branches vars
 join_branches no_more vars = refl
 join_branches (beside first rest) vars = ap (followed_by (sequence_work first vars)) (join_branches rest vars)

@@ -37,7 +37,7 @@ module _ (arrays : Arrays) (cell : ℕ) where
   abbrev Meets : Bool → Bool → Steps → Type 0
   Meets w r p = (changes p && (r || w) || reads p && w) ≡ true
 
-  -- some piece does
+  -- some piece clashes with earlier ones
   record Met (w r : Bool) (ps : List Steps) : Type 0 where
     pub j : ℕ
     pub piece : Steps
@@ -156,7 +156,7 @@ module _ (arrays : Arrays) (cell : ℕ) where
   pub passes_of : (ps : List Steps) → IsClash arrays ps cell → overlaps arrays false false ps cell ≡ true
   passes_of ps c = ⊎_elim (λ h. h) (λ h. absurd (no_clash_of ps h c)) (either (overlaps arrays false false ps cell))
 
--- The first number that passes.
+-- the first number that passes, or none if none does
 abbrev IsFirst : (ℕ → Bool) → ℕ → ℕ → Option ℕ → Type 0
 IsFirst test i k None = (c : ℕ) → i ≤ c → c < i + k → test c ≡ false
 IsFirst test i k (Some told) = (told < i + k) × (test told ≡ true) × ((c : ℕ) → i ≤ c → c < told → test c ≡ false)

@@ -82,7 +82,7 @@ or_false false b e = (refl, e)
 -- ---- expressions
 
 module _ (arrays : Arrays) (sizes : (name : List ℕ) → 0 < length_of arrays name) where
-  -- an index that isn't dynamic needs no store
+  -- An index that isn't dynamic needs no store.
   pub static_value : (vars : Vars) (e : Expression) (s t : Store) → is_dynamic e ≡ false → value_of arrays vars e s ≡ value_of arrays vars e t
   static_value vars (Number n) s t h = refl
   static_value vars (Var name) s t h = refl

@@ -150,8 +150,8 @@ module _ (arrays : Arrays) (sizes : (name : List ℕ) → 0 < length_of arrays n
       last_value_append (piece_of arrays b s) _ k
       ∙ rw (last_value_pieces order s k, last_value_last (writes_of arrays b s) k) (sym (last_value_append (writes_of arrays b s) _ k))
 
-  -- the pieces of those that are apart, each run from the one store, and merged in any order, are the last
-  -- values of what they write one after another
+  -- Pieces of parts that are apart, each run from the one store and merged in any order, are the last values of what the parts
+  -- write in sequence.
   pub any_order : (bs order : List Steps) (s : Store) → IsApart arrays bs → HaveSameMembers order bs →
       merged (map (λ b. piece_of arrays b s) order) [] ≡ last_writes (writes_of arrays (join bs) s)
   any_order bs order s apart same =

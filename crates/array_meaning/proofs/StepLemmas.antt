@@ -38,7 +38,7 @@ exec_followed_by arrays a b store =
     ap (λ ws. after ws store) (writes_followed_by arrays a b store)
     ∙ after_append (writes_of arrays a store) (writes_of arrays b (after (writes_of arrays a store) store)) store
 
--- a choice runs one of its sides
+-- A choice runs one of its sides.
 pub exec_choose : (arrays : Arrays) (line : ℕ) (vars : Vars) (test : _) (left right : Steps) (store : Store) →
     exec arrays (Choose line vars test left right Done) store
     ≡ cond (holds (value_of arrays vars test store)) (exec arrays left store) (exec arrays right store)

@@ -78,7 +78,7 @@ cuts_as f g = record {
   cuts = λ rest h at line. let x = f.cuts rest h at line in record { last = x.last; tokens = x.tokens; spells = λ t. g (x.tokens ++ t) t (x.spells t); is = x.is };
 }
 
--- A text that allows more rests behind it.
+-- The condition on the rest may be strengthened.
 pub weaker : {R : List Spot → List Spot → Type 0} {Safe Then' : List ℕ → Type 0} {text : List ℕ} → ((rest : List ℕ) → Then' rest → Safe rest) → CutsInto text R Safe → CutsInto text R Then'
 weaker f g = record { ascii = g.ascii; cuts = λ rest h. g.cuts rest (f rest h) }
 

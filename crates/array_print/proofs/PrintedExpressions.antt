@@ -66,7 +66,7 @@ in_parentheses : {x : Expression} {m k j : ℕ} {s t : List Spot} → Then (Then
 in_parentheses {j} (joined (joined one d) one) =
     let e = to_expr d in record { k = j; bound = omega arith; level = as_factor (grouped e.0) (omega (arith, e.1)) }
 
--- an operand, in parentheses or not
+-- An operand, with parentheses or without.
 operand_cuts : (j : ℕ) (b : Bool) (x : Expression) → (b ≡ false → j ≤ strength_of x) → CutsInto (expression_text x) (Level x (marks_of x) (strength_of x)) NoName → CutsInto (grouped_text b (expression_text x)) (AtLeast x (parens b + marks_of x) j) NoName
 operand_cuts j false x h f = cuts_as f (λ s t d. record { k = strength_of x; bound = h refl; level = more_marks (marks_of x) (0 + marks_of x) (omega arith) d })
 operand_cuts j true x h f =

@@ -27,7 +27,7 @@ FrontIsGood (piece l) = IsGood l
 FrontIsGood no_token = Unit {0}
 FrontIsGood too_large = Unit {0}
 
--- either side of a choice
+-- Either side of a choice.
 either : {X : Type 0} (P : X → Type 0) (b : Bool) (x y : X) → (b ≡ true → P x) → (b ≡ false → P y) → P (cond b x y)
 either P true x y f g = f refl
 either P false x y f g = g refl

@@ -30,7 +30,6 @@ one_after (a ∷ xs) [] x y e = absurd (omega (arith, e))
 one_after (a ∷ xs) (b ∷ ys) x y e =
     ap (λ r. nat_eq a b && r) (one_after xs ys x y (omega (arith, e))) ∙ and_assoc (nat_eq a b) (pointwise nat_eq xs ys) (nat_eq x y)
 
--- One more byte is compared.
 pub byte_next : (a b : List ℕ) (i : ℕ) → i < length a → i < length b →
     (pointwise nat_eq (take i a) (take i b) && nat_eq (get_or a i 0) (get_or b i 0)) ≡ pointwise nat_eq (take (i + 1) a) (take (i + 1) b)
 byte_next a b i h k =

@@ -1,4 +1,4 @@
--- Hart 0's seat takes in another hart's.
+-- Hart 0's seat takes in another hart's seat.
 use Rattle.std.proofs.Common.{◌≡◌, ◌≢◌, ℕ, ◌+◌, Bool, true, false, ne_eqb, List, [], ◌∷◌, ◌++◌, set, refl, sym, ap, ◌∙◌, subst, arith, Option, ⊎_elim}
 use mathlib.Core.Option.{some}
 use lib.ListN.{get_elem?}
@@ -56,7 +56,7 @@ join_keeps lay p s k id other v w at apart there zeroth seat idle seat_w ready_w
     let mid : List View = set s.views id both in
     let vs : List View = set mid other spent_view in
     let at_other : get_elem? mid other ≡ some w = set_else s.views id other both apart ∙ there in
-    -- a count that is 0 of the spent view and of the other
+    -- A sum to which the spent view and the other view add 0.
     let same : (f : View → ℕ) → f both ≡ f v → f w ≡ 0 → f spent_view ≡ 0 → total f vs ≡ total f s.views
     = λ f a b c. let x = total-same f s.views id v both at a in let y = total-set f mid other w spent_view at_other in omega arith in
     let w_hart : w.hart ≢ 0 = λ z. other_hart lay p s k id other v w at seat apart there (z ∙ sym zeroth) in

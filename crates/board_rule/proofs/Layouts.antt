@@ -65,7 +65,7 @@ few_insiders Guests p plan es t leads y site = let few = (guests_change p es t p
 
 -- ---- an Enter
 
--- What a hart that comes in has still to do at the site is d. The insiders were m and are m': it is among them, or landing.
+-- A hart that comes in has d left to do at the site. The insiders were m and are m': the hart is among them, or landing.
 pub record Comes (d : Load) (m m' : ℕ) : Type 0 where
   pub claims : d.claims ≡ 0
   pub seals : d.seals ≡ 0
@@ -92,7 +92,7 @@ enter_right Guests p es t v x site last = tt
 
 -- ---- a Yield
 
--- What a hart that goes out has still to do at the site is d. It was among the insiders, and is leaving, or it wasn't counted.
+-- A hart that goes out has d left to do at the site. It was an insider and is leaving, or it wasn't counted.
 pub record Goes (d : Load) (m m' : ℕ) : Type 0 where
   pub claims : d.claims ≡ 0
   pub seals : d.seals ≡ 0

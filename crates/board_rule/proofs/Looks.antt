@@ -1,4 +1,4 @@
--- A step that leaves the words: a look.
+-- A look: a step that changes no word.
 use Rattle.std.proofs.Common.{◌≡◌, ◌≢◌, ℕ, zero, suc, ◌/◌, ◌%◌, ◌<◌, ◌≤◌, Bool, true, false, eqb, if◌then◌else◌, ◌||◌, ◌&&◌, not, ◌==◌, eq-eqb, ne_eqb, List, length, set, slice_index, refl, sym, ap, ◌∙◌, subst, arith, Some, ⊎_elim, length-set}
 use mathlib.Core.Option.{some}
 use mathlib.Core.Logic.{dite}
@@ -41,7 +41,7 @@ use Rattle.board_words.proofs.Bits.{is_live-stage}
 use Rattle.guest_counts.proofs.Changes.{guests_change}
 use Rattle.board_rule.proofs.Fields.{owners_small, field_is}
 
--- a plan has at most 16 harts
+-- A plan has at most 16 harts.
 pub few_harts : (p : Plan) → IsPlan p → p.harts ≤ 16
 few_harts p plan = let few = plan.few_harts in omega arith
 
@@ -59,7 +59,7 @@ pub home_live : (lay : Layout) (p : Plan) (s : St) (k : Stands lay p s) (id : �
 home_live lay p s k id v x at seat home = let know = (k.views id v at seat).sites in let site = know.homes_in x home in
     let r = both (is_live (row k.table x).stage) (is_home (row k.table x).home v.hart) (sym (know.homes x site) ∙ home) in (site, is_live-stage (row k.table x).stage r.0, r.1)
 
--- the seat knows other sites, or has one more look, and no word has changed
+-- The seat knows more of the sites, or has one more look, and no word has changed.
 pub look_step : (lay : Layout) (p : Plan) (s : St) (k : Stands lay p s) (id : ℕ) (v : View) (m : Marks) (ls : List Look) (i n : ℕ) → get_elem? s.views id ≡ some v → IsSeat v → v.doing ≡ Idle → n ≡ slice_index s.words i
     → KnowsSites p k.table v.hart m k.closing (guests lay p k.table s.views)
     → Keeps lay p s k (after_step s i n id (record v { marks = m; looks = ls }))

@@ -25,7 +25,7 @@ use Rattle.board_words.proofs.Totals.{total-same}
 use Rattle.board_words.proofs.Places.{place_at}
 use Rattle.board_rule.proofs.Loads.{load-same}
 
--- the closing bits, where that of x is b
+-- the closing bits, with bit b for x
 abbrev pub closing_with : (ℕ → Bool) → ℕ → Bool → ℕ → Bool
 closing_with c x b y = if y == x then b else c y
 
@@ -70,7 +70,7 @@ guests_fall lay p t vs id v w x c at elsewhere fall y closing none = dite (ℕ_d
     (λ z. let le = fall (ap c (sym z) ∙ closing) in let n : guests lay p t vs x ≡ 0 = ap (guests lay p t vs) (sym z) ∙ none in ap (guests lay p t (set vs id w)) z ∙ (let r : guests lay p t (set vs id w) x ≡ 0 = omega arith in r))
     (λ n. guests-load lay p t vs (set vs id w) y (load-same y vs id v w at (elsewhere y n)) ∙ none)
 
--- the seat id knows w, and the word of x is n
+-- The seat gets the view w, and the word of x becomes n.
 pub site_step : (lay : Layout) (p : Plan) (s : St) (k : Stands lay p s) (id : ℕ) (v : View) (d : Doing) (m : Marks) (ls : List Look) (x n : ℕ) (b : Bool) → get_elem? s.views id ≡ some v → IsSeat v → IsSite p x
     → ((y : ℕ) → y ≢ x → part d y ≡ part v.doing y)
     → (k.closing x ≡ true → b ≡ true)

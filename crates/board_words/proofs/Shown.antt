@@ -43,7 +43,7 @@ pub shown-never : (es : List Entry) (t : TableState) (x : ℕ) → has_begun es 
 shown-never es t x b = rw b refl
 
 module _ (p : Plan) (plan : IsPlan p) (es : List Entry) (t : TableState) (leads : Reaches p es t) where
-  -- a live site has begun
+  -- A live site has begun.
   live_begun : (x : ℕ) → IsSite p x → (row t x).stage ≡ Live → has_begun es x ≡ true
   live_begun x site live = begun_some (registers x es + skips x es) (let r = ((legal_begins p plan es t leads x site).live live).0 in omega arith)
 
@@ -59,7 +59,7 @@ module _ (p : Plan) (plan : IsPlan p) (es : List Entry) (t : TableState) (leads 
   pub row-gone : (x : ℕ) → (shown es t x).stage ≡ Gone → (row t x).stage ≡ Gone
   row-gone x gone = by_begun es x (λ b. ap (λ (r : Row). r.stage) (sym (shown-begun es t x b)) ∙ gone) (λ b. absurd (let z : (shown es t x).stage ≡ New = ap (λ (r : Row). r.stage) (shown-never es t x b) in cc))
 
-  -- a child of a hart's owner that is shown as new is new
+  -- A child of a hart's owner that is shown as new is new.
   pub row-new : (h x : ℕ) → IsHart p h → IsSite p x → owner t h ≡ parent p x → (shown es t x).stage ≡ New → (row t x).stage ≡ New
   row-new h x hart site own new = by_begun es x (λ b. ap (λ (r : Row). r.stage) (sym (shown-begun es t x b)) ∙ new) (λ b. by_stage (row t x).stage refl (none_begun (registers x es + skips x es) b))
     where

@@ -22,7 +22,7 @@ pub numbers_plain : (options : List Given) → AreNumbers options → ArePlain o
 numbers_plain [] are = tt
 numbers_plain (o ∷ more) are = (digits_plain o.1 are.0, numbers_plain more are.1)
 
--- A name with a value is the name of some option.
+-- If a value is found for a name, an option has the name.
 value_cases : (b : Bool) (name : Text) (o : Given) (more : List Given) (value : Text) → option_map (λ (x : Given). x.1) (cond b (Some o) (find (λ x. bytes_eq x.0 name) more)) ≡ Some value
     → (value_of name more ≡ Some value → 1 ≤ times name more) → 1 ≤ cond b (1 + times name more) (times name more)
 value_cases true name o more value e next = omega arith

@@ -121,7 +121,7 @@ module _ (harts : ℕ) (rows : List HartRows) (count : length rows ≡ harts) (f
   is_at : (h : ℕ) (there : h < length (map kin rows)) → IsAt harts harts (map home_names rows) h (get_or rows h (some_at h there))
   is_at h there = ats h (some_at h there) (subst (λ n. h < n) all_kin there)
 
-  -- the ends of one hart
+  -- The ends of one hart.
   ends_of : (h r : ℕ) (there : h < length (map kin rows)) → r < 3 * length (map kin rows) → r < length (get_or rows h (some_at h there)).ends.items
   ends_of h r there below =
       let q = get_or rows h (some_at h there) in

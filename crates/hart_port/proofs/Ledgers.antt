@@ -13,7 +13,7 @@ use Rattle.hart_port.specs.Ledger.{LedgerState, IsLedger}
 pub owner_inside : (l : LedgerState) → IsLedger l → (h : ℕ) → IsHart l.plan h → owner l.state h ≤ site_count l.plan
 owner_inside l is h hart = ⊎_elim (λ z. omega arith) (λ r. let high = r.0.1 in high) (legal_owner l.plan is.plan l.entries l.state is.reached h hart)
 
--- up to four owners fit in 48 bits
+-- Up to four owners fit in 48 bits.
 small : (os : List ℕ) → ((i : ℕ) → i < length os → get_or os i 0 ≤ 4095) → length os ≤ 4 → owner_digits os < 2 ^ 48
 small [] f few = omega arith
 small (a ∷ []) f few = let x : a ≤ 4095 = f 0 (omega arith) in omega arith

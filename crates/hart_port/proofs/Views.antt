@@ -18,7 +18,7 @@ use Rattle.hart_port.proofs.Homes.{length-homes_of, is_in-homes_of, homes_of-reg
 pub first : (p : Plan) → p.harts ≡ 1 → IsHart p 0
 first p one = omega arith
 
--- the view of the only hart of a ledger of the same plan, with sets of the right size
+-- The view of the only hart of a ledger with the same plan, and sets of the right size.
 pub is_view : (l after : LedgerState) (closed empty gone : List Bool) → IsLedger after → after.plan ≡ l.plan → l.plan.harts ≡ 1
     → length closed ≡ site_count l.plan + 1 → length empty ≡ site_count l.plan + 1 → length gone ≡ site_count l.plan + 1 → IsPortView (view_of after closed empty gone)
 is_view l after closed empty gone is same before c e g = let fits = legal_position after.plan is.plan after.entries after.state is.reached in
@@ -36,7 +36,7 @@ is_view l after closed empty gone is same before c e g = let fits = legal_positi
       whole = λ _. record { one = one; state = after.state; reached = is.reached; owner = refl };
     }
 
--- the view of a port whose type keeps what it should
+-- The view of a port with the invariant of its type.
 pub kept_view : (l : LedgerState) (closed empty gone : List Bool) → IsPlain l closed empty gone → IsPortView (view_of l closed empty gone)
 kept_view l closed empty gone is = is_view l l closed empty gone is.ledger refl is.one is.closed_size is.empty_size is.gone_size
 
@@ -67,7 +67,7 @@ pub may_yield : (l : LedgerState) → IsLedger l → l.plan.harts ≡ 1 → 0 < 
 may_yield l is one low guest = let live = live_home l.plan is.plan l.entries l.state is.reached 0 (owner l.state 0) (first l.plan one) (omega arith) refl in
     (first l.plan one, (omega arith, owner_inside l is 0 (first l.plan one)), refl, (λ home. let here : lives_with l.state (owner l.state 0) 0 ≡ true = rw (live, home) refl in let not_here = sym (is_in-homes_of l.state 0 (owner l.state 0) (omega arith)) ∙ guest in cc))
 
--- the view after each kind of entry
+-- The view after each kind of entry.
 pub view-register : (l : LedgerState) (closed empty gone : List Bool) (s : ℕ) → IsLedger l → IsAllowed l.plan l.state (Register 0 s)
     → view_of (with_entry l (Register 0 s)) (without closed s) (without empty s) gone ≡ registered (view_of l closed empty gone) s
 view-register l closed empty gone s is a = let there = owner-effect_same l.plan l.state (Register 0 s) (legal_position l.plan is.plan l.entries l.state is.reached) a in

@@ -1,4 +1,4 @@
--- What the bits of a site word are.
+-- The bits of a site's word.
 use Rattle.std.proofs.Common.{◌≡◌, ◌≢◌, ℕ, ◌+◌, ◌*◌, ◌%◌, Bool, true, false, refl, sym, subst, arith, eq-eqb}
 use Rattle.transfer_table.specs.declared.entry.Row.{Row}
 use Rattle.transfer_table.specs.declared.entry.Stage.{Stage}
@@ -12,7 +12,7 @@ claimed Live false w n = omega arith
 claimed Gone true w n = omega arith
 claimed Gone false w n = omega arith
 
--- the word of a site that isn't new is claimed
+-- The word of a site that isn't new is claimed.
 pub is_claimed-site_word : (r : Row) (b : Bool) → r.stage ≢ New → is_claimed (site_word r b) ≡ true
 is_claimed-site_word r b n = eq-eqb (site_word r b % 2) 1 (claimed r.stage b r.wishes n)
 

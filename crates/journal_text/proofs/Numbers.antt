@@ -53,7 +53,7 @@ number_spelled most word n e =
       word_is (decimal (digits_value 10 word)) word parts.1 ∙ ap decimal parts.2,
     )
 
--- a number's decimal spells it
+-- A number's decimal spells the number.
 pub number_of_decimal : (most n : ℕ) → most < 2 ^ 64 → n ≤ most → number_up_to most (decimal n) ≡ Some n
 number_of_decimal most n bound small =
     let value : digits_value 10 (decimal n) ≡ n = value_of_decimal n (omega arith) in

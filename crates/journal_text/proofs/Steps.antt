@@ -21,7 +21,7 @@ behind front (Err fault) = Err fault
 abbrev pub with_first : Entry → Result (List Entry) TextFault → Result (List Entry) TextFault
 with_first entry rest = and_then (λ more. Ok (entry ∷ more)) rest
 
--- a list that is cut has a piece
+-- A list that is cut has a piece.
 some_onto : {X : Type 0} (x : X) (parts : List (List X)) → (first : List X) × (more : List (List X)) × (onto_first x parts ≡ first ∷ more)
 some_onto x [] = (x ∷ [], [], refl)
 some_onto x (part ∷ parts) = (x ∷ part, parts, refl)
@@ -34,7 +34,7 @@ pub some_piece : {X : Type 0} (p : X → Bool) (xs : List X) → (first : List X
 some_piece p [] = ([], [], refl)
 some_piece p (x ∷ xs) = some_choice (p x) x (slice_split p xs)
 
--- the lines of a text behind a line
+-- The lines of a text after one line.
 pub entries_step : (plan : Plan) (place : ℕ) (line rest : List ℕ) → entries_of plan place (line ∷ lines_of rest) ≡ and_then (λ entry. with_first entry (entries_of plan (place + 1) (lines_of rest))) (entry_of plan place (words_of line))
 entries_step plan place line rest = let piece = some_piece (λ byte. byte == 10) rest in rw piece.2 refl
 
@@ -79,7 +79,7 @@ behind_one : (front : List Entry) (entry : Entry) (rest : Result (List Entry) Te
 behind_one front entry (Ok more) = ap Ok (sym (append_assoc front (entry ∷ []) more))
 behind_one front entry (Err why) = refl
 
--- a line with a fault
+-- A line with a fault.
 pub line_fails : (plan : Plan) (all : Result (List Entry) TextFault) (front : List Entry) (place : ℕ) (text line after : List ℕ)
     → all ≡ behind front (entries_of plan place (lines_of text)) → lines_of text ≡ line ∷ lines_of after
     → (why : TextFault) → entry_of plan place (words_of line) ≡ Err why → all ≡ Err why
@@ -87,7 +87,7 @@ line_fails plan all front place text line after same cut why e =
     same ∙ ap (λ (lines : List (List ℕ)). behind front (entries_of plan place lines)) cut
     ∙ ap (behind front) (entries_step plan place line after ∙ ap (and_then (λ entry. with_first entry (entries_of plan (place + 1) (lines_of after)))) e)
 
--- a line with an entry
+-- A line with an entry.
 pub line_read : (plan : Plan) (all : Result (List Entry) TextFault) (front : List Entry) (place : ℕ) (text line after : List ℕ)
     → all ≡ behind front (entries_of plan place (lines_of text)) → lines_of text ≡ line ∷ lines_of after
     → (entry : Entry) → entry_of plan place (words_of line) ≡ Ok entry → all ≡ behind (front ++ entry ∷ []) (entries_of plan (place + 1) (lines_of after))

@@ -77,7 +77,7 @@ union-right (a ∷ f) (b ∷ g) (suc x) is = union-right f g x is
 pub gone_more : (v w u : View) → u ≡ joined_view v w → (x : ℕ) → is_in v.marks.gone x ≡ true → is_in u.marks.gone x ≡ true
 gone_more v w u is x old = ap (λ (z : View). is_in z.marks.gone x) is ∙ union-left v.marks.gone w.marks.gone x old
 
--- the sets still have a flag for each site
+-- The sets still have one flag per site.
 pub fits_joined : (v w : View) → v.plan ≡ w.plan → FitsPlan v → FitsPlan w → FitsPlan (joined_view v w)
 fits_joined v w same a b = record {
   owner = a.owner;
@@ -91,7 +91,6 @@ fits_joined v w same a b = record {
   base = a.base;
 }
 
--- One more seat is joined in.
 pub has_more : (v w u : View) (all : List HartSeat) (n m : ℕ) → u ≡ joined_view v w → m ≡ n + 1 → HasFrom v all m → ((d : HartSeat) → (w.hart ≡ n + 1) × (w ≡ (slice_index_or all n d).seat.me.0)) → HasFrom u all n
 has_more v w u all n m is next old new i d low high = let P : View → Type 0 = λ z. HasOne z (i + 1) (slice_index_or all i d).seat.me.0 in subst P (sym is) (dite (ℕ_discrete i n)
     (λ z. let e = new d in
@@ -127,7 +126,7 @@ is_some_of n le = grind (arith, nat_tests)
 some_of_is : (n : ℕ) → nat_le 1 n ≡ true → 1 ≤ n
 some_of_is n e = grind (arith, nat_tests)
 
--- a journal has each seat's entries
+-- A journal has each seat's entries.
 pub is_journal_of : (p : Plan) → IsPlan p → (v : View) (all : List HartSeat) (es : List Entry) → length all ≡ p.harts → ((d : HartSeat) → (v.mine ≡ (slice_index_or all 0 d).seat.me.0.mine) × (v.places ≡ (slice_index_or all 0 d).seat.me.0.places))
     → ((d : HartSeat) (x : ℕ) → is_in (slice_index_or all 0 d).seat.me.0.marks.gone x ≡ true → is_in v.marks.gone x ≡ true)
     → HasFrom v (remove all 0) 0 → IsJournal p v es → IsJournalOf p all es

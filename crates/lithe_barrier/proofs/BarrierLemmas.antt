@@ -1,4 +1,4 @@
--- A barrier as pieces come.
+-- A barrier when pieces are deposited.
 use Rattle.std.proofs.Common.{◌≡◌, ◌≢◌, ◌⊎◌, inl, inr, ℕ, List, length, map, Option, Some, None, IsSome, slice_get, slice_set, refl, sym, ◌∙◌, subst}
 use Rattle.std.proofs.lemmas.Bool.{cases_eq, false≢true}
 use Rattle.array_jobs.specs.PieceParts.{PieceParts}

@@ -11,7 +11,6 @@ there : {T C : Type 0} → (next known : Possession T C) (kept handed left : Lis
     waiting_at next ++ kept ≡ handed ++ left → waiting_at known ++ kept ≡ handed ++ left
 there {T} {C} next known kept handed left e same = let P : Possession T C → Type 0 = λ m. waiting_at m ++ kept ≡ handed ++ left in subst P e same
 
--- One more call at the front.
 step : {T C : Type 0} → (before next : Possession T C) (event : Event T C) (kept handed left : List C) → Does before event next →
     waiting_at next ++ kept ≡ handed ++ left →
     waiting_at before ++ (kept_by event ++ kept) ≡ (handed_by event ++ handed) ++ left

@@ -76,7 +76,7 @@ starts_set start seats i s all new row t at = found (cases_eq row i)
     found (inl e) = subst (Starts start) (sym (at_same seats i s t (subst (λ (n : ℕ). slice_get (slice_set seats i s) n ≡ Some t) e at))) new
     found (inr ne) = all row t (sym (at_other seats i row s ne) ∙ at)
 
--- A slot that waits for a job starts from the job's store.
+-- The job of a row starts from the stripe's store.
 pub starts_of : (start : Store) (seats : List Seat) (row : ℕ) (job : JobParts) → StartFrom start seats → (s : Seat) × (slice_get seats row ≡ Some s) × IsOf s job → job.store ≡ start
 starts_of start seats row job all has = of_seat has.0 (all row has.0 has.1) has.2
   where

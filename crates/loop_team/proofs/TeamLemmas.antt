@@ -80,7 +80,7 @@ reached_more nested phase store next ws fit there reached written merged =
 
 -- ---- a team, by its fields and as it was known before
 
--- The last phase has opened if a team is over and not failed.
+-- The last phase has opened if a team is done and not failed.
 pub all_opened : (team now : TeamParts) → team ≡ now → IsOver now → team.failed ≡ false → team.opened ≡ phases_in team.nested
 all_opened team now e over fine = found (subst IsOver (sym e) over)
   where

@@ -56,7 +56,6 @@ others z p qs all base filled i d lt =
     let F : OpenSeat → Type 0 = λ q. (q.seat.table_id ≡ z) × (q.seat.me.0.size ≡ p) × (q.seat.me.0.hart ≡ i + 1) × (q.seat.me.0.stack ≡ []) in
     subst F at (all.boards (suc i) d there, all.sizes (suc i) d there, all.harts (suc i) d there ∙ next, base (suc i) d there)
 
--- One more seat is joined in.
 pub has_more : (v w u : View) (all : List OpenSeat) (n m : ℕ) → u ≡ joined_view v w → m ≡ n + 1 → HasFrom v all m → ((d : OpenSeat) → (w.hart ≡ n + 1) × (w ≡ view_at all n d)) → HasFrom u all n
 has_more v w u all n m is next old new i d low high = let P : View → Type 0 = λ z. HasOne z (i + 1) (view_at all i d) in subst P (sym is) (dite (ℕ_discrete i n)
     (λ z. let e = new d in

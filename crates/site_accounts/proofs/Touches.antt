@@ -22,7 +22,7 @@ grows p es e = record {
   skipped = λ x. let z = skips_over-snoc p x es e in omega (arith, z);
 }
 
--- an entry that doesn't cover a site other than its own leaves it untouched
+-- An entry that doesn't cover a site other than its own leaves it untouched.
 uncovered : (p : Plan) (es : List Entry) (e : Entry) (x : ℕ) → x ≢ site_of e → covers p e x ≡ false → IsUntouched p es (es ++ e ∷ []) x
 uncovered p es e x other none = record {
   came = registers-other x es e other;

@@ -1,4 +1,4 @@
--- A construct enters what its jobs enter.
+-- A construct enters the sites that its jobs enter.
 use Rattle.std.proofs.Common.{◌≡◌, ℕ, zero, suc, ◌+◌, ◌<◌, true, List, ◌∷◌, ◌++◌, ℤ, pos, refl, sym, ap, ◌∙◌, arith, append-nil, add-one}
 use Rattle.std.specs.Prelude.{◌&&◌, int_le, unsigned_abs}
 use Rattle.std.proofs.lemmas.Bool.{false≢true, and_parts}

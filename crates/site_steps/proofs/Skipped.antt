@@ -37,7 +37,7 @@ only s x low high = omega (arith, low, high)
 abbrev skips_of : ℕ → List ℕ → List Entry
 skips_of hart sites = map (λ s. Skip hart s) sites
 
--- a list that rises behind one that rises below it
+-- Two rising lists are one if the first lies below the second.
 rising_append : (middle : ℕ) (xs ys : List ℕ) → All (λ s. s < middle) xs → All (λ s. middle ≤ s) ys → AreRising xs → AreRising ys → AreRising (xs ++ ys)
 rising_append middle [] ys below above one two = two
 rising_append middle (x ∷ xs) ys below above one two =
@@ -53,7 +53,7 @@ all_wider : (h : PortView) (first end low high : ℕ) (sites : List ℕ) → low
 all_wider h first end low high sites a b all = All-weaker (IsChildBetween h first end) (IsChildBetween h low high) (λ s is. wider h first end low high s a b is) sites all
 
 module _ {P : Type 0} (gives : Gives P) where
-  -- within other bounds that the sites are in too
+  -- The same for other bounds that have the same sites between them.
   pub skipped_within : (h a : PortView) (r r' first end high : ℕ) → ((x : ℕ) → first ≤ x → x < end → x < high) → ((x : ℕ) → first ≤ x → x < high → x < end)
       → HasSkipped gives h r a r' first end → HasSkipped gives h r a r' first high
   skipped_within h a r r' first end high bound other made = record {
@@ -165,7 +165,7 @@ skipped_back h a made settled same = subst (IsBack h) (sym same) record {
   skipped = λ p s. skipped_more p s h.mine made;
 }
 
--- a count of refusals doesn't fall
+-- A counter of refusals doesn't fall.
 pub count_rose : (r : Result (Unit {0}) Taken) (before after : ℕ) → RoseIfErr r before after → before ≤ after
 count_rose (Ok done) before after same = omega (arith, same)
 count_rose (Err taken) before after (inl more) = omega (arith, more)

@@ -69,7 +69,7 @@ array_there (a ∷ more) c small = cases (nat_lt c a.1) (λ s. array_there more 
     cases true below e = omega arith
     cases false below e = let high : a.1 ≤ c = grind (arith, nat_tests) in let rest = below (omega arith) in omega arith
 
--- a dynamic index touches the cells of its array
+-- A dynamic index touches the cells of its array.
 pub covers_number : (arrays : Arrays) (name : List ℕ) (c : ℕ) → c < cells_of arrays →
     covers arrays name None c ≡ nat_eq (array_at arrays c) (number_of arrays name)
 covers_number arrays name c small = cases (nat_eq (array_at arrays c) (number_of arrays name)) (covers arrays name None c) refl refl
@@ -88,7 +88,7 @@ covers_number arrays name c small = cases (nat_eq (array_at arrays c) (number_of
         let same = number_within arrays name c small low high in
         grind (arith, nat_tests)
 
--- the cell of an index inside an array belongs to it
+-- The cell of an index inside an array belongs to the array.
 pub inside_number : (arrays : Arrays) (name : List ℕ) (i : ℤ) (c : ℕ) → c < cells_of arrays →
     is_inside (length_of arrays name) (Some i) ≡ true → c ≡ cell_of arrays name false i → array_at arrays c ≡ number_of arrays name
 inside_number arrays name (pos n) c small inside e =

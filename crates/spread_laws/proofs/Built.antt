@@ -169,7 +169,7 @@ module _ (program : ProgramTree) (meaning : HasMeaning program) (free : taken_at
       (λ gone. rw gone rest)
       (cases_Bool (statement_has_add a.0 c))
 
-  -- a construct of so many rows
+  -- A construct with so many rows is built as it should be.
   built : (n : ℕ) (c : Statement) → n ≤ 64 → ((x : List ℕ) → statement_has_add x c ≡ true → IsMember n (rows_with x program.body))
       → ((x : List ℕ) → statement_has_add x c ≡ true → (is_sum x ≡ true) × (is_among x (names_in old) ≡ true))
       → IsBuilt old new end n c

@@ -10,7 +10,7 @@ use Rattle.array_meaning.specs.Work.{turns}
 use Rattle.array_meaning.specs.Entered.{Part, entered_then, turns_entered}
 use Rattle.spread_laws.proofs.Keeps.{Keep, done_keep, then_keep, choice_keep}
 
--- steps without a site
+-- Steps without a site.
 abbrev pub plain_part : Steps → Part
 plain_part steps = (steps, λ store. [])
 
@@ -20,14 +20,14 @@ then_part arrays p q = (followed_by p.0 q.0, entered_then arrays p q.1)
 abbrev pub turns_part : Arrays → (ℤ → Part) → ℤ → ℕ → Part
 turns_part arrays f low n = (turns (λ x. (f x).0) low n, turns_entered arrays f low n)
 
--- a choice of two sides that have m and n sites
+-- A choice between two sides with m and n sites.
 abbrev pub choice_part : Arrays → ℕ → Vars → Expression → Part → Part → ℕ → ℕ → Part
 choice_part arrays line vars test p q m n = (
   Choose line vars test p.0 q.0 Done,
   λ store. cond (holds (value_of arrays vars test store)) (p.1 store ++ replicate n false) (replicate m false ++ q.1 store),
 )
 
--- a construct is a site
+-- A construct is a site.
 abbrev pub site_part : Part → Part
 site_part p = (p.0, λ store. true ∷ p.1 store)
 

@@ -18,7 +18,7 @@ use Rattle.spread_laws.proofs.Tracks.{IsInRow, Tracks}
 pub both_sides : {A A' B B' : Type 0} → (A ↔ A') → (B ↔ B') → (A × B) ↔ (A' × B')
 both_sides f g = (λ p. (f.0 p.0, g.0 p.1), λ p. (f.1 p.0, g.1 p.1))
 
--- two rows of one array have no cell in common
+-- Two rows of one array share no cell.
 rows_differ : (first size i j c : ℕ) → i ≢ j → first + i * size ≤ c → c < first + (i * size + size) → first + j * size ≤ c → c < first + (j * size + size) → ⊥
 rows_differ first size i j c other from below from' below' = ⊎_elim
     (λ l. let m : (i + 1) * size ≤ j * size = mul-le-mul_right size (let le : i + 1 ≤ j = omega (arith, l) in le) in omega (arith, m, below, from'))

@@ -129,7 +129,7 @@ module _ (old new : Arrays) (kept : AreKept old new) (once : AreSingle old) (end
         (turns_fine old (λ x. sequence_work first ((var, x) ∷ vars)) low (span low high) f.0 i less)))
         (phases_alike row rest var low high vars p.1 f.1)
 
-  -- ---- what stands outside constructs
+  -- ---- statements outside constructs
 
   no_tallies : AreLaid (cells_of old) (cells_of old) 0 []
   no_tallies = record { longer = omega arith; below = λ a in_a. absurd in_a; above = λ a in_a. absurd in_a; within = λ a in_a. absurd in_a; clear = tt }

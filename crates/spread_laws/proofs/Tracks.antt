@@ -211,7 +211,7 @@ module _ (old new : Arrays) (rows : ℕ) (ts : List Tally) where
     reads_tracks k line vars e fine clean =
         subst (Tracks k (reads_in old line vars e)) (sym (reads_same old new line vars e)) (same_tracks k (reads_in old line vars e) fine clean)
 
-    -- steps that are the same in both programs
+    -- Equal steps in both programs.
     pub steps_tracks : (k : ℕ) (a : Steps) → AreFine old (walk old a) → AreClean (walk old a) → Tracks k (walk old a) (walk new a)
     steps_tracks k a fine clean =
         subst (Tracks k (walk old a)) (sym (walk_same old new a)) (same_tracks k (walk old a) fine clean)

@@ -59,7 +59,6 @@ reached_none nested = record {
   same = refl;
 }
 
--- One more phase is done.
 pub reached_next : (nested : NestedTree) → IsFitNest nested → (phase : ℕ) → phase < phases_of nested.construct → (store : Trace) → HasReached nested phase store →
     HasReached nested (phase + 1) (noted_all (writes_of_jobs (jobs_in nested phase store.cells)) store)
 reached_next nested fit phase h store reached =
@@ -80,7 +79,6 @@ reached_next nested fit phase h store reached =
       same = size ∙ reached.same;
     })
 
--- One more job is merged.
 pub merged_next : (jobs : List JobParts) (i : ℕ) (job : JobParts) (pairs : List Write) (store next all : Trace) → i < length jobs →
     job ≡ get_or jobs i job → pairs ≡ piece_of_job (job_of job) → next ≡ noted_all pairs store →
     noted_all (writes_of_jobs (map job_of (drop i jobs))) store ≡ all → noted_all (writes_of_jobs (map job_of (drop (i + 1) jobs))) next ≡ all
@@ -93,7 +91,7 @@ merged_next jobs i job pairs store next all h is written merged whole =
     ∙ ap (λ js. noted_all (writes_of_jobs (map job_of js)) store) (sym cut)
     ∙ whole
 
--- The store of a construct is small.
+-- The store of a construct has at most 4,096 cells.
 pub small_store : (nested : NestedTree) → IsFitNest nested → length nested.store ≤ 4096
 small_store nested fit =
     let some = some_phases nested.construct fit.construct fit.limits in

@@ -48,7 +48,7 @@ work_sites arrays store (member_of var low high body) vars n more = cases (int_l
     cases true e = let turn = span_times low high (sites_in body) e in omega (arith, turn)
     cases false e = let none : span low high ≡ 0 = rw e refl in rw none (omega arith)
 
--- The sites that a step takes are no longer left.
+-- The sites that a step takes and the remaining ones after it are those left before it.
 pub sites_moved : (arrays : Arrays) (store : Store) (w : WorkAt) (more : List WorkAt) →
     moved_sites arrays store w + rest_sites (moved arrays store w ++ more) ≡ rest_sites (w ∷ more)
 sites_moved arrays store w more = work_sites arrays store w.work w.vars w.after more

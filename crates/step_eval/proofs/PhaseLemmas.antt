@@ -216,7 +216,7 @@ first_fits : (nested : NestedTree) (phase : ℕ) (store : Store) (place first : 
 first_fits nested phase store place first [] some fit = absurd (omega arith)
 first_fits nested phase store place first (work ∷ works) some fit = (sized _ fit.0).each
 
--- the arrays of a construct have cells
+-- The arrays of a construct have cells.
 pub arrays_have_cells : (nested : NestedTree) → IsFitNest nested → 0 < phases_of nested.construct → HaveCells (arrays_of nested.arrays)
 arrays_have_cells nested fit some =
     first_fits nested 0 nested.store 0 (nested.site + 1 + earlier_sites nested.construct 0) (piece_trees nested.construct 0) (some_piece nested.construct 0 fit.limits some) (fit.jobs 0 some)

@@ -64,7 +64,6 @@ member_first var low high m body j h =
     let left : m - j ≡ suc (m - (j + 1)) = omega arith in
     ap (member_trees var low high m body j) left
 
--- One more work is made.
 pub one_more_made : (made more : List Work) (work : Work) (left rest all : List WorkTree) → more ≡ made ++ work ∷ [] → left ≡ work_of work ∷ rest →
     map work_of made ++ left ≡ all → map work_of more ++ rest ≡ all
 one_more_made made more work left rest all e f whole =

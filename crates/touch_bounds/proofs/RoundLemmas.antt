@@ -15,7 +15,6 @@ use Rattle.touch_bounds.specs.declared.touch.Touch.{Touch}
 use Rattle.touch_bounds.specs.Touches.{AreVisitsTold}
 use Rattle.touch_bounds.specs.Pieces.{tables_of, ArePiecesTold}
 
--- One more piece.
 tables_push : (pieces : List Piece) (p : Piece) (more : List (List Touch)) → tables_of (pieces ++ p ∷ []) ++ more ≡ tables_of pieces ++ (p.touches.items ∷ more)
 tables_push [] p more = refl
 tables_push (q ∷ pieces) p more = ap (λ ts. q.touches.items ∷ ts) (tables_push pieces p more)

@@ -1,4 +1,4 @@
--- What the entries of a site add up to.
+-- The sums of a site's entries.
 use Rattle.std.proofs.Common.{◌≡◌, ◌≢◌, ℕ, ◌+◌, ◌-◌, ◌≤◌, nat_le, Bool, true, false, not, ◌&&◌, Option, cond, ◌==◌, eq-eqb, ne_eqb, if◌then◌else◌, List, [], ◌∷◌, ◌++◌, refl, sym, ap, subst, ◌∙◌, arith}
 use Rattle.std.specs.List.{All}
 use Rattle.std.specs.Option.{is_some}
@@ -112,11 +112,11 @@ in_plan_now p t (Skip h s) a = (a.0, a.1, omega arith)
 one : (P : Entry → Type 0) (e : Entry) → P e → All P (e ∷ [])
 one P e x = All-cons P e [] x (All-nil P)
 
--- every entry of a legal list is in the plan
+-- Each entry of a legal list is in the plan.
 pub legal_entries : (p : Plan) → IsPlan p → (es : List Entry) (t : TableState) → Reaches p es t → All (IsEntryOf p) es
 legal_entries p plan es t is = lasts p plan (λ xs _. All (IsEntryOf p) xs) (All-nil (IsEntryOf p)) (λ xs u e leads fits f a. All-append (IsEntryOf p) xs (e ∷ []) f (one (IsEntryOf p) e (in_plan_now p u e a))) es t is
 
--- every request is by the site's home
+-- Each request is by the site's home.
 pub legal_by_home : (p : Plan) → IsPlan p → (es : List Entry) (t : TableState) → Reaches p es t → All (IsByHome t) es
 legal_by_home p plan es t is = lasts p plan (λ xs u. All (IsByHome u) xs) (All-nil (IsByHome (first_state p)))
     (λ xs u e leads fits f a. let all = legal_entries p plan xs u leads in All-append (IsByHome (effect_of p u e)) xs (e ∷ [])

@@ -40,7 +40,7 @@ record IsSkipped (p : Plan) (es : List Entry) (t : TableState) (s : ℕ) (r : Ro
   not_yet : (r.stage ≡ Gone → ⊥) → skips s es ≡ 0
   left_out : r.stage ≡ Gone → is_some r.home ≡ false → (skips s es ≡ 1) ⊎ HasGoneParent p t s
 
--- an entry that skips nothing
+-- An entry that skips nothing.
 plain_here : (p : Plan) (t u : TableState) (es : List Entry) (e : Entry) (r : Row) → is_skip e ≡ false → IsSkipped p es t (site_of e) (row t (site_of e))
     → (is_some r.home ≡ true → skips (site_of e) es ≡ 0) → (is_some r.home ≡ false → (row t (site_of e)).stage ≡ r.stage) → (is_some r.home ≡ false → is_some (row t (site_of e)).home ≡ false)
     → ((r.stage ≡ Gone → ⊥) → skips (site_of e) es ≡ 0) → (HasGoneParent p t (site_of e) → HasGoneParent p u (site_of e)) → IsSkipped p (es ++ e ∷ []) u (site_of e) r
@@ -104,7 +104,7 @@ by_home : {A : Type 0} (o : Option ℕ) → (is_some o ≡ true → A) → (is_s
 by_home None some none = none refl
 by_home (Some h) some none = some refl
 
--- how a site begins and ends
+-- A site begins and ends as its own entries have it.
 pub legal_begins : (p : Plan) → IsPlan p → (es : List Entry) (t : TableState) → Reaches p es t → (s : ℕ) → IsSite p s → BeginsOnce p es t s
 legal_begins p plan es t is s site =
     let c = rows_tell p plan es t is s site in let k = legal_skips p plan es t is s site in

@@ -157,7 +157,7 @@ module _ (p : Plan) (n : ℕ) (t : TableState) (f : Fine p n t) where
   s : IsPlan p
   s = f.size.plan
 
-  -- a step that changes one row and one owner, and keeps what is live but for the row
+  -- A step changes one row and one owner, and keeps which other sites are live.
   module _ (h x : ℕ) (r : Row) (o : ℕ) (lt : h < p.harts) (low : 1 ≤ x) (high : x ≤ site_count p) where
     abbrev u : TableState
     u = record { owners = set t.owners h o; rows = set t.rows (x - 1) r }

@@ -11,7 +11,7 @@ use Rattle.transfer_table.specs.Table.{Position, first_state, least_left, is_gon
 use Rattle.transfer_table.specs.Board.{IsBoard, IsCount, count_left}
 use Rattle.transfer_table.proofs.Lists.{any_default, replicate_at}
 
--- a row that is as gone as the old one keeps the count
+-- A row that is gone iff the old one is keeps the count.
 pub count_left-set_same : (qs : List ℕ) (rs : List Row) (s i : ℕ) (r d : Row) → is_gone r.stage ≡ is_gone (get_or rs i d).stage → count_left qs (set rs i r) s ≡ count_left qs rs s
 count_left-set_same [] rs s i r d e = refl
 count_left-set_same (q ∷ qs) [] s i r d e = refl
@@ -47,7 +47,7 @@ count_left-set_other (q ∷ qs) [] s i r n = refl
 count_left-set_other (q ∷ qs) (x ∷ rs) s zero r n = rw (ne_eqb q s n) refl
 count_left-set_other (q ∷ qs) (x ∷ rs) s (suc i) r n = rw (count_left-set_other qs rs s i r n) refl
 
--- what holds of every row holds still where the new row has it
+-- A property of every row holds after a replacement, if the new row has it.
 pub get_or-set_keeps : (P : Row → Type 0) (rs : List Row) (i j : ℕ) (r d : Row) → P r → P (get_or rs j d) → P (get_or (set rs i r) j d)
 get_or-set_keeps P [] i j r d new old = old
 get_or-set_keeps P (x ∷ xs) zero zero r d new old = new
@@ -80,7 +80,7 @@ small_parent p is i lt = let b = is.below (i + 1) (omega arith) (omega arith) in
 abbrev pub counts_for : Row → ℕ
 counts_for r = if is_gone r.stage then 0 else 1
 
--- the parent's count has room for what a row counts
+-- The parent's count is at least what one row counts.
 pub counted_once : (b : Position) (counts : List ℕ) (i : ℕ) → IsBoard b counts → i < site_count b.plan → counts_for (slice_index_or b.state.rows i blank) ≤ slice_index counts (slice_index b.plan.parents i)
 counted_once b counts i is lt = split (is_gone (slice_index_or b.state.rows i blank).stage) refl
   where
@@ -157,7 +157,7 @@ pub board-swept : (b : Position) (counts : List ℕ) (x q k n : ℕ) (g : Bool) 
 board-swept b counts x q k n g r is low high read_row read_parent read_count read_stage read_byte =
     board-ends b counts b.state.owners x q k n g r (swept_row r) is is.position.owners low high read_row read_parent read_count read_stage read_byte refl refl refl
 
--- how many of the parents are s
+-- the number of parents that are s
 abbrev pub children : List ℕ → ℕ → ℕ
 children [] s = 0
 children (q ∷ qs) s = if q == s then 1 + children qs s else children qs s
@@ -176,7 +176,7 @@ children-drop [] i s lt = absurd (omega arith)
 children-drop (q ∷ qs) zero s lt = refl
 children-drop (q ∷ qs) (suc i) s lt = children-drop qs i s (omega arith)
 
--- the first i parents are counted
+-- the parents of the first i sites are counted
 pub record AreCounted (qs counts : List ℕ) (i : ℕ) : Type 0 where
   pub size : length counts ≡ length qs + 1
   pub few : (s : ℕ) → slice_index counts s ≤ i
@@ -210,7 +210,7 @@ all_counted p counts is = record {
   counted = λ s high. let f = is.so_far s high in let z = nothing_more p.parents s in let b = count_left-blank p.parents s in omega arith;
 }
 
--- the first state of a plan is a board
+-- The first state of a plan is a board.
 pub board-first : (p : Plan) (counts : List ℕ) → IsPlan p → IsCount p (first_state p).rows counts → IsBoard record { plan = p; state = first_state p } counts
 board-first p counts plan is = record {
   position = record { plan = plan; owners = length-replicate p.harts 0; rows = length-replicate (site_count p) blank };

@@ -1,4 +1,4 @@
--- What the new state holds: the entry's hart and site change, and of a skip the descendants of its site; all else stays.
+-- The new state: the entry's hart and site change, and for a skip the descendants of its site; all else stays.
 use Rattle.std.proofs.Common.{◌≡◌, ◌≢◌, ℕ, ◌+◌, ◌-◌, ◌≤◌, Bool, true, false, set, refl, sym, ap, subst, ◌∙◌, arith, slice_index_or, Some, get_or-set_same, get_or-set_other}
 use mathlib.Core.Logic.{dite}
 use native.Mathlib.Decide.{ℕ_discrete}
@@ -107,7 +107,7 @@ row-effect_covered p t (Yield h s) y f is c = absurd (cc)
 row-effect_covered p t (Unregister h s) y f is c = absurd (cc)
 row-effect_covered p t (Skip h s) y f is c = row-swept p t s y f is c
 
--- a fact of a site's row, by whether the entry is of the site, skips a site around it, or neither
+-- A property of a site's row, in three cases: the entry is of the site, skips a site around it, or neither.
 pub at_site : (p : Plan) (t : TableState) (e : Entry) (y : ℕ) (P : ℕ → Row → Type 0) → Fits p t → IsAllowed p t e → IsSite p y → P (site_of e) (row_after t e)
     → (y ≢ site_of e → covers p e y ≡ false → P y (row t y)) → (y ≢ site_of e → covers p e y ≡ true → P y (swept_row (row t y))) → P y (row (effect_of p t e) y)
 at_site p t e y P f a is here else inner = dite (ℕ_discrete y (site_of e))
@@ -118,7 +118,7 @@ at_site p t e y P f a is here else inner = dite (ℕ_discrete y (site_of e))
     split n true c = subst (P y) (sym (row-effect_covered p t e y f is c)) (inner n c)
     split n false c = subst (P y) (sym (row-effect_other p t e y f a is n c)) (else n c)
 
--- a fact of a hart's owner, by whether the entry is by the hart
+-- A property of a hart's owner, in two cases: the entry is by the hart, or isn't.
 pub at_hart : (p : Plan) (t : TableState) (e : Entry) (g : ℕ) (P : ℕ → ℕ → Type 0) → Fits p t → IsAllowed p t e → P (hart_of e) (owner_after p e) → (g ≢ hart_of e → P g (owner t g)) → P g (owner (effect_of p t e) g)
 at_hart p t e g P f a here else = dite (ℕ_discrete g (hart_of e))
     (λ z. let Q : ℕ → Type 0 = λ x. P x (owner (effect_of p t e) x) in subst Q (sym z) (subst (P (hart_of e)) (sym (owner-effect_same p t e f a)) here))

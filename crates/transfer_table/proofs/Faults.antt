@@ -86,7 +86,7 @@ refused_from-none p t u (x ∷ xs) k e = more (admit_of p t x) e (λ v g. refuse
     more (Ok v) g again = again v g
     more (Err g') g again = absurd (cc)
 
--- one step of the scan for a site that is or isn't meant
+-- One step of the scan for a site that is or isn't meant.
 agree-true : (b m : Bool) → (if b then m else not m) ≡ true → b ≡ m
 agree-true true m e = sym e
 agree-true false true e = absurd (cc)

@@ -50,7 +50,7 @@ here p t (Yield h s) fits a f live = still p t (Yield h s) s fits a a.1 (λ _. l
 here p t (Unregister h s) fits a f live = absurd (cc)
 here p t (Skip h s) fits a f live = absurd (cc)
 
--- the home of a live site is inside it
+-- The home of a live site is inside it.
 pub legal_home : (p : Plan) → IsPlan p → (es : List Entry) (t : TableState) → Reaches p es t → (s : ℕ) → IsSite p s → HasHome p t s
 legal_home p plan es t is = lasts p plan (λ _ u. (s : ℕ) → IsSite p s → HasHome p u s) (λ s _ live. absurd (let new : (row (first_state p) s).stage ≡ New = ap (λ (r : Row). r.stage) (first_blank p s) in cc))
     (λ xs u e leads fits f a s site. at_site p u e s (λ x r. r.stage ≡ Live → (h : ℕ) × (r.home ≡ Some h) × IsHart p h × IsWithin p x (owner (effect_of p u e) h)) fits a site

@@ -44,7 +44,7 @@ plan_fault_of-plan p is = let f = is.few_harts in let g = is.some_hart in let s 
     let b : (nat_lt 4095 (length p.parents) || nat_lt 65535 (length p.parents * (3 * p.harts - 1))) ≡ false = grind (arith, nat_tests) in
     let d : bad_parent p.parents 1 ≡ None = none_bad p.parents 1 (λ i lt. let r : slice_index p.parents (i + 1 - 1) < i + 1 = is.below (i + 1) (omega arith) (omega arith) in let e : i + 1 - 1 ≡ i = omega arith in let r' = ap (slice_index p.parents) e in omega arith) in rw (a, b, d) refl
 
--- A number that is no site has the base as its parent.
+-- The base, which is no site, is its own parent.
 pub parent-outside : (p : Plan) → IsPlan p → parent p 0 ≡ 0
 parent-outside p is = none p.parents (is.below 1 (omega arith))
   where

@@ -1,4 +1,4 @@
--- How a legal list grows, and what each entry keeps.
+-- Legal lists with more entries, and properties that each entry keeps.
 use Rattle.std.proofs.Common.{◌≡◌, List, [], ◌∷◌, ◌++◌, refl, sym, subst, append_assoc, append-nil, Result, Ok, Err}
 use Rattle.transfer_table.specs.Plan.{Plan}
 use Rattle.transfer_table.specs.Table.{TableState, admit_of, first_state}
@@ -14,7 +14,6 @@ replay_from-snoc p (x ∷ xs) e t u w a b = more (admit_of p t x) (λ y k. repla
     more (Ok y) again k = again y k
     more (Err f) again k = absurd (cc)
 
--- one more admitted entry
 pub reaches-snoc : (p : Plan) (es : List Entry) (e : Entry) (u w : TableState) → Reaches p es u → admit_of p u e ≡ Ok w → Reaches p (es ++ e ∷ []) w
 reaches-snoc p es e u w a b = replay_from-snoc p es e _ u w a b
 

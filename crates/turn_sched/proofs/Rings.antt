@@ -18,7 +18,7 @@ pub weigh-append : (f : ℕ → ℕ) (xs ys : List ℕ) → weigh f (xs ++ ys) �
 weigh-append f [] ys = omega arith
 weigh-append f (x ∷ xs) ys = let rest = weigh-append f xs ys in omega (arith, rest)
 
--- a child's weight, where one is counted
+-- 1 for the child, else 0
 abbrev pub is_it : ℕ → ℕ → ℕ
 is_it child c = if c == child then 1 else 0
 
@@ -85,7 +85,7 @@ children-append (p ∷ ps) qs = ap (λ cs. p.child ∷ cs) (children-append ps q
 abbrev others : ℕ → List Place → List Place
 others child ps = filter (λ p. not (p.child == child)) ps
 
--- Where another child goes, a child keeps its place, and no more are ahead of it.
+-- If another child goes, a child keeps its place, and no more are ahead of it.
 pub has-others : (x child : ℕ) (ps : List Place) → child ≢ x → has_place x (others child ps) ≡ has_place x ps
 has-others x child [] other = refl
 has-others x child (p ∷ ps) other = at (p.child == child) refl (has-others x child ps other)
@@ -117,7 +117,7 @@ children-others f child (p ∷ ps) = at (p.child == child) (children-others f ch
     at true rest = omega (arith, rest)
     at false rest = omega (arith, rest)
 
--- What is left of a place is the same child's.
+-- The rest of a place is the same child's.
 pub children-left : (f : ℕ → ℕ) (p : Place) → weigh f (children (left_of p)) ≤ f p.child
 children-left f p = at (nat_lt 1 p.wishes)
   where
@@ -161,7 +161,7 @@ wishes_by_cases P child count ring same more new = none (count == 0)
     none true = same
     none false = has (has_place child ring.places) refl
 
--- A child that has a place keeps it, and no more are ahead of it.
+-- a child that has a place keeps it, and no more are ahead of it
 pub record Keeps (x : ℕ) (before after : List Place) : Type 0 where
   pub has : has_place x after ≡ true
   pub ahead : (f : ℕ → ℕ) → weigh f (ahead_of x after) ≤ weigh f (ahead_of x before)
@@ -198,7 +198,7 @@ turn_keeps x y (p ∷ ps) qs has turn other = (
     there : has_place x ps ≡ true
     there = sym (ap (λ b. b || has_place x ps) apart) ∙ has
 
--- Each child has one place.
+-- each child has at most one place
 abbrev pub HasOneEach : List Place → Type 0
 HasOneEach ps = (c : ℕ) → how_often c (children ps) ≤ 1
 

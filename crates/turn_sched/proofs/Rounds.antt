@@ -69,7 +69,6 @@ turns_go_round C site room some earlier events before after first later x has ov
       omega (arith, lent, a, b)),
 )
 
--- One more call at the front.
 goes_first : {C : Type 0} (before next : TurnsState C) (event : Event C) (kept run left : List C) → Does before event next →
     next.ready ++ kept ≡ run ++ left → before.ready ++ (kept_by event ++ kept) ≡ (run_by event ++ run) ++ left
 goes_first {C} before next (Enter (Run c)) kept run left does same = ap (λ (t : TurnsState C). t.ready ++ kept) does ∙ ap (λ (cs : List C). c ∷ cs) same
