@@ -16,7 +16,9 @@
 #![tactic(auto)]
 
 mod error;
+mod most;
 mod run;
 
 pub use error::RunError;
-pub use run::{MOST_HARTS, MOST_LEVELS, run_on};
+pub use most::{EightLevels, FourLevels, MOST_LEVELS, MostLevels, SixteenLevels};
+pub use run::{MOST_HARTS, run_observed, run_on, run_within};

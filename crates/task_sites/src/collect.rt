@@ -7,16 +7,20 @@ ghost use Rattle.task_table.specs.Slots.{Ends};
 ghost use Rattle.tasks.specs.Failures.{FirstFailure};
 ghost use Rattle.task_sites.specs.Collected.{Keeps};
 
+use crate::board::Naming;
+use crate::hart::Hart;
+use crate::observer::Observer;
 use std::alloc::Global;
 use std::sync::Wait;
 use std::thread;
 use task_table::{Outcome, TaskSeat, TaskTable};
 use tasks::{Harts, Task, TaskKind};
 
-// Runs the task at an index, unless a hart has claimed it. Returns whether it ran the task.
-pub(crate) fn run_at<T: Task, H: Harts<T>>(
+// Runs the task at an index on a hart, unless a hart has claimed it. Returns whether it ran the task.
+pub(crate) fn run_at<T: Task, R: Observer, B: Naming, H: Harts<T>>(
     table: &TaskTable<T>,
     alloc: Global,
+    hart: &Hart<'_, T, R, B>,
     harts: &mut H,
     place: usize,
 ) -> bool
@@ -29,7 +33,7 @@ pub(crate) fn run_at<T: Task, H: Harts<T>>(
     let Some(task) = table.claim(&mut seat, place) else {
         return false;
     };
-    let outcome = task.run(alloc, harts);
+    let outcome = hart.run_observed(alloc, harts, task);
     table.give(&mut seat, place, outcome);
     true
 }

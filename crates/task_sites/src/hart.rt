@@ -1,16 +1,17 @@
 //! One hart of a crew: its transfers, and what it checks while it has no task.
-ghost use Rattle.std.specs.Prelude.{◌≡◌};
+ghost use Rattle.std.specs.Prelude.{◌≡◌, ◌≤◌, ◌⊎◌, IfOk, IfErr, alloc_error};
 
 use crate::board::{CrewSeat, Naming};
 use crate::countdown::Countdown;
 use crate::crew::Crew;
+use crate::observer::Observer;
 use crate::site::Site;
 use crossbeam_utils::Backoff;
 use open_board::{Entered, OpenSeat, Refused};
 use std::alloc::Global;
 use std::cell::{Cell, RefCell};
 use std::sync::{Arc, Wait};
-use tasks::TaskKind;
+use tasks::{Harts, Task, TaskKind};
 
 /// One hart of a crew. Why cells: the tasks inside a task reach their hart by a shared reference.
 #[derive(Drop)]
@@ -271,6 +272,47 @@ impl<'c, T: TaskKind, R: Wait, B: Naming> Hart<'c, T, R, B> {
     fn pass_on(&self, owner: u16) {
         if self.crew.perches.retract(self.number) {
             self.crew.perches.wake(owner, 1);
+        }
+    }
+}
+
+impl<'c, T: TaskKind, R: Observer, B: Naming> Hart<'c, T, R, B> {
+    /// Runs a task on the hart, whose harts the task sees as `harts`. The observer of the run sees the task begin and end.
+    ///
+    /// # Errors
+    ///
+    /// An error of the task's own, or an allocation failure.
+    pub(crate) fn run_observed<H: Harts<T>>(
+        &self,
+        alloc: Global,
+        harts: &mut H,
+        task: T,
+    ) -> Result<T::Output, T::Error>
+    where
+        T: Task,
+        requires { T.depth task ≤ H.levels harts.old }
+        ensures output { IfOk result (λ output. T.gives task output) }
+        ensures error { IfErr result
+            (λ error. T.fails task error ⊎ T.Error.from_gives alloc_error error) }
+        ensures levels { H.levels harts.new ≡ H.levels harts.old }
+    {
+        self.show_begin();
+        let outcome = task.run(alloc, harts);
+        self.show_end();
+        outcome
+    }
+
+    // Shows that a task begins on the hart.
+    fn show_begin(&self) {
+        if self.rt.is_on() {
+            self.rt.task_begins(self.number, self.owner());
+        }
+    }
+
+    // Shows that the task that began last on the hart ends.
+    fn show_end(&self) {
+        if self.rt.is_on() {
+            self.rt.task_ends(self.number);
         }
     }
 }

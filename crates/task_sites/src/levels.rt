@@ -7,17 +7,18 @@ ghost use Rattle.tasks.specs.Failures.{FirstFailure};
 use crate::board::Naming;
 use crate::countdown::Countdown;
 use crate::hart::Hart;
+use crate::observer::Observer;
 use crate::site::Site;
 use crossbeam_utils::Backoff;
 use std::alloc::{AllocError, Global};
 use std::marker::PhantomData;
-use std::sync::{Arc, Wait};
+use std::sync::Arc;
 use task_table::Outcome;
 use tasks::{Ground, Harts, Task};
 
 /// The number of levels of tasks that may be inside a task. Why a type: a task runs tasks of its own kind inside it, and the
 /// proof goes down the levels.
-pub trait Levels<T: Task, R: Wait, B: Naming> {
+pub trait Levels<T: Task, R: Observer, B: Naming> {
     /// The number of levels.
     ghost count: { ℕ };
 
@@ -66,7 +67,7 @@ pub struct CrewHarts<'x, 'c, T: Task, R, B: Naming, L> {
     inner: PhantomData<L>,
 }
 
-impl<T: Task, R: Wait, B: Naming> Levels<T, R, B> for NoLevel {
+impl<T: Task, R: Observer, B: Naming> Levels<T, R, B> for NoLevel {
     ghost count = { 0 };
 
     fn number() -> u8
@@ -77,7 +78,7 @@ impl<T: Task, R: Wait, B: Naming> Levels<T, R, B> for NoLevel {
 
     fn run_task(
         alloc: Global,
-        _hart: &Hart<'_, T, R, B>,
+        hart: &Hart<'_, T, R, B>,
         _levels: u8,
         task: T,
     ) -> Result<T::Output, T::Error>
@@ -87,26 +88,26 @@ impl<T: Task, R: Wait, B: Naming> Levels<T, R, B> for NoLevel {
         ensures error { IfErr result
             (λ error. T.fails task error ⊎ T.Error.from_gives alloc_error error) }
     {
-        task.run(alloc, &mut Ground)
+        hart.run_observed(alloc, &mut Ground, task)
     }
 
-    fn work(alloc: Global, _hart: &Hart<'_, T, R, B>, site: &Site<T>)
+    fn work(alloc: Global, hart: &Hart<'_, T, R, B>, site: &Site<T>)
         requires { site.now.1 ≤ 0 }
     {
-        site.run_tasks(alloc, &mut Ground);
+        site.run_tasks(alloc, hart, &mut Ground);
     }
 
     fn serve(alloc: Global, hart: &Hart<'_, T, R, B>, site: &Site<T>)
         requires { site.now.1 ≤ 0 }
     {
-        site.run_tasks(alloc, &mut Ground);
+        site.run_tasks(alloc, hart, &mut Ground);
         if site.left().is_down() {
             hart.wake_owner();
         }
     }
 }
 
-impl<T: Task, R: Wait, B: Naming, L: Levels<T, R, B>> Levels<T, R, B> for OneMore<L> {
+impl<T: Task, R: Observer, B: Naming, L: Levels<T, R, B>> Levels<T, R, B> for OneMore<L> {
     ghost count = { min 255 (L.count + 1) };
 
     fn number() -> u8
@@ -135,7 +136,7 @@ impl<T: Task, R: Wait, B: Naming, L: Levels<T, R, B>> Levels<T, R, B> for OneMor
             hart,
             inner: PhantomData,
         };
-        task.run(alloc, &mut harts)
+        hart.run_observed(alloc, &mut harts, task)
     }
 
     fn work(alloc: Global, hart: &Hart<'_, T, R, B>, site: &Site<T>)
@@ -160,7 +161,7 @@ impl<T: Task, R: Wait, B: Naming, L: Levels<T, R, B>> Levels<T, R, B> for OneMor
 }
 
 // Runs tasks of a site with one level more than `L`.
-fn run_inside<T: Task, R: Wait, B: Naming, L: Levels<T, R, B>>(
+fn run_inside<T: Task, R: Observer, B: Naming, L: Levels<T, R, B>>(
     alloc: Global,
     hart: &Hart<'_, T, R, B>,
     site: &Site<T>,
@@ -171,10 +172,10 @@ fn run_inside<T: Task, R: Wait, B: Naming, L: Levels<T, R, B>>(
         hart,
         inner: PhantomData,
     };
-    site.run_tasks(alloc, &mut harts);
+    site.run_tasks(alloc, hart, &mut harts);
 }
 
-impl<'x, 'c: 'x, T: Task, R: Wait, B: Naming, L: Levels<T, R, B>> Harts<T>
+impl<'x, 'c: 'x, T: Task, R: Observer, B: Naming, L: Levels<T, R, B>> Harts<T>
     for CrewHarts<'x, 'c, T, R, B, L> {
     ghost levels = { λ _. min 255 (L.count + 1) };
 
@@ -189,8 +190,8 @@ impl<'x, 'c: 'x, T: Task, R: Wait, B: Naming, L: Levels<T, R, B>> Harts<T>
     }
 }
 
-// Runs tasks at a site of their own, and returns their outputs in order once all have ended.
-fn fork_join_on<T: Task, R: Wait, B: Naming, L: Levels<T, R, B>>(
+// Runs tasks at a site of their own, and returns their outputs in order once all have ended. One hart alone runs them in order.
+fn fork_join_on<T: Task, R: Observer, B: Naming, L: Levels<T, R, B>>(
     alloc: Global,
     hart: &Hart<'_, T, R, B>,
     tasks: Vec<T>,
@@ -200,6 +201,9 @@ fn fork_join_on<T: Task, R: Wait, B: Naming, L: Levels<T, R, B>>(
     ensures error { IfErr result (λ error. FirstFailure T.gives T.fails tasks.items error
         ⊎ T.Error.from_gives alloc_error error) }
 {
+    if hart.crew_size() < 2 {
+        return in_order_on::<T, R, B, L>(alloc, hart, tasks);
+    }
     let count = tasks.len();
     let outputs = Vec::with_capacity(alloc, count)?;
     if count == 0 {
@@ -211,6 +215,25 @@ fn fork_join_on<T: Task, R: Wait, B: Naming, L: Levels<T, R, B>>(
     let rt = hart.rt;
     lead::<T, R, B, L>(alloc, hart, &site, wish);
     site.outcomes(rt, outputs)
+}
+
+// Runs tasks on this hart alone, in order, up to the first that fails.
+fn in_order_on<T: Task, R: Observer, B: Naming, L: Levels<T, R, B>>(
+    alloc: Global,
+    hart: &Hart<'_, T, R, B>,
+    tasks: Vec<T>,
+) -> Result<Vec<T::Output>, T::Error>
+    requires { All (λ task. T.depth task ≤ L.count) tasks.items }
+    ensures outputs { IfOk result (λ outputs. AllZip T.gives tasks.items outputs.items) }
+    ensures error { IfErr result (λ error. FirstFailure T.gives T.fails tasks.items error
+        ⊎ T.Error.from_gives alloc_error error) }
+{
+    let mut outputs = Vec::with_capacity(alloc, tasks.len())?;
+    let mut rest = tasks.into_iter();
+    'tasks: while let Some(task) = rest.next() {
+        outputs.push_reserved(L::run_task(alloc, hart, L::number(), task)?);
+    }
+    Ok(outputs)
 }
 
 // Makes a site of tasks that harts share.
@@ -230,7 +253,7 @@ fn shared_site<T: Task>(
 
 // Runs the tasks of a site of which the hart is the home, with the guests that come, until all have ended and no guest is
 // inside.
-fn lead<T: Task, R: Wait, B: Naming, L: Levels<T, R, B>>(
+fn lead<T: Task, R: Observer, B: Naming, L: Levels<T, R, B>>(
     alloc: Global,
     hart: &Hart<'_, T, R, B>,
     site: &Arc<Site<T>, Global>,
@@ -267,7 +290,7 @@ fn wish_of(harts: u8, share: u8, count: usize, levels: u8) -> u8 {
 }
 
 // Helps the sites inside the hart's owner until the count is down. It sleeps while there is nothing to do.
-fn wait_for_end<T: Task, R: Wait, B: Naming, L: Levels<T, R, B>>(
+fn wait_for_end<T: Task, R: Observer, B: Naming, L: Levels<T, R, B>>(
     alloc: Global,
     hart: &Hart<'_, T, R, B>,
     left: &Countdown,
@@ -295,7 +318,7 @@ fn wait_for_end<T: Task, R: Wait, B: Naming, L: Levels<T, R, B>>(
 }
 
 // Serves a site that the hart has entered, and leaves it.
-fn visit<T: Task, R: Wait, B: Naming, L: Levels<T, R, B>>(
+fn visit<T: Task, R: Observer, B: Naming, L: Levels<T, R, B>>(
     alloc: Global,
     hart: &Hart<'_, T, R, B>,
     site: &Site<T>,
@@ -307,7 +330,7 @@ fn visit<T: Task, R: Wait, B: Naming, L: Levels<T, R, B>>(
 }
 
 /// Lends the hart to the sites of a run, from the base, until the run has ended.
-pub fn serve_base<T: Task, R: Wait, B: Naming, L: Levels<T, R, B>>(
+pub fn serve_base<T: Task, R: Observer, B: Naming, L: Levels<T, R, B>>(
     alloc: Global,
     hart: &Hart<'_, T, R, B>,
 ) {

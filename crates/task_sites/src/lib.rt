@@ -17,6 +17,7 @@ mod countdown;
 mod crew;
 mod hart;
 mod levels;
+mod observer;
 mod perches;
 mod site;
 
@@ -25,4 +26,5 @@ pub use countdown::Countdown;
 pub use crew::Crew;
 pub use hart::Hart;
 pub use levels::{CrewHarts, Levels, NoLevel, OneMore, serve_base};
+pub use observer::{Observer, Unobserved};
 pub use site::Site;

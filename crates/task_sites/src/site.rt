@@ -3,8 +3,11 @@ ghost use Rattle.std.specs.Prelude.{◌≡◌, ◌<◌, ◌≤◌, ◌⊎◌, �
 ghost use Rattle.std.specs.List.{AllZip};
 ghost use Rattle.tasks.specs.Failures.{FirstFailure};
 
+use crate::board::Naming;
 use crate::collect::{collect_all, run_at};
 use crate::countdown::Countdown;
+use crate::hart::Hart;
+use crate::observer::Observer;
 use std::alloc::{AllocError, Global};
 use std::marker::Model;
 use std::sync::Wait;
@@ -79,8 +82,13 @@ impl<T: TaskKind> Site<T> {
         &self.left
     }
 
-    /// Runs tasks that no other hart has claimed, until there are none.
-    pub fn run_tasks<H: Harts<T>>(&self, alloc: Global, harts: &mut H)
+    /// Runs tasks that no other hart has claimed on this hart, until there are none.
+    pub(crate) fn run_tasks<R: Observer, B: Naming, H: Harts<T>>(
+        &self,
+        alloc: Global,
+        hart: &Hart<'_, T, R, B>,
+        harts: &mut H,
+    )
     where
         T: Task,
         requires { self.now.1 ≤ H.levels harts.old }
@@ -93,7 +101,7 @@ impl<T: TaskKind> Site<T> {
             if place >= count as u64 {
                 break;
             }
-            if run_at(&self.table, alloc, harts, place as usize) {
+            if run_at(&self.table, alloc, hart, harts, place as usize) {
                 ran = ran.wrapping_add(1);
             }
         }

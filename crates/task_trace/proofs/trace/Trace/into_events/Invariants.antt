@@ -1,0 +1,10 @@
+use Rattle.std.proofs.Common.{All}
+use Rattle.std.specs.Vec.Iter.{into_iter_len}
+use Rattle.task_trace.specs.Nesting.{IsNested}
+use Rattle.task_trace.proofs.trace.Trace.into_events.Given as goal
+
+abbrev pub invariant-rows : goal.invariant-rows
+invariant-rows l = All (λ events. IsNested events.items) l.harts.items
+
+abbrev pub decreases-rows : goal.decreases-rows
+decreases-rows l = into_iter_len l.rest

@@ -1,0 +1,27 @@
+//! A trace of a run of tasks: which hart ran which task when, in which site.
+//!
+//! A [`Trace`] has a list of events for each hart. [`Traced`] is the handle of a run that is traced: it sees each task begin and end,
+//! and reads the clock. [`chrome_trace`] writes the events in the JSON form of Chrome's trace events, which `chrome://tracing` and
+//! Perfetto open.
+//!
+//! What it proves: the events of each hart are nested. Each end is that of the task that began last of those that still run, and each
+//! task that has begun has ended.
+//!
+//! # Example
+//!
+//! ```text
+//! let trace = Trace::new(rt, alloc, 4)?;
+//! let output = run_observed::<EightLevels, T, _>(&Traced::new(rt, Some(&trace)), alloc, 4, 8, task);
+//! let text = chrome_trace(alloc, trace.into_events(alloc)?.as_slice())?;
+//! ```
+#![tactic(auto)]
+
+mod chrome;
+mod error;
+mod event;
+mod trace;
+
+pub use chrome::chrome_trace;
+pub use error::TraceError;
+pub use event::Event;
+pub use trace::{Trace, Traced};

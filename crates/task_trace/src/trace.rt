@@ -1,0 +1,155 @@
+//! A trace, and the handle of a run that is traced.
+ghost use Rattle.std.specs.Prelude.{◌≡◌, IfOk};
+ghost use Rattle.std.specs.List.{All};
+ghost use Rattle.task_trace.specs.Nesting.{IsNested};
+
+use crate::error::TraceError;
+use crate::event::{Event, HartEvents};
+use crossbeam_utils::CachePadded;
+use std::alloc::Global;
+use std::sync::atomic::{AtomicBool, Ordering};
+use std::sync::{Mutex, Wait};
+use std::thread::Threads;
+use std::time::{Clock, Instant};
+use task_sites::Observer;
+
+// The events of a hart. Only that hart takes the lock while it runs.
+type Row = CachePadded<Mutex<HartEvents>>;
+
+/// A trace of a run: the events of each hart.
+#[derive(Drop)]
+pub struct Trace {
+    start: Instant,
+    rows: Vec<Row>,
+    // Whether a hart without a row ran a task.
+    has_strayed: AtomicBool,
+}
+
+impl Trace {
+    /// Begins a trace of so many harts.
+    ///
+    /// # Errors
+    ///
+    /// `NoClock` if the clock can't be read, `OutOfMemory`.
+    ///
+    /// # Memory
+    ///
+    /// Some cache lines for each hart. While the run goes, 32 bytes for each task, in a list that grows. If an event finds no memory,
+    /// the tasks run on, and [`into_events`](Trace::into_events) reports it.
+    pub fn new<C: Clock>(clock: &C, alloc: Global, harts: u8) -> Result<Trace, TraceError> {
+        let mut rows = Vec::with_capacity(alloc, harts as usize)?;
+        for _hart in 0..harts {
+            rows.push(CachePadded::new(Mutex::new(HartEvents::new(alloc))))?;
+        }
+        Ok(Trace {
+            start: Instant::now(clock)?,
+            rows,
+            has_strayed: AtomicBool::new(false),
+        })
+    }
+
+    /// The events of each hart, in the order of the harts' numbers.
+    ///
+    /// # Errors
+    ///
+    /// Why an event is missing: `OutOfMemory`, `NoClock`, `UnknownHart`, or `Unpaired`. `OutOfMemory` also if there is no room for the
+    /// list.
+    ///
+    /// # Memory
+    ///
+    /// One list.
+    pub fn into_events(self, alloc: Global) -> Result<Vec<Vec<Event>>, TraceError>
+        ensures { IfOk result (λ harts. All (λ events. IsNested events.items) harts.items) }
+    {
+        let Trace {
+            start: _,
+            rows,
+            has_strayed,
+        } = self;
+        if has_strayed.load(Ordering::SeqCst) {
+            return Err(TraceError::UnknownHart);
+        }
+        let mut harts = Vec::with_capacity(alloc, rows.len())?;
+        let mut rest = rows.into_iter();
+        'rows: while let Some(row) = rest.next() {
+            harts.push(events_of(row)?)?;
+        }
+        Ok(harts)
+    }
+
+    // The nanoseconds since the trace began.
+    fn nanos<C: Clock>(&self, clock: &C) -> Result<u64, TraceError> {
+        let since = Instant::now(clock)?.duration_since(self.start);
+        Ok(u64::try_from(since.as_nanos()).unwrap_or(u64::MAX))
+    }
+
+    // The events of a hart.
+    fn row(&self, hart: u8) -> Option<&Row> {
+        let row = self.rows.get(hart as usize);
+        if row.is_none() {
+            self.has_strayed.store(true, Ordering::SeqCst);
+        }
+        row
+    }
+}
+
+// The events in a row.
+fn events_of(row: Row) -> Result<Vec<Event>, TraceError>
+    ensures { IfOk result (λ events. IsNested events.items) }
+{
+    row.into_inner().into_inner().into_events()
+}
+
+/// The handle of a run that may be traced, over another handle.
+#[derive(Drop)]
+pub struct Traced<'t, R> {
+    rt: &'t R,
+    trace: Option<&'t Trace>,
+}
+
+impl<'t, R> Traced<'t, R> {
+    /// A handle that is as `rt`, and keeps the events in `trace`. With `None` it keeps nothing, at the cost of a test for each task.
+    pub fn new(rt: &'t R, trace: Option<&'t Trace>) -> Traced<'t, R> {
+        Traced { rt, trace }
+    }
+}
+
+impl<R: Wait> Wait for Traced<'_, R> {}
+
+impl<R: Threads> Threads for Traced<'_, R> {}
+
+impl<R: Wait + Clock> Observer for Traced<'_, R> {
+    fn is_on(&self) -> bool {
+        self.trace.is_some()
+    }
+
+    fn task_begins(&self, hart: u8, site: u16) {
+        let Some(trace) = self.trace else {
+            return;
+        };
+        let Some(row) = trace.row(hart) else {
+            return;
+        };
+        let nanos = trace.nanos(self.rt);
+        let mut events = row.lock(self.rt);
+        match nanos {
+            Ok(nanos) => events.begin(site, nanos),
+            Err(error) => events.fail(error),
+        }
+    }
+
+    fn task_ends(&self, hart: u8) {
+        let Some(trace) = self.trace else {
+            return;
+        };
+        let Some(row) = trace.row(hart) else {
+            return;
+        };
+        let nanos = trace.nanos(self.rt);
+        let mut events = row.lock(self.rt);
+        match nanos {
+            Ok(nanos) => events.end(nanos),
+            Err(error) => events.fail(error),
+        }
+    }
+}
