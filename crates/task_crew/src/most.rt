@@ -1,4 +1,4 @@
-//! How many levels of tasks a run has at most.
+//! The greatest number of levels of a run.
 ghost use Rattle.std.specs.Prelude.{◌≡◌, ◌≤◌, ◌+◌, ℕ, IfOk, vec_len, alloc_error};
 ghost use Rattle.std.specs.List.{All};
 ghost use Rattle.task_table.specs.Slots.{Ends};
@@ -12,13 +12,13 @@ use task_sites::{Crew, Levels, Naming, NoLevel, Observer, OneMore};
 use task_table::Outcome;
 use tasks::Task;
 
-/// The most levels of a run.
+/// The most levels of any run.
 pub const MOST_LEVELS: u8 = 16;
 
 // Four levels more than `L`. Why four at a time: a goal that names sixteen is too large to prove.
 type FourMore<L> = OneMore<OneMore<OneMore<OneMore<L>>>>;
 
-/// How many levels of tasks a run has at most. Why a type: the code of the tasks exists once for each level.
+/// The greatest number of levels of a run. Why a type: the code of the tasks exists once for each level.
 pub trait MostLevels {
     /// The number of levels.
     ghost count: { ℕ };
@@ -27,7 +27,8 @@ pub trait MostLevels {
     fn number() -> u8
         ensures { result ≡ count };
 
-    /// Runs a task on the first of the harts, while the others are lent to the sites inside it. Returns the outcome and the seats.
+    /// Runs a task on the first of the harts, while the others are lent to the sites inside it. Returns the outcome and the
+    /// seats.
     ///
     /// # Errors
     ///
@@ -55,7 +56,7 @@ pub trait MostLevels {
         ensures seats { IfOk result (λ r. All (IsSeatOf B.table B.size) r.1.items) };
 }
 
-/// Four levels at most.
+/// At most four levels.
 pub struct FourLevels;
 
 impl MostLevels for FourLevels {
@@ -93,7 +94,7 @@ impl MostLevels for FourLevels {
     }
 }
 
-/// Eight levels at most.
+/// At most eight levels.
 pub struct EightLevels;
 
 impl MostLevels for EightLevels {
@@ -131,7 +132,7 @@ impl MostLevels for EightLevels {
     }
 }
 
-/// Sixteen levels at most.
+/// At most sixteen levels.
 pub struct SixteenLevels;
 
 impl MostLevels for SixteenLevels {

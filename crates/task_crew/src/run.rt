@@ -23,7 +23,7 @@ pub const MOST_HARTS: u8 = 64;
 /// Runs a task on `harts` harts, with at most `levels` levels of tasks inside it, and returns its output. `harts` is 1 to 64,
 /// and `levels` is 0 to 16. When it returns, all tasks have ended, and all threads that it started.
 ///
-/// The compiler makes a copy of the task's code for each of sixteen levels. [`run_within`] needs fewer.
+/// The compiler makes a copy of the task's code for each of sixteen levels. [`run_within`] makes fewer copies.
 ///
 /// # Errors
 ///
@@ -32,8 +32,8 @@ pub const MOST_HARTS: u8 = 64;
 ///
 /// # Memory
 ///
-/// On two harts and more: `64 * (harts * levels + 1)` bytes for the board, a few words for each of the `harts * levels` sites,
-/// and some cache lines for each hart.
+/// `64 * (harts * levels + 1)` bytes for the board, a few words for each of the `harts * levels` sites, and some cache lines
+/// for each hart.
 pub fn run_on<T: Task + Send, R: Threads + Wait + Sync>(
     rt: &R,
     alloc: Global,
@@ -55,12 +55,12 @@ where
     run_within::<SixteenLevels, T, R>(rt, alloc, harts, levels, task)
 }
 
-/// Runs a task as [`run_on`] does, with at most as many levels as the type `M` has: [`FourLevels`](crate::FourLevels),
-/// [`EightLevels`](crate::EightLevels) or [`SixteenLevels`]. The compiler makes a copy of the task's code for each of them.
+/// Runs a task as [`run_on`] does, with at most `M`'s number of levels. `M` is [`FourLevels`](crate::FourLevels),
+/// [`EightLevels`](crate::EightLevels) or [`SixteenLevels`]. The compiler makes a copy of the task's code for each level.
 ///
 /// # Errors
 ///
-/// As [`run_on`]'s. `LevelCount` if `levels` is more than the type has.
+/// As [`run_on`]'s. `LevelCount` if `levels` is more than `M`'s number.
 ///
 /// # Memory
 ///
@@ -87,7 +87,7 @@ where
     run_observed::<M, T, Unobserved<'_, R>>(&unobserved, alloc, harts, levels, task)
 }
 
-/// Runs a task as [`run_within`] does, in the sight of an observer: `rt` sees each task begin and end.
+/// Runs a task as [`run_within`] does, with an observer: `rt` gets a call when a task begins and when it ends.
 ///
 /// # Errors
 ///

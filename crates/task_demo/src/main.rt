@@ -21,7 +21,7 @@ use std::sync::Wait;
 use std::thread::Threads;
 use std::time::Clock;
 
-// Runs what the words ask for.
+// Runs the library that the words name.
 fn run<R: Threads + Wait + Clock + Files + Sync>(
     rt: &R,
     alloc: Global,

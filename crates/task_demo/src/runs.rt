@@ -39,12 +39,12 @@ impl From<io::Error> for DemoError {
     }
 }
 
-/// What a run has come to.
+/// The result of a run.
 #[derive(Debug, Drop)]
 pub struct Ran {
     /// The check sum of the output. It doesn't depend on the number of harts.
     pub sum: u64,
-    /// How long the harts took, without making the input and without the check sum.
+    /// The time of the harts, without making the input and without the check sum.
     pub took: Duration,
 }
 
@@ -66,7 +66,7 @@ pub fn run_demo<R: Threads + Wait + Clock + Sync>(
     }
 }
 
-// Runs work on harts, and returns what it comes to and how long that took.
+// Runs work on harts. Returns its output and the time that it took.
 //
 // Why one call for the sort and the table: the code of the tasks exists once for each kind of tasks.
 fn run_work<R: Threads + Wait + Clock + Sync>(

@@ -17,16 +17,16 @@ pub enum Library {
     Nested,
 }
 
-/// What the words ask for.
+/// The run that the words request.
 #[derive(Debug, Drop, PartialEq)]
 pub struct Demo {
     /// The library.
     pub library: Library,
-    /// How many numbers, rows and columns, or rows, up to 100,000,000 (sort), 4,000 (matrix) or 10,000 (nested).
+    /// The number of numbers, of rows and columns, or of rows, up to 100,000,000 (sort), 4,000 (matrix) or 10,000 (nested).
     pub count: u32,
     /// The seed of the numbers.
     pub seed: u64,
-    /// How many harts run, 1 to 64.
+    /// The number of harts, 1 to 64.
     pub harts: u8,
     /// The path of the file that gets the trace of the run.
     pub trace: Option<String>,
@@ -35,11 +35,11 @@ pub struct Demo {
 /// Why nothing was run, or why a run has no result.
 #[derive(Clone, Copy, Debug, PartialEq)]
 pub enum DemoError {
-    /// The words are no form of a command.
+    /// The words are not a command with its options.
     NoForm,
-    /// The option's value is no number from the least to the most.
+    /// The option's value is not a number from the least to the most.
     NotInRange(&'static str, u64, u64),
-    /// Memory ran out.
+    /// An allocation failed.
     OutOfMemory,
     /// The clock can't be read.
     NoClock,
@@ -101,7 +101,7 @@ impl From<Error> for DemoError {
     }
 }
 
-/// What the words ask for.
+/// Reads the run that the words request.
 ///
 /// # Errors
 ///

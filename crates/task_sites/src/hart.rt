@@ -277,7 +277,7 @@ impl<'c, T: TaskKind, R: Wait, B: Naming> Hart<'c, T, R, B> {
 }
 
 impl<'c, T: TaskKind, R: Observer, B: Naming> Hart<'c, T, R, B> {
-    /// Runs a task on the hart, whose harts the task sees as `harts`. The observer of the run sees the task begin and end.
+    /// Runs a task on the hart. The task sees the harts as `harts`. The observer of the run gets its begin and its end.
     ///
     /// # Errors
     ///
@@ -302,14 +302,14 @@ impl<'c, T: TaskKind, R: Observer, B: Naming> Hart<'c, T, R, B> {
         outcome
     }
 
-    // Shows that a task begins on the hart.
+    // Reports to the observer that a task begins on the hart.
     fn show_begin(&self) {
         if self.rt.is_on() {
             self.rt.task_begins(self.number, self.owner());
         }
     }
 
-    // Shows that the task that began last on the hart ends.
+    // Reports to the observer that the task that began last on the hart ends.
     fn show_end(&self) {
         if self.rt.is_on() {
             self.rt.task_ends(self.number);

@@ -1,17 +1,17 @@
-//! What sees the tasks of a run begin and end.
+//! The observer of a run: it gets a call when a task begins and when a task ends.
 use std::sync::Wait;
 use std::thread::Threads;
 
-/// A handle that sees each task of a run begin and end. Why a handle: the harts hold one already, so a run that isn't observed
-/// does nothing more.
+/// A handle that gets a call when a task of a run begins and when it ends. Why a handle: each hart holds the run's handle, so
+/// an unobserved run does no extra work.
 pub trait Observer: Wait {
-    /// Whether tasks are observed. If not, the other calls are not made.
+    /// Whether tasks are observed. If not, the harts don't call the other methods.
     fn is_on(&self) -> bool;
 
-    /// A task begins on the hart, which is in the site; site 0 is the base.
+    /// A task begins on the hart, which is in this site; site 0 is the base.
     fn task_begins(&self, hart: u8, site: u16);
 
-    /// The task that began last on the hart, of those that run there, ends.
+    /// The task ends that began last of those that run on the hart.
     fn task_ends(&self, hart: u8);
 }
 
@@ -22,7 +22,7 @@ pub struct Unobserved<'r, R> {
 }
 
 impl<'r, R> Unobserved<'r, R> {
-    /// A handle that is as `rt`, and observes nothing.
+    /// Makes a handle with the abilities of `rt`, which observes nothing.
     pub fn new(rt: &'r R) -> Unobserved<'r, R> {
         Unobserved { rt }
     }

@@ -1,4 +1,4 @@
--- What is written of a trace, as calls of a serializer.
+-- The calls of a serializer that write a trace.
 use Rattle.std.specs.Prelude.{◌≡◌, ◌+◌, ℕ, List, [], ◌∷◌, ◌++◌, None, Some, Float, codes, pos, ⊤}
 use lib.Ieee.{binary64, div, of_int}
 use Rattle.serde.specs.Event as serde
@@ -20,7 +20,7 @@ number_member key value = field_key key AsIs ∷ unsigned value ∷ []
 abbrev pub micros : ℕ → Float
 micros nanos = div binary64 (of_int binary64 (pos nanos)) (of_int binary64 (pos 1000))
 
--- What the begin and the end of a task have in common. A viewer takes the hart for a thread.
+-- The members that the begin and the end of a task share. A viewer takes the hart for a thread.
 abbrev pub common_members : List ℕ → ℕ → ℕ → List serde.Event
 common_members kind nanos hart =
     map_begins None ∷ text_member (codes "name") (codes "task") ++ text_member (codes "ph") kind
@@ -50,7 +50,7 @@ trace_members harts =
     map_begins None ∷ field_key (codes "traceEvents") AsIs ∷ seq_begins None ∷ members_from 0 harts
     ++ (seq_ends ∷ text_member (codes "displayTimeUnit") (codes "ns") ++ map_ends ∷ [])
 
--- Where the calls so far are known, they grow by these.
+-- If the calls so far are known, these calls are appended.
 abbrev pub Grows : Log → Log → List serde.Event → Type 0
 Grows None new calls = ⊤
 Grows (Some old) new calls = new ≡ Some (old ++ calls)

@@ -3,7 +3,7 @@ use Rattle.std.specs.Prelude.{◌≡◌, ◌+◌, ℕ, zero, suc, List, [], ◌�
 use Rattle.task_trace.specs.declared.event.Event.{Event}
 use Rattle.task_trace.specs.declared.event.Event.TheVariants.{Begin, End}
 
--- How many tasks run on a hart after these events, if so many ran before. There is no number if a task ends while none runs.
+-- The number of tasks that run on a hart after these events, if so many ran before. `None` if a task ends while none runs.
 abbrev pub running_after : ℕ → List Event → Option ℕ
 running_after running [] = Some running
 running_after running (Begin site nanos ∷ events) = running_after (running + 1) events

@@ -21,7 +21,7 @@ impl Described for ChromeTrace<'_> {
     ghost writes = { λ trace old new. Grows old new (trace_members trace.harts.now) };
 }
 
-// Why by hand: the text grows event by event, without a second list of events, and it is known what is written.
+// Why by hand: the text grows event by event, without a second list of events, and the contract states what is written.
 impl Serialize for ChromeTrace<'_> {
     fn serialize<S: Serializer>(&self, out: &mut S) -> Result<(), S::Error> {
         out.begin_map(None)?;
@@ -145,8 +145,8 @@ fn write_number<S: Serializer>(out: &mut S, key: &str, value: u64) -> Result<(),
 
 /// Writes the events of each hart as JSON. The number of a hart is its index in the slice.
 ///
-/// A task is a pair of events, `B` and `E`. The thread `tid` is the hart, `ts` is the time in microseconds, and `args` has the site
-/// that the hart was in. The events of a hart stand in their order.
+/// A task is a pair of events, `B` and `E`. The thread `tid` is the hart, `ts` is the time in microseconds, and `args` has the
+/// site that the hart was in. The events of a hart stand in their order.
 ///
 /// # Errors
 ///

@@ -5,11 +5,11 @@ use std::io;
 /// Why there is no trace.
 #[derive(Clone, Copy, Debug, PartialEq)]
 pub enum TraceError {
-    /// Memory ran out, so an event is missing, or there is no text.
+    /// An allocation failed, so an event is missing, or there is no text.
     OutOfMemory,
     /// The clock can't be read, so an event is missing.
     NoClock,
-    /// A hart that isn't one of the trace's ran a task.
+    /// A hart that the trace doesn't have ran a task.
     UnknownHart,
     /// A task has begun and not ended, or ended and not begun.
     Unpaired,

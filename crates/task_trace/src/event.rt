@@ -18,7 +18,7 @@ pub enum Event {
 #[derive(Drop)]
 pub(crate) struct HartEvents {
     events: Vec<Event>,
-    // How many tasks run.
+    // The number of tasks that run on the hart.
     running: u64,
     // Why an event is missing. No event is kept after that.
     fault: Option<TraceError>,
@@ -74,7 +74,7 @@ impl HartEvents {
         }
     }
 
-    /// The events.
+    /// Returns the events.
     ///
     /// # Errors
     ///

@@ -1,11 +1,13 @@
 //! A trace of a run of tasks: which hart ran which task when, in which site.
 //!
-//! A [`Trace`] has a list of events for each hart. [`Traced`] is the handle of a run that is traced: it sees each task begin and end,
-//! and reads the clock. [`chrome_trace`] writes the events in the JSON form of Chrome's trace events, which `chrome://tracing` and
-//! Perfetto open.
+//! A [`Trace`] has a list of events for each hart. [`Traced`] is the handle of a traced run: it keeps the begin and the end of
+//! each task, with the time. [`chrome_trace`] writes the events in the JSON form of Chrome's trace events, which
+//! `chrome://tracing` and Perfetto open.
 //!
-//! What it proves: the events of each hart are nested. Each end is that of the task that began last of those that still run, and each
-//! task that has begun has ended.
+//! The contracts state that the events of each hart are nested: each end is that of the task that began last of those that still
+//! run, and each task that has begun has ended.
+//!
+//! Begin with `Trace` in `trace.rt` and `IsNested` in `specs/Nesting.antt`; `trace_tests` traces runs on several harts.
 //!
 //! # Example
 //!

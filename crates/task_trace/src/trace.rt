@@ -34,8 +34,8 @@ impl Trace {
     ///
     /// # Memory
     ///
-    /// Some cache lines for each hart. While the run goes, 32 bytes for each task, in a list that grows. If an event finds no memory,
-    /// the tasks run on, and [`into_events`](Trace::into_events) reports it.
+    /// Some cache lines for each hart. During the run, 32 bytes for each task, in a list that grows. If an allocation of the list
+    /// fails, the tasks run on, and [`into_events`](Trace::into_events) reports it.
     pub fn new<C: Clock>(clock: &C, alloc: Global, harts: u8) -> Result<Trace, TraceError> {
         let mut rows = Vec::with_capacity(alloc, harts as usize)?;
         for _hart in 0..harts {
@@ -48,12 +48,12 @@ impl Trace {
         })
     }
 
-    /// The events of each hart, in the order of the harts' numbers.
+    /// Returns the events of each hart, in the order of the harts' numbers.
     ///
     /// # Errors
     ///
-    /// Why an event is missing: `OutOfMemory`, `NoClock`, `UnknownHart`, or `Unpaired`. `OutOfMemory` also if there is no room for the
-    /// list.
+    /// Why an event is missing: `OutOfMemory`, `NoClock`, `UnknownHart`, or `Unpaired`. `OutOfMemory` also if the list can't be
+    /// allocated.
     ///
     /// # Memory
     ///
@@ -108,7 +108,8 @@ pub struct Traced<'t, R> {
 }
 
 impl<'t, R> Traced<'t, R> {
-    /// A handle that is as `rt`, and keeps the events in `trace`. With `None` it keeps nothing, at the cost of a test for each task.
+    /// Makes a handle with the abilities of `rt`, which keeps the events in `trace`. With `None` it keeps nothing, and each task
+    /// costs one test.
     pub fn new(rt: &'t R, trace: Option<&'t Trace>) -> Traced<'t, R> {
         Traced { rt, trace }
     }

@@ -1,6 +1,6 @@
 //! Tests of traces: each task is a pair of events, pairs are nested, and the text is JSON.
 //!
-//! They stand apart since a crate is proved a second time with its tests.
+//! Why a crate of its own: a crate is proved a second time with its tests.
 #![tactic(auto)]
 
 #[cfg(test)]

@@ -7,11 +7,11 @@ use task_trace::{Event, chrome_trace};
 /// What a viewer reads of one hart.
 #[derive(Clone, Copy, Debug, PartialEq)]
 pub struct Seen {
-    /// How many tasks began.
+    /// The number of tasks that began.
     pub begun: u64,
-    /// How many tasks ended.
+    /// The number of tasks that ended.
     pub ended: u64,
-    /// How many tasks began in the base.
+    /// The number of tasks that began in the base.
     pub in_base: u64,
     /// Whether no end came without a task that runs, no time went back, and no task runs at the end.
     pub is_nested: bool,

@@ -7,11 +7,11 @@ use std::alloc::{AllocError, Global};
 use std::sync::atomic::{AtomicU64, Ordering};
 use tasks::{Harts, Task, TaskKind};
 
-/// How often a leaf looks for the others at most.
+/// The greatest number of looks of a leaf.
 const LOOKS: u32 = 20_000_000;
 
-/// A task with so many levels of tasks inside it, each of two tasks. Its output is the number of tasks. A leaf waits until so many
-/// leaves have come.
+/// A task with so many levels of tasks inside it, each of two tasks. Its output is the number of tasks. A leaf waits until so
+/// many leaves have come.
 #[derive(Drop)]
 pub struct Tree<'p> {
     pub levels: u8,
@@ -69,7 +69,7 @@ fn branch_of<'p>(tree: &Tree<'p>) -> Tree<'p>
     }
 }
 
-// Waits until so many leaves have come, for so many looks at most.
+// Waits until so many leaves have come, for a bounded number of looks.
 fn wait(wanted: u64, came: &AtomicU64) {
     came.fetch_add(1, Ordering::SeqCst);
     let backoff = Backoff::new();
