@@ -16,9 +16,7 @@
 #![tactic(auto)]
 
 mod error;
-mod most;
 mod run;
 
 pub use error::RunError;
-pub use most::{EightLevels, FourLevels, MOST_LEVELS, MostLevels, SixteenLevels};
-pub use run::{MOST_HARTS, run_observed, run_on, run_within};
+pub use run::{MOST_HARTS, MOST_LEVELS, run_observed, run_on};

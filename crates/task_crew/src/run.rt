@@ -6,24 +6,27 @@ ghost use Rattle.task_table.specs.Slots.{Ends};
 ghost use Rattle.task_crew.specs.Runs.{RunFails, IsReason, IsSeatOf, AllAreHome};
 
 use crate::error::RunError;
-use crate::most::{MostLevels, SixteenLevels};
 use open_board::{EndRefused, NotEnded, OpenBoard, OpenSeat};
 use std::alloc::{AllocError, Global};
 use std::marker::Brand;
 use std::sync::Wait;
 use std::thread;
 use std::thread::Threads;
-use task_sites::{Crew, Hart, Levels, Naming, Observer, Unobserved, serve_base};
+use task_sites::{Crew, Hart, Levels, Naming, NoLevel, Observer, OneMore, Unobserved, serve_base};
 use task_table::Outcome;
 use tasks::Task;
 
 /// The most harts of a run.
 pub const MOST_HARTS: u8 = 64;
 
+/// The most levels of a run.
+pub const MOST_LEVELS: u8 = 16;
+
+// Four levels more than `L`. Why four at a time: a goal that names sixteen is too large to prove.
+type FourMore<L> = OneMore<OneMore<OneMore<OneMore<L>>>>;
+
 /// Runs a task on `harts` harts, with at most `levels` levels of tasks inside it, and returns its output. `harts` is 1 to 64,
 /// and `levels` is 0 to 16. When it returns, all tasks have ended, and all threads that it started.
-///
-/// The compiler makes a copy of the task's code for each of sixteen levels. [`run_within`] makes fewer copies.
 ///
 /// # Errors
 ///
@@ -47,56 +50,25 @@ where
     requires { T.depth task ≤ levels }
     ensures output { IfOk result (λ output. T.gives task output) }
     ensures error { IfErr result
-        (RunFails 16 harts levels (T.fails task) (T.Error.from_gives alloc_error)) }
+        (RunFails harts levels (T.fails task) (T.Error.from_gives alloc_error)) }
     ensures harts { (harts ≡ 0) ⊎ (64 < harts) → result ≡ Err (RunError.HartCount harts) }
     ensures levels { (1 ≤ harts) → (harts ≤ 64) → (16 < levels) → result
         ≡ Err (RunError.LevelCount levels) }
 {
-    run_within::<SixteenLevels, T, R>(rt, alloc, harts, levels, task)
-}
-
-/// Runs a task as [`run_on`] does, with at most `M`'s number of levels. `M` is [`FourLevels`](crate::FourLevels),
-/// [`EightLevels`](crate::EightLevels) or [`SixteenLevels`]. The compiler makes a copy of the task's code for each level.
-///
-/// # Errors
-///
-/// As [`run_on`]'s. `LevelCount` if `levels` is more than `M`'s number.
-///
-/// # Memory
-///
-/// As [`run_on`]'s.
-pub fn run_within<M: MostLevels, T: Task + Send, R: Threads + Wait + Sync>(
-    rt: &R,
-    alloc: Global,
-    harts: u8,
-    levels: u8,
-    task: T,
-) -> Result<T::Output, RunError<T::Error>>
-where
-    T::Output: Send,
-    T::Error: Send,
-    requires { T.depth task ≤ levels }
-    ensures output { IfOk result (λ output. T.gives task output) }
-    ensures error { IfErr result
-        (RunFails M.count harts levels (T.fails task) (T.Error.from_gives alloc_error)) }
-    ensures harts { (harts ≡ 0) ⊎ (64 < harts) → result ≡ Err (RunError.HartCount harts) }
-    ensures levels { (1 ≤ harts) → (harts ≤ 64) → (M.count < levels) → result
-        ≡ Err (RunError.LevelCount levels) }
-{
     let unobserved = Unobserved::new(rt);
-    run_observed::<M, T, Unobserved<'_, R>>(&unobserved, alloc, harts, levels, task)
+    run_observed::<T, Unobserved<'_, R>>(&unobserved, alloc, harts, levels, task)
 }
 
-/// Runs a task as [`run_within`] does, with an observer: `rt` gets a call when a task begins and when it ends.
+/// Runs a task as [`run_on`] does, with an observer: `rt` gets a call when a task begins and when it ends.
 ///
 /// # Errors
 ///
-/// As [`run_within`]'s.
+/// As [`run_on`]'s.
 ///
 /// # Memory
 ///
 /// As [`run_on`]'s.
-pub fn run_observed<M: MostLevels, T: Task + Send, R: Threads + Observer + Sync>(
+pub fn run_observed<T: Task + Send, R: Threads + Observer + Sync>(
     rt: &R,
     alloc: Global,
     harts: u8,
@@ -109,25 +81,25 @@ where
     requires { T.depth task ≤ levels }
     ensures output { IfOk result (λ output. T.gives task output) }
     ensures error { IfErr result
-        (RunFails M.count harts levels (T.fails task) (T.Error.from_gives alloc_error)) }
+        (RunFails harts levels (T.fails task) (T.Error.from_gives alloc_error)) }
     ensures harts { (harts ≡ 0) ⊎ (64 < harts) → result ≡ Err (RunError.HartCount harts) }
-    ensures levels { (1 ≤ harts) → (harts ≤ 64) → (M.count < levels) → result
+    ensures levels { (1 ≤ harts) → (harts ≤ 64) → (16 < levels) → result
         ≡ Err (RunError.LevelCount levels) }
 {
     if harts == 0 || harts > MOST_HARTS {
         return Err(RunError::HartCount(harts));
     }
-    if levels > M::number() {
+    if levels > MOST_LEVELS {
         return Err(RunError::LevelCount(levels));
     }
     match OpenBoard::new(alloc, harts, levels.max(1)) {
-        Ok((board, seats)) => run_named::<Brand, M, T, R>(rt, alloc, board, seats, levels, task),
+        Ok((board, seats)) => run_named::<Brand, T, R>(rt, alloc, board, seats, levels, task),
         Err(error) => Err(RunError::Task(T::Error::from(error))),
     }
 }
 
 // Runs a task on the harts of a board, and ends the board.
-fn run_named<B, M, T, R>(
+fn run_named<B: Naming + Send + Sync, T: Task + Send, R: Threads + Observer + Sync>(
     rt: &R,
     alloc: Global,
     board: OpenBoard,
@@ -136,10 +108,6 @@ fn run_named<B, M, T, R>(
     task: T,
 ) -> Result<T::Output, RunError<T::Error>>
 where
-    B: Naming + Send + Sync,
-    M: MostLevels,
-    T: Task + Send,
-    R: Threads + Observer + Sync,
     T::Output: Send,
     T::Error: Send,
     requires board { board.table.shared.table_id ≡ B.table }
@@ -147,17 +115,16 @@ where
     requires seats { All (IsOf board) seats.items }
     requires some { 1 ≤ vec_len seats }
     requires depth { T.depth task ≤ levels }
-    requires levels { levels ≤ M.count }
+    requires levels { levels ≤ 16 }
     ensures output { IfOk result (λ output. T.gives task output) }
     ensures error { IfErr result
-        (RunFails M.count board.size.harts levels (T.fails task) (T.Error.from_gives alloc_error)) }
+        (RunFails board.size.harts levels (T.fails task) (T.Error.from_gives alloc_error)) }
 {
     let crew = match Crew::<T, B>::new(alloc, board) {
         Ok(crew) => crew,
         Err(error) => return Err(RunError::Task(T::Error::from(error))),
     };
-    let ran = M::run_crew::<B, T, R>(rt, alloc, &crew, seats, levels, task);
-    let (outcome, seats) = match ran {
+    let (outcome, seats) = match run_crew(rt, alloc, &crew, seats, levels, task) {
         Ok(ran) => ran,
         Err(error) => return Err(RunError::Task(T::Error::from(error))),
     };
@@ -190,7 +157,117 @@ fn go_home(board: OpenBoard, seats: Vec<OpenSeat>) -> Result<(), NotEnded>
 }
 
 // Runs a task on the first of the harts, while the others are lent to the sites inside it. Returns the outcome and the seats.
-pub(crate) fn run_crew_with<B, T, R, L>(
+fn run_crew<B, T, R>(
+    rt: &R,
+    alloc: Global,
+    crew: &Crew<T, B>,
+    seats: Vec<OpenSeat>,
+    levels: u8,
+    task: T,
+) -> Result<(Outcome<T>, Vec<OpenSeat>), AllocError>
+where
+    B: Naming + Send + Sync,
+    T: Task + Send,
+    R: Threads + Observer + Sync,
+    T::Output: Send,
+    T::Error: Send,
+    requires seats { All (IsSeatOf B.table B.size) seats.items }
+    requires some { 1 ≤ vec_len seats }
+    requires depth { T.depth task ≤ levels }
+    requires levels { levels ≤ 16 }
+    ensures outcome { IfOk result
+        (λ r. Ends T.gives T.fails (T.Error.from_gives alloc_error) task r.0) }
+    ensures seats { IfOk result (λ r. All (IsSeatOf B.table B.size) r.1.items) }
+{
+    run_over_four::<B, T, R, FourMore<NoLevel>>(rt, alloc, crew, seats, levels, task)
+}
+
+// The same, with twelve levels more than `L`.
+fn run_over_four<B, T, R, L>(
+    rt: &R,
+    alloc: Global,
+    crew: &Crew<T, B>,
+    seats: Vec<OpenSeat>,
+    levels: u8,
+    task: T,
+) -> Result<(Outcome<T>, Vec<OpenSeat>), AllocError>
+where
+    B: Naming + Send + Sync,
+    T: Task + Send,
+    R: Threads + Observer + Sync,
+    L: Levels<T, R, B> + Send + Sync,
+    T::Output: Send,
+    T::Error: Send,
+    requires count { 4 ≤ L.count }
+    requires seats { All (IsSeatOf B.table B.size) seats.items }
+    requires some { 1 ≤ vec_len seats }
+    requires depth { T.depth task ≤ levels }
+    requires levels { levels ≤ 16 }
+    ensures outcome { IfOk result
+        (λ r. Ends T.gives T.fails (T.Error.from_gives alloc_error) task r.0) }
+    ensures seats { IfOk result (λ r. All (IsSeatOf B.table B.size) r.1.items) }
+{
+    run_over_eight::<B, T, R, FourMore<L>>(rt, alloc, crew, seats, levels, task)
+}
+
+// The same, with eight levels more than `L`.
+fn run_over_eight<B, T, R, L>(
+    rt: &R,
+    alloc: Global,
+    crew: &Crew<T, B>,
+    seats: Vec<OpenSeat>,
+    levels: u8,
+    task: T,
+) -> Result<(Outcome<T>, Vec<OpenSeat>), AllocError>
+where
+    B: Naming + Send + Sync,
+    T: Task + Send,
+    R: Threads + Observer + Sync,
+    L: Levels<T, R, B> + Send + Sync,
+    T::Output: Send,
+    T::Error: Send,
+    requires count { 8 ≤ L.count }
+    requires seats { All (IsSeatOf B.table B.size) seats.items }
+    requires some { 1 ≤ vec_len seats }
+    requires depth { T.depth task ≤ levels }
+    requires levels { levels ≤ 16 }
+    ensures outcome { IfOk result
+        (λ r. Ends T.gives T.fails (T.Error.from_gives alloc_error) task r.0) }
+    ensures seats { IfOk result (λ r. All (IsSeatOf B.table B.size) r.1.items) }
+{
+    run_over_twelve::<B, T, R, FourMore<L>>(rt, alloc, crew, seats, levels, task)
+}
+
+// The same, with four levels more than `L`.
+fn run_over_twelve<B, T, R, L>(
+    rt: &R,
+    alloc: Global,
+    crew: &Crew<T, B>,
+    seats: Vec<OpenSeat>,
+    levels: u8,
+    task: T,
+) -> Result<(Outcome<T>, Vec<OpenSeat>), AllocError>
+where
+    B: Naming + Send + Sync,
+    T: Task + Send,
+    R: Threads + Observer + Sync,
+    L: Levels<T, R, B> + Send + Sync,
+    T::Output: Send,
+    T::Error: Send,
+    requires count { 12 ≤ L.count }
+    requires seats { All (IsSeatOf B.table B.size) seats.items }
+    requires some { 1 ≤ vec_len seats }
+    requires depth { T.depth task ≤ levels }
+    requires levels { levels ≤ 16 }
+    ensures outcome { IfOk result
+        (λ r. Ends T.gives T.fails (T.Error.from_gives alloc_error) task r.0) }
+    ensures seats { IfOk result (λ r. All (IsSeatOf B.table B.size) r.1.items) }
+{
+    run_crew_with::<B, T, R, FourMore<L>>(rt, alloc, crew, seats, levels, task)
+}
+
+// The same, with the levels of `L`.
+fn run_crew_with<B, T, R, L>(
     rt: &R,
     alloc: Global,
     crew: &Crew<T, B>,
@@ -216,37 +293,6 @@ where
     let room = Vec::with_capacity(alloc, seats.len())?;
     let home: Hart<'_, T, R, B> = Hart::new(rt, crew, seats.remove(0));
     let guests = seated(rt, alloc, crew, seats)?;
-    let (guests, home, outcome) = run_all::<B, T, R, L>(
-        rt, alloc, crew, home, guests, levels, task,
-    );
-    Ok((outcome, seats_of(room, home, guests)?))
-}
-
-// Runs a task on a hart, while the guests, if there are any, are lent on threads of their own.
-fn run_all<'c, B, T, R, L>(
-    rt: &R,
-    alloc: Global,
-    crew: &Crew<T, B>,
-    home: Hart<'c, T, R, B>,
-    guests: Vec<Hart<'c, T, R, B>>,
-    levels: u8,
-    task: T,
-) -> (Vec<Hart<'c, T, R, B>>, Hart<'c, T, R, B>, Outcome<T>)
-where
-    B: Naming + Send + Sync,
-    T: Task + Send,
-    R: Threads + Observer + Sync,
-    L: Levels<T, R, B> + Send + Sync,
-    T::Output: Send,
-    T::Error: Send,
-    requires depth { T.depth task ≤ levels }
-    requires levels { levels ≤ L.count }
-    ensures { Ends T.gives T.fails (T.Error.from_gives alloc_error) task result.2 }
-{
-    if guests.is_empty() {
-        let (home, outcome) = run_home::<B, T, R, L>(alloc, crew, home, levels, task);
-        return (guests, home, outcome);
-    }
     let (guests, (home, outcome)) = thread::join(
         rt,
         move || serve_all::<B, T, R, L>(rt, alloc, guests),
@@ -255,7 +301,7 @@ where
             ensures { Ends T.gives T.fails (T.Error.from_gives alloc_error) task result.1 }
         { run_home::<B, T, R, L>(alloc, crew, home, levels, task) },
     );
-    (guests, home, outcome)
+    Ok((outcome, seats_of(room, home, guests)?))
 }
 
 // Seats the harts of a crew, the last first.
