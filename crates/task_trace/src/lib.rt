@@ -7,13 +7,13 @@
 //! The contracts state that the events of each hart are nested: each end is that of the task that began last of those that still
 //! run, and each task that has begun has ended.
 //!
-//! Begin with `Trace` in `trace.rt` and `IsNested` in `specs/Nesting.antt`; `trace_tests` traces runs on several harts.
+//! Begin with `Trace` in `trace.rt` and `IsNested` in `specs/Nesting.antt`.
 //!
 //! # Example
 //!
 //! ```text
 //! let trace = Trace::new(rt, alloc, 4)?;
-//! let output = run_observed::<EightLevels, T, _>(&Traced::new(rt, Some(&trace)), alloc, 4, 8, task);
+//! let output = run_observed(&Traced::new(rt, Some(&trace)), alloc, 4, 8, task);
 //! let text = chrome_trace(alloc, trace.into_events(alloc)?.as_slice())?;
 //! ```
 #![tactic(auto)]
