@@ -6,5 +6,10 @@
 
 mod machines;
 mod steps;
+pub mod planned_sites;
+pub mod site_passes;
+pub mod site_parts;
+pub mod piece_accounts;
+pub mod machine_accounts;
 
 pub use machines::JobMachines;
