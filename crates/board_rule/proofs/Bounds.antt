@@ -22,10 +22,10 @@ use Rattle.board_rule.proofs.Loads.{part-here, part-elsewhere}
 use Rattle.board_rule.proofs.BoardSteps.{in_plan}
 use Rattle.board_rule.proofs.Looks.{few_harts, few_wishes}
 use Rattle.board_rule.proofs.SiteWords.{fields}
-use Rattle.guest_counts.specs.Guests.{guest_at, guests_below}
-use Rattle.guest_counts.proofs.Ways.{parent_outside, found_within}
-use Rattle.guest_counts.proofs.Counts.{small}
-use Rattle.guest_counts.proofs.Changes.{outsider, at_home}
+use Rattle.transfer_table.specs.Guests.{guest_at, guests_below}
+use Rattle.transfer_table.proofs.Ways.{parent_outside, found_within}
+use Rattle.transfer_table.proofs.GuestCounts.{small}
+use Rattle.transfer_table.proofs.Changes.{outsider, at_home}
 use Rattle.board_rule.proofs.Lasts.{last_owner}
 use Rattle.board_rule.specs.StepLaws.{GuestsAreShown, GuestsAreFew}
 use Rattle.board_words.proofs.Totals.{total-none}

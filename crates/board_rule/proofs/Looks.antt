@@ -38,7 +38,7 @@ use Rattle.board_words.proofs.Places.{place_at}
 use Rattle.board_rule.proofs.SiteSteps.{guests-load, sites_other, knows_other}
 use Rattle.board_words.proofs.Asked.{is_home-some}
 use Rattle.board_words.proofs.Bits.{is_live-stage}
-use Rattle.guest_counts.proofs.Changes.{guests_change}
+use Rattle.transfer_table.proofs.Changes.{guests_change}
 use Rattle.board_rule.proofs.Fields.{owners_small, field_is}
 
 -- a plan has at most 16 harts

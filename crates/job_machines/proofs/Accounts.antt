@@ -3,8 +3,8 @@ use Rattle.std.proofs.Common.{◌≡◌, ℕ, ◌+◌, ◌-◌, ◌≤◌, Bool,
 use Rattle.std.proofs.lemmas.List.{length-replicate}
 use Rattle.transfer_table.specs.Plan.{Plan}
 use Rattle.transfer_table.specs.declared.entry.Entry.{Entry}
-use Rattle.site_accounts.specs.Accounts.{AreOverAs, HasGrown, KeepsOutside}
-use Rattle.site_accounts.proofs.Algebra.{over_lasts, over_joins, kept_joins}
+use Rattle.transfer_table.specs.Accounts.{AreOverAs, HasGrown, KeepsOutside}
+use Rattle.transfer_table.proofs.Algebra.{over_lasts, over_joins, kept_joins}
 use Rattle.array_meaning.specs.Stores.{Arrays, Store, after}
 use Rattle.array_meaning.specs.Entered.{statement_entered}
 use Rattle.array_meaning.proofs.EnteredLemmas.{statement_length}

@@ -3,9 +3,9 @@ use Rattle.std.proofs.Common.{◌≡◌, ℕ, zero, suc, ◌+◌, ◌-◌, ◌*�
 use Rattle.std.specs.Prelude.{int_lt}
 use Rattle.transfer_table.specs.Plan.{Plan}
 use Rattle.transfer_table.specs.declared.entry.Entry.{Entry}
-use Rattle.site_accounts.specs.Accounts.{AreOverAs, AreFresh, HasGrown, KeepsOutside}
-use Rattle.site_accounts.specs.Laws.{IsSkippedSpan}
-use Rattle.site_accounts.proofs.Algebra.{over_lasts, fresh_joins, fresh_lasts}
+use Rattle.transfer_table.specs.Accounts.{AreOverAs, AreFresh, HasGrown, KeepsOutside}
+use Rattle.transfer_table.specs.AccountLaws.{IsSkippedSpan}
+use Rattle.transfer_table.proofs.Algebra.{over_lasts, fresh_joins, fresh_lasts}
 use Rattle.array_tree.specs.Trees.{Statement, Assign, For, If, Par, Team, Sequence, ended, followed}
 use Rattle.array_meaning.specs.Values.{holds}
 use Rattle.array_meaning.specs.Stores.{Arrays, Vars, Store, value_of}

@@ -4,9 +4,9 @@ use Rattle.std.proofs.lemmas.Bool.{false≢true}
 use Rattle.transfer_table.specs.Entry.{unregisters}
 use Rattle.transfer_table.specs.declared.entry.Entry.TheVariants.{Register, Unregister}
 use Rattle.transfer_table.proofs.Balance.{unregisters-here}
-use Rattle.site_accounts.specs.Accounts.{AreFresh}
-use Rattle.site_accounts.proofs.Algebra.{over_lasts, over_have_ended, fresh_lasts}
-use Rattle.site_accounts.proofs.Touches.{entries_touch_little}
+use Rattle.transfer_table.specs.Accounts.{AreFresh}
+use Rattle.transfer_table.proofs.Algebra.{over_lasts, over_have_ended, fresh_lasts}
+use Rattle.transfer_table.proofs.Touches.{entries_touch_little}
 use Rattle.array_tree.specs.Trees.{Statement, Assign, For, If, Par, Team}
 use Rattle.array_meaning.specs.Stores.{HaveCells, arrays_of}
 use Rattle.array_meaning.specs.Plans.{statement_sites_in}

@@ -2,7 +2,7 @@
 use Rattle.std.proofs.Common.{◌≡◌, ℕ, zero, suc, ◌+◌, ◌<◌, inl, inr, Bool, true, List, [], ◌∷◌, ◌++◌, length, refl, sym, subst, arith}
 use Rattle.transfer_table.specs.Plan.{Plan}
 use Rattle.transfer_table.specs.declared.entry.Entry.{Entry}
-use Rattle.site_accounts.specs.Accounts.{IsOverAs, AreOverAs}
+use Rattle.transfer_table.specs.Accounts.{IsOverAs, AreOverAs}
 use Rattle.array_meaning.specs.Stores.{Arrays, arrays_of}
 use Rattle.array_meaning.specs.Pieces.{IsMember}
 use Rattle.array_meaning.specs.Plans.{statement_sites_in}

@@ -4,7 +4,7 @@ use Rattle.std.specs.Prelude.{unwrap_or}
 use Rattle.std.proofs.lemmas.List.{nil_from_length}
 use Rattle.transfer_table.specs.Plan.{Plan, IsPlan}
 use Rattle.transfer_table.specs.declared.entry.Entry.{Entry}
-use Rattle.site_accounts.specs.Accounts.{KeepsOutside}
+use Rattle.transfer_table.specs.Accounts.{KeepsOutside}
 use Rattle.array_tree.specs.Trees.{Statement, Assign, For, If, Par, Team, ended, followed, declarations_of}
 use Rattle.array_meaning.specs.Stores.{Arrays, Vars, Store, arrays_of, after}
 use Rattle.array_meaning.specs.Steps.{exec, writes_of}

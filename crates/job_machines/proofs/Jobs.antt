@@ -4,7 +4,7 @@ use Rattle.array_meaning.specs.Stores.{Store, arrays_of}
 use Rattle.array_meaning.specs.Plans.{statement_sites_in}
 use Rattle.array_meaning.specs.Pieces.{IsMember}
 use Rattle.meant_sites.proofs.Parts.{entered_is_complete}
-use Rattle.site_accounts.proofs.Algebra.{all_are_fresh_at_first}
+use Rattle.transfer_table.proofs.Algebra.{all_are_fresh_at_first}
 use Rattle.array_jobs.specs.Works.{WorkTree, sites_of}
 use Rattle.array_jobs.specs.Jobs.{JobTree}
 use Rattle.array_jobs.specs.Bodies.{body_of}

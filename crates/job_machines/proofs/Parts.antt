@@ -2,7 +2,7 @@
 use Rattle.std.proofs.Common.{◌≡◌, ℕ, zero, suc, ◌+◌, ◌-◌, ◌<◌, ◌≤◌, ◌⊎◌, ⊎_elim, Bool, true, false, cond, List, [], ◌∷◌, length, Some, refl, subst, arith}
 use Rattle.std.proofs.lemmas.Bool.{cases_order}
 use Rattle.transfer_table.specs.Plan.{Plan, IsPlan, IsSite, parent}
-use Rattle.site_accounts.specs.Accounts.{IsSpan}
+use Rattle.transfer_table.specs.Accounts.{IsSpan}
 use Rattle.array_tree.specs.Trees.{Statement, Assign, For, If, Par, Team, ended, followed}
 use Rattle.array_meaning.specs.Values.{holds}
 use Rattle.array_meaning.specs.Stores.{Arrays, Vars, Store, value_of}

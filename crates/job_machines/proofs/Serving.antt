@@ -3,9 +3,9 @@ use Rattle.std.proofs.Common.{ℕ, zero, suc, ◌+◌, ◌-◌, ◌<◌, ◌≤�
 use Rattle.transfer_table.specs.Entry.{unregisters}
 use Rattle.transfer_table.specs.declared.entry.Entry.TheVariants.{Register, Unregister}
 use Rattle.transfer_table.proofs.Balance.{unregisters-here}
-use Rattle.site_accounts.specs.Accounts.{IsFresh}
-use Rattle.site_accounts.proofs.Algebra.{over_lasts, kept_joins}
-use Rattle.site_accounts.proofs.Touches.{entries_touch_little}
+use Rattle.transfer_table.specs.Accounts.{IsFresh}
+use Rattle.transfer_table.proofs.Algebra.{over_lasts, kept_joins}
+use Rattle.transfer_table.proofs.Touches.{entries_touch_little}
 use Rattle.array_meaning.specs.Stores.{arrays_of}
 use Rattle.array_meaning.specs.Plans.{statement_sites_in}
 use Rattle.array_jobs.specs.Works.{sites_of}

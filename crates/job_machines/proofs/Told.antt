@@ -2,8 +2,8 @@
 use Rattle.std.proofs.Common.{◌≡◌, ℕ, zero, suc, ◌+◌, ◌-◌, Bool, true, false, cond, List, [], ◌∷◌, Option, Some, None, ap, arith}
 use Rattle.transfer_table.specs.Plan.{Plan}
 use Rattle.transfer_table.specs.declared.entry.Entry.{Entry}
-use Rattle.site_accounts.specs.Accounts.{AreFresh}
-use Rattle.site_accounts.proofs.Algebra.{fresh_joins}
+use Rattle.transfer_table.specs.Accounts.{AreFresh}
+use Rattle.transfer_table.proofs.Algebra.{fresh_joins}
 use Rattle.array_tree.specs.Trees.{Assign, For, If, Par, Team, ended, followed}
 use Rattle.array_meaning.specs.Values.{holds}
 use Rattle.array_meaning.specs.Stores.{Arrays, Vars, Store, value_of}

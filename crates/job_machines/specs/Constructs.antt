@@ -4,7 +4,7 @@ use Rattle.transfer_table.specs.Plan.{Plan, IsPlan, IsSite}
 use Rattle.transfer_table.specs.Entry.{unregisters}
 use Rattle.transfer_table.specs.declared.entry.Entry.{Entry}
 use Rattle.transfer_table.specs.declared.entry.Entry.TheVariants.{Register, Unregister}
-use Rattle.site_accounts.specs.Accounts.{AreOverAs, AreFresh, IsFresh, HasGrown, KeepsOutside}
+use Rattle.transfer_table.specs.Accounts.{AreOverAs, AreFresh, IsFresh, HasGrown, KeepsOutside}
 use Rattle.array_meaning.specs.Stores.{Arrays, HaveCells, arrays_of}
 use Rattle.array_meaning.specs.Pieces.{IsMember}
 use Rattle.array_meaning.specs.Entered.{statement_entered}

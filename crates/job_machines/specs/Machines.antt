@@ -4,8 +4,8 @@ use Rattle.transfer_table.specs.Plan.{Plan, IsPlan}
 use Rattle.transfer_table.specs.Table.{TableState}
 use Rattle.transfer_table.specs.Journal.{Reaches, IsComplete}
 use Rattle.transfer_table.specs.declared.entry.Entry.{Entry}
-use Rattle.site_accounts.specs.Accounts.{AreFresh, HasGrown, KeepsOutside, IsSpan}
-use Rattle.site_accounts.specs.Laws.{IsSkippedSpan}
+use Rattle.transfer_table.specs.Accounts.{AreFresh, HasGrown, KeepsOutside, IsSpan}
+use Rattle.transfer_table.specs.AccountLaws.{IsSkippedSpan}
 use Rattle.array_tree.specs.Trees.{ProgramTree}
 use Rattle.array_meaning.specs.Stores.{arrays_of}
 use Rattle.array_meaning.specs.Plans.{plan_of, statement_sites_in}

@@ -1,7 +1,7 @@
 -- Works, constructs and jobs whose sites are parts of a plan: whole subtrees inside the site around.
 use Rattle.std.specs.Prelude.{◌≡◌, ℕ, ◌+◌, ◌-◌, ◌<◌, List, [], ◌∷◌, ◌++◌, Some}
 use Rattle.transfer_table.specs.Plan.{Plan, IsPlan, IsSite, parent}
-use Rattle.site_accounts.specs.Accounts.{IsSpan}
+use Rattle.transfer_table.specs.Accounts.{IsSpan}
 use Rattle.array_tree.specs.Trees.{Statement, ProgramTree}
 use Rattle.array_meaning.specs.Stores.{Arrays, Store}
 use Rattle.array_meaning.specs.Plans.{plan_of, statement_sites_in}

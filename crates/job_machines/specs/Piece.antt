@@ -3,8 +3,8 @@
 use Rattle.std.specs.Prelude.{◌≡◌, ℕ, ◌+◌, ◌-◌, Bool, false, List, [], ◌∷◌, ◌++◌, length, replicate, Option, Some, None}
 use Rattle.transfer_table.specs.Plan.{Plan}
 use Rattle.transfer_table.specs.declared.entry.Entry.{Entry}
-use Rattle.site_accounts.specs.Accounts.{AreOverAs, AreFresh, HasGrown, KeepsOutside}
-use Rattle.site_accounts.specs.Laws.{IsSkippedSpan}
+use Rattle.transfer_table.specs.Accounts.{AreOverAs, AreFresh, HasGrown, KeepsOutside}
+use Rattle.transfer_table.specs.AccountLaws.{IsSkippedSpan}
 use Rattle.array_tree.specs.Trees.{Statement}
 use Rattle.array_meaning.specs.Stores.{Arrays, Vars, Store, after}
 use Rattle.array_meaning.specs.Plans.{statement_sites_in}

@@ -11,6 +11,8 @@ mod entry;
 mod fault;
 pub mod laws;
 mod plan;
+pub mod site_accounts;
+pub mod guest_counts;
 
 pub use board::Board;
 pub use entries::Entries;
