@@ -12,7 +12,11 @@ pub mod laws;
 mod layout;
 mod rule;
 mod view;
+mod entries;
+mod words;
 
 pub use layout::{Laid, Layout};
 pub use rule::BoardRule;
 pub use view::{Doing, Look, LookKind, Marks, View};
+pub use entries::{Drawn, Ended};
+pub use words::{GUEST, entry_of, word_of};

@@ -17,7 +17,7 @@ use crate::plays::{
 };
 use atomic_table::Seat;
 use board_rule::{Laid, Layout, View};
-use board_words::{GUEST, word_of};
+use board_rule::{GUEST, word_of};
 use hart_port::{CLAIMED, CLOSED, CLOSING, WISH};
 use std::marker::Brand;
 use transfer_table::Entry;

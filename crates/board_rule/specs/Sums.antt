@@ -1,8 +1,8 @@
 -- Sums over seats, and the terms of one seat.
 use Rattle.std.specs.Prelude.{ℕ, ◌+◌, ◌==◌, Bool, true, false, List, [], ◌∷◌, Option, Some, None}
 use Rattle.transfer_table.specs.Counts.{one_if}
-use Rattle.board_words.specs.declared.entries.Drawn.{Drawn}
-use Rattle.board_words.specs.declared.entries.Ended.{Ended}
+use Rattle.board_rule.specs.declared.entries.Drawn.{Drawn}
+use Rattle.board_rule.specs.declared.entries.Ended.{Ended}
 
 -- the sum of f over a list
 abbrev pub total : {V : Type 0} → (V → ℕ) → List V → ℕ

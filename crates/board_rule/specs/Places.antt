@@ -2,7 +2,7 @@
 use Rattle.std.specs.Prelude.{◌≡◌, ℕ, ◌≤◌, List, [], ◌∷◌, ◌++◌, slice_get, Some}
 use Rattle.std.specs.List.{AllZip}
 use Rattle.transfer_table.specs.declared.entry.Entry.{Entry}
-use Rattle.board_words.specs.Words.{spelled}
+use Rattle.board_rule.specs.Encodings.{spelled}
 
 -- Of an index of the journal: its word encodes the entry and no view has reserved the index, or the word is 0 and one view has
 -- reserved it.

@@ -21,7 +21,7 @@ use Rattle.transfer_table.proofs.Balance.{registers-other, registers-here, legal
 use Rattle.transfer_table.proofs.Begins.{legal_begins, legal_askless, skips-other, skips-here}
 use Rattle.transfer_table.proofs.Bounds.{legal_owner}
 use Rattle.transfer_table.proofs.Within.{strictly_within, within-step, within_site}
-use Rattle.board_words.specs.Shown.{has_begun, shown}
+use Rattle.board_rule.specs.Shown.{has_begun, shown}
 
 by_begun : {A : Type 0} (es : List Entry) (x : ℕ) → (has_begun es x ≡ true → A) → (has_begun es x ≡ false → A) → A
 by_begun {A = A} es x was never = split (has_begun es x) refl

@@ -1,8 +1,8 @@
 -- Entries at the places that were drawn for them, in a journal that grows.
 use Rattle.std.proofs.Common.{◌≡◌, ℕ, List, [], ◌∷◌, ◌++◌, length, slice_get, ap, ◌∙◌}
 use Rattle.transfer_table.specs.declared.entry.Entry.{Entry}
-use Rattle.board_words.specs.Places.{AreAt, IsPlace}
-use Rattle.board_words.proofs.Lists.{get-more, get-last}
+use Rattle.board_rule.specs.Places.{AreAt, IsPlace}
+use Rattle.board_rule.proofs.Lists.{get-more, get-last}
 
 -- they stay where they are
 pub at-more : (es : List Entry) (e : Entry) (mine : List Entry) (places : List ℕ) → AreAt es mine places → AreAt (es ++ e ∷ []) mine places

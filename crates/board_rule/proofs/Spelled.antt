@@ -5,7 +5,7 @@ use Rattle.transfer_table.specs.Entry.{hart_of, site_of, count_of}
 use Rattle.transfer_table.specs.Laws.{IsEntryOf}
 use Rattle.transfer_table.specs.declared.entry.Entry.{Entry}
 use Rattle.transfer_table.specs.declared.entry.Entry.TheVariants.{Register, Request, Enter, Yield, Unregister, Skip}
-use Rattle.board_words.specs.Words.{spelled}
+use Rattle.board_rule.specs.Encodings.{spelled}
 
 -- the kind of an entry, as its word has it
 kind : Entry → ℕ

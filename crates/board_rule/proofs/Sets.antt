@@ -6,7 +6,7 @@ use Rattle.transfer_table.specs.Plan.{Plan, site_count}
 use Rattle.transfer_table.proofs.Lists.{replicate_at}
 use Rattle.hart_port.specs.PortView.{is_in, with_site, without}
 use Rattle.hart_port.specs.Ledger.{no_site}
-use Rattle.board_words.specs.Sets.{union}
+use Rattle.board_rule.specs.Sets.{union}
 
 pub with_site-same : (f : List Bool) (x : ℕ) → x < length f → is_in (with_site f x) x ≡ true
 with_site-same f x lt = get_or-set_same f x true false lt

@@ -7,7 +7,7 @@ use Rattle.transfer_table.specs.Table.{is_gone, is_live}
 use Rattle.transfer_table.specs.declared.entry.Stage.{Stage}
 use Rattle.transfer_table.specs.declared.entry.Stage.TheVariants.{New, Live, Gone}
 use Rattle.transfer_table.specs.Counts.{one_if}
-use Rattle.board_words.specs.Shown.{started}
+use Rattle.board_rule.specs.Shown.{started}
 
 pub or_one : (n : ℕ) → bit_or n 1 + n % 2 ≡ n + 1
 or_one n = let a = or_add_and n 1 in let b : bit_and n 1 ≡ n % 2 = and_mask n 1 in omega arith

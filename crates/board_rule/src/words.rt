@@ -2,7 +2,7 @@
 ghost use Rattle.std.specs.Prelude.{◌≡◌, ◌≤◌};
 ghost use Rattle.transfer_table.specs.Plan.{most_sites};
 ghost use Rattle.transfer_table.specs.Entry.{hart_of, count_of, site_of};
-ghost use Rattle.board_words.specs.Words.{spelled};
+ghost use Rattle.board_rule.specs.Encodings.{spelled};
 
 use transfer_table::Entry;
 
