@@ -8,7 +8,7 @@ use Rattle.array_jobs.specs.Jobs.{JobParts, job_of}
 use Rattle.join_book.specs.Books.{BookParts, Filled, Open, IsFull, marked_book}
 use Rattle.sched_api.specs.declared.scheduler.Next.TheVariants.{Run}
 use Rattle.sched_api.specs.Wishes.{WishList}
-use Rattle.work_agenda.specs.Agenda.{AgendaParts, TakesNext}
+use Rattle.sched_api.specs.Agenda.{AgendaParts, TakesNext}
 use Rattle.step_eval.specs.Nests.{NestedParts, nested_of, phases_of}
 use Rattle.forkjoin_sched.specs.Pools.{PoolParts}
 use Rattle.forkjoin_sched.specs.declared.work.PoolWork.{PoolWork}

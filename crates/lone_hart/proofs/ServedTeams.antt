@@ -11,7 +11,7 @@ use Rattle.lithe_barrier.specs.declared.state.Arrival.{Arrival}
 use Rattle.lithe_barrier.specs.declared.state.Arrival.TheVariants.{Kept, Opened, Stranger}
 use Rattle.sched_api.specs.declared.scheduler.Next.TheVariants.{Run}
 use Rattle.sched_api.specs.Wishes.{WishList}
-use Rattle.work_agenda.specs.Agenda.{TakesNext}
+use Rattle.sched_api.specs.Agenda.{TakesNext}
 use Rattle.step_eval.specs.Nests.{nested_of}
 use Rattle.loop_team.specs.Teams.{TeamParts, IsOver, AreJobsIn, GoesOn, MovesOn, opened_team, with_barrier, with_agenda, with_phase, phases_in}
 use Rattle.loop_team.specs.declared.work.TeamWork.{TeamWork}

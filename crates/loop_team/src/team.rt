@@ -23,7 +23,7 @@ use std::collections::VecDeque;
 use std::marker::Model;
 use std::mem;
 use step_eval::{Nested, jobs_of};
-use work_agenda::{Agenda, MOST_WISHES};
+use sched_api::{Agenda, MOST_WISHES};
 
 /// The receipt of a callback of a team.
 #[derive(Drop)]

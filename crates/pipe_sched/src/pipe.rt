@@ -20,7 +20,7 @@ use std::alloc::{AllocError, Global};
 use std::collections::VecDeque;
 use std::marker::Model;
 use step_eval::Nested;
-use work_agenda::{Agenda, MOST_WISHES};
+use sched_api::{Agenda, MOST_WISHES};
 
 /// The receipt of a callback of a pipe.
 #[derive(Drop)]

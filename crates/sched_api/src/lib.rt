@@ -22,3 +22,7 @@ pub use wishes::Wishes;
 
 #[cfg(test)]
 mod tests;
+mod agenda;
+#[cfg(test)]
+mod agenda_tests;
+pub use agenda::{Agenda, MOST_WISHES};

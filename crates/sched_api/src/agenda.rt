@@ -2,7 +2,7 @@
 ghost use Rattle.std.specs.Prelude.{◌≡◌, ◌*◌, [], length, IfOk};
 ghost use Rattle.std.specs.VecDeque.{deque_len};
 ghost use Rattle.sched_api.specs.Wishes.{with_wishes, without_child};
-ghost use Rattle.work_agenda.specs.Agenda.{TakesNext, PutsReady, GivesReady, GivesUnbegun, IsLastUnbegun, GivesLast};
+ghost use Rattle.sched_api.specs.Agenda.{TakesNext, PutsReady, GivesReady, GivesUnbegun, IsLastUnbegun, GivesLast};
 
 use sched_api::{Next, Wishes};
 use std::alloc::{AllocError, Global};
@@ -25,7 +25,7 @@ pub struct Agenda<C> {
 impl<C> Model for Agenda<C> {
     ghost use Rattle.std.specs.Prelude.{◌≤◌};
     ghost use Rattle.std.specs.VecDeque.{deque_len, deque_capacity};
-    ghost use Rattle.work_agenda.specs.Agenda.{AgendaParts};
+    ghost use Rattle.sched_api.specs.Agenda.{AgendaParts};
 
     ghost Value = { AgendaParts C };
 
