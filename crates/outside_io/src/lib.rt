@@ -20,3 +20,5 @@ pub use sure::{SureSink, SureSource};
 
 #[cfg(test)]
 mod tests;
+mod words;
+pub use words::{NoWords, words_of};

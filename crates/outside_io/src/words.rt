@@ -19,7 +19,7 @@ impl From<Error> for NoWords {
     ghost use Rattle.std.specs.Prelude.{◌≡◌, ◌↔◌};
     ghost use Rattle.std.specs.IoError.{error_kind};
     ghost use Rattle.std.specs.declared.io.ErrorKind.TheVariants.{OutOfMemory};
-    ghost use Rattle.outside_words.specs.declared.words.NoWords.TheVariants.{NoMemory};
+    ghost use Rattle.outside_io.specs.declared.words.NoWords.TheVariants.{NoMemory};
 
     ghost from_gives = { λ error why. (why ≡ NoMemory) ↔ (error_kind error ≡ OutOfMemory) };
 
@@ -34,7 +34,7 @@ impl From<Error> for NoWords {
 
 impl<T: Drop> From<AllocFailed<T>> for NoWords {
     ghost use Rattle.std.specs.Prelude.{◌≡◌};
-    ghost use Rattle.outside_words.specs.declared.words.NoWords.TheVariants.{NoMemory};
+    ghost use Rattle.outside_io.specs.declared.words.NoWords.TheVariants.{NoMemory};
 
     ghost from_gives = { λ _ why. why ≡ NoMemory };
 
