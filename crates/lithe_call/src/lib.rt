@@ -20,6 +20,7 @@ mod run;
 mod status;
 mod tally;
 mod writing;
+mod summing;
 
 pub use audit::text_fault;
 pub use call::{lithe, no_form_for_words, no_memory_for_words};
@@ -32,3 +33,4 @@ pub use run::{refusal, syntax_fault};
 pub use status::{Status, constant_text};
 pub use tally::with_rows;
 pub use writing::write_all;
+pub use summing::write_summary;

@@ -5,7 +5,7 @@ ghost use Rattle.array_meaning.specs.Bounds.{most_cells};
 ghost use Rattle.array_meaning.specs.Values.{wrapping_sum};
 ghost use Rattle.array_meaning.specs.Stores.{arrays_of, AreSized, cells_of};
 ghost use Rattle.transfer_table.specs.Entry.{is_register};
-ghost use Rattle.run_summary.specs.Summary.{sum_of, summary_text};
+ghost use Rattle.lithe_call.specs.Summary.{sum_of, summary_text};
 
 use array_eval::{Store, count_cells};
 use array_tree::Program;

@@ -3,9 +3,9 @@ use mir.Val.{SFits}
 use Rattle.std.proofs.lemmas.Int.{to_z-of_z}
 use Rattle.array_meaning.specs.Values.{wrapping_sum}
 use Rattle.array_meaning.specs.Stores.{at_cell}
-use Rattle.run_summary.specs.Summary.{sum_of}
-use Rattle.run_summary.proofs.Sums.{with_rest, sum_more}
-use Rattle.run_summary.proofs.summing.sum.Goals as goal
+use Rattle.lithe_call.specs.Summary.{sum_of}
+use Rattle.lithe_call.proofs.Sums.{with_rest, sum_more}
+use Rattle.lithe_call.proofs.summing.sum.Goals as goal
 
 pub loop-cell-preserved : goal.loop-cell-preserved
 loop-cell-preserved c =

@@ -5,7 +5,7 @@ use Rattle.std.proofs.Math.IntN.{+ℤ_assoc}
 use Rattle.std.proofs.lemmas.Int.{int_wrap-add_left}
 use Rattle.std.proofs.lemmas.List.{drop_more}
 use Rattle.array_meaning.specs.Stores.{Store, at_cell}
-use Rattle.run_summary.specs.Summary.{whole_sum}
+use Rattle.lithe_call.specs.Summary.{whole_sum}
 
 -- what is summed so far with the cells from one on
 abbrev pub with_rest : ℤ → ℕ → Store → ℤ
