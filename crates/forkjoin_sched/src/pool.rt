@@ -14,11 +14,10 @@ use array_eval::Overlay;
 use array_jobs::{Job, Piece};
 use join_book::{Book, Deposit};
 use lithe_mutex::{Acquired, MutexState};
-use sched_api::{Call, Hearing, Next, Scheduler, Told};
+use sched_api::{Agenda, Call, Hearing, MOST_WISHES, Next, Scheduler, Told};
 use std::alloc::{AllocError, Global};
 use std::collections::VecDeque;
 use std::marker::Model;
-use sched_api::{Agenda, MOST_WISHES};
 
 /// The receipt of a callback of a pool.
 #[derive(Drop)]

@@ -6,7 +6,7 @@ use Rattle.std.proofs.Crossing.{crosses}
 use Rattle.array_tree.proofs.tree.Expr.TheLaws.TheKnot as ExprKnot
 use Rattle.array_tree.proofs.tree.Stmt.TheLaws.TheKnot as StmtKnot
 use Rattle.array_jobs.specs.contracts.job.Job as Job
-use Rattle.work_agenda.specs.contracts.agenda.Agenda as Agenda
+use Rattle.sched_api.specs.contracts.agenda.Agenda as Agenda
 use Rattle.forkjoin_sched.specs.contracts.work.PoolWork as PoolWork
 use Rattle.forkjoin_sched.specs.contracts.pool.Pool as Pool
 use Rattle.forkjoin_sched.specs.contracts.shared.SharedPool as SharedPool
