@@ -4,9 +4,8 @@
 //! is opened, its jobs run in any order, and it ends. A hart that runs them phase after phase, within a phase in the order of
 //! their indices, keeps that account by a phase and an index. Over the whole body of a program the journal is complete.
 //!
-//! The crate holds definitions and laws. No code here runs: each function's contract is a law, and its body is empty. Begin
-//! with `specs/Machines.antt`; `lone_hart` and `job_machines` use the laws, and the tests of `lithe_tests` run programs whose
-//! journals they are about.
+//! Begin with `specs/Machines.antt`; `lone_hart` and `machines.rt` use the laws, and the tests of `lithe_tests` run programs
+//! whose journals they are about.
 
 ghost use Rattle.job_machines.specs.Machines.{MachinesBegin, MachinesRunOn, MachinesWait, MachinesPass, MachinesGoOn, MachinesFinish, BodiesAreFresh, BodiesAreRun};
 ghost use Rattle.job_machines.specs.Serving.{ConstructsOpen, JobsAreFresh, JobsAreDone, ChildrenHaveEnded, ConstructsEnd};

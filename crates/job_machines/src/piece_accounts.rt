@@ -1,9 +1,8 @@
 //! The account of a machine that runs a job on a single hart: from fresh sites (neither registered nor skipped) to sites that
 //! have ended as the job enters them.
 //!
-//! The crate holds definitions and laws. No code here runs: each function's contract is a law, and its body is empty. Begin
-//! with `specs/Piece.antt`; `site_accounts` has the accounts of a plan, and the tests of `lithe_tests` run programs whose
-//! journals the laws are about.
+//! Begin with `specs/Piece.antt`; `transfer_table` has the accounts of a plan, and the tests of `lithe_tests` run programs
+//! whose journals the laws are about.
 
 ghost use Rattle.job_machines.specs.Piece.{AccountsBegin, AccountsStep, AccountsPassConstructs, NextConstructsAreFresh, NextPassesAreFresh, AccountsEnd};
 ghost use Rattle.job_machines.specs.Constructs.{ConstructsAreOver, ServingBegins, OtherJobsAreFresh, ServingGoesOn, ServedConstructsAreRun, JobsHaveOwnSites, JobsNotDoneAreFresh};

@@ -1,8 +1,7 @@
 //! The numbers of sites and the plan: from the remaining works of a machine to the construct that it hands out, and from a
 //! construct to the jobs of its pieces.
 //!
-//! The crate holds definitions and laws. No code here runs: each function's contract is a law, and its body is empty. Begin
-//! with `specs/Planned.antt`; `step_eval` has machines and jobs, and the tests of `job_tests` compare their numbers.
+//! Begin with `specs/Planned.antt`; `step_eval` has machines and jobs, and the tests of `piece_tests` compare their numbers.
 
 ghost use Rattle.job_machines.specs.Planned.{WorksStayPlanned, ConstructsArePlanned, JobsArePlanned, JobsAreNumberedAbove, StepsRaiseNumbers};
 ghost use Rattle.job_machines.specs.Numbers.{JobsHaveTheSitesInside};

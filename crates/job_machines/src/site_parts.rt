@@ -1,8 +1,7 @@
-//! The sites of a machine's works, of the constructs that it hands out and of their jobs are whole subtrees of the plan.
+//! The sites of a machine's works, of the constructs that it hands out and of their jobs are whole subtrees of the plan. So a
+//! hart that skips them skips complete subtrees.
 //!
-//! So a hart that skips them skips complete subtrees. The crate holds definitions and laws. No code here runs: each function's
-//! contract is a law, and its body is empty. Begin with `specs/Parts.antt`; `meant_sites` defines parts, and the tests of
-//! `job_tests` step machines over such sites.
+//! Begin with `specs/Parts.antt`; `meant_sites` defines parts, and the tests of `piece_tests` step machines over such sites.
 
 ghost use Rattle.job_machines.specs.Parts.{WorksStayParts, WholeWorksArePassed, PassesAreSpans, ConstructsAreParts, JobsAreParts, BodiesAreParts};
 

@@ -1,8 +1,7 @@
 //! How a machine passes sites if both sides of an `if` may have some: the sites that a hart has to skip, and those that it
 //! still enters.
 //!
-//! The crate holds definitions and laws. No code here runs: each function's contract is a law, and its body is empty. Begin
-//! with `specs/Entering.antt`; `step_eval` has the machines, and the tests of `job_tests` step them.
+//! Begin with `specs/Entering.antt`; `step_eval` has the machines, and the tests of `piece_tests` step them.
 
 ghost use Rattle.job_machines.specs.Passes.{PassesAreWithin};
 ghost use Rattle.job_machines.specs.Entering.{RestIsCounted, StepsPassSites, SuppliesPassSites, JobsEnterTheConstruct};

@@ -2,7 +2,7 @@
 //!
 //! `lithe` is the call, and its contract states the correctness of the whole. `specs/Output.antt` defines the output of a
 //! command, `specs/Served.antt` what a call has read and written, and `src/laws.rt` what follows if the source shows its bytes
-//! beforehand.
+//! beforehand. `write_summary` in `summing.rt` writes the four lines of `make`.
 //!
 //! Begin with `lithe` in `call.rt` and the clause `done` of `AreServed` in `specs/Served.antt`. The program `lithe_run` calls
 //! it, and the tests of `lithe_tests` serve commands from memory.
@@ -18,9 +18,9 @@ mod pipe;
 mod reading;
 mod run;
 mod status;
+mod summing;
 mod tally;
 mod writing;
-mod summing;
 
 pub use audit::text_fault;
 pub use call::{lithe, no_form_for_words, no_memory_for_words};
@@ -33,4 +33,3 @@ pub use run::{refusal, syntax_fault};
 pub use status::{Status, constant_text};
 pub use tally::with_rows;
 pub use writing::write_all;
-pub use summing::write_summary;

@@ -26,7 +26,7 @@ use hart_loop::run_harts;
 use journal_text::write_entries;
 use lone_hart::{Outcome, run_alone};
 use outside_io::Gate;
-use crate::write_summary;
+use crate::summing::write_summary;
 use std::alloc::{AllocError, Global};
 use std::sync::Wait;
 use std::thread::Threads;

@@ -4,7 +4,7 @@ ghost use Rattle.std.specs.VecDeque.{deque_len};
 ghost use Rattle.sched_api.specs.Wishes.{with_wishes, without_child};
 ghost use Rattle.sched_api.specs.Agenda.{TakesNext, PutsReady, GivesReady, GivesUnbegun, IsLastUnbegun, GivesLast};
 
-use sched_api::{Next, Wishes};
+use crate::{Next, Wishes};
 use std::alloc::{AllocError, Global};
 use std::collections::VecDeque;
 use std::marker::Model;

@@ -1,6 +1,6 @@
 //! An agenda of three contexts.
 use crate::*;
-use sched_api::Next;
+use crate::Next;
 use std::alloc::{AllocError, Global};
 use std::collections::VecDeque;
 use std::test::Fail;

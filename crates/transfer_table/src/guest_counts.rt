@@ -1,7 +1,7 @@
 //! The number of a site's guests (harts inside it that aren't its home), and how entries change it.
 //!
-//! The boards of `lent_board` count guests in a site's word by this law. The crate holds one law, the contract of a function
-//! with an empty body. Begin with `specs/Guests.antt`; `wide_tests` has examples of the counts.
+//! The boards of `lent_board` count guests in a site's word by this law. Begin with `specs/Guests.antt`; `wide_tests` has
+//! examples of the counts.
 
 ghost use Rattle.transfer_table.specs.Guests.{GuestsChange};
 
