@@ -1,7 +1,7 @@
 //! Whole programs as jobs.
 ghost use Rattle.std.specs.Prelude.{◌≡◌};
 
-use crate::driving::{driven, holds, parsed};
+use crate::driving::{driven, holds};
 use array_jobs::{Job, Piece, body_job, piece_of, sites_in};
 use disjoint_check::{Accepted, check};
 use std::alloc::{AllocError, Global};

@@ -1,10 +1,11 @@
 //! Constructs that are handed out, their jobs and their pieces.
 
-use crate::driving::{parsed, stepped};
+use crate::driving::stepped;
 use array_eval::{MarkedStore, Store};
 use array_jobs::{Job, body_job, copy_jobs, written_by};
 use contexts::Step;
 use disjoint_check::{Accepted, check};
+use sample_programs::parsed;
 use std::alloc::{AllocError, Global};
 use std::test::Fail;
 use step_eval::{Found, Kind, Nested, StepMachine, compute, jobs_of};

@@ -1,28 +1,15 @@
-//! Texts that are parsed, and machines that run to their ends.
+//! Machines that run to their ends.
 ghost use Rattle.std.specs.Prelude.{◌≡◌, false, IfOk};
 ghost use Rattle.piece_tests.specs.declared.driving.Turn.TheVariants.{Over};
 ghost use Rattle.step_eval.specs.Machines.{is_awaiting, Advances, IsFinished};
 
 use array_jobs::{Job, Piece};
-use array_lang::parse;
-use array_tree::Program;
 use contexts::{Machine, Step};
 use disjoint_check::{Accepted, check};
+use sample_programs::parsed;
 use std::alloc::Global;
 use std::test::Fail;
 use step_eval::{Found, StepMachine, compute};
-
-/// The program of a text.
-///
-/// # Errors
-///
-/// A failure of the test if the text spells no program, or an allocation fails.
-pub fn parsed(alloc: Global, text: &[u8]) -> Result<Program, Fail> {
-    if text.len() > 65_536 {
-        return Err(Fail::new("a longer text than any program's"));
-    }
-    Ok(parse(alloc, text)?)
-}
 
 /// Whether this holds of the program of a text, which must be accepted.
 ///

@@ -1,7 +1,7 @@
 //! Jobs, pieces, constructs and machines that move from thread to thread.
 
 use crate::constructs::first_construct;
-use crate::driving::{driven, parsed};
+use crate::driving::driven;
 use array_jobs::body_job;
 use disjoint_check::{Accepted, check};
 use std::alloc::{AllocError, Global};
