@@ -11,7 +11,7 @@ use Rattle.base_sched.proofs.shared.SharedBase.TheSendSync as BaseCrosses
 use Rattle.site_directory.specs.contracts.shared_site.SharedSite as SharedSite
 use Rattle.loop_team.proofs.Crossings.{job_send}
 use Rattle.site_directory.proofs.Crossings.{line_send}
-use Rattle.hart_tools.proofs.tools.Tools.TheSendSync as ToolsCrosses
+use Rattle.shared_sites.proofs.tools.Tools.TheSendSync as ToolsCrosses
 use Rattle.hart_loop.specs.contracts.harts.HartSchedulers as HartSchedulers
 use Rattle.hart_loop.specs.contracts.hart.Hart as Hart
 

@@ -5,7 +5,7 @@ ghost use Rattle.array_jobs.specs.Jobs.{job_of};
 ghost use Rattle.array_jobs.specs.Bodies.{body_of};
 ghost use Rattle.deque_rows.specs.Rows.{kin as rows_kin};
 ghost use Rattle.claim_words.specs.Seats.{kin as seat_kin};
-ghost use Rattle.hart_tools.specs.Stocks.{AreTools};
+ghost use Rattle.shared_sites.specs.Stocks.{AreTools};
 ghost use Rattle.hart_loop.specs.Harts.{AllStart, AreSame, HaveRun, AreTheSame};
 
 use crate::hart::{Hart, work};
@@ -16,7 +16,7 @@ use base_sched::{Base, SharedBase};
 use deque_rows::laws::settle;
 use deque_rows::{HartRows, ROOM, rows_for};
 use disjoint_check::Accepted;
-use hart_tools::{Claims, tools_of};
+use shared_sites::{Claims, tools_of};
 use loop_team::ClaimSeat;
 use loop_team::laws::claimed;
 use once_cell::race::OnceBox;

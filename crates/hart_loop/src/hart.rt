@@ -7,7 +7,7 @@ use crate::harts::HartSchedulers;
 use crate::in_directory::InDirectory;
 use array_jobs::{Job, Piece};
 use base_sched::SharedBase;
-use hart_tools::Tools;
+use shared_sites::Tools;
 use hart_work::{run_piece, serve};
 use site_steps::{PatientPort, SiteTree, finish_base, sweep_if};
 use std::alloc::{AllocError, Global};

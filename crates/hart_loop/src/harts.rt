@@ -12,7 +12,7 @@ use array_eval::Overlay;
 use array_jobs::{Job, Piece};
 use array_tree::Block;
 use hart_port::{Port, Taken};
-use hart_tools::Tools;
+use shared_sites::Tools;
 use hart_work::{Schedulers, Task};
 use job_machines::JobMachines;
 use sched_api::{

@@ -9,7 +9,7 @@ use array_tree::Program;
 use deque_rows::rows;
 use disjoint_check::check;
 use hart_loop::{HartSchedulers, HartSite, InDirectory, Members};
-use hart_tools::{Claims, Tools, tools_of};
+use shared_sites::{Claims, Tools, tools_of};
 use hart_work::{Schedulers, Task};
 use job_machines::JobMachines;
 use loop_team::ClaimSeat;

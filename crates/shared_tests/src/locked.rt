@@ -12,7 +12,7 @@ use deque_rows::rows;
 use disjoint_check::{Accepted, check};
 use hart_loop::{Hart, HartSchedulers, HartSite, Members, work};
 use hart_port::{Ledger, LockedPort};
-use hart_tools::{Claims, Tools, tools_of};
+use shared_sites::{Claims, Tools, tools_of};
 use hart_work::{Schedulers, run_construct};
 use job_machines::JobMachines;
 use loop_team::ClaimSeat;
