@@ -15,12 +15,11 @@ use crate::hart_site::Keeper;
 use crate::members::Members;
 use array_eval::Overlay;
 use forkjoin_sched::{Pool, SharedPool};
-use shared_sites::Whole;
 use lone_hart::{open_pool, open_team, room_for_wishes, take_from_pool};
 use loop_team::{SharedTeam, Team};
 use pipe_sched::{Pipe, SharedPipe};
 use pipe_walk::uncrossed;
-use site_directory::{SharedSite, SiteLine};
+use shared_sites::{SharedSite, SiteLine, Whole};
 use std::alloc::{AllocError, Global};
 use step_eval::{Kind, Nested, compute};
 

@@ -15,6 +15,7 @@ ghost use Rattle.transfer_table.specs.Plan.{IsSite, parent as parent_of};
 use crate::claims::Claims;
 use crate::grip::{Grip, PoolPlace, TeamPlace};
 use crate::hand::Hand;
+use crate::shared_site::SharedSite;
 use crate::whole::Whole;
 use array_jobs::{Job, Piece};
 use crossbeam_utils::Backoff;
@@ -27,7 +28,6 @@ use sched_api::{
     Lent, Next, sched_enter, sched_reenter, sched_register, sched_request, sched_unregister,
     sched_yield,
 };
-use site_directory::SharedSite;
 use std::alloc::{AllocError, Global};
 use std::marker::Model;
 use std::sync::Wait;

@@ -5,7 +5,7 @@ use array_tree::Program;
 use forkjoin_sched::{Pool, SharedPool};
 use once_cell::race::OnceBox;
 use sample_programs::{TWO_BRANCHES, first_jobs, parsed};
-use site_directory::{SharedSite, SiteLine, cells, lines};
+use shared_sites::{SharedSite, SiteLine, cells, lines};
 use std::alloc::Global;
 use std::test::Fail;
 

@@ -12,7 +12,6 @@ use deque_rows::rows;
 use disjoint_check::{Accepted, check};
 use hart_loop::{Hart, HartSchedulers, HartSite, Members, work};
 use hart_port::{Ledger, LockedPort};
-use shared_sites::{Claims, Tools, tools_of};
 use hart_work::{Schedulers, run_construct};
 use job_machines::JobMachines;
 use loop_team::ClaimSeat;
@@ -20,7 +19,7 @@ use once_cell::race::OnceBox;
 use sample_programs::{
     BOTH_BRANCHES, BOTH_PHASES, TWO_BRANCHES, TWO_PHASES, first_construct, parsed,
 };
-use site_directory::{SharedSite, SiteLine, cells, lines};
+use shared_sites::{Claims, SharedSite, SiteLine, Tools, cells, lines, tools_of};
 use site_steps::{SiteTree, WaitingPort};
 use std::alloc::Global;
 use std::sync::{Mutex, Wait};

@@ -5,7 +5,7 @@ use crate::finding::is_taken;
 use array_tree::Program;
 use once_cell::race::OnceBox;
 use sample_programs::{TWO_BRANCHES, parsed};
-use site_directory::{SharedSite, SiteLine, cells};
+use shared_sites::{SharedSite, SiteLine, cells};
 use std::alloc::Global;
 use std::sync::Wait;
 use std::test::Fail;

@@ -2,7 +2,7 @@
 use denote.Param.Send.{IsSend, sendable}
 use denote.Param.SendFields.{declared_send}
 use denote.Ref.{NamedLft}
-use Rattle.site_directory.proofs.Crossings.{line_send}
+use Rattle.shared_sites.proofs.Crossings.{line_send}
 use Rattle.shared_tests.specs.contracts.threads.Finder as Finder
 use Rattle.shared_tests.proofs.threads.look_all.Goals as goal
 

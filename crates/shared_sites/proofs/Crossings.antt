@@ -16,8 +16,8 @@ use Rattle.once_cell.specs.contracts.race.once_box.OnceBox as OnceBox
 use Rattle.once_cell.specs.contracts.race.note.Note as Note
 use Rattle.once_cell.proofs.race.once_box.OnceBox.TheSendSync as OnceBoxCrosses
 use Rattle.once_cell.proofs.race.note.Note.TheSendSync as NoteCrosses
-use Rattle.site_directory.specs.contracts.shared_site.SharedSite as SharedSite
-use Rattle.site_directory.specs.contracts.directory.SiteLine as SiteLine
+use Rattle.shared_sites.specs.contracts.shared_site.SharedSite as SharedSite
+use Rattle.shared_sites.specs.contracts.directory.SiteLine as SiteLine
 
 module _ (l : NamedLft) where
   job_sync : IsSync (Job.the_row l)

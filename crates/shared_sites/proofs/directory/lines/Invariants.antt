@@ -1,6 +1,6 @@
 use Rattle.std.proofs.Common.{◌≡◌, length, map, take}
 use Rattle.once_cell.specs.Once.{cell_name}
-use Rattle.site_directory.proofs.directory.lines.Given as goal
+use Rattle.shared_sites.proofs.directory.lines.Given as goal
 
 abbrev pub invariant-loop-cell : goal.invariant-loop-cell
 invariant-loop-cell g l = record {

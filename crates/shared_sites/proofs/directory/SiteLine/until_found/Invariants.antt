@@ -1,5 +1,5 @@
 use Rattle.std.proofs.Common.{◌≡◌}
-use Rattle.site_directory.proofs.directory.SiteLine.until_found.Given as goal
+use Rattle.shared_sites.proofs.directory.SiteLine.until_found.Given as goal
 
 -- a look that found nothing left the line as it was
 abbrev pub invariant-looks : goal.invariant-looks
