@@ -4,9 +4,9 @@ ghost use Rattle.picture_call.specs.Causes.{IsUnasked};
 ghost use Rattle.picture_call.specs.Words.{form_asked, form_named, run_asked, runner_named};
 
 use crate::options::values;
+use crate::picture::Form;
 use crate::runner::Runner;
 use lithe_call::{Fault, asked_command, harts};
-use run_picture::Form;
 use std::alloc::{AllocError, Global};
 
 /// What the words ask for: a picture of this form, of an output of this command on so many harts, 1 to 16.

@@ -3,7 +3,7 @@ use Rattle.std.proofs.lemmas.Result.{IfOk-weaker}
 use Rattle.array_tree.specs.Trees.{program_of}
 use Rattle.array_meaning.proofs.PlanLemmas.{sequence_length}
 use Rattle.meant_sites.proofs.Parts.{every_site_is_told}
-use Rattle.run_picture.proofs.picture.entered_by_plan.Goals as goal
+use Rattle.picture_call.proofs.picture.entered_by_plan.Goals as goal
 
 pub entered-requires-clause-sites : goal.entered-requires-clause-sites
 entered-requires-clause-sites c =

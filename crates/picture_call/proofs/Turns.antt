@@ -6,7 +6,7 @@ use Rattle.array_meaning.specs.Plans.{sites_in, statement_sites_in, branches_sit
 use Rattle.array_meaning.proofs.PlanLemmas.{sequence_length}
 use Rattle.journal_picture.specs.declared.shape.Kind.{Kind}
 use Rattle.journal_picture.specs.declared.shape.Shape.{Shape}
-use Rattle.run_picture.specs.Shapes.{turns_of, statement_shapes, sequence_shapes, branches_shapes, phases_shapes, shapes_of}
+use Rattle.picture_call.specs.Shapes.{turns_of, statement_shapes, sequence_shapes, branches_shapes, phases_shapes, shapes_of}
 
 pub turns_none : (n : ℕ) → turns_of n [] ≡ []
 turns_none zero = refl

@@ -1,7 +1,7 @@
 //! The kinds of a program's sites, and the lines of their constructs.
 ghost use Rattle.std.specs.Prelude.{◌≡◌, ◌++◌, IfOk, OnOk};
 ghost use Rattle.array_tree.specs.Trees.{statement_of, sequence_of, sequences_of, program_of};
-ghost use Rattle.run_picture.specs.Shapes.{branches_shapes, phases_shapes, sequence_shapes, shapes_of, statement_shapes, turns_of};
+ghost use Rattle.picture_call.specs.Shapes.{branches_shapes, phases_shapes, sequence_shapes, shapes_of, statement_shapes, turns_of};
 
 use array_eval::span;
 use array_tree::{Block, Blocks, Program, Stmt};

@@ -11,8 +11,8 @@ ghost use Rattle.journal_text.specs.Reading.{lines_of};
 ghost use Rattle.journal_text.specs.Seen.{Reads};
 ghost use Rattle.run_audit.specs.Audit.{audit_of};
 ghost use Rattle.run_audit.specs.Parts.{most_audited};
-ghost use Rattle.run_picture.specs.Picture.{behind, drawn_in, entries_behind, journal_behind, picture_by, picture_of, pictured};
-ghost use Rattle.run_picture.specs.Seen.{picture_seen};
+ghost use Rattle.picture_call.specs.Picture.{behind, drawn_in, entries_behind, journal_behind, picture_by, picture_of, pictured};
+ghost use Rattle.picture_call.specs.Seen.{picture_seen};
 
 use crate::shapes::shapes_of;
 use array_tree::Program;

@@ -6,7 +6,7 @@ use Rattle.journal_text.specs.Reading.{and_then, lines_of}
 use Rattle.journal_text.specs.Seen.{Reads}
 use Rattle.journal_text.specs.declared.fault.TextFault.{TextFault}
 use Rattle.journal_text.specs.declared.fault.TextFault.TheVariants.{BadLine, BadNumber, WrongCount, Memory}
-use Rattle.run_picture.specs.Picture.{behind}
+use Rattle.picture_call.specs.Picture.{behind}
 
 -- what stops the first reading stops the whole
 pub stop : {A B C D : Type 0} (same : A → B) (seen : C → D) (f : B → Result D TextFault) (wanted : Result B TextFault) (fault : TextFault)

@@ -1,7 +1,7 @@
 use Rattle.std.proofs.Common.{◌≡◌, ◌∙◌, ◌+◌, ◌<◌, ℕ, suc, ◌∷◌, length, drop, refl, sym, ap, subst, arith, length-drop, rules}
 use Rattle.journal_text.specs.Reading.{lines_of}
-use Rattle.run_picture.proofs.Reading.{behind_none, drop_next, lines_some}
-use Rattle.run_picture.proofs.picture.behind.Goals as goal
+use Rattle.picture_call.proofs.Reading.{behind_none, drop_next, lines_some}
+use Rattle.picture_call.proofs.picture.behind.Goals as goal
 
 pub loop-i-init : goal.loop-i-init
 loop-i-init c = record { same = refl; more = lines_some c.args.text.now; short = omega arith }

@@ -5,10 +5,10 @@ use Rattle.array_meaning.specs.Entered.{entered_of}
 use Rattle.array_eval.specs.ArrayText.{array_text}
 use Rattle.run_audit.specs.Audit.{audit_of}
 use Rattle.run_audit.specs.declared.verdict.Verdict.{Verdict}
-use Rattle.run_picture.specs.Picture.{Pictured, picture_by}
-use Rattle.run_picture.specs.Seen.{picture_seen}
-use Rattle.run_picture.proofs.Reading.{go_on}
-use Rattle.run_picture.proofs.picture.picture_of.Goals as goal
+use Rattle.picture_call.specs.Picture.{Pictured, picture_by}
+use Rattle.picture_call.specs.Seen.{picture_seen}
+use Rattle.picture_call.proofs.Reading.{go_on}
+use Rattle.picture_call.proofs.picture.picture_of.Goals as goal
 
 pub returns-clause-picture : goal.returns-clause-picture
 returns-clause-picture c =

@@ -4,7 +4,7 @@ use Rattle.array_meaning.specs.Work.{final_store}
 use Rattle.array_eval.specs.ArrayText.{array_text}
 use Rattle.journal_text.specs.Seen.{Reads}
 use Rattle.run_audit.specs.Audit.{audit_of}
-use Rattle.run_picture.proofs.picture.verdict_on.Goals as goal
+use Rattle.picture_call.proofs.picture.verdict_on.Goals as goal
 
 pub returns : goal.returns
 returns c =

@@ -16,9 +16,9 @@ use Rattle.journal_picture.specs.declared.shape.Kind.{Kind}
 use Rattle.journal_picture.specs.declared.shape.Shape.{Shape}
 use Rattle.journal_picture.specs.TextPicture.{text_picture}
 use Rattle.journal_picture.specs.SvgPicture.{svg_picture}
-use Rattle.run_picture.specs.Shapes.{shapes_of}
-use Rattle.run_picture.specs.declared.picture.Form.{Form}
-use Rattle.run_picture.specs.declared.picture.Form.TheVariants.{Text, Svg}
+use Rattle.picture_call.specs.Shapes.{shapes_of}
+use Rattle.picture_call.specs.declared.picture.Form.{Form}
+use Rattle.picture_call.specs.declared.picture.Form.TheVariants.{Text, Svg}
 
 -- the lines behind so many lines, each of which a newline ends; where there are fewer, the first is bad
 abbrev pub behind : ℕ → List (List ℕ) → Result (List (List ℕ)) TextFault

@@ -4,12 +4,12 @@ use Rattle.transfer_table.specs.declared.entry.Entry.{Entry}
 use Rattle.array_tree.specs.Trees.{program_of, declaration_of}
 use Rattle.array_meaning.specs.Entered.{entered_of}
 use Rattle.journal_picture.specs.declared.shape.Shape.{Shape}
-use Rattle.run_picture.specs.Picture.{entries_behind, pictured}
-use Rattle.run_picture.specs.Seen.{picture_seen}
-use Rattle.run_picture.specs.Shapes.{shapes_of}
-use Rattle.run_picture.proofs.Reading.{same_answer}
-use Rattle.run_picture.proofs.Turns.{shape_count}
-use Rattle.run_picture.proofs.picture.picture_by.Goals as goal
+use Rattle.picture_call.specs.Picture.{entries_behind, pictured}
+use Rattle.picture_call.specs.Seen.{picture_seen}
+use Rattle.picture_call.specs.Shapes.{shapes_of}
+use Rattle.picture_call.proofs.Reading.{same_answer}
+use Rattle.picture_call.proofs.Turns.{shape_count}
+use Rattle.picture_call.proofs.picture.picture_by.Goals as goal
 
 pub pictured-requires-clause-shapes : goal.pictured-requires-clause-shapes
 pictured-requires-clause-shapes c =

@@ -1,6 +1,6 @@
 use Rattle.std.proofs.Common.{◌≡◌, ◌≤◌, ◌<◌, drop, length}
 use Rattle.journal_text.specs.Reading.{lines_of}
-use Rattle.run_picture.proofs.picture.behind.Given as goal
+use Rattle.picture_call.proofs.picture.behind.Given as goal
 
 -- the rest is behind the lines that were cut off
 abbrev pub invariant-loop-i : goal.invariant-loop-i

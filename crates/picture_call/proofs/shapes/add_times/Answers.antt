@@ -2,10 +2,10 @@ use Rattle.std.proofs.Common.{◌≡◌, length, arith, ◌-◌, ◌+◌, ◌<�
 use Rattle.std.proofs.lemmas.Bool.Decides.{nat_tests}
 use Rattle.std.proofs.lemmas.Grind.{common_steps}
 use Rattle.std.proofs.lemmas.List.{nil_from_length}
-use Rattle.run_picture.specs.Shapes.{turns_of}
-use Rattle.run_picture.proofs.Turns.{none_added, turns_more}
+use Rattle.picture_call.specs.Shapes.{turns_of}
+use Rattle.picture_call.proofs.Turns.{none_added, turns_more}
 use Rattle.journal_picture.proofs.Written.{turn}
-use Rattle.run_picture.proofs.shapes.add_times.Goals as goal
+use Rattle.picture_call.proofs.shapes.add_times.Goals as goal
 
 pub loop-i-preserved : goal.loop-i-preserved
 loop-i-preserved c =

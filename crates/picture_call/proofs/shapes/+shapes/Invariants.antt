@@ -1,7 +1,7 @@
 use Rattle.std.proofs.Common.{◌≡◌, ◌++◌, drop, map}
 use Rattle.array_tree.specs.Trees.{statement_of, sequence_of, sequences_of, sequence, sequences}
-use Rattle.run_picture.specs.Shapes.{sequence_shapes, branches_shapes, phases_shapes}
-use Rattle.run_picture.proofs.shapes.+shapes.Given as goal
+use Rattle.picture_call.specs.Shapes.{sequence_shapes, branches_shapes, phases_shapes}
+use Rattle.picture_call.proofs.shapes.+shapes.Given as goal
 
 -- the shapes so far, and those of the rest
 abbrev pub invariant-add_block-loop-statement : goal.invariant-add_block-loop-statement

@@ -1,6 +1,6 @@
 use Rattle.std.proofs.Common.{◌≡◌, ◌++◌, ◌-◌}
-use Rattle.run_picture.specs.Shapes.{turns_of}
-use Rattle.run_picture.proofs.shapes.add_times.Given as goal
+use Rattle.picture_call.specs.Shapes.{turns_of}
+use Rattle.picture_call.proofs.shapes.add_times.Given as goal
 
 -- the shapes so far, and those of the other turns
 abbrev pub invariant-loop-i : goal.invariant-loop-i
