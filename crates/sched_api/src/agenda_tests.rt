@@ -1,6 +1,5 @@
 //! An agenda of three contexts.
-use crate::*;
-use crate::Next;
+use crate::{Agenda, Next};
 use std::alloc::{AllocError, Global};
 use std::collections::VecDeque;
 use std::test::Fail;
