@@ -4,7 +4,8 @@ ghost use Rattle.std.specs.VecDeque.{deque_len};
 ghost use Rattle.sched_api.specs.Wishes.{with_wishes, without_child};
 ghost use Rattle.sched_api.specs.Agenda.{TakesNext, PutsReady, GivesReady, GivesUnbegun, IsLastUnbegun, GivesLast};
 
-use crate::{Next, Wishes};
+use crate::scheduler::Next;
+use crate::wishes::Wishes;
 use std::alloc::{AllocError, Global};
 use std::collections::VecDeque;
 use std::marker::Model;
