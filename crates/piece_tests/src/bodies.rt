@@ -4,6 +4,7 @@ ghost use Rattle.std.specs.Prelude.{◌≡◌};
 use crate::driving::{driven, holds};
 use array_jobs::{Job, Piece, body_job, piece_of, sites_in};
 use disjoint_check::{Accepted, check};
+use sample_programs::parsed;
 use std::alloc::{AllocError, Global};
 use std::process::Abort;
 use std::test::Fail;

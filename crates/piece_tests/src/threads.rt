@@ -4,6 +4,7 @@ use crate::constructs::first_construct;
 use crate::driving::driven;
 use array_jobs::body_job;
 use disjoint_check::{Accepted, check};
+use sample_programs::parsed;
 use std::alloc::{AllocError, Global};
 use std::test::Fail;
 use std::thread;
