@@ -21,7 +21,7 @@ pub mod Held
 pub mod LawsHold
 pub mod Algebra
 pub mod Touches
-pub mod Ends
+pub mod AccountEnds
 pub mod Spans
 pub mod Ways
 pub mod GuestCounts
