@@ -4,8 +4,8 @@
 //! The call reads what an audit reads, and checks the program as the command does whose output it draws. `picture_of` in
 //! `picture.rt` draws any output, also one that no run printed. `specs/Shown.antt` defines what a call has read and written.
 //!
-//! Begin with `serve_picture` in `call.rt`. The program `lithe_picture` calls it, and the tests of `picture_tests` serve pictures
-//! from memory.
+//! Begin with `serve_picture` in `call.rt`. The program `lithe_picture` calls it, and the tests of `picture_call_tests` serve
+//! pictures from memory.
 #![tactic(auto)]
 
 mod asking;
