@@ -80,6 +80,9 @@ fn walk_phases<'s>(
 fn least_crossed(layout: &Layout, table: &Table) -> Option<u16>
     ensures { result ≡ first_from (λ cell. (past_in table.now.past cell).crossed) 0 (cells_of layout.now) }
 {
+    if !table.may_cross() {
+        return None;
+    }
     for cell in 0..layout.cells() {
         if table.is_crossed(cell) {
             return Some(cell as u16);
