@@ -1,14 +1,14 @@
 -- Cells that are marked, page by page.
-use Rattle.std.proofs.Common.{inl, inr, ◌≡◌, ℕ, zero, suc, ◌+◌, ◌<◌, ◌≤◌, Bool, true, false, cond, List, length, drop, get_or, ℤ, pos, sym, ap, subst, ◌∙◌, arith}
+use Rattle.std.proofs.Common.{inl, inr, ◌≡◌, ℕ, zero, suc, ◌+◌, ◌<◌, ◌≤◌, Bool, true, false, cond, List, [], ◌∷◌, length, drop, get_or, ℤ, pos, refl, sym, ap, subst, ◌∙◌, arith}
 use Rattle.std.specs.Prelude.{All}
-use Rattle.std.proofs.lemmas.List.{drop_all}
+use Rattle.std.proofs.lemmas.List.{drop_all, length-append}
 use Rattle.std.proofs.lemmas.Bool.{cases_lt}
 use Rattle.array_meaning.specs.Stores.{Write}
-use Rattle.array_meaning.specs.Pieces.{lay, lays}
+use Rattle.array_meaning.specs.Pieces.{lay, lays, last_writes}
 use Rattle.array_eval.specs.Overlays.{Laid}
 use Rattle.array_eval.specs.Traces.{marked_from, marks_in, IsLaidTo}
-use Rattle.array_eval.proofs.TraceLemmas.{marked_next, marked_end, marks_next, length_lay}
-use Rattle.array_eval.proofs.OverlayLemmas.{below_next, below_laid}
+use Rattle.array_eval.proofs.TraceLemmas.{marked_next, marked_end, marks_next}
+use Rattle.array_eval.proofs.OverlayLemmas.{below_next, below_laid, lay_last}
 
 -- ---- cells with no mark are passed
 
@@ -23,18 +23,23 @@ pass_cell cells marks cell o same unmarked laid = elim (cases_lt cell (length ce
       let count : marks_in (drop cell marks) ≡ 0 + marks_in (drop (cell + 1) marks)
       = marks_next cell marks false within ∙ ap (λ b. cond b 1 0 + marks_in (drop (cell + 1) marks)) unmarked in
       let room = laid.room in
+      let sum = laid.count in
       record {
         all = sym one ∙ laid.all;
         room = omega (arith, count, room);
+        count = omega (arith, count, sum);
         before = below_next cell o.pairs laid.before;
       })
   | inr outside ↦
       (let behind : length cells ≤ cell + 1 = omega (arith, outside) in
       let none : marks_in (drop (cell + 1) marks) ≡ 0 = ap marks_in (drop_all (cell + 1) marks (omega (arith, outside, same))) in
+      let nothing : marks_in (drop cell marks) ≡ 0 = ap marks_in (drop_all cell marks (omega (arith, outside, same))) in
       let room = laid.room in
+      let sum = laid.count in
       record {
         all = marked_end (cell + 1) cells marks o.pairs behind ∙ sym (marked_end cell cells marks o.pairs outside) ∙ laid.all;
         room = omega (arith, none, room);
+        count = omega (arith, none, nothing, sum);
         before = below_next cell o.pairs laid.before;
       })
 ]
@@ -61,13 +66,15 @@ lay_cell cells marks cell o new same inside marked pairs room laid =
     = marked_next cell cells marks (pos 0) false o.pairs inside same ∙ ap (λ b. lays left (cond b (lay cell value o.pairs) o.pairs)) marked in
     let count : marks_in (drop cell marks) ≡ 1 + marks_in (drop (cell + 1) marks)
     = marks_next cell marks false within ∙ ap (λ b. cond b 1 0 + marks_in (drop (cell + 1) marks)) marked in
-    let more = length_lay cell value o.pairs in
+    let more : length (lay cell value o.pairs) ≡ length o.pairs + 1 = ap length (lay_last cell value o.pairs laid.before) ∙ length-append o.pairs ((cell, value) ∷ []) in
     let long : length new.pairs ≡ length (lay cell value o.pairs) = ap length pairs in
     let all = laid.room in
+    let sum = laid.count in
     let P : List Write → Type 0 = λ ws. All (λ w. w.0 < cell + 1) ws in
     record {
       all = ap (lays left) pairs ∙ sym one ∙ laid.all;
       room = omega (arith, count, more, long, room, all);
+      count = omega (arith, count, more, long, sum);
       before = subst P (sym pairs) (below_laid cell value o.pairs laid.before);
     }
 
@@ -82,3 +89,17 @@ leave_cell cells marks cell o new same unmarked is laid =
 -- the marks of a cell and all behind it
 pub count_next : (marks : List Bool) (i : ℕ) → i < length marks → get_or marks i false ≡ true → marks_in (drop i marks) ≡ 1 + marks_in (drop (i + 1) marks)
 count_next marks i inside here = marks_next i marks false inside ∙ ap (λ b. cond b 1 0 + marks_in (drop (i + 1) marks)) here
+
+none_left : (cell : ℕ) (cells : List ℤ) (marks : List Bool) → marks_in marks ≡ 0 → marked_from cell cells marks ≡ []
+none_left cell [] marks none = refl
+none_left cell (value ∷ more) [] none = refl
+none_left cell (value ∷ more) (true ∷ marks) none = absurd (omega (arith, none))
+none_left cell (value ∷ more) (false ∷ marks) none = none_left (suc cell) more marks none
+
+-- with as many pairs as marks all marked cells are laid
+pub all_laid : (cells : List ℤ) (marks : List Bool) (cell : ℕ) (o : Laid) → length o.pairs ≡ marks_in marks → IsLaidTo cells marks cell o →
+    o.pairs ≡ last_writes (marked_from 0 cells marks)
+all_laid cells marks cell o many laid =
+    let sum = laid.count in
+    let none : marks_in (drop cell marks) ≡ 0 = omega (arith, sum, many) in
+    sym (ap (λ ws. lays ws o.pairs) (none_left cell (drop cell cells) (drop cell marks) none)) ∙ laid.all

@@ -153,14 +153,3 @@ one_mark false marks = omega arith
 pub marks_next : (i : ℕ) (marks : List Bool) (m : Bool) → i < length marks →
     marks_in (drop i marks) ≡ cond (get_or marks i m) 1 0 + marks_in (drop (i + 1) marks)
 marks_next i marks m h = ap marks_in (drop-cons marks i m h) ∙ one_mark (get_or marks i m) (drop (suc i) marks) ∙ rw add-one refl
-
--- one more write is at most one more pair
-pub length_lay : (c : ℕ) (v : ℤ) (ws : List Write) → length (lay c v ws) ≤ 1 + length ws
-length_lay c v [] = omega arith
-length_lay c v (w ∷ ws) = cases (nat_lt c w.0) (nat_eq c w.0) (length_lay c v ws)
-  where
-    cases : (a b : Bool) → length (lay c v ws) ≤ 1 + length ws →
-        length (cond a ((c, v) ∷ w ∷ ws) (cond b ((c, v) ∷ ws) (w ∷ lay c v ws))) ≤ 1 + length (w ∷ ws)
-    cases true b ih = omega arith
-    cases false true ih = omega arith
-    cases false false ih = omega (arith, ih)

@@ -52,4 +52,5 @@ pub record IsLaidTo (cells : List ℤ) (marks : List Bool) (cell : ℕ) (overlay
   pub all : lays (marked_from cell (drop cell cells) (drop cell marks)) overlay.pairs
       ≡ last_writes (marked_from 0 cells marks)
   pub room : length overlay.pairs + marks_in (drop cell marks) ≤ overlay.room
+  pub count : length overlay.pairs + marks_in (drop cell marks) ≡ marks_in marks
   pub before : All (λ pair. pair.0 < cell) overlay.pairs

@@ -166,7 +166,7 @@ impl MarkedStore {
     }
 
     /// Lays the written cells, each with its value, into an empty overlay. Does not allocate, and makes one pass over the
-    /// written pages.
+    /// written pages, up to the last one.
     ///
     /// The overlay must have room for as many pairs as there are cells, and there must be at most 65,535 cells.
     pub fn lay_written(&self, overlay: &mut Overlay)
@@ -188,6 +188,10 @@ impl MarkedStore {
         ensures { overlay.new.pairs ≡ last_writes (marked self.now) }
     {
         for number in 0..self.changed.len() {
+            // Why: a piece writes few of a large store's pages.
+            if overlay.pairs().len() == self.marked {
+                return;
+            }
             self.lay_page(number, overlay);
         }
     }
