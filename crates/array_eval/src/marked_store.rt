@@ -181,6 +181,7 @@ impl MarkedStore {
     }
 
     // Lays the cells that are marked, each with its value.
+    #[tactic(auto, using(crate::proofs::MarkLemmas::all_laid))]
     fn lay_marked(&self, overlay: &mut Overlay)
         requires small { length self.now.cells < cell_numbers }
         requires none { overlay.old.pairs ≡ [] }
