@@ -1,4 +1,4 @@
--- Copies of pages, and what is seen over a store.
+-- Copies of pages, and the view over a store.
 use Rattle.std.proofs.Common.{inl, inr, ◌≡◌, ℕ, zero, suc, ◌+◌, ◌-◌, ◌*◌, ◌/◌, ◌%◌, ◌<◌, ◌≤◌, ◌≢◌, List, [], ◌∷◌, ◌++◌, length, set, get_or, map, Some, None, refl, sym, ap, ◌∙◌, subst, arith, length-set}
 use Rattle.std.specs.Prelude.{◌⊎◌, IsSome, Option, option_map, slice_get, replicate}
 use Rattle.std.proofs.Math.ListN.{get_or-map}
@@ -24,14 +24,14 @@ all_free : (n : ℕ) → free_in (replicate n 0) ≡ n
 all_free zero = refl
 all_free (suc n) = ap suc (all_free n)
 
--- what is alike everywhere is so behind the end, where that is the default
+-- A list of equal elements reads the same past its end if the default is that element.
 pub get_alike : {A : Type 0} (n i : ℕ) (x : A) → get_or (replicate n x) i x ≡ x
 get_alike n i x = elim (cases_lt i n) [
   | inl inside ↦ get_or-replicate n i x x inside
   | inr behind ↦ (let long = length-replicate n x in get_or_past (replicate n x) i x (omega (arith, long, behind)))
 ]
 
--- no slot leads to a copy
+-- All slots are 0: there are no copies.
 pub slots_none : (n : ℕ) → AreSlots (replicate n 0) 0
 slots_none n =
     let slots : List ℕ = replicate n 0 in
@@ -47,7 +47,7 @@ pub copies_none : {A : Type 0} (n : ℕ) → map (copy_at {A = A} []) (replicate
 copies_none zero = refl
 copies_none (suc n) = ap (λ copies. None ∷ copies) (copies_none n)
 
--- there is room for one more copy
+-- There is room for one more copy.
 pub room_left : (slots : List ℕ) (n number : ℕ) → AreSlots slots n → number < length slots → get_or slots number 0 ≡ 0 → n < length slots
 room_left slots n number right h e =
     let one = one_free slots number 0 h e in
@@ -83,14 +83,13 @@ slots_more slots n number right h e =
       free = omega (arith, long, one, all);
     }
 
--- one more copy
 pub slots_add : (slots : List ℕ) (n m number : ℕ) → AreSlots slots n → number < length slots → get_or slots number 0 ≡ 0 → m ≡ suc n →
     AreSlots (set slots number m) m
 slots_add slots n m number right h e more = subst (λ k. AreSlots (set slots number k) k) (sym more) (slots_more slots n number right h e)
 
 -- ---- copies
 
--- what a page's slot leads to
+-- The copy that a page's slot refers to.
 pub copy_of : {A : Type 0} (pages : List A) (slots : List ℕ) (number : ℕ) → get_or (map (copy_at pages) slots) number None ≡ copy_at pages (get_or slots number 0)
 copy_of pages slots number = get_or-map (copy_at pages) slots number 0
 
@@ -140,7 +139,6 @@ copies_more pages page slots number right h =
           ∙ sym (get_or-set_other (map (copy_at pages) slots) number i (Some page) None other ∙ copy_of pages slots i)
     ])
 
--- one more copy
 pub copies_add : {A : Type 0} (pages : List A) (page : A) (slots : List ℕ) (number m : ℕ) → AreSlots slots (length pages) → number < length slots → m ≡ suc (length pages) →
     map (copy_at (pages ++ page ∷ [])) (set slots number m) ≡ set (map (copy_at pages) slots) number (Some page)
 copies_add pages page slots number m right h more =
@@ -150,7 +148,7 @@ copy_apart : {A : Type 0} (pages : List A) (page : A) (place slot : ℕ) → slo
 copy_apart pages page place zero other = refl
 copy_apart pages page place (suc k) other = get_set_apart pages page place k (λ e. other (ap suc e))
 
--- a copy is replaced
+-- A copy is replaced.
 pub copies_set : {A : Type 0} (pages : List A) (page : A) (slots : List ℕ) (number place : ℕ) → AreSlots slots (length pages) → number < length slots →
     get_or slots number 0 ≡ suc place →
     map (copy_at (set pages place page)) slots ≡ set (map (copy_at pages) slots) number (Some page)
@@ -171,7 +169,7 @@ copies_set pages page slots number place right h at =
           ∙ sym (get_or-set_other (map (copy_at pages) slots) number i (Some page) None other ∙ copy_of pages slots i)
     ])
 
--- the copy at a slot is there
+-- The slot's copy exists.
 pub copy_there : {A : Type 0} (pages : List A) (slots : List ℕ) (number place : ℕ) (d : A) → AreSlots slots (length pages) → get_or slots number 0 ≡ suc place →
     get_or (map (copy_at pages) slots) number None ≡ Some (get_or pages place d)
 copy_there pages slots number place d right at =
@@ -186,14 +184,14 @@ slot_free (page ∷ pages) (suc place) h e = absurd (none_some (sym e ∙ slice_
     none_some : {B : Type 0} {x : B} → None ≡ Some x → ⊥
     none_some e = cc
 
--- a page with no copy has a free slot
+-- A page without a copy has a free slot.
 pub free_slot : {A : Type 0} (pages : List A) (slots : List ℕ) (number : ℕ) → AreSlots slots (length pages) → get_or (map (copy_at pages) slots) number None ≡ None →
     get_or slots number 0 ≡ 0
 free_slot pages slots number right none = slot_free pages (get_or slots number 0) (right.there number) (sym (copy_of pages slots number) ∙ none)
 
--- ---- what is seen over a store
+-- ---- the view over a store
 
--- what is seen at a cell
+-- the value in the view at a cell
 pub seen_at : {A : Type 0} (own : Trace → ℕ → A) (below : ℕ → A) (copies : List (Option Trace)) (count i : ℕ) (d : A) → i < count →
     get_or (seen own below copies count) i d ≡ seen_in (λ page. own page (i % 64)) (below i) (get_or copies (i / 64) None)
 seen_at own below copies count i d h =
@@ -204,7 +202,7 @@ pub length_seen_over : {A : Type 0} (own : Trace → ℕ → A) (below : ℕ →
 length_seen_over own below copies count =
     length-map-range_with_len (λ cell. seen_in (λ page. own page (cell % 64)) (below cell) (get_or copies (cell / 64) None)) 0 count
 
--- cell by cell
+-- a view is determined cell by cell
 pub seen_is : {A : Type 0} (own : Trace → ℕ → A) (below : ℕ → A) (copies : List (Option Trace)) (count : ℕ) (d : A) (all : List A) → length all ≡ count →
     ((i : ℕ) → i < count → seen_in (λ page. own page (i % 64)) (below i) (get_or copies (i / 64) None) ≡ get_or all i d) → seen own below copies count ≡ all
 seen_is own below copies count d all long each =
@@ -212,14 +210,14 @@ seen_is own below copies count d all long each =
     ext_get_or d (seen own below copies count) all (many ∙ sym long)
     (λ i h. let inside : i < count = omega (arith, h, many) in seen_at own below copies count i d inside ∙ each i inside)
 
--- where no page has a copy, what is below is seen
+-- If no page has a copy, the view is the store below.
 pub seen_below : {A : Type 0} (own : Trace → ℕ → A) (below : ℕ → A) (pages count : ℕ) (d : A) (all : List A) → length all ≡ count →
     ((i : ℕ) → i < count → below i ≡ get_or all i d) → seen own below (replicate pages None) count ≡ all
 seen_below own below pages count d all long each =
     seen_is own below (replicate pages None) count d all long
     (λ i h. ap (seen_in (λ page. own page (i % 64)) (below i)) (get_alike pages (i / 64) None) ∙ each i h)
 
--- a cell of a page that has a copy
+-- A cell of a page with a copy has the copy's value.
 pub seen_copy : {A : Type 0} (own : Trace → ℕ → A) (below : ℕ → A) (copies : List (Option Trace)) (count number place : ℕ) (page : Trace) (d : A) →
     get_or copies number None ≡ Some page → place < 64 → 64 * number + place < count →
     get_or (seen own below copies count) (64 * number + place) d ≡ own page place
@@ -232,7 +230,7 @@ seen_copy own below copies count number place page d at inside h =
     ∙ ap (seen_in (λ page. own page (i % 64)) (below i)) at
     ∙ ap (own page) rest
 
--- and one of a page that has none
+-- A cell of a page without a copy has the value below.
 pub seen_bare : {A : Type 0} (own : Trace → ℕ → A) (below : ℕ → A) (copies : List (Option Trace)) (count number place : ℕ) (d : A) →
     get_or copies number None ≡ None → place < 64 → 64 * number + place < count →
     get_or (seen own below copies count) (64 * number + place) d ≡ below (64 * number + place)
@@ -243,7 +241,7 @@ seen_bare own below copies count number place d at inside h =
     ∙ ap (λ n. seen_in (λ page. own page (i % 64)) (below i) (get_or copies n None)) front
     ∙ ap (seen_in (λ page. own page (i % 64)) (below i)) at
 
--- a page gets a copy that has what is below
+-- A page gets a copy that has the values below: the view stays.
 pub seen_added : {A : Type 0} (own : Trace → ℕ → A) (below : ℕ → A) (copies : List (Option Trace)) (count number : ℕ) (page : Trace) (d : A) →
     number < length copies → get_or copies number None ≡ None → ((place : ℕ) → place < 64 → 64 * number + place < count → own page place ≡ below (64 * number + place)) →
     seen own below (set copies number (Some page)) count ≡ seen own below copies count
@@ -266,7 +264,7 @@ seen_added own below copies count number page d inside none same =
     at i h (inr other) =
         ap (seen_in (λ own_page. own own_page (i % 64)) (below i)) (sym (get_or-set_other copies number (i / 64) (Some page) None other))
 
--- a cell is written in a copy
+-- A write to a cell of a copy writes the cell of the view.
 pub seen_written : {A : Type 0} (own : Trace → ℕ → A) (below : ℕ → A) (copies : List (Option Trace)) (count cell : ℕ) (old new : Trace) (v d : A) →
     cell / 64 < length copies → cell < count → get_or copies (cell / 64) None ≡ Some old → own new (cell % 64) ≡ v →
     ((place : ℕ) → place ≢ cell % 64 → own new place ≡ own old place) →
@@ -304,20 +302,20 @@ seen_written own below copies count cell old new v d inside h was here kept =
 none_is_none : {A : Type 0} (pages : List A) (slots : List ℕ) (number : ℕ) → get_or slots number 0 ≡ 0 → IsSome (get_or (map (copy_at pages) slots) number None) → ⊥
 none_is_none pages slots number at some = false≢true (rw (copy_of pages slots number, at) at some)
 
--- a page that has a copy is there
+-- A page with a copy exists.
 pub is_inside : {A : Type 0} (pages : List A) (slots : List ℕ) (number : ℕ) → IsSome (get_or (map (copy_at pages) slots) number None) → number < length slots
 is_inside pages slots number some = elim (cases_lt number (length slots)) [
   | inl inside ↦ inside
   | inr behind ↦ absurd (none_is_none pages slots number (get_or_past slots number 0 behind) some)
 ]
 
--- what a slot has, read where it is there
+-- A slot that is read is the slot at its index.
 pub at_zero : (slots : List ℕ) (number slot : ℕ) → number < length slots → slot ≡ get_or slots number slot → slot ≡ get_or slots number 0
 at_zero [] number slot h e = absurd (omega (arith, h))
 at_zero (s ∷ slots) zero slot h e = e
 at_zero (s ∷ slots) (suc number) slot h e = at_zero slots number slot (omega (arith, h)) e
 
--- the copy at a slot
+-- The copy that is read at a page's slot is the page's copy.
 pub copy_was : (pages : List Trace) (slots : List ℕ) (number slot : ℕ) (old : Trace) → AreSlots slots (length pages) → slot ≡ get_or slots number 0 →
     IsSome (get_or (map (copy_at pages) slots) number None) → old ≡ get_or pages (slot - 1) old →
     get_or (map (copy_at pages) slots) number None ≡ Some old

@@ -20,7 +20,7 @@ use Rattle.array_meaning.proofs.FrameLemmas.{or_false}
 use Rattle.array_eval.specs.Fixed.{names_var}
 use Rattle.array_eval.specs.Traces.{Trace, noted, traced}
 
--- an index that reads no cell and doesn't name the variable has the same value in each turn
+-- An index that reads no cell and doesn't name the variable has the same value in each turn.
 pub fixed_value : (arrays : Arrays) (vars : Vars) (var : List ℕ) (x : ℤ) (e : Expression) (s t : Store) → is_dynamic e ≡ false → names_var e var ≡ false →
     value_of arrays ((var, x) ∷ vars) e s ≡ value_of arrays vars e t
 fixed_value arrays vars var x (Number n) s t still free = refl
@@ -32,14 +32,14 @@ fixed_value arrays vars var x (Binary op a b) s t still free =
     let two = or_false (names_var a var) (names_var b var) free in
     rw (fixed_value arrays vars var x a s t one.0 two.0, fixed_value arrays vars var x b s t one.1 two.1) refl
 
--- so its cell is the same in each turn
+-- The cell of such an index is the same in each turn.
 fixed_cell : (arrays : Arrays) (vars : Vars) (var array : List ℕ) (index : Expression) (cell : ℕ) → is_dynamic index ≡ false → names_var index var ≡ false →
     cell ≡ cell_of arrays array (is_dynamic index) (value_of arrays vars index []) → (x : ℤ) (s : Store) →
     cell ≡ cell_of arrays array (is_dynamic index) (value_of arrays ((var, x) ∷ vars) index s)
 fixed_cell arrays vars var array index cell still free is x s =
     is ∙ ap (cell_of arrays array (is_dynamic index)) (sym (fixed_value arrays vars var x index s [] still free))
 
--- a turn that writes a value to it is a turn of the assignment
+-- A turn that writes a value to this cell is a turn of the assignment.
 pub sets_turn : (arrays : Arrays) (vars : Vars) (var array : List ℕ) (index value : Expression) (cell : ℕ) → is_dynamic index ≡ false → names_var index var ≡ false →
     cell ≡ cell_of arrays array (is_dynamic index) (value_of arrays vars index []) → (line : ℕ) (x : ℤ) (t : Trace) →
     noted cell (value_of arrays ((var, x) ∷ vars) value t.cells) t
@@ -47,7 +47,7 @@ pub sets_turn : (arrays : Arrays) (vars : Vars) (var array : List ℕ) (index va
 sets_turn arrays vars var array index value cell still free is line x t =
     ap (λ c. noted c (value_of arrays ((var, x) ∷ vars) value t.cells) t) (fixed_cell arrays vars var array index cell still free is x t.cells)
 
--- and so is one that adds a value to it, where the assignment's value is what the cell has and that value
+-- A turn that adds a value to this cell is a turn of the assignment, if the assignment adds the value to the cell.
 pub adds_turn : (arrays : Arrays) (vars : Vars) (var array : List ℕ) (index value right : Expression) (cell : ℕ) → is_dynamic index ≡ false → names_var index var ≡ false →
     cell ≡ cell_of arrays array (is_dynamic index) (value_of arrays vars index []) → value ≡ Binary op.Add (Read array index) right → (line : ℕ) (x : ℤ) (t : Trace) →
     noted cell (applied op.Add (at_cell t.cells cell) (value_of arrays ((var, x) ∷ vars) right t.cells)) t
@@ -67,19 +67,19 @@ single (s ∷ t ∷ more) d e = absurd (omega (arith, e))
 pub one_statement : (b : Block) (d : Stmt) → length b.statements.items ≡ 1 → sequence_of b ≡ followed (statement_of (get_or b.statements.items 0 d)) ended
 one_statement b d e = sequence_of-statements b ∙ single b.statements.items d e
 
--- what an assignment of the tree stands for
+-- the statement that an assignment of the tree stands for
 pub assignment : (line : ℕ) (array : List ℕ) (index value : Expr) →
     statement_of (stmt.Assign line array index value) ≡ Assign line array (expression_of index) (expression_of value)
 assignment line array index value =
     ap statement_of (sym (rolls-Assign line array index value))
     ∙ fold-roll-Stmt Statement Sequence Sequences statement_step block_step blocks_step _
 
--- a sum whose left side is this read, by the test
+-- If the test passes, the value is a sum whose left side reads this cell.
 pub added : (value l r : Expression) (array : List ℕ) (index : Expression) → value ≡ Binary op.Add l r → true ≡ expression_eq l (Read array index) →
     value ≡ Binary op.Add (Read array index) r
 added value l r array index whole test = whole ∙ ap (λ e. Binary op.Add e r) (expression_same l (Read array index) (sym test))
 
--- behind the last turn everything is done
+-- After the last turn nothing is left.
 pub turns_done : (arrays : Arrays) (var : List ℕ) (body : Work) (vars : Vars) (t s : Trace) (x low low' high high' : ℤ) → low' ≡ low → high' ≡ high → high' ≤ℤ x →
     traced arrays (loop var x high' body vars) t ≡ traced arrays (loop var low' high' body vars) s →
     t ≡ traced arrays (loop var low high body vars) s

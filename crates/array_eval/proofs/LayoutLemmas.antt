@@ -1,4 +1,4 @@
--- The first array in a slot, and the array of a name from it on.
+-- The first array of a slot, and the array of a name from there on.
 use Rattle.std.proofs.Common.{◌≡◌, ℕ, zero, suc, ◌+◌, ◌<◌, ◌≤◌, Bool, true, false, cond, List, [], ◌∷◌, length, map, take, drop, replicate, get_or, slice_set, refl, sym, ap, subst, ◌∙◌, arith}
 use Rattle.std.specs.Prelude.{nat_eq, unsigned_abs}
 use Rattle.std.specs.Cmp.Lexicographic.{same_text}
@@ -12,7 +12,7 @@ use Rattle.array_meaning.specs.Stores.{Arrays, HaveCells, AreSized, arrays_of, b
 use Rattle.array_eval.specs.declared.layout.First.{First}
 use Rattle.array_eval.specs.Layouts.{number_of, slot_of, first_in, cells_before, at_slot, AreFirsts, IsLaidOut}
 
--- ---- the arrays before the first of a name's slot have other names
+-- ---- the arrays before the first one of a name's slot have other names
 
 pub first_within : (slot : ℕ) (arrays : Arrays) → first_in slot arrays ≤ length arrays
 first_within slot [] = omega arith
@@ -41,7 +41,7 @@ other_slot a name e h =
     let same : slot_of a ≡ slot_of name = ap slot_of (same_text a name (sym h)) in
     false≢true (sym e ∙ let yes' : nat_eq (slot_of a) (slot_of name) ≡ true = grind (arith, nat_tests) in yes')
 
--- Where the array of a name lies, told by the arrays that are left and what comes before them.
+-- The position of a name's array, by the arrays that are left and the counts of those before them.
 pub record IsFound (arrays : Arrays) (name : List ℕ) (count cells : ℕ) (rest : Arrays) : Type 0 where
   pub number : count + number_of rest name ≡ number_of arrays name
   pub base : cells + base_of rest name ≡ base_of arrays name
@@ -80,7 +80,7 @@ no_firsts count cells = record {
     nothing : (slot : ℕ) → slot < 256 → at_slot (replicate 256 none) slot ≡ none
     nothing slot h = get_or-replicate 256 slot none (record { number = 0; base = 0 }) h
 
--- with one more array before those that are in the table
+-- The table with one more array in front.
 pub put_first : (count cells : ℕ) (a : List ℕ × ℕ) (more : Arrays) (firsts : List First) → AreFirsts (count + 1) (cells + a.1) more firsts →
     AreFirsts count cells (a ∷ more) (slice_set firsts (slot_of a.0) (record { number = count; base = cells }))
 put_first count cells a more firsts before = record {
@@ -122,7 +122,7 @@ pub declared_within : (ds : List ArrayDecl) → HaveCells (arrays_of (map declar
 declared_within [] h = omega arith
 declared_within (d ∷ ds) h = let more = declared_within ds h.1 in let some' = h.0 in omega arith
 
--- the cells before a declaration and its own
+-- The cells before a declaration, and its own.
 pub cells_with : (ds : List ArrayDecl) (n : ℕ) (d : ArrayDecl) → n < length ds →
     cells_of (arrays_of (map declaration_of (take (suc n) ds))) ≡ cells_of (arrays_of (map declaration_of (take n ds))) + unsigned_abs (get_or ds n d).length
 cells_with [] n d h = absurd (omega arith)
@@ -148,7 +148,7 @@ put_next ds left n base rest d firsts e h is own before =
     (ap (λ x. arrays_of (map declaration_of (x ∷ drop (n + 1) ds))) is ∙ sym (ap (λ xs. arrays_of (map declaration_of xs)) (drop_more ds n d h)))
     (put_first n rest (d.name, unsigned_abs d.length) (arrays_of (map declaration_of (drop (n + 1) ds))) firsts (subst with-own own (subst from-here e before)))
 
--- Where the search for a name among declarations begins.
+-- The position where the search for a name among declarations begins.
 pub record IsStart (ds : List ArrayDecl) (name : List ℕ) (count cells : ℕ) : Type 0 where
   pub within : count ≤ length ds
   pub each : HaveCells (arrays_of (map declaration_of (drop count ds)))
@@ -192,7 +192,7 @@ start_of_name ds firsts cells name laid =
     let at-base : ℕ → Type 0 = λ b. IsStart ds name (first_in slot arrays) b in
     subst at-count (sym counted) (subst at-base (sym based) (first_is_start ds name laid.sized))
 
--- where it begins in a layout's own arrays, by what was read of a slot
+-- The search in a layout begins at what was read of the slot.
 pub start_at : (ds : List ArrayDecl) (firsts : List First) (cells : ℕ) (name : List ℕ) (slot : ℕ) (first : First) →
     IsLaidOut (arrays_of (map declaration_of ds)) firsts cells → slot ≡ slot_of name → first ≡ get_or firsts slot first →
     IsStart ds name first.number first.base

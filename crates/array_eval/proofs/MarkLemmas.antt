@@ -10,7 +10,7 @@ use Rattle.array_eval.specs.Traces.{marked_from, marks_in, IsLaidTo}
 use Rattle.array_eval.proofs.TraceLemmas.{marked_next, marked_end, marks_next, length_lay}
 use Rattle.array_eval.proofs.OverlayLemmas.{below_next, below_laid}
 
--- ---- cells with no mark are passed
+-- ---- unmarked cells are passed over
 
 pass_cell : (cells : List ℤ) (marks : List Bool) (cell : ℕ) (o : Laid) → length cells ≡ length marks → get_or marks cell false ≡ false →
     IsLaidTo cells marks cell o → IsLaidTo cells marks (cell + 1) o
@@ -50,7 +50,7 @@ pass_cells (suc count) cells marks cell o same unmarked laid =
     (pass_cell cells marks (cell + count) o same (unmarked count (omega arith))
     (pass_cells count cells marks cell o same (λ k h. unmarked k (omega (arith, h))) laid))
 
--- a cell that is marked is laid
+-- A marked cell is laid.
 pub lay_cell : (cells : List ℤ) (marks : List Bool) (cell : ℕ) (o new : Laid) → length cells ≡ length marks → cell < length cells → get_or marks cell false ≡ true →
     new.pairs ≡ lay cell (get_or cells cell (pos 0)) o.pairs → new.room ≡ o.room → IsLaidTo cells marks cell o → IsLaidTo cells marks (cell + 1) new
 lay_cell cells marks cell o new same inside marked pairs room laid =
@@ -71,7 +71,7 @@ lay_cell cells marks cell o new same inside marked pairs room laid =
       before = subst P (sym pairs) (below_laid cell value o.pairs laid.before);
     }
 
--- a cell that isn't
+-- An unmarked cell isn't laid.
 pub leave_cell : (cells : List ℤ) (marks : List Bool) (cell : ℕ) (o new : Laid) → length cells ≡ length marks → get_or marks cell false ≡ false →
     new ≡ o → IsLaidTo cells marks cell o → IsLaidTo cells marks (cell + 1) new
 leave_cell cells marks cell o new same unmarked is laid =
@@ -79,6 +79,6 @@ leave_cell cells marks cell o new same unmarked is laid =
 
 -- ---- how many are marked
 
--- the marks of a cell and all behind it
+-- The marks of a cell and of all cells after it.
 pub count_next : (marks : List Bool) (i : ℕ) → i < length marks → get_or marks i false ≡ true → marks_in (drop i marks) ≡ 1 + marks_in (drop (i + 1) marks)
 count_next marks i inside here = marks_next i marks false inside ∙ ap (λ b. cond b 1 0 + marks_in (drop (i + 1) marks)) here

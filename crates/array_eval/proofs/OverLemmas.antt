@@ -1,4 +1,4 @@
--- What is seen over a store: it is written, laid out on pages and marked.
+-- The view over a store: it is written, laid out on pages and marked.
 use Rattle.std.proofs.Common.{inl, inr, ◌≡◌, ℕ, zero, suc, ◌+◌, ◌-◌, ◌*◌, ◌/◌, ◌%◌, ◌<◌, ◌≤◌, Bool, true, false, not, List, [], ◌∷◌, length, set, take, drop, get_or, Some, None, ℤ, pos, refl, sym, ap, ◌∙◌, arith}
 use mir.Val.{bool_byte}
 use Rattle.std.specs.Prelude.{IfSome, IsSome, Option, option_map, replicate, min}
@@ -32,33 +32,33 @@ trace cells marks = record { cells = cells; marks = marks }
 same_trace : {a b : List ℤ} {c d : List Bool} → a ≡ b → c ≡ d → trace a c ≡ trace b d
 same_trace {a} {b} {c} {d} e f = ap (λ cells. trace cells c) e ∙ ap (trace b) f
 
--- the page of a cell is there
+-- The page of a cell exists.
 pub page_inside : (count cell pages : ℕ) → pages ≡ pages_for count → cell < count → cell / 64 < pages
 page_inside count cell pages many h =
     let few = (div_ceil_times count 64 (omega arith)).0 in
     let whole = div-add-mod cell 64 in
     omega (arith, many, few, whole, h)
 
--- no page has a copy
+-- No page has a copy.
 pub over_fresh : (store : Store) (pages : ℕ) → over_store store (replicate pages None) ≡ fresh store
 over_fresh store pages = same_trace
     (seen_below value_in (at_cell store) pages (length store) (pos 0) store refl (λ i h. refl))
     (seen_below mark_in (λ cell. false) pages (length store) false (replicate (length store) false) (length-replicate (length store) false)
     (λ i h. sym (get_alike (length store) i false)))
 
--- a page is copied
+-- A page is copied.
 pub over_copied : (store : Store) (copies : List (Option Trace)) (number : ℕ) (page : List ℤ) → number < length copies → get_or copies number None ≡ None →
     IsPageOf store number page → over_store store (set copies number (Some (fresh page))) ≡ over_store store copies
 over_copied store copies number page inside none same = same_trace
     (seen_added value_in (at_cell store) copies (length store) number (fresh page) (pos 0) inside none same)
     (seen_added mark_in (λ cell. false) copies (length store) number (fresh page) false inside none (λ place in_page h. get_alike (length page) place false))
 
--- nothing is there
+-- A missing copy stays missing under a map.
 pub none_there : {A B : Type 0} (f : A → B) (o : Option A) → is_some o ≡ false → option_map f o ≡ None
 none_there f None e = refl
 none_there f (Some x) e = cc
 
--- a cell is written in the copy of its page
+-- A cell is written in the copy of its page.
 pub over_written : (store : Store) (copies : List (Option Trace)) (cell : ℕ) (v : ℤ) (o : Option Trace) → get_or copies (cell / 64) None ≡ o → IsSome o → IfSome o IsWhole →
     cell / 64 < length copies → cell < length store →
     over_store store (changed_copy (noted (cell % 64) v) (cell / 64) copies) ≡ noted cell v (over_store store copies)
@@ -78,7 +78,7 @@ over_written store copies cell v (Some old) at some whole inside h =
     (seen_written mark_in (λ cell. false) copies (length store) cell old new true false inside h at
     (get_or-set_same old.marks (cell % 64) true false (omega (arith, place, long_too))) (λ i other. get_or-set_other old.marks (cell % 64) i true false other))
 
--- and was marked there, or wasn't
+-- The copy's mark is the mark of the cell in the view.
 pub mark_over : (store : Store) (copies : List (Option Trace)) (cell : ℕ) (o : Option Trace) (b : Bool) → get_or copies (cell / 64) None ≡ o →
     option_map (λ page. mark_at page.marks (cell % 64)) o ≡ Some b → cell < length store → get_or (marks_over store copies) cell false ≡ b
 mark_over store copies cell None b at is h = cc
@@ -92,7 +92,7 @@ pub none_marked_in : (n : ℕ) → marks_in (replicate n false) ≡ 0
 none_marked_in zero = refl
 none_marked_in (suc n) = none_marked_in n
 
--- one more, where it wasn't marked
+-- One more mark, unless the cell was marked.
 pub marks_set : (marks : List Bool) (cell : ℕ) (b : Bool) → cell < length marks → get_or marks cell false ≡ b → marks_in (set marks cell true) ≡ marks_in marks + bool_byte (not b)
 marks_set [] cell b h e = absurd (omega (arith, h))
 marks_set (true ∷ marks) zero true h e = omega arith
@@ -110,7 +110,7 @@ marks_set (false ∷ marks) (suc cell) b h e = marks_set marks cell b (omega (ar
 
 -- ---- laying out
 
--- a page of what is seen, cell by cell
+-- A page of the view, cell by cell.
 page_is : (cells page : List ℤ) (number : ℕ) → length page ≡ min (length cells - 64 * number) 64 →
     ((i : ℕ) → i < length page → get_or page i (pos 0) ≡ get_or cells (64 * number + i) (pos 0)) → page ≡ page_at number cells
 page_is cells page number long each =
@@ -119,7 +119,7 @@ page_is cells page number long each =
     ext_get_or (pos 0) page (page_at number cells) (omega (arith, long, dropped, taken))
     (λ i h. each i h ∙ sym (get_or-take 64 (drop (64 * number) cells) i (pos 0) (omega (arith, h, long)) ∙ get_or-drop (64 * number) cells i (pos 0)))
 
--- a page that has a copy is the first cells of that
+-- The page of the view with a copy is the first cells of the copy.
 pub page_copied : (store : Store) (copies : List (Option Trace)) (number few : ℕ) (page : Trace) → get_or copies number None ≡ Some page → length page.cells ≡ 64 →
     few ≡ min (length store - 64 * number) 64 → take few page.cells ≡ page_at number (cells_over store copies)
 page_copied store copies number few page at whole is =
@@ -129,7 +129,7 @@ page_copied store copies number few page at whole is =
     (λ i h. get_or-take few page.cells i (pos 0) (omega (arith, h, taken))
     ∙ sym (seen_copy value_in (at_cell store) copies (length store) number i page (pos 0) at (omega (arith, h, taken, is)) (omega (arith, h, taken, is))))
 
--- one that has none is that of the store
+-- The page of the view without a copy is the store's page.
 pub page_bare : (store : Store) (copies : List (Option Trace)) (number : ℕ) → get_or copies number None ≡ None → page_at number store ≡ page_at number (cells_over store copies)
 page_bare store copies number at =
     let count = length_seen_over value_in (at_cell store) copies (length store) in
@@ -139,7 +139,7 @@ page_bare store copies number at =
     (λ i h. get_or-take 64 (drop (64 * number) store) i (pos 0) (omega (arith, h, taken)) ∙ get_or-drop (64 * number) store i (pos 0)
     ∙ sym (seen_bare value_in (at_cell store) copies (length store) number i (pos 0) at (omega (arith, h, taken)) (omega (arith, h, taken, dropped))))
 
--- what was seen is seen over a store that has it
+-- The view over a store stays if the store takes the view's cells.
 pub over_taken : (store next : Store) (copies : List (Option Trace)) → next ≡ cells_over store copies → over_store next copies ≡ over_store store copies
 over_taken store next copies is =
     let count = length_seen_over value_in (at_cell store) copies (length store) in
@@ -158,7 +158,7 @@ over_taken store next copies is =
         ap (seen_in (λ page. value_in page (i % 64)) (at_cell next i)) at
         ∙ sym (seen_at value_in (at_cell store) copies (length store) i (pos 0) h ∙ ap (seen_in (λ page. value_in page (i % 64)) (at_cell store i)) at)
 
--- as many cells as the store has
+-- The view has as many cells as the store.
 pub length_over : (store : Store) (copies : List (Option Trace)) → length (cells_over store copies) ≡ length store
 length_over store copies = length_seen_over value_in (at_cell store) copies (length store)
 
@@ -167,7 +167,7 @@ length_marks_over store copies = length_seen_over mark_in (λ cell. false) copie
 
 -- ---- laying what is marked
 
--- a cell of a page that has a copy
+-- A cell of a page with a copy.
 pub cell_over : (store : Store) (copies : List (Option Trace)) (number cell : ℕ) (page : Trace) → get_or copies number None ≡ Some page →
     64 * number ≤ cell → cell < 64 * number + 64 → cell < length store → get_or (cells_over store copies) cell (pos 0) ≡ at_cell page.cells (cell - 64 * number)
 cell_over store copies number cell page at low high inside =
@@ -182,7 +182,7 @@ mark_of_copy store copies number cell page at low high inside =
     ap (λ i. get_or (marks_over store copies) i false) (sym place)
     ∙ seen_copy mark_in (λ cell. false) copies (length store) number (cell - 64 * number) page false at (omega (arith, low, high)) (omega (arith, place, inside))
 
--- a page with no copy has no mark
+-- A page without a copy has no mark.
 pub unmarked_over : (store : Store) (copies : List (Option Trace)) (number place : ℕ) → get_or copies number None ≡ None → place < 64 →
     get_or (marks_over store copies) (64 * number + place) false ≡ false
 unmarked_over store copies number place at h = elim (cases_lt (64 * number + place) (length store)) [

@@ -1,4 +1,4 @@
--- Where a pair stands in a list of rising cells.
+-- The index of a pair in a list of rising cells.
 use Rattle.std.proofs.Common.{◌≡◌, ℕ, zero, suc, ◌+◌, ◌-◌, ◌<◌, ◌≤◌, Bool, true, false, cond, List, [], ◌∷◌, ◌++◌, length, get_or, set, take, drop, Some, None, ℤ, pos, refl, ap, subst, arith}
 use Rattle.std.specs.Prelude.{All, nat_lt, nat_eq}
 use Rattle.array_meaning.proofs.LastLemmas.{rising_lay}
@@ -13,7 +13,7 @@ above_get c m [] d above h = absurd (omega (arith, h))
 above_get c zero (w ∷ ws) d above h = above.0
 above_get c (suc m) (w ∷ ws) d above h = above_get c m ws d above.1 (omega (arith, h))
 
--- a pair with a smaller cell stands before the place
+-- A pair with a smaller cell is below the index.
 pub place_after : (c m : ℕ) (ws : List Write) (d : Write) → IsRising ws → m < length ws → (get_or ws m d).0 < c → m < place_in c ws
 place_after c m [] d rising h less = absurd (omega (arith, h))
 place_after c zero (w ∷ ws) d rising h less =
@@ -25,7 +25,7 @@ place_after c (suc m) (w ∷ ws) d rising h less =
     let ih = place_after c m ws d rising.1 (omega (arith, h)) less in
     rw test (let lt : suc m < suc (place_in c ws) = omega (arith, ih) in lt)
 
--- a pair with no smaller cell doesn't
+-- A pair without a smaller cell isn't below the index.
 pub place_before : (c m : ℕ) (ws : List Write) (d : Write) → m < length ws → c ≤ (get_or ws m d).0 → place_in c ws ≤ m
 place_before c m [] d h more = absurd (omega (arith, h))
 place_before c zero (w ∷ ws) d h more = let test : nat_lt w.0 c ≡ false = grind (arith, nat_tests) in rw test (let le : 0 ≤ 0 = omega arith in le)
@@ -43,7 +43,7 @@ place_within c (w ∷ ws) = cases (nat_lt w.0 c) (place_within c ws)
     cases true le = omega (arith, le)
     cases false le = omega arith
 
--- the cell is there: its value is replaced
+-- The cell has a pair: its value is replaced.
 pub lay_there : (c : ℕ) (v : ℤ) (ws : List Write) (d : Write) → place_in c ws < length ws → (get_or ws (place_in c ws) d).0 ≡ c →
     set ws (place_in c ws) (c, v) ≡ lay c v ws
 lay_there c v [] d h e = absurd (omega (arith, h))
@@ -55,7 +55,7 @@ lay_there c v (w ∷ ws) d h e = cases (nat_lt w.0 c) refl h e (lay_there c v ws
     cases false f h e ih = let a : nat_lt c w.0 ≡ false = grind (arith, nat_tests) in let b : nat_eq c w.0 ≡ true = grind (arith, nat_tests) in rw (a, b) refl
     cases true f h e ih = let a : nat_lt c w.0 ≡ false = grind (arith, nat_tests) in let b : nat_eq c w.0 ≡ false = grind (arith, nat_tests) in rw (a, b) (ap (λ x. w ∷ x) (ih (omega (arith, h)) e))
 
--- it isn't: it is put in between
+-- The cell has no pair: a pair is inserted.
 pub lay_new : (c : ℕ) (v : ℤ) (ws : List Write) (d : Write) → (place_in c ws < length ws → (get_or ws (place_in c ws) d).0 ≡ c → ⊥) →
     take (place_in c ws) ws ++ (c, v) ∷ drop (place_in c ws) ws ≡ lay c v ws
 lay_new c v [] d h = refl
@@ -68,7 +68,7 @@ lay_new c v (w ∷ ws) d h = cases (nat_lt w.0 c) refl h (lay_new c v ws d)
     cases true f h ih = let a : nat_lt c w.0 ≡ false = grind (arith, nat_tests) in let b : nat_eq c w.0 ≡ false = grind (arith, nat_tests) in
         rw (a, b) (ap (λ x. w ∷ x) (ih (λ lt e. h (omega (arith, lt)) e)))
 
--- the value at the place is the cell's
+-- The value at the index is the cell's.
 pub value_there : (c : ℕ) (ws : List Write) (d : Write) → place_in c ws < length ws → (get_or ws (place_in c ws) d).0 ≡ c →
     value_at ws c ≡ Some (get_or ws (place_in c ws) d).1
 value_there c [] d h e = absurd (omega (arith, h))
@@ -85,7 +85,7 @@ value_above c b [] le above = refl
 value_above c b (w ∷ ws) le above =
     let up = above.0 in let a : nat_eq w.0 c ≡ false = grind (arith, nat_tests) in rw a (value_above c b ws le above.1)
 
--- where it isn't the cell's, the cell has none
+-- If the pair at the index isn't the cell's, the cell has none.
 pub value_not_there : (c : ℕ) (ws : List Write) (d : Write) → IsRising ws → (place_in c ws < length ws → (get_or ws (place_in c ws) d).0 ≡ c → ⊥) →
     value_at ws c ≡ None
 value_not_there c [] d rising h = refl

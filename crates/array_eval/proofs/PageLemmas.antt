@@ -10,7 +10,7 @@ use Rattle.std.proofs.lemmas.Grind.{div_ceil_times}
 use Rattle.array_eval.specs.Equal.{store_eq}
 use Rattle.array_eval.specs.Pages.{padded, cells_on, pages_for, ArePages, page_at, AreChanged}
 
--- Each page has 64 cells.
+-- each page has 64 cells
 abbrev pub AreWhole : List (List ℤ) → Type 0
 AreWhole pages = All (λ page. length page ≡ 64) pages
 
@@ -32,7 +32,7 @@ length_on (p ∷ ps) whole =
     let both = length-append p (cells_on ps) in
     omega (arith, front, rest, both)
 
--- the cell at a place of a page
+-- The cell at an index of a page.
 pub get_at : (pages : List (List ℤ)) (q r : ℕ) (page : List ℤ) (d : ℤ) → AreWhole pages → q < length pages → r < 64 →
     get_or (cells_on pages) (64 * q + r) d ≡ get_or (get_or pages q page) r d
 get_at [] q r page d whole in_q in_r = absurd (omega (arith, in_q))
@@ -61,7 +61,7 @@ set_at (p ∷ ps) (suc q) r page v whole in_q in_r =
     ∙ sym (set-append_right p (cells_on ps) 64 (64 * suc q + r) v front (omega arith)
     ∙ ap (λ i. p ++ set (cells_on ps) i v) place)
 
--- the page of a cell is there
+-- The page of a cell exists.
 pub page_there : (count cell : ℕ) (pages : List (List ℤ)) → ArePages count pages → cell < count → cell / 64 < length pages
 page_there count cell pages right h =
     let many = right.fewest in
@@ -82,7 +82,7 @@ put_on count cell pages page v right h =
     set_at pages (cell / 64) (cell % 64) page v right.whole (page_there count cell pages right h) (mod-lt cell (omega arith))
     ∙ ap (λ i. set (cells_on pages) i v) (div-add-mod cell 64)
 
--- a cell is written in its page
+-- A cell is written in its page.
 pub put_in_page : (count cell : ℕ) (pages : List (List ℤ)) (page : List ℤ) (v : ℤ) → ArePages count pages → cell < count →
     take count (cells_on (set pages (cell / 64) (set (get_or pages (cell / 64) page) (cell % 64) v))) ≡ set (take count (cells_on pages)) cell v
 put_in_page count cell pages page v right h = ap (take count) (put_on count cell pages page v right h) ∙ take-set-lt count (cells_on pages) cell v h
@@ -118,21 +118,20 @@ still_pages count cell pages page v right h =
 pub zeros_behind : (n m : ℕ) → drop n (replicate m (pos 0)) ≡ replicate (m - n) (pos 0)
 zeros_behind n m = drop-replicate n m (pos 0)
 
--- a cell of what is seen lies before the end
+-- A cell of the view is below the end.
 pub below_count : (count : ℕ) (cells view : List ℤ) (cell : ℕ) → take count cells ≡ view → cell < length view → cell < count
 below_count count cells view cell e h =
     let long = length-take count cells in
     let same : length (take count cells) ≡ length view = ap length e in
     omega (arith, long, same, h)
 
--- a page that was written, or wasn't for want of memory
+-- A page that was written, or wasn't because an allocation failed.
 pub put_or_not : {E : Type 0} (count cell : ℕ) (pages : List (List ℤ)) (page new : List ℤ) (v : ℤ) (r : Result (Unit {0}) E) → ArePages count pages → cell < count →
     OnOk r (new ≡ set (get_or pages (cell / 64) page) (cell % 64) v) → OnErr r (new ≡ get_or pages (cell / 64) page) →
     ArePages count (set pages (cell / 64) new)
 put_or_not count cell pages page new v (Ok u) right h ok err = rw ok (still_pages count cell pages page v right h)
 put_or_not count cell pages page new v (Err e) right h ok err = rw (err, set-get_or pages (cell / 64) page) right
 
--- one page more
 pub one_more : (pages : List (List ℤ)) (i : ℕ) (d : List ℤ) → i < length pages → cells_on (take (i + 1) pages) ≡ cells_on (take i pages) ++ get_or pages i d
 one_more pages i d h =
     ap cells_on (take_more pages i d h) ∙ cells_append (take i pages) (get_or pages i d ∷ [])
@@ -140,7 +139,7 @@ one_more pages i d h =
 
 -- ---- comparing pages
 
--- what is seen, and the zeros behind it
+-- the cells of the view, and zeros after them
 all_cells : (count : ℕ) (pages : List (List ℤ)) → ArePages count pages →
     cells_on pages ≡ take count (cells_on pages) ++ replicate (64 * pages_for count - count) (pos 0)
 all_cells count pages right =
@@ -157,7 +156,7 @@ same_pages (p ∷ ps) (q ∷ qs) whole whole' long e =
     let back : cells_on ps ≡ cells_on qs = sym (drop-append_seam p (cells_on ps)) ∙ ap (drop (length p)) e ∙ ap (λ n. drop n (q ++ cells_on qs)) as_long ∙ drop-append_seam q (cells_on qs) in
     ap (λ x. x ∷ ps) front ∙ ap (λ xs. q ∷ xs) (same_pages ps qs (others_whole p ps whole) (others_whole q qs whole') (omega (arith, long)) back)
 
--- how many cells are seen
+-- The length of the view.
 pub length_seen : (count : ℕ) (pages : List (List ℤ)) → ArePages count pages → length (take count (cells_on pages)) ≡ count
 length_seen count pages right =
     let few = (div_ceil_times count 64 (omega arith)).0 in
@@ -165,7 +164,7 @@ length_seen count pages right =
     let long = length_on pages right.whole in
     length-take-le count (cells_on pages) (omega (arith, few, many, long))
 
--- where the same is seen the pages are the same
+-- Pages with equal views are equal.
 pub pages_decide : (count : ℕ) (ps qs : List (List ℤ)) → ArePages count ps → ArePages count qs → take count (cells_on ps) ≡ take count (cells_on qs) → ps ≡ qs
 pages_decide count ps qs right right' e =
     same_pages ps qs right.whole right'.whole (right.fewest ∙ sym right'.fewest)
@@ -173,7 +172,7 @@ pages_decide count ps qs right right' e =
 
 -- ---- laying cells on pages
 
--- what is laid out, with the zeros behind it
+-- the cells that are laid out, and zeros after them
 abbrev pub filled : List ℤ → List ℤ
 filled cells = cells ++ replicate (64 * pages_for (length cells) - length cells) (pos 0)
 
@@ -184,7 +183,7 @@ length_filled cells =
     let few = (div_ceil_times (length cells) 64 (omega arith)).0 in
     omega (arith, both, behind, few)
 
--- the first so many of cells with zeros behind them
+-- The first cells of a list, with zeros after it.
 take_filled : (n z : ℕ) (xs : List ℤ) → n ≤ length xs + z → take n (xs ++ replicate z (pos 0)) ≡ take n xs ++ replicate (n - length (take n xs)) (pos 0)
 take_filled zero z xs h = refl
 take_filled (suc n) z [] h =
@@ -200,7 +199,7 @@ length_padded cells h =
     let behind = length-replicate (64 - length cells) (pos 0) in
     omega (arith, both, behind, h)
 
--- where the cells of a page begin
+-- The cells of a page begin before the end.
 pub page_begins : (count number : ℕ) → number < pages_for count → 64 * number < count
 page_begins count number h =
     let few = (div_ceil_times count 64 (omega arith)).1 in
@@ -218,7 +217,7 @@ next_page cells number h =
     ∙ ap (λ xs. take (64 * number) (filled cells) ++ take 64 xs) (drop-append-le (64 * number) cells (replicate behind (pos 0)) (omega (arith, start)))
     ∙ ap (λ xs. take (64 * number) (filled cells) ++ xs) (take_filled 64 behind (drop (64 * number) cells) (omega (arith, start, long, h)))
 
--- the cells of one page more
+-- The cells of one more page are laid out.
 pub laid_next : (cells : List ℤ) (number : ℕ) (pages : List (List ℤ)) (page : List ℤ) → number < pages_for (length cells) →
     cells_on pages ≡ take (64 * number) (filled cells) → page ≡ padded (take 64 (drop (64 * number) cells)) →
     cells_on (pages ++ page ∷ []) ≡ take (64 * (number + 1)) (filled cells)
@@ -243,7 +242,7 @@ laid_all cells pages laid =
     let long = length_filled cells in
     laid ∙ take_all (64 * pages_for (length cells)) (filled cells) (omega (arith, long))
 
--- all cells are laid out
+-- All cells are laid out.
 pub laid_pages : (cells : List ℤ) (pages : List (List ℤ)) → cells_on pages ≡ take (64 * pages_for (length cells)) (filled cells) → AreWhole pages →
     length pages ≡ pages_for (length cells) → ArePages (length cells) pages
 laid_pages cells pages laid whole many =
@@ -293,7 +292,7 @@ zero_cells count =
 
 -- ---- the cells of one page
 
--- the page at a place has the cells there
+-- The page at an index has the cells of that page.
 page_in : (pages : List (List ℤ)) (number : ℕ) (d : List ℤ) → AreWhole pages → number < length pages → page_at number (cells_on pages) ≡ get_or pages number d
 page_in [] number d whole h = absurd (omega (arith, h))
 page_in (p ∷ ps) zero d whole h =
@@ -306,7 +305,7 @@ page_in (p ∷ ps) (suc number) d whole h =
     ap (take 64) (ap (λ n. drop n (p ++ cells_on ps)) place ∙ sym (drop-drop (64 * number) 64 (p ++ cells_on ps)) ∙ ap (drop (64 * number)) behind)
     ∙ page_in ps number d (others_whole p ps whole) (omega (arith, h))
 
--- so has the page of what is seen, with zeros behind them
+-- The page at an index has the view's cells of that page, and zeros after them.
 pub page_seen : (count number : ℕ) (pages : List (List ℤ)) (d : List ℤ) → ArePages count pages → number < length pages →
     get_or pages number d ≡ padded (page_at number (take count (cells_on pages)))
 page_seen count number pages d right h =
@@ -322,17 +321,17 @@ page_seen count number pages d right h =
     ∙ ap (take 64) (drop-append-le (64 * number) view (replicate behind (pos 0)) (omega (arith, start, seen)))
     ∙ take_filled 64 behind (drop (64 * number) view) (omega (arith, start, seen, long, room, h, many))
 
--- a flag that is there
+-- A flag within the list reads the same for either default.
 pub no_flag : (flags : List Bool) (number : ℕ) → number < length flags → get_or flags number false ≡ false → get_or flags number true ≡ false
 no_flag [] number h e = absurd (omega (arith, h))
 no_flag (f ∷ flags) zero h e = e
 no_flag (f ∷ flags) (suc number) h e = no_flag flags number (omega (arith, h)) e
 
--- no page is changed yet
+-- No page is changed yet.
 pub none_changed : (cells : List ℤ) → AreChanged (replicate (pages_for (length cells)) false) cells cells
 none_changed cells = record { as_many = refl; marks = length-replicate (pages_for (length cells)) false; kept = λ number mark. refl }
 
--- a cell that is written leaves the other pages
+-- A write to a cell leaves the other pages.
 other_page : (cells : List ℤ) (cell number : ℕ) (v : ℤ) → number ≢ cell / 64 → page_at number (set cells cell v) ≡ page_at number cells
 other_page cells cell number v other =
     let whole = div-add-mod cell 64 in
@@ -348,7 +347,7 @@ other_page cells cell number v other =
           ap (take 64) (drop-set-lt (64 * number) cells cell v (omega (arith, less, whole, rest))))
     ]
 
--- the page of a cell has its mark
+-- The page of a cell has its mark.
 pub mark_there : (changed : List Bool) (before cells : List ℤ) (cell : ℕ) → AreChanged changed before cells → cell < length cells → cell / 64 < length changed
 mark_there changed before cells cell all h =
     let many = all.marks in
@@ -356,7 +355,7 @@ mark_there changed before cells cell all h =
     let whole = div-add-mod cell 64 in
     omega (arith, many, few, whole, h)
 
--- a cell is written, and its page is marked
+-- A cell is written, and its page is marked.
 pub one_changed : (changed : List Bool) (before cells : List ℤ) (cell : ℕ) (v : ℤ) → AreChanged changed before cells → cell < length cells →
     AreChanged (set changed (cell / 64) true) before (set cells cell v)
 one_changed changed before cells cell v all h =
@@ -369,7 +368,7 @@ one_changed changed before cells cell v all h =
           all.kept number (sym (get_or-set_other changed (cell / 64) number true true other) ∙ mark) ∙ sym (other_page cells cell number v other);
     }
 
--- ---- comparing cells one after another
+-- ---- comparing cells one by one
 
 and_assoc : (a b c : Bool) → (a && (b && c)) ≡ ((a && b) && c)
 and_assoc true b c = refl
@@ -385,7 +384,6 @@ one_after [] (b ∷ ys) x y e = absurd (omega (arith, e))
 one_after (a ∷ xs) [] x y e = absurd (omega (arith, e))
 one_after (a ∷ xs) (b ∷ ys) x y e = ap (λ r. int_eq a b && r) (one_after xs ys x y (omega (arith, e))) ∙ and_assoc (int_eq a b) (store_eq xs ys) (int_eq x y)
 
--- one more is compared
 pub same_next : (a b : List ℤ) (i : ℕ) → i < length a → i < length b →
     (store_eq (take i a) (take i b) && int_eq (get_or a i (pos 0)) (get_or b i (pos 0))) ≡ store_eq (take (i + 1) a) (take (i + 1) b)
 same_next a b i h k =

@@ -1,4 +1,4 @@
--- What is kept while a work runs is what its steps write.
+-- The trace of a work is what its steps write.
 use Rattle.std.proofs.Common.{◌≡◌, ℕ, zero, suc, ◌+◌, ◌<◌, ◌≤◌, Bool, true, false, cond, List, [], ◌∷◌, ◌++◌, length, set, drop, get_or, drop-cons, add-one, ℤ, refl, sym, ap, ◌∙◌, arith, length-set}
 use Rattle.std.specs.Prelude.{All, nat_lt, nat_eq, replicate}
 use Rattle.std.proofs.lemmas.Bool.Decides.{nat_tests}
@@ -19,16 +19,16 @@ pub noted_append : (a b : List Write) (t : Trace) → noted_all (a ++ b) t ≡ n
 noted_append [] b t = refl
 noted_append (w ∷ a) b t = noted_append a b (noted w.0 w.1 t)
 
--- steps keep the number of cells
+-- Steps keep the number of cells.
 pub length_traced : (arrays : Arrays) (steps : Steps) (t : Trace) → length (traced arrays steps t).cells ≡ length t.cells
 length_traced arrays steps t = ap length (cells_after (writes_of arrays steps t.cells) t) ∙ length_after (writes_of arrays steps t.cells) t.cells
 
--- no mark is lost or gained
+-- Steps keep the number of marks.
 pub length_marks : (ws : List Write) (t : Trace) → length (noted_all ws t).marks ≡ length t.marks
 length_marks [] t = refl
 length_marks (w ∷ ws) t = length_marks ws (noted w.0 w.1 t) ∙ length-set t.marks w.0 true
 
--- one and then the other
+-- Two steps in sequence.
 pub traced_followed_by : (arrays : Arrays) (a b : Steps) (t : Trace) → traced arrays (followed_by a b) t ≡ traced arrays b (traced arrays a t)
 traced_followed_by arrays a b t =
     ap (λ ws. noted_all ws t) (writes_followed_by arrays a b t.cells)
@@ -37,7 +37,7 @@ traced_followed_by arrays a b t =
 
 -- ---- what is marked
 
--- what is marked from a cell on lies above those before
+-- The marked cells from one on are above those before.
 pub above_marked : (c i : ℕ) (cells : List ℤ) (marks : List Bool) → c < i → IsAbove c (marked_from i cells marks)
 above_marked c i [] marks h = tt
 above_marked c i (x ∷ cells) [] h = tt
@@ -60,7 +60,7 @@ lay_same i x v ws =
     let same : nat_eq i i ≡ true = grind (arith, nat_tests) in
     rw (less, same) refl
 
--- one more write is laid over what is marked
+-- One more write is laid over the marked cells.
 noted_from : (i c : ℕ) (v : ℤ) (cells : List ℤ) (marks : List Bool) → c < length cells → length cells ≡ length marks →
     marked_from i (set cells c v) (set marks c true) ≡ lay (i + c) v (marked_from i cells marks)
 noted_from i c v [] marks h e = absurd (omega (arith, h))
@@ -97,12 +97,12 @@ marked_after (w ∷ ws) t h e =
     marked_after ws (noted w.0 w.1 t) (rw cells h.1) (cells ∙ e ∙ sym marks)
     ∙ ap (lays ws) (noted_from 0 w.0 w.1 t.cells t.marks h.0 e ∙ ap (λ c. lay c w.1 (marked t)) zero_more)
 
--- an overlay is laid over what is marked
+-- An overlay is laid over the marked cells.
 pub laid_marks : (ws : List Write) (before after : Trace) → after ≡ noted_all ws before → length before.cells ≡ length before.marks →
     All (λ w. w.0 < length before.cells) ws → marked after ≡ lays ws (marked before)
 laid_marks ws before after e same below = ap marked e ∙ marked_after ws before (below_of (length before.cells) ws below) same
 
--- what is marked in the end is what was written last to each cell
+-- The marked cells at the end have the last values of the writes.
 pub marked_last : (ws : List Write) (store : Store) → All (λ w. w.0 < length store) ws →
     last_writes (marked (noted_all ws (fresh store))) ≡ last_writes ws
 marked_last ws store h =
@@ -116,7 +116,7 @@ one_marked : (i : ℕ) (x : ℤ) (xs : List ℤ) (m : Bool) (ms : List Bool) (o 
 one_marked i x xs true ms o = refl
 one_marked i x xs false ms o = refl
 
--- the marked cells from one on, laid over an overlay: that cell, and then the rest
+-- The marked cells from one on, laid over an overlay: that cell, and then the rest.
 pub marked_next : (i : ℕ) (cells : List ℤ) (marks : List Bool) (d : ℤ) (m : Bool) (o : List Write) → i < length cells → length cells ≡ length marks →
     lays (marked_from i (drop i cells) (drop i marks)) o
     ≡ lays (marked_from (i + 1) (drop (i + 1) cells) (drop (i + 1) marks)) (cond (get_or marks i m) (lay i (get_or cells i d) o) o)
@@ -133,7 +133,7 @@ marked_none n (suc i) [] marks h = refl
 marked_none n zero (x ∷ cells) marks h = absurd (omega (arith, h))
 marked_none n (suc i) (x ∷ cells) marks h = marked_none n i cells marks (omega (arith, h))
 
--- behind the last cell nothing is marked
+-- After the last cell nothing is marked.
 pub marked_end : (i : ℕ) (cells : List ℤ) (marks : List Bool) (o : List Write) → length cells ≤ i →
     lays (marked_from i (drop i cells) (drop i marks)) o ≡ o
 marked_end i cells marks o h = ap (λ ws. lays ws o) (marked_none i i cells (drop i marks) h)
@@ -149,12 +149,12 @@ one_mark : (m : Bool) (marks : List Bool) → marks_in (m ∷ marks) ≡ cond m 
 one_mark true marks = omega arith
 one_mark false marks = omega arith
 
--- the marks from one on: that one, and then the rest
+-- The marks from one on: that mark, and then the rest.
 pub marks_next : (i : ℕ) (marks : List Bool) (m : Bool) → i < length marks →
     marks_in (drop i marks) ≡ cond (get_or marks i m) 1 0 + marks_in (drop (i + 1) marks)
 marks_next i marks m h = ap marks_in (drop-cons marks i m h) ∙ one_mark (get_or marks i m) (drop (suc i) marks) ∙ rw add-one refl
 
--- one more write is at most one more pair
+-- One more write adds at most one pair.
 pub length_lay : (c : ℕ) (v : ℤ) (ws : List Write) → length (lay c v ws) ≤ 1 + length ws
 length_lay c v [] = omega arith
 length_lay c v (w ∷ ws) = cases (nat_lt c w.0) (nat_eq c w.0) (length_lay c v ws)

@@ -1,4 +1,4 @@
--- What is spelled is read.
+-- A text that spells a program is read as that program.
 use Rattle.std.proofs.Common.{◌≡◌, ◌≢◌, ℕ, ℤ, pos, suc, ◌≤◌, Bool, true, false, List, [], ◌∷◌, ◌++◌, Option, Some, None, Ok, refl, sym, ap, ◌∙◌, subst, arith, append_assoc, append-nil}
 use Rattle.array_tokens.specs.Lexemes.{Lexeme, word, sign, Spot}
 use Rattle.array_tokens.specs.declared.token.Word.{Word}
@@ -12,7 +12,7 @@ use Rattle.array_lang.specs.Parsing.Machine.{Left, Level, fresh, joined, term_va
 use Rattle.array_lang.specs.declared.operator.Strength.{Strength}
 use Rattle.array_lang.specs.declared.operator.Strength.TheVariants.{Comparison as comparison, Addition as addition, Product as product}
 
--- the same, with 4 for an index
+-- the same, except 4 for an index
 abbrev pub hold_of : Lexeme → ℕ
 hold_of (sign signs.OpenIndex) = 4
 hold_of t = pull_of t
@@ -33,7 +33,7 @@ pub pull_operator : (l : Lexeme) (s : Strength) (op : Op) → operator_of l ≡ 
 pull_operator (sign signs.OpenIndex) s op e = absurd (cc)
 pull_operator l s op e = (ap operator_pull e, ap operator_pull e)
 
--- a name that no index follows is a variable
+-- A name without an index is a variable.
 step_called : (n : Nest) (b : List ℕ) (l : Level) (outers : List Outer) (top : Top) (t : Lexeme) → hold_of t ≤ 3 → step_after n (called b) l outers top t ≡ step_after n (bare (Var b)) l outers top t
 step_called n b l outers top (sign signs.OpenIndex) h = absurd (omega arith)
 step_called n b l outers top t h = refl
@@ -42,7 +42,7 @@ pub settle_called : (n : Nest) (b : List ℕ) (l : Level) (outers : List Outer) 
 settle_called n b l outers top [] h = refl
 settle_called n b l outers top (t ∷ ts) h = ap (λ o. continued o (λ s. run s.mode s.nest ts) (t ∷ ts)) (step_called n b l outers top t.lexeme h)
 
--- the factors so far are one
+-- The factors so far become one expression.
 pub settle_term : (n : Nest) (x : Expression) (l : Level) (outers : List Outer) (top : Top) (ts : List Spot) → run (after (bare x) l outers top) n ts ≡ run (after (bare (term_value l x)) (record { compare = l.compare; sum = l.sum; term = None; minus = 0 }) outers top) n ts
 settle_term n x l outers top [] = refl
 settle_term n x l outers top (t ∷ ts) = refl
@@ -52,7 +52,7 @@ step_sum n c s x outers top t (Some (product, op)) h = absurd (omega arith)
 step_sum n None s x outers top t o h = refl
 step_sum n (Some c) s x outers top t o h = refl
 
--- the terms so far are one, where no factor follows
+-- The terms so far become one expression if no factor follows.
 pub settle_sum : (n : Nest) (c s : Left) (x : Expression) (outers : List Outer) (top : Top) (ts : List Spot) → pull ts ≤ 2 → run (after (bare x) (record { compare = c; sum = s; term = None; minus = 0 }) outers top) n ts ≡ run (after (bare (joined s x)) (record { compare = c; sum = None; term = None; minus = 0 }) outers top) n ts
 settle_sum n c s x outers top [] h = refl
 settle_sum n c s x outers top (t ∷ ts) h = ap (λ o. continued o (λ s. run s.mode s.nest ts) (t ∷ ts)) (step_sum n c s x outers top t.lexeme (operator_of t.lexeme) h)
@@ -63,12 +63,12 @@ step_compare n c x outers top t (Some (product, op)) h = absurd (omega arith)
 step_compare n c x outers top t (Some (addition, op)) h = absurd (omega arith)
 step_compare n c x outers top t (Some (comparison, op)) h = absurd (omega arith)
 
--- both sides of a comparison are one, where no operator follows
+-- Both sides of a comparison become one expression if no operator follows.
 pub settle_compare : (n : Nest) (c : Left) (x : Expression) (outers : List Outer) (top : Top) (ts : List Spot) → pull ts ≤ 0 → run (after (bare x) (record { compare = c; sum = None; term = None; minus = 0 }) outers top) n ts ≡ run (after (bare (joined c x)) fresh outers top) n ts
 settle_compare n c x outers top [] h = refl
 settle_compare n c x outers top (t ∷ ts) h = ap (λ o. continued o (λ s. run s.mode s.nest ts) (t ∷ ts)) (step_compare n c x outers top t.lexeme (operator_of t.lexeme) h)
 
--- an operator after a whole left operand
+-- An operator follows a complete left operand.
 pub take_product : (n : Nest) (c s : Left) (x : Expression) (outers : List Outer) (top : Top) (l : Lexeme) (a k : ℕ) (ts : List Spot) (op : Op) → operator_of l ≡ Some (product, op) → run (after (bare x) (record { compare = c; sum = s; term = None; minus = 0 }) outers top) n (spot l a k ∷ ts) ≡ run (operand (record { compare = c; sum = s; term = Some (x, op); minus = 0 }) outers top) n ts
 take_product n c s x outers top l a k ts op e = ap (λ o. continued (goes_on n c s x outers top l o) (λ s. run s.mode s.nest ts) (spot l a k ∷ ts)) e
 
@@ -150,7 +150,7 @@ end_closed : (ds : List Declaration) (d : List Statement) (frames : List Frame) 
 end_closed ds d [] line x p = refl
 end_closed ds d (f ∷ frames) line x p = refl
 
--- a choice that no else follows
+-- A choice without an `else`.
 pub settle_closed : (n : Nest) (line : ℕ) (x : Expression) (p : Sequence) (ts : List Spot) → head_of ts ≢ Some (word words.Else) → run (closed line x p) n ts ≡ run statement (with_done n (If line x p ended)) ts
 settle_closed n line x p [] h = end_closed n.arrays n.done n.frames line x p
 settle_closed n line x p (t ∷ ts) h = ap (λ o. continued o (λ s. run s.mode s.nest ts) (t ∷ ts)) (step_closed n line x p t.line t.lexeme h)
@@ -163,7 +163,7 @@ end_phase : (ds : List Declaration) (d : List Statement) (frames : List Frame) (
 end_phase ds d [] c ps p = refl
 end_phase ds d (f ∷ frames) c ps p = refl
 
--- a team's phase that no barrier follows
+-- The last phase of a team: no `barrier` follows.
 pub settle_phase : (n : Nest) (c : Crew) (ps : List Sequence) (p : Sequence) (ts : List Spot) → head_of ts ≢ Some (word words.Barrier) → run (phase_closed c ps p) n ts ≡ run statement (with_done n (team_of c (ps ++ p ∷ []))) ts
 settle_phase n c ps p [] h = end_phase n.arrays n.done n.frames c ps p
 settle_phase n c ps p (t ∷ ts) h = ap (λ o. continued o (λ s. run s.mode s.nest ts) (t ∷ ts)) (step_phase n c ps p t.line t.lexeme h)
@@ -176,12 +176,12 @@ end_declaring : (ds : List Declaration) (d : List Statement) (frames : List Fram
 end_declaring ds d [] = refl
 end_declaring ds d (f ∷ frames) = refl
 
--- no further declaration
+-- No declaration follows.
 pub settle_declaring : (n : Nest) (ts : List Spot) → head_of ts ≢ Some (word words.Array) → run declaring n ts ≡ run statement n ts
 settle_declaring n [] h = end_declaring n.arrays n.done n.frames
 settle_declaring n (t ∷ ts) h = ap (λ o. continued o (λ s. run s.mode s.nest ts) (t ∷ ts)) (step_declaring n t.line t.lexeme h)
 
--- the words that go on with what stands before them
+-- the words that continue the statement before them
 abbrev is_joint : Option Lexeme → Bool
 is_joint (Some (word words.Else)) = true
 is_joint (Some (word words.Barrier)) = true
@@ -203,7 +203,7 @@ sequence_settles (next_statement d e) h = statement_settles d
 not_word : (ts : List Spot) (w : Word) → is_joint (head_of ts) ≡ false → is_joint (Some (word w)) ≡ true → head_of ts ≢ Some (word w)
 not_word ts w h k = λ e. let q : is_joint (Some (word w)) ≡ false = subst (λ o. is_joint o ≡ false) e h in cc
 
--- where a block is closed
+-- A block is closed.
 side_closes : (p : Sequence) (n : Nest) (b : Branch) (t : List Spot) → run (close_into n b (sequence (listed p))).mode (close_into n b (sequence (listed p))).nest t ≡ run (close_into n b p).mode (close_into n b p).nest t
 side_closes p n b t = ap (λ q. run (close_into n b q).mode (close_into n b q).nest t) (sequence-listed p)
 
@@ -291,7 +291,7 @@ declarations_run (next_declaration {u} {d} {ds} e f) n =
     ∙ declarations_run f (with_array n d)
     ∙ ap (λ l. run declaring (nest l n.done n.frames) u) (append_assoc n.arrays (d ∷ []) ds)
 
--- a program that is spelled is what reading gives
+-- A program that is spelled is the result of reading.
 pub complete : {tokens : List Spot} {p : ProgramTree} → SpellsProgram tokens p → parse_of tokens ≡ Ok p
 complete {tokens} {p} d =
     declarations_run d.declares top_nest
@@ -299,6 +299,6 @@ complete {tokens} {p} d =
     ∙ sequence_runs d.does refl (nest p.arrays [] [])
     ∙ ap (λ q. Ok (record { arrays = p.arrays; body = q })) (sequence-listed p.body)
 
--- no tokens spell two programs
+-- No tokens spell two programs.
 pub one_program : {tokens : List Spot} {p q : ProgramTree} → SpellsProgram tokens p → SpellsProgram tokens q → p ≡ q
 one_program d e = let h = sym (complete d) ∙ complete e in cc

@@ -1,4 +1,4 @@
--- Which tokens of an expression pass the limit on marks.
+-- Which tokens of an expression exceed the limit on marks.
 use Rattle.std.proofs.Common.{◌≡◌, ℕ, ℤ, ◌+◌, ◌≤◌, Bool, true, false, not, ◌&&◌, nat_le, List, [], ◌∷◌, ◌++◌, take, length-append, Option, Some, None, refl, sym, ap, ◌∙◌, arith}
 use Rattle.std.specs.Prelude.{if◌then◌else◌, is_some}
 use Rattle.std.proofs.lemmas.Bool.Decides.{nat_tests}
@@ -47,7 +47,7 @@ pub clear_first : (b c : Bool) → (not b && c) ≡ true → (b ≡ false) × (c
 clear_first false c h = (refl, h)
 clear_first true c h = cc
 
--- ranges and declarations have no mark and no brace
+-- Ranges and declarations have no mark and no brace.
 bound_clear : {s t : List Spot} {v : ℤ} (d : SpellsBound s t v) (rest : List Bool) → no_true rest ≡ true → no_true (bound_beyond d ++ rest) ≡ true
 bound_clear plain_bound rest h = h
 bound_clear negative_bound rest h = h
@@ -63,11 +63,11 @@ pub declarations_clear : {s t : List Spot} {ds : List Declaration} (d : SpellsDe
 declarations_clear no_declaration = refl
 declarations_clear (next_declaration d e) = declarations_clear e
 
--- a token that may stand inside an expression, where the scan counts it if it is a mark
+-- A token that may stand inside an expression. The scan counts it iff it is a mark.
 abbrev pub IsInner : Lexeme → Type 0
 IsInner l = (m depth : ℕ) → (reach_after (Inside m) l ≡ Inside (marks_after m l)) × (depth_after depth l ≡ depth)
 
--- from s up to t stand such tokens
+-- only such tokens stand from s up to t
 pub data AreInner : List Spot → List Spot → Type 0 where
   no_token : {s : List Spot} → AreInner s s
   one_token : {s t : List Spot} {l : Lexeme} {a n : ℕ} → IsInner l → AreInner s t → AreInner (spot l a n ∷ s) t
@@ -121,7 +121,7 @@ between-append front t =
 pub inner_between : {s t : List Spot} (d : AreInner s t) → inner_tokens d ≡ between s t
 inner_between {t} d = sym (between-append (inner_tokens d) t) ∙ ap (λ r. between r t) (sym (inner_all d))
 
--- the marks after these tokens, where m stand before
+-- the number of marks after these tokens, if m stand before
 abbrev pub marks_behind : ℕ → List Spot → ℕ
 marks_behind m [] = m
 marks_behind m (t ∷ ts) = marks_behind (marks_after m t.lexeme) ts
@@ -130,14 +130,14 @@ pub few_after : (b : Bool) (m : ℕ) → m ≤ 64 → (b && nat_le 64 m) ≡ fal
 few_after true m k h = grind (arith, nat_tests)
 few_after false m k h = k
 
--- after tokens none of which is a mark too many, few marks stand
+-- If no token exceeds the limit on marks, at most 64 marks stand after them.
 pub few_behind : (m : ℕ) (front : List Spot) → m ≤ 64 → no_true (marks_beyond m front) ≡ true → marks_behind m front ≤ 64
 few_behind m [] k h = k
 few_behind m (t ∷ ts) k h =
     let q = clear_first (is_mark t.lexeme && nat_le 64 m) (no_true (marks_beyond (marks_after m t.lexeme) ts)) h in
     few_behind (marks_after m t.lexeme) ts (few_after (is_mark t.lexeme) m k q.0) q.1
 
--- an outermost expression
+-- the number of marks in an outermost expression
 abbrev pub whole_marks : {s t : List Spot} {x : Expression} → SpellsExpression s t x → ℕ
 whole_marks {s} {t} d = marks_behind 0 (between s t)
 
@@ -180,14 +180,14 @@ between_all {t} d = inner_all (expression_inner d) ∙ ap (λ r. r ++ t) (inner_
 whole_counted : {s t : List Spot} {x : Expression} (d : SpellsExpression s t x) → whole_marks d + mark_count t ≡ mark_count s
 whole_counted {s} {t} d = marks_counted 0 (between s t) t ∙ omega (arith, ap mark_count (between_all d))
 
--- an outermost expression has a mark too many exactly where it has more than 64
+-- An outermost expression exceeds the limit iff it has more than 64 marks.
 pub few_clear : {s t : List Spot} {x : Expression} (d : SpellsExpression s t x) → mark_count s ≤ mark_count t + 64 → no_true (expression_beyond d) ≡ true
 few_clear {s} {t} d h = clear_behind 0 (between s t) (omega (arith, whole_counted d))
 
 pub clear_few : {s t : List Spot} {x : Expression} (d : SpellsExpression s t x) → no_true (expression_beyond d) ≡ true → mark_count s ≤ mark_count t + 64
 clear_few d h = omega (arith, whole_counted d, whole_few d h)
 
--- a binary operator is a mark
+-- A binary operator is a mark.
 operator_marks : (l : Lexeme) (o : Strength × Op) → operator_of l ≡ Some o → is_mark l ≡ true
 operator_marks (sign signs.OpenGroup) o e = cc
 operator_marks (sign signs.OpenIndex) o e = cc

@@ -1,4 +1,4 @@
--- A text has at most one fault, besides want of memory, and none where it spells a program.
+-- A text has at most one fault, except a lack of memory. A text that spells a program has none.
 use Rattle.std.proofs.Common.{◌≡◌, ℕ, suc, ◌+◌, ◌≤◌, ◌<◌, arith, append_assoc, append-nil, length-append, take-append-drop, take, drop, add-one, length-take, List, [], ◌∷◌, ◌++◌, Some, None, length, refl, sym, ap, ◌∙◌, subst}
 use Rattle.std.specs.Prelude.{◌≢◌}
 use Rattle.array_tokens.specs.Lexemes.{Spot}
@@ -13,20 +13,20 @@ use Rattle.std.proofs.Math.Seq.{take-append_seam}
 use Rattle.array_lang.proofs.Places.{scan_places}
 use Rattle.array_lang.proofs.Whole.{scan_prefix, none_cut}
 
--- what begins with more tokens begins with fewer
+-- A program that begins with more tokens begins with fewer.
 fewer : (front back : List Spot) → Begins (front ++ back) → Begins front
 fewer front back b = (back ++ b.0, b.1, subst (λ ts. SpellsProgram ts b.1) (append_assoc front back b.0) b.2)
 
 next_front : (front rest : List Spot) (t : Spot) → (front ++ t ∷ []) ++ rest ≡ front ++ t ∷ rest
 next_front front rest t = append_assoc front (t ∷ []) rest
 
--- where reading stops, no program is spelled
+-- If reading stops, no program is spelled.
 none_spelled : (tokens rest : List Spot) (p : ProgramTree) → StopsAt tokens rest → SpellsProgram tokens p → ⊥
 none_spelled tokens [] p s d = s.ends p (subst (λ ts. SpellsProgram ts p) (s.all ∙ append-nil s.front) d)
 none_spelled tokens (t ∷ rest) p s d =
     s.ends (rest, p, subst (λ ts. SpellsProgram ts p) (s.all ∙ sym (next_front s.front rest t)) d)
 
--- of two ways to cut a list, one cuts it later
+-- two cuts of one list, by which of them is later
 data Later (a b c d : List Spot) : Type 0 where
   second : (m : List Spot) → c ≡ a ++ m → b ≡ m ++ d → Later a b c d
   first : (m : List Spot) → a ≡ c ++ m → d ≡ m ++ b → Later a b c d
@@ -43,7 +43,7 @@ compared (x ∷ a) b (y ∷ c) d e =
     let rest : a ++ b ≡ c ++ d = cc in
     subst (λ z. Later (x ∷ a) b (z ∷ c) d) (sym same) (later_on x a b c d (compared a b c d rest))
 
--- no program begins with more tokens than those before the one that stops it
+-- No program begins with more tokens than those before the token that stops reading.
 none_beyond : (tokens rest more m : List Spot) (s : StopsAt tokens rest) → rest ≡ m ++ more → Begins (s.front ++ m) → m ≡ []
 none_beyond tokens rest more [] s e b = refl
 none_beyond tokens [] more (t ∷ m) s e b = cc
@@ -51,7 +51,7 @@ none_beyond tokens (u ∷ rest) more (t ∷ m) s e b =
     let same : t ≡ u = cc in
     absurd (s.ends (subst (λ v. Begins (s.front ++ v ∷ [])) same (fewer (s.front ++ t ∷ []) m (subst Begins (sym (next_front s.front m t)) b))))
 
--- so reading stops at one place
+-- Reading stops at one position only.
 one_stop : (tokens rest rest' : List Spot) → StopsAt tokens rest → StopsAt tokens rest' → rest ≡ rest'
 one_stop tokens rest rest' s s' = which (compared s.front rest s'.front rest' (sym s.all ∙ s'.all))
   where
@@ -59,7 +59,7 @@ one_stop tokens rest rest' s s' = which (compared s.front rest s'.front rest' (s
     which (second m e f) = let none = none_beyond tokens rest rest' m s f (subst Begins e s'.begins) in f ∙ ap (λ l. l ++ rest') none
     which (first m e f) = let none = none_beyond tokens rest' rest m s' f (subst Begins e s.begins) in sym (f ∙ ap (λ l. l ++ rest) none)
 
--- the first token that passes a limit doesn't depend on what follows it
+-- The first token that exceeds a limit doesn't depend on the tokens after it.
 nested_of : (tokens : List Spot) (end at : ℕ) (n : IsTooNested tokens end at) → first_nested tokens ≡ Some n.index
 nested_of tokens end at n =
     let front = take (n.index + 1) tokens in
@@ -71,7 +71,7 @@ nested_of tokens end at n =
     = ap (λ k. take k (front ++ n.begins.0)) (sym (long ∙ add-one n.index)) ∙ take-append_seam front n.begins.0 in
     ap first_nested (sym (take-append-drop (n.index + 1) tokens) ∙ ap (λ l. l ++ drop (n.index + 1) tokens) (sym seam)) ∙ kept
 
--- where a limit is passed, reading goes at least so far
+-- If a token exceeds a limit, reading stops no earlier than that token.
 none_both : (tokens : List Spot) (end at at' : ℕ) → IsUnexpected tokens end at → IsTooNested tokens end at' → ⊥
 none_both tokens end at at' u n = which (compared (take (n.index + 1) tokens) (drop (n.index + 1) tokens) u.stops.front u.rest
     (take-append-drop (n.index + 1) tokens ∙ u.stops.all))
@@ -135,7 +135,7 @@ none_in_tokens tokens end p (Unexpected at) d n h = absurd (none_spelled tokens 
 none_in_tokens tokens end p (TooNested at) d n h = let e = nested_of tokens end at h in cc
 none_in_tokens tokens end p f d n h = absurd h
 
--- A text that spells a program has none.
+-- A text that spells a program has no fault.
 pub none_where_spelled : (text : List ℕ) (p : ProgramTree) (f : SyntaxFault) → Spells text p → HasFault text f → f ≡ Memory
 none_where_spelled text p f s (no_memory e) = e
 none_where_spelled text p f s (in_cutting c e h nm) = absurd (none_cut text c p e s)

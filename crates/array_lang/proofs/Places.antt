@@ -1,4 +1,4 @@
--- In tokens that spell a program, the scan finds the first token that passes a limit where the grammar does.
+-- In tokens that spell a program, the scan and the grammar find the same first token that exceeds a limit.
 use Rattle.std.proofs.Common.{◌≡◌, ℕ, ℤ, ◌+◌, ◌≤◌, Bool, true, false, ◌&&◌, nat_le, List, [], ◌∷◌, ◌++◌, Option, None, refl, sym, ap, ◌∙◌, arith}
 use Rattle.std.specs.Prelude.{if◌then◌else◌}
 use Rattle.array_lang.proofs.Marks.{no_true, AreInner, no_token, one_token, inner_tokens, expression_inner, inner_between, marks_behind, few_after, whole_marks, whole_few}
@@ -13,7 +13,7 @@ use Rattle.array_lang.specs.Nesting.{is_mark, marks_after, marks_beyond, express
 use Rattle.array_lang.specs.declared.nesting.Reach.{Reach}
 use Rattle.array_lang.specs.declared.nesting.Reach.TheVariants.{Outside, Target, Inside}
 
--- the first place of these, or else the place among what comes after them
+-- the index of the first true one, or else the index found behind these
 abbrev lead : List Bool → Option ℕ → Option ℕ
 lead [] o = o
 lead (b ∷ bs) o = first_over b (lead bs o)
@@ -26,7 +26,7 @@ lead_none : (a : List Bool) → lead a None ≡ first_true a
 lead_none [] = refl
 lead_none (x ∷ a) = ap (first_over x) (lead_none a)
 
--- what comes after matters only where none of these is true
+-- What follows matters only if none of these is true.
 under_lead : (a : List Bool) (o o' : Option ℕ) → (no_true a ≡ true → o ≡ o') → lead a o ≡ lead a o'
 under_lead [] o o' h = h refl
 under_lead (false ∷ a) o o' h = ap later (under_lead a o o' h)
@@ -51,13 +51,13 @@ brace_over depth = grind (arith, nat_tests)
 deeper : (depth : ℕ) → nat_le 32 depth ≡ false → depth + 1 ≤ 32
 deeper depth h = grind (arith, nat_tests)
 
--- a token and where the scan stands after it
+-- The scan's state after one token.
 moves : (r r' : Reach) (depth depth' : ℕ) (t : Spot) (ts : List Spot) → reach_after r t.lexeme ≡ r' → depth_after depth t.lexeme ≡ depth' → nested_at r depth (t ∷ ts) ≡ first_over (is_over depth' r') (nested_at r' depth' ts)
 moves r r' depth depth' t ts e f =
     ap (λ q. first_over (is_over (depth_after depth t.lexeme) q) (nested_at q (depth_after depth t.lexeme) ts)) e
     ∙ ap (λ n. first_over (is_over n r') (nested_at r' n ts)) f
 
--- a token that passes no limit
+-- A token that exceeds no limit.
 plain : (r r' : Reach) (depth depth' : ℕ) (t : Spot) (ts : List Spot) → reach_after r t.lexeme ≡ r' → depth_after depth t.lexeme ≡ depth' → is_over depth' r' ≡ false → nested_at r depth (t ∷ ts) ≡ later (nested_at r' depth' ts)
 plain r r' depth depth' t ts e f h = moves r r' depth depth' t ts e f ∙ ap (λ b. first_over b (nested_at r' depth' ts)) h
 
@@ -78,7 +78,7 @@ whole_leads {s} {t} d depth h =
     inner_leads (expression_inner d) 0 depth h (omega arith)
     ∙ ap (λ front. lead (marks_beyond 0 front) (nested_at (Inside (marks_behind 0 front)) depth t)) (inner_between (expression_inner d))
 
--- outside of expressions
+-- A token outside of expressions.
 passed : (depth : ℕ) (t : Spot) (ts : List Spot) → reach_after Outside t.lexeme ≡ Outside → depth_after depth t.lexeme ≡ depth → depth ≤ 32 → nested_at Outside depth (t ∷ ts) ≡ later (nested_at Outside depth ts)
 passed depth t ts e f h = plain Outside Outside depth depth t ts e f (outside_over depth h)
 
@@ -188,7 +188,7 @@ declarations_lead : {s t : List Spot} {ds : List Declaration} (d : SpellsDeclara
 declarations_lead no_declaration = refl
 declarations_lead (next_declaration declaration e) = ap (λ o. later (later (later (later (later (later o)))))) (declarations_lead e)
 
--- the scan finds the first token that passes a limit
+-- The scan finds the first token that exceeds a limit.
 pub scan_places : (tokens : List Spot) (p : ProgramTree) (d : SpellsProgram tokens p) → first_nested tokens ≡ first_beyond d
 scan_places tokens p d =
     declarations_lead d.declares

@@ -1,4 +1,4 @@
--- A step of the scan for tokens that pass a limit.
+-- A step of the scan for tokens that exceed a limit.
 use Rattle.std.proofs.Common.{◌≡◌, ℕ, ◌+◌, ◌<◌, List, ◌∷◌, Option, Some, None, length, drop, refl, sym, ap, ◌∙◌, arith, Bool, false, suc, add-one, get_or}
 use Rattle.std.proofs.Math.Seq.{drop-cons}
 use Rattle.array_tokens.specs.Lexemes.{spots, lexeme_of}
@@ -7,7 +7,7 @@ use Rattle.array_lang.specs.Parsing.Scan.{reach_after, depth_after, is_over, nes
 use Rattle.array_lang.specs.Nesting.{later, first_over}
 use Rattle.array_lang.specs.declared.nesting.Reach.{Reach}
 
--- the place in a longer list, which has n tokens before
+-- the index in a longer list, with n more tokens in front
 abbrev pub further : ℕ → Option ℕ → Option ℕ
 further n None = None
 further n (Some k) = Some (n + k)

@@ -1,4 +1,4 @@
--- What is read is spelled: each state says how the tokens so far are a beginning of what the grammar spells.
+-- A text that is read spells the result: in each state, the tokens so far are the beginning of a text of the grammar.
 use Rattle.std.proofs.Common.{◌≡◌, ℕ, zero, suc, ℤ, pos, List, [], ◌∷◌, ◌++◌, Option, Some, None, Result, Ok, refl, subst}
 use Rattle.array_tokens.specs.Lexemes.{Lexeme, name, number, word, sign, Spot}
 use Rattle.array_tokens.specs.declared.token.Word.TheVariants as words
@@ -10,7 +10,7 @@ use Rattle.array_lang.specs.Parsing.Machine.{Left, Level, fresh, joined, negs, O
 use Rattle.array_lang.specs.declared.operator.Strength.{Strength}
 use Rattle.array_lang.specs.declared.operator.Strength.TheVariants.{Comparison as comparison, Addition as addition, Product as product}
 
--- From s up to t stand a left operand and its operator, or nothing.
+-- A left operand and its operator stand from s up to t, or nothing does.
 data CompareAt : List Spot → List Spot → Left → Type 0 where
   no_compare : {s : List Spot} → CompareAt s s None
   compare_left : {s t : List Spot} {x : Expression} {l : Lexeme} {a n : ℕ} {op : Op} → SpellsSum s (spot l a n ∷ t) x → operator_of l ≡ Some (comparison, op) → CompareAt s t (Some (x, op))
@@ -27,7 +27,7 @@ data MinusAt : List Spot → List Spot → ℕ → Type 0 where
   no_minus : {s : List Spot} → MinusAt s s zero
   one_minus : {s t : List Spot} {k a n : ℕ} → MinusAt s (spot (sign signs.Minus) a n ∷ t) k → MinusAt s t (suc k)
 
--- from s up to t stands what is under way
+-- the unfinished operands of this level stand from s up to t
 data LevelAt : List Spot → List Spot → Level → Type 0 where
   level : {s s1 s2 s3 t : List Spot} {c z w : Left} {k : ℕ} → CompareAt s s1 c → SumAt s1 s2 z → TermAt s2 s3 w → MinusAt s3 t k → LevelAt s t (record { compare = c; sum = z; term = w; minus = k })
 
@@ -108,7 +108,7 @@ more_declarations : {s t u : List Spot} {d : Declaration} {ds : List Declaration
 more_declarations no_declaration e = next_declaration e no_declaration
 more_declarations (next_declaration f g) e = next_declaration f (more_declarations g e)
 
--- from s up to t stand these blocks
+-- these blocks stand from s up to t
 data SidesAt : List Spot → List Spot → List Sequence → Type 0 where
   no_side : {s : List Spot} → SidesAt s s []
   one_side : {s t u : List Spot} {p : Sequence} {ps : List Sequence} → SpellsBlock s t p → SidesAt t u ps → SidesAt s u (p ∷ ps)
@@ -121,7 +121,7 @@ all_sides : {s r t : List Spot} {p : Sequence} {ps : List Sequence} {a k : ℕ} 
 all_sides no_side e = last_branch e
 all_sides (one_side f g) e = next_branch f (all_sides g e)
 
--- from s up to t stand these blocks, with `barrier` after each
+-- these blocks stand from s up to t, each with a `barrier` after it
 data PhasesAt : List Spot → List Spot → List Sequence → Type 0 where
   no_phase : {s : List Spot} → PhasesAt s s []
   one_phase : {s t u : List Spot} {p : Sequence} {ps : List Sequence} {a k : ℕ} → SpellsBlock s (spot (word words.Barrier) a k ∷ t) p → PhasesAt t u ps → PhasesAt s u (p ∷ ps)
@@ -151,7 +151,7 @@ data BranchAt : List Spot → List Spot → Branch → Type 0 where
   par_at : {s t : List Spot} {ps : List Sequence} {a n a1 n1 a2 n2 : ℕ} → SidesAt s (spot (sign signs.OpenBlock) a2 n2 ∷ t) ps → BranchAt (spot (word words.Par) a n ∷ spot (sign signs.OpenBlock) a1 n1 ∷ s) t (in_par n ps)
   team_at : {s r t : List Spot} {c : Crew} {ps : List Sequence} {a n : ℕ} → CrewAt s r c → PhasesAt r (spot (sign signs.OpenBlock) a n ∷ t) ps → BranchAt s t (in_team c ps)
 
--- from s up to t stand the declarations, the blocks around and the statements so far
+-- the declarations, the open blocks and the statements so far stand from s up to t
 data NestAt : List Spot → List Spot → List Declaration → List Statement → List Frame → Type 0 where
   outside : {s r t : List Spot} {ds : List Declaration} {d : List Statement} → SpellsDeclarations s r ds → SpellsSequence r t (sequence d) → NestAt s t ds d []
   inside : {s r r1 t : List Spot} {ds : List Declaration} {d : List Statement} {f : Frame} {frames : List Frame} → NestAt s r ds f.before frames → BranchAt r r1 f.branch → SpellsSequence r1 t (sequence d) → NestAt s t ds d (f ∷ frames)
@@ -164,7 +164,7 @@ with_statement : {s t u : List Spot} {c : Statement} {ds : List Declaration} {d 
 with_statement {d} (outside a g) e = outside a (more_statements d g e)
 with_statement {d} (inside m b g) e = inside m b (more_statements d g e)
 
--- from s up to t the tokens lead to the state
+-- the tokens from s up to t lead to the state
 data At : List Spot → List Spot → Mode → Nest → Type 0 where
   at_declaring : {s t : List Spot} {ds : List Declaration} → SpellsDeclarations s t ds → At s t declaring (nest ds [] [])
   at_array_header : {s r t : List Spot} {ds : List Declaration} {q : Position} → SpellsDeclarations s r ds → ArrayAt r t q → At s t (header q) (nest ds [] [])
@@ -338,6 +338,6 @@ run_sound : {s : List Spot} {m : Mode} {n : Nest} (ts : List Spot) (p : ProgramT
 run_sound [] p a h = at_the_end p a h
 run_sound {m} {n} (t ∷ ts) p a h = continued_sound (t ∷ ts) (λ s. run s.mode s.nest ts) p (step m n t.line t.lexeme) (step_at t.lexeme t.at t.line a) h (λ st b k. run_sound ts p b k)
 
--- what is read is spelled
+-- A program that is read is spelled.
 pub sound : (tokens : List Spot) (p : ProgramTree) → parse_of tokens ≡ Ok p → SpellsProgram tokens p
 sound tokens p h = run_sound tokens p (at_declaring no_declaration) h

@@ -1,4 +1,4 @@
--- Where reading stops: some program begins with what was read, and none goes on.
+-- Reading stops at the longest beginning of some program.
 use Rattle.std.proofs.Common.{◌≡◌, ◌≢◌, ℕ, ℤ, ◌≤◌, List, [], ◌∷◌, ◌++◌, Option, Some, None, Ok, Err, refl, sym, ap, ◌∙◌, subst, arith, append_assoc, append-nil}
 use Rattle.array_tokens.specs.Lexemes.{name, number, word, sign, Spot}
 use Rattle.array_tokens.specs.declared.token.Word.{Word}
@@ -21,7 +21,7 @@ keyword w = spot (word w) 0 0
 abbrev zero_spot : Spot
 zero_spot = spot (number 0) 0 0
 
--- tokens that end what is open
+-- tokens that close what is open
 abbrev after_side : Branch → List Spot → List Spot
 after_side (in_par line ps) rest = mark signs.CloseBlock ∷ rest
 after_side b rest = rest
@@ -92,7 +92,7 @@ no_word : (frames : List Frame) (w : Word) → head_of (braces frames) ≢ Some 
 no_word [] w = λ e. cc
 no_word (f ∷ frames) w = λ e. cc
 
--- where the blocks around are closed, a state that settles ends as one that waits for a statement
+-- In closed blocks, a state that settles ends as one that waits for a statement.
 closed_ends : (line : ℕ) (x : Expression) (q : Sequence) (n : Nest) → Ends statement (nest n.arrays (n.done ++ If line x q ended ∷ []) n.frames) (braces n.frames) → Ends (closed line x q) n (braces n.frames)
 closed_ends line x q n h = (h.0, settle_closed n line x q (braces n.frames) (no_word n.frames words.Else) ∙ h.1)
 
@@ -182,7 +182,7 @@ finishes (par_side line ps p) n = statement_ends n.frames n.arrays _
 finishes (phase_open c ps) n = empty_phase_ends c ps n
 finishes (phase_closed c ps p) n = phase_ends c ps p n (statement_ends n.frames n.arrays _)
 
--- the state can't take the first token, or it isn't the end of a program
+-- the state can't take the first token, or isn't the end of a program
 abbrev Stuck : Mode → Nest → List Spot → Type 0
 Stuck m n [] = at_end m n.arrays n.done n.frames ≡ Err []
 Stuck m n (t ∷ rest) = step m n t.line t.lexeme ≡ None
@@ -241,7 +241,7 @@ none_goes_on (t ∷ rest) tokens s = λ b.
     let c : parse_of ((s.front ++ t ∷ []) ++ b.0) ≡ Err (t ∷ b.0) = ap parse_of (append_assoc s.front (t ∷ []) b.0) ∙ s.leads (t ∷ b.0) ∙ ap (λ o. continued o (λ st. run st.mode st.nest b.0) (t ∷ b.0)) s.stuck in
     cc
 
--- reading stops at the first token with which no program goes on
+-- Reading stops at the first token with which no program continues.
 pub stops : (tokens rest : List Spot) → parse_of tokens ≡ Err rest → StopsAt tokens rest
 stops tokens rest h =
     let s = split declaring top_nest tokens rest h in

@@ -22,7 +22,7 @@ use Rattle.array_lang.proofs.Places.{scan_places}
 use Rattle.array_lang.proofs.Sound.{sound}
 use Rattle.array_lang.proofs.Stops.{stops}
 
--- where the tokens that were read have no fault, some program begins with them
+-- If the tokens so far have no fault, some program begins with them.
 begins_all : (front : List Spot) → StopsAt front [] → Begins front
 begins_all front s = subst Begins (sym (append-nil s.front) ∙ sym s.all) s.begins
 
@@ -54,7 +54,7 @@ none_parsed tokens rest q h d = let k = sym h ∙ complete d in cc
 pub none_cut : (text : List ℕ) (fault : TokenFault) (q : ProgramTree) → tokens_of text ≡ Err fault → Spells text q → ⊥
 none_cut text fault q e s = let k = sym e ∙ s.cut in cc
 
--- a limit that is passed within some tokens is passed there whatever follows them
+-- A limit that is exceeded within some tokens is exceeded there whatever follows them.
 first_prefix : (b : Bool) (o o' : Option ℕ) (k : ℕ) → first_over b o ≡ Some k → ((j : ℕ) → suc j ≡ k → o ≡ Some j → o' ≡ Some j) → first_over b o' ≡ Some k
 first_prefix true o o' k e h = e
 first_prefix false None o' k e h = cc
@@ -96,13 +96,13 @@ beyond tokens index b n =
     ∙ ap (λ k. first_nested (take k tokens ++ b.0)) (add-one index)
     ∙ scan_prefix Outside 0 tokens index b.0 n
 
--- no limit is passed, and reading stops
+-- No limit is exceeded, and reading stops.
 pub unexpected : (tokens rest : List Spot) (end at : ℕ) → first_nested tokens ≡ None → parse_of tokens ≡ Err rest → at ≡ place_of end rest → IsUnexpected tokens end at
 unexpected tokens rest end at n h p =
     let s = stops tokens rest h in
     record { rest = rest; stops = s; place = p; within = after_beyond tokens s.front rest s.begins s.all (rw n tt) }
 
--- a limit is passed, and reading stops before
+-- A limit is exceeded, and reading stops before.
 pub unexpected_before : (tokens front more rest : List Spot) (t : Spot) (end index : ℕ) → tokens ≡ front ++ more → length front ≡ index + 1 → first_nested tokens ≡ Some index → parse_of front ≡ Err (t ∷ rest) → IsUnexpected tokens end t.at
 unexpected_before tokens front more rest t end index all long n h =
     let s = stops front (t ∷ rest) h in
@@ -125,7 +125,7 @@ place_inside index [] end at h p = absurd (omega arith)
 place_inside zero (t ∷ tokens) end at h p = p
 place_inside (suc index) (t ∷ tokens) end at h p = place_inside index tokens end at (omega arith) p
 
--- a limit is passed at this token, and reading doesn't stop before
+-- A limit is exceeded at this token, and reading doesn't stop before.
 pub too_nested : (tokens : List Spot) (end at index : ℕ) → index < length tokens → first_nested tokens ≡ Some index → Begins (take (index + 1) tokens) → at ≡ place_of 0 (drop index tokens) → IsTooNested tokens end at
 too_nested tokens end at index within n b p =
     record { index = index; inside = within; begins = b; beyond = beyond tokens index b n; place = place_inside index tokens end at within p }
@@ -135,7 +135,7 @@ nested_short tokens [] index end at within n h none p =
     too_nested tokens end at index within n (begins_all (take (index + 1) tokens) (stops (take (index + 1) tokens) [] h)) p
 nested_short tokens (t ∷ rest) index end at within n h none p = absurd (omega arith)
 
--- a fault of cutting is the answer, or memory ran out
+-- A cutting fault is the text's fault.
 pub cut_fault : (text : List ℕ) (cause : TokenFault) (fault : SyntaxFault) → Fails cause (tokens_of text) → fault ≡ cutting_fault cause → HasFault text fault
 cut_fault text cutting.Memory fault h e = no_memory e
 cut_fault text (cutting.NotAscii at) fault h e = in_cutting (cutting.NotAscii at) h e (λ m. let wrong = sym e ∙ m in cc)
@@ -156,7 +156,7 @@ pub only_whole : (text : List ℕ) (tokens : List Spot) (end : ℕ) (r : Result 
 only_whole text tokens end (Ok b) e h p s = only_found text tokens (program_of b) p e h s
 only_whole text tokens end (Err fault) e h p s = only_memory text tokens fault p e h.1 s
 
--- a fault of the tokens is the answer, or memory ran out
+-- A fault of the tokens is the text's fault.
 pub token_fault : (text : List ℕ) (tokens : List Spot) (fault : SyntaxFault) → tokens_of text ≡ Ok tokens → HasTokenFault tokens (length text) fault → HasFault text fault
 token_fault text tokens Memory e h = no_memory refl
 token_fault text tokens (Unexpected at) e h = in_tokens tokens e h (λ m. let wrong = m in cc)

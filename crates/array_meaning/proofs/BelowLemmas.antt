@@ -5,7 +5,7 @@ use Rattle.std.proofs.lemmas.List.Elements.{All-nil, All-cons}
 use Rattle.array_meaning.specs.Stores.{Write}
 use Rattle.array_meaning.specs.Pieces.{lay, lays}
 
--- Each write is to a cell below this one.
+-- each write is to a cell below this one
 abbrev pub AreBelow : ℕ → List Write → Type 0
 AreBelow n [] = Unit {0}
 AreBelow n (w ∷ ws) = (w.0 < n) × AreBelow n ws
@@ -18,7 +18,6 @@ pub all_of : (n : ℕ) (ws : List Write) → AreBelow n ws → All (λ w. w.0 < 
 all_of n [] h = All-nil (λ w. w.0 < n)
 all_of n (w ∷ ws) h = All-cons (λ w. w.0 < n) w ws h.0 (all_of n ws h.1)
 
--- one more that is laid
 below_lay : (n cell : ℕ) (v : ℤ) (ws : List Write) → cell < n → AreBelow n ws → AreBelow n (lay cell v ws)
 below_lay n cell v [] lt h = (lt, tt)
 below_lay n cell v (w ∷ ws) lt h = cases (nat_lt cell w.0) (nat_eq cell w.0) (below_lay n cell v ws lt h.1)
@@ -28,7 +27,6 @@ below_lay n cell v (w ∷ ws) lt h = cases (nat_lt cell w.0) (nat_eq cell w.0) (
     cases false true rest = (lt, h.1)
     cases false false rest = (h.0, rest)
 
--- and several
 pub below_lays : (n : ℕ) (ws laid : List Write) → AreBelow n ws → AreBelow n laid → AreBelow n (lays ws laid)
 below_lays n [] laid h k = k
 below_lays n (w ∷ ws) laid h k = below_lays n ws (lay w.0 w.1 laid) h.1 (below_lay n w.0 w.1 laid h.0 k)

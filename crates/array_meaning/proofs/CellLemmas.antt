@@ -7,7 +7,7 @@ use Rattle.array_meaning.specs.Steps.{followed_by, join}
 use Rattle.array_meaning.specs.Work.{sequence_work, branches_work}
 use Rattle.array_meaning.specs.Sites.{branch_works}
 
--- the array of a name has a cell, and where there is none its length is taken as 1
+-- The array of a name has a cell: a name without an array has length 1.
 pub some_cell : (arrays : Arrays) → HaveCells arrays → (name : List ℕ) → 0 < length_of arrays name
 some_cell [] have name = omega arith
 some_cell (a ∷ more) have name = cases (name_eq a.0 name) (some_cell more have.1 name)
@@ -16,7 +16,7 @@ some_cell (a ∷ more) have name = cases (name_eq a.0 name) (some_cell more have
     cases true rest = have.0
     cases false rest = rest
 
--- the branches' works, one after another, are the work of the `par`
+-- The branches' works in sequence are the work of the `par`.
 pub join_branches : (branches : Sequences) (vars : Vars) → join (branch_works branches vars) ≡ branches_work branches vars
 join_branches no_more vars = refl
 join_branches (beside first rest) vars = ap (followed_by (sequence_work first vars)) (join_branches rest vars)

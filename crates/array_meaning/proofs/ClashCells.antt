@@ -1,4 +1,4 @@
--- The cells that pass the test of an overlap are those on which two different pieces clash.
+-- The cells that pass the overlap test are those on which two different pieces clash.
 use Rattle.std.proofs.Common.{◌≡◌, ℕ, zero, suc, ◌+◌, ◌<◌, ◌≤◌, Bool, true, false, List, [], ◌∷◌, Option, Some, None, refl, sym, ap, ◌∙◌, ◌⊎◌, inl, inr, ⊎_elim, arith, subst}
 use Rattle.std.specs.Prelude.{◌≢◌, ◌&&◌, ◌||◌, slice_get, if◌then◌else◌}
 use Rattle.std.proofs.lemmas.Bool.{false≢true, and_parts}
@@ -12,7 +12,7 @@ either : (b : Bool) → (b ≡ true) ⊎ (b ≡ false)
 either true = inl refl
 either false = inr refl
 
--- a piece that changes and reads so clashes with one of two that went before
+-- A piece that changes and reads in this way clashes with one of two earlier ones.
 one_of : (x y a a' b b' : Bool) → (x && ((b || b') || (a || a')) || y && (a || a')) ≡ true →
     ((x && (b || a) || y && a) ≡ true) ⊎ ((x && (b' || a') || y && a') ≡ true)
 one_of x y a a' b b' e = ⊎_elim
@@ -37,7 +37,7 @@ module _ (arrays : Arrays) (cell : ℕ) where
   abbrev Meets : Bool → Bool → Steps → Type 0
   Meets w r p = (changes p && (r || w) || reads p && w) ≡ true
 
-  -- some piece does
+  -- some piece clashes with earlier ones
   record Met (w r : Bool) (ps : List Steps) : Type 0 where
     pub j : ℕ
     pub piece : Steps
@@ -96,7 +96,7 @@ module _ (arrays : Arrays) (cell : ℕ) where
       (found (w || changes p) (r || reads p) ps h))
       (or_either (changes p && (r || w) || reads p && w) (overlaps arrays (w || changes p) (r || reads p) ps cell) e)
 
-  -- where a cell doesn't pass, no piece clashes with earlier ones
+  -- If a cell doesn't pass, no piece clashes with earlier ones.
   unmet : (w r : Bool) (ps : List Steps) (j : ℕ) (q : Steps) → overlaps arrays w r ps cell ≡ false → slice_get ps j ≡ Some q → (changes q && (r || w) || reads q && w) ≡ false
   unmet w r [] j q e h = cc
   unmet w r (p ∷ ps) zero q e h =
@@ -107,7 +107,7 @@ module _ (arrays : Arrays) (cell : ℕ) where
       (fewer (changes q) (reads q) w (changes p) r (reads p)
       (unmet (w || changes p) (r || reads p) ps j q (or_none (changes p && (r || w) || reads p && w) (overlaps arrays (w || changes p) (r || reads p) ps cell) e).1 h)).0
 
-  -- nor do two pieces
+  -- If a cell doesn't pass, no two pieces clash.
   unmet_pair : (w r : Bool) (ps : List Steps) (i j : ℕ) (p q : Steps) → overlaps arrays w r ps cell ≡ false → i < j →
       slice_get ps i ≡ Some p → slice_get ps j ≡ Some q → (changes q && (reads p || changes p) || reads q && changes p) ≡ false
   unmet_pair w r [] i j p q e l h k = cc
@@ -156,7 +156,7 @@ module _ (arrays : Arrays) (cell : ℕ) where
   pub passes_of : (ps : List Steps) → IsClash arrays ps cell → overlaps arrays false false ps cell ≡ true
   passes_of ps c = ⊎_elim (λ h. h) (λ h. absurd (no_clash_of ps h c)) (either (overlaps arrays false false ps cell))
 
--- what the first number that passes is
+-- the first number that passes, or none if none does
 abbrev IsFirst : (ℕ → Bool) → ℕ → ℕ → Option ℕ → Type 0
 IsFirst test i k None = (c : ℕ) → i ≤ c → c < i + k → test c ≡ false
 IsFirst test i k (Some told) = (told < i + k) × (test told ≡ true) × ((c : ℕ) → i ≤ c → c < told → test c ≡ false)

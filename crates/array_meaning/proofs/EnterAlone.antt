@@ -1,4 +1,4 @@
--- Which sites a part enters depends only on what it reads; so parts that are apart may each enter theirs from one store.
+-- Which sites a part enters depends only on what it reads. So parts that are apart may each enter theirs from one store.
 use Rattle.std.proofs.Common.{◌≡◌, ℕ, zero, suc, ◌+◌, ◌-◌, ◌*◌, ◌<◌, ◌≤◌, true, false, cond, List, [], ◌∷◌, ◌++◌, replicate, ℤ, pos, ◌+ℤ◌, refl, sym, ap, ◌∙◌, arith, append_assoc}
 use Rattle.std.proofs.lemmas.Int.{ints}
 use Rattle.std.proofs.Math.Nat.{mul-div_cancel, zero-div}
@@ -25,7 +25,7 @@ abbrev works_in : List Part → List Steps
 works_in [] = []
 works_in (p ∷ ps) = p.0 ∷ works_in ps
 
--- what parts enter one after another, and what each enters from the one store
+-- what parts enter in sequence, and what each enters from the one store
 abbrev threaded : Arrays → List Part → Entering
 threaded arrays [] store = []
 threaded arrays (p ∷ ps) store = entered_then arrays p (threaded arrays ps) store
@@ -35,7 +35,7 @@ alone [] store = []
 alone (p ∷ ps) store = p.1 store ++ alone ps store
 
 module _ (arrays : Arrays) (sizes : (name : List ℕ) → 0 < length_of arrays name) where
-  -- one part and then the next
+  -- One part followed by another depends on what both read.
   depends_then : (a b : Steps) (first rest : Entering) → DependsOnReads arrays a first → DependsOnReads arrays b rest →
       DependsOnReads arrays (followed_by a b) (entered_then arrays (a, first) rest)
   depends_then a b first rest da db s t len agree =
@@ -104,7 +104,7 @@ module _ (arrays : Arrays) (sizes : (name : List ℕ) → 0 < length_of arrays n
   depends_all [] all s t len agree = refl
   depends_all (p ∷ ps) all s t len agree = depends_then p.0 (join (works_in ps)) p.1 (threaded arrays ps) all.0 (depends_all ps all.1) s t len agree
 
-  -- what an earlier part changes no later one reads, so each enters what it enters from the one store
+  -- No later part reads what an earlier part changes, so each enters the same sites as from the one store.
   enter_alone : (ps : List Part) (store : Store) → AllDepend ps → IsApart arrays (works_in ps) → threaded arrays ps store ≡ alone ps store
   enter_alone [] store all apart = refl
   enter_alone (p ∷ ps) store all apart =
@@ -140,7 +140,7 @@ module _ (arrays : Arrays) (sizes : (name : List ℕ) → 0 < length_of arrays n
 
   -- ---- members
 
-  -- a loop is cut anywhere
+  -- A loop may be cut at any turn.
   turns_cut : (work : ℤ → Steps) (body : ℤ → Entering) (a b : ℕ) (low : ℤ) (store : Store) →
       turns_entered arrays (λ x. (work x, body x)) low (a + b) store
       ≡ turns_entered arrays (λ x. (work x, body x)) low a store ++ turns_entered arrays (λ x. (work x, body x)) (low +ℤ pos a) b (exec arrays (turns work low a) store)
@@ -183,7 +183,7 @@ module _ (arrays : Arrays) (sizes : (name : List ℕ) → 0 < length_of arrays n
           λ store. ap (λ x. loop_entered arrays var a b (sequence_part arrays body) vars store ++ x) (more.2 store),
         )
 
-    -- members one after another are the loop over their iterations
+    -- The members in sequence are the loop over their iterations.
     members_threaded : (j k : ℕ) (store : Store) → threaded arrays (member_parts j k) store
         ≡ turns_entered arrays (λ x. (one x, enters x)) (low +ℤ pos (first_of (span low high) m j)) (first_of (span low high) m (j + k) - first_of (span low high) m j) store
     members_threaded j zero store =

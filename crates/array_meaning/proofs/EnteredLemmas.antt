@@ -1,4 +1,4 @@
--- Of each site of the plan it is told whether the meaning enters it.
+-- There is one value per site of the plan: whether the meaning enters the site.
 use Rattle.std.proofs.Common.{◌≡◌, ℕ, zero, suc, ◌+◌, ◌*◌, Bool, true, false, cond, List, ◌∷◌, ◌++◌, length, replicate, ℤ, pos, ◌+ℤ◌, refl, ◌∙◌, arith, length-append}
 use Rattle.std.proofs.lemmas.List.{length-replicate}
 use Rattle.array_tree.specs.Trees.{Statement, Assign, For, If, Par, Team, Sequence, ended, followed, Sequences, no_more, beside}

@@ -1,4 +1,4 @@
--- Small programs, and what the definitions make of them.
+-- Small programs, and the values of the definitions for them.
 use Rattle.std.proofs.Common.{◌≡◌, ℕ, List, [], ◌∷◌, ℤ, pos, true, false, Some, refl}
 use Rattle.std.specs.Prelude.{IsTrue}
 use Rattle.std.specs.Int.{int_wrap}

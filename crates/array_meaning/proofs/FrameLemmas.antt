@@ -1,4 +1,4 @@
--- What steps write depends on what they read, and lies in what they change.
+-- What steps write depends on what they read, and lies within what they change.
 use Rattle.std.proofs.Common.{◌≡◌, ℕ, zero, suc, ◌<◌, Bool, true, false, cond, List, [], ◌∷◌, ◌++◌, length, Some, None, ℤ, pos, negsuc, refl, sym, ap, ◌∙◌, subst, set, ◌⊎◌, inl, inr, ⊎_elim, arith, append_assoc, length-set, get_or-set_other}
 use Rattle.std.proofs.lemmas.Bool.{false≢true}
 use Rattle.std.specs.Prelude.{◌||◌, unsigned_abs, if◌then◌else◌}
@@ -17,7 +17,7 @@ abbrev pub IsWritten : List Write → ℕ → Type 0
 IsWritten [] c = ⊥
 IsWritten (w ∷ ws) c = (w.0 ≡ c) ⊎ IsWritten ws c
 
--- two stores have the same at a cell, and so they do after the same write
+-- Two stores with equal values at a cell have equal values there after the same write.
 pub same_set : (s t : Store) (c k : ℕ) (v : ℤ) → length s ≡ length t → at_cell s k ≡ at_cell t k → at_cell (set s c v) k ≡ at_cell (set t c v) k
 same_set [] [] c k v len e = refl
 same_set [] (y ∷ t) c k v len e = absurd (omega (arith, len))
@@ -27,7 +27,7 @@ same_set (x ∷ s) (y ∷ t) zero (suc k) v len e = e
 same_set (x ∷ s) (y ∷ t) (suc c) zero v len e = e
 same_set (x ∷ s) (y ∷ t) (suc c) (suc k) v len e = same_set s t c k v (omega (arith, len)) e
 
--- a write changes no other cell
+-- A write changes no other cell.
 pub other_set : (s : Store) (c k : ℕ) (v : ℤ) → (c ≡ k → ⊥) → at_cell (set s c v) k ≡ at_cell s k
 other_set s c k v ne = get_or-set_other s c k v (pos 0) (λ e. ne (sym e))
 
@@ -40,12 +40,12 @@ pub wrote_cond : (d : Bool) (a b : List Write) (c : ℕ) → IsWritten (cond d a
 wrote_cond true a b c h = inl h
 wrote_cond false a b c h = inr h
 
--- what isn't written stays
+-- A cell that isn't written stays.
 pub kept : (ws : List Write) (s : Store) (k : ℕ) → (IsWritten ws k → ⊥) → at_cell (after ws s) k ≡ at_cell s k
 kept [] s k not = refl
 kept (w ∷ ws) s k not = kept ws (set s w.0 w.1) k (λ h. not (inr h)) ∙ other_set s w.0 k w.1 (λ e. not (inl e))
 
--- the same writes leave the same where the same was
+-- The same writes leave equal values at a cell that had equal values.
 pub same_after : (ws : List Write) (s t : Store) (k : ℕ) → length s ≡ length t → at_cell s k ≡ at_cell t k → at_cell (after ws s) k ≡ at_cell (after ws t) k
 same_after [] s t k len e = e
 same_after (w ∷ ws) s t k len e = same_after ws (set s w.0 w.1) (set t w.0 w.1) k (length-set s w.0 w.1 ∙ len ∙ sym (length-set t w.0 w.1)) (same_set s t w.0 k w.1 len e)
@@ -82,7 +82,7 @@ or_false false b e = (refl, e)
 -- ---- expressions
 
 module _ (arrays : Arrays) (sizes : (name : List ℕ) → 0 < length_of arrays name) where
-  -- an index that isn't dynamic needs no store
+  -- An index that isn't dynamic needs no store.
   pub static_value : (vars : Vars) (e : Expression) (s t : Store) → is_dynamic e ≡ false → value_of arrays vars e s ≡ value_of arrays vars e t
   static_value vars (Number n) s t h = refl
   static_value vars (Var name) s t h = refl
@@ -92,7 +92,7 @@ module _ (arrays : Arrays) (sizes : (name : List ℕ) → 0 < length_of arrays n
       let both = or_false (is_dynamic a) (is_dynamic b) h in
       rw (static_value vars a s t both.0, static_value vars b s t both.1)
 
-  -- the cell of an index is one that its visit covers
+  -- The cell of an index is one that its visit covers.
   pub covers : (vars : Vars) (name : List ℕ) (e : Expression) (s : Store) (d : Bool) → is_dynamic e ≡ d →
       Covers arrays name (if d then None else Some (value_of arrays vars e [])) (cell_of arrays name d (value_of arrays vars e s))
   covers vars name e s true h =
@@ -100,7 +100,7 @@ module _ (arrays : Arrays) (sizes : (name : List ℕ) → 0 < length_of arrays n
       (omega arith, omega arith)
   covers vars name e s false h = ap (cell_of arrays name false) (static_value vars e s [] h)
 
-  -- what an expression gives depends on what it reads
+  -- An expression's value depends on what it reads.
   pub value_same : (line : ℕ) (vars : Vars) (e : Expression) (s t : Store) → ((c : ℕ) → Touches arrays false (reads_in arrays line vars e) c → at_cell s c ≡ at_cell t c) →
       value_of arrays vars e s ≡ value_of arrays vars e t
   value_same line vars (Number n) s t agree = refl
@@ -117,7 +117,7 @@ module _ (arrays : Arrays) (sizes : (name : List ℕ) → 0 < length_of arrays n
 
   -- ---- steps
 
-  -- what steps write depends on what they read
+  -- What steps write depends on what they read.
   pub writes_same : (steps : Steps) (s t : Store) → length s ≡ length t → ((c : ℕ) → reads_of arrays steps c → at_cell s c ≡ at_cell t c) →
       writes_of arrays steps s ≡ writes_of arrays steps t
   writes_same Done s t len agree = refl
@@ -141,7 +141,7 @@ module _ (arrays : Arrays) (sizes : (name : List ℕ) → 0 < length_of arrays n
       (λ c h. same_after ws s t c len (agree c (touched_right arrays false walked _ c (touched_right arrays false (walk arrays left) _ c (touched_right arrays false (walk arrays right) _ c h))))) in
       rw (at_test, at_left, at_right) (ap (λ x. ws ++ x) later)
 
-  -- what steps write lies in what they change
+  -- What steps write lies within what they change.
   pub writes_within : (steps : Steps) (s : Store) (c : ℕ) → IsWritten (writes_of arrays steps s) c → changes_of arrays steps c
   writes_within Done s c h = absurd h
   writes_within (Set l vars name index e rest) s c (inl same) =

@@ -1,4 +1,4 @@
--- What a program that is in range, with known names and indices inside, touches lies inside its arrays.
+-- A program in range, with known names and indices inside, touches only cells of its arrays.
 use Rattle.std.proofs.Common.{◌≡◌, ℕ, zero, suc, ◌+◌, ◌<◌, ◌≤◌, Bool, true, false, cond, List, [], ◌∷◌, map, Option, Some, None, ℤ, pos, negsuc, refl, ap, arith}
 use Rattle.std.specs.Prelude.{◌&&◌, ◌||◌, int_le, int_lt, nat_le, unsigned_abs, IsTrue, length}
 use Rattle.std.proofs.lemmas.Bool.{false≢true, and_parts}
@@ -11,7 +11,7 @@ use Rattle.array_meaning.specs.Names.{is_among, names_of}
 use Rattle.array_meaning.specs.Limits.{is_up_to, have_right_lengths, has_right_ranges, is_in_range}
 use Rattle.array_meaning.specs.Accepted.{is_inside}
 
--- ---- arrays in range have cells, and not too many
+-- ---- arrays in range have cells, at most 4,096
 
 one_or_more : (n : ℤ) → is_up_to (pos 4096) n ≡ true → 0 < unsigned_abs n
 one_or_more (pos zero) e = absurd (false≢true e)
@@ -24,7 +24,7 @@ cells_of_right (d ∷ ds) e =
     let parts = and_parts (is_up_to (pos 4096) d.length) (have_right_lengths ds) e in
     (one_or_more d.length parts.0, cells_of_right ds parts.1)
 
--- a program in range can be run
+-- A program in range can be run.
 pub sized_in_range : (program : ProgramTree) → IsTrue (is_in_range program) → AreSized (arrays_of program.arrays)
 sized_in_range program e =
     let cells = cells_of (arrays_of program.arrays) in

@@ -1,4 +1,4 @@
--- A walk through statements with known names visits known arrays alone, so what they write lies inside the arrays.
+-- A walk through statements with known names visits only known arrays, so the writes lie inside the arrays.
 use Rattle.std.proofs.Common.{◌≡◌, ℕ, zero, suc, ◌<◌, Bool, true, false, List, [], ◌∷◌, ◌++◌, ℤ, pos, ◌+ℤ◌, refl, inl, inr}
 use Rattle.std.specs.Prelude.{◌&&◌, All}
 use Rattle.std.proofs.lemmas.Bool.{false≢true, and_parts}
@@ -130,14 +130,14 @@ writes_below arrays have steps store known inside =
     all_below (cells_of arrays) (writes_of arrays steps store)
     (λ cell h. touched_inside arrays true (walk arrays steps) cell known inside (writes_within arrays (some_cell arrays have) steps store cell h))
 
--- what steps with known names and indices inside write lies inside the arrays
+-- What steps with known names and indices inside write lies inside the arrays.
 pub writes_inside : (arrays : Arrays) → HaveCells arrays → (steps : Steps) (store : Store) →
     are_known (names_in arrays) (walk arrays steps) ≡ true → are_inside arrays (walk arrays steps) ≡ true →
     All (λ w. w.0 < cells_of arrays) (writes_of arrays steps store)
 writes_inside arrays have steps store known inside =
     all_of (cells_of arrays) (writes_of arrays steps store) (writes_below arrays have steps store known inside)
 
--- and so does their piece
+-- The same for the steps' piece.
 pub piece_inside : (arrays : Arrays) → HaveCells arrays → (steps : Steps) (store : Store) →
     are_known (names_in arrays) (walk arrays steps) ≡ true → are_inside arrays (walk arrays steps) ≡ true →
     All (λ w. w.0 < cells_of arrays) (piece_of arrays steps store)

@@ -59,7 +59,7 @@ pub rising_lays : (ws o : List Write) → IsRising o → IsRising (lays ws o)
 rising_lays [] o q = q
 rising_lays (w ∷ ws) o q = rising_lays ws (lay w.0 w.1 o) (rising_lay w.0 w.1 o q)
 
--- two rising lists with the same at each cell are one
+-- Two rising lists with equal values at each cell are equal.
 pub same_rising : (a b : List Write) → IsRising a → IsRising b → ((k : ℕ) → value_at a k ≡ value_at b k) → a ≡ b
 same_rising [] [] p q h = refl
 same_rising [] (y ∷ b) p q h = let e = h y.0 in absurd (grind (arith, nat_tests))
@@ -83,12 +83,12 @@ same_rising (x ∷ a) (y ∷ b) p q h =
     let pair : x ≡ y = moved ∙ valued in
     cc
 
--- the last values depend on what is left at each cell alone
+-- The last values depend only on the value at each cell.
 pub same_last : (a b : List Write) → ((k : ℕ) → last_value a k ≡ last_value b k) → last_writes a ≡ last_writes b
 same_last a b h = same_rising (last_writes a) (last_writes b) (rising_lays a [] tt) (rising_lays b [] tt)
     (λ k. value_at_lays a [] k ∙ rw (h k) (sym (value_at_lays b [] k)))
 
--- a rising list leaves what it has
+-- A rising list keeps its values.
 rising_last_value : (o : List Write) (k : ℕ) → IsRising o → last_value o k ≡ value_at o k
 rising_last_value [] k q = refl
 rising_last_value (w ∷ o) k q =
@@ -98,7 +98,7 @@ rising_last_value (w ∷ o) k q =
     cases true e = let same : k ≤ w.0 = grind (arith, nat_tests) in rw (value_at_above w.0 o k same q.0) refl
     cases false e = or_none (value_at o k)
 
--- a piece leaves what its writes leave
+-- A piece has the values that its writes leave.
 pub last_value_last : (ws : List Write) (k : ℕ) → last_value (last_writes ws) k ≡ last_value ws k
 last_value_last ws k = rising_last_value (last_writes ws) k (rising_lays ws [] tt) ∙ value_at_lays ws [] k ∙ or_none (last_value ws k)
 

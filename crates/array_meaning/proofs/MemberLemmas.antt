@@ -1,4 +1,4 @@
--- The members' works, one after another, are the loop.
+-- The members' works in sequence are the loop.
 use Rattle.std.proofs.Common.{◌≡◌, ℕ, zero, suc, ◌+◌, ◌-◌, ◌*◌, ◌/◌, ◌<◌, ◌≤◌, List, ◌∷◌, ℤ, pos, ◌+ℤ◌, refl, sym, ap, ◌∙◌, arith}
 use Rattle.std.proofs.lemmas.Int.{ints}
 use Rattle.std.proofs.Math.Nat.{mul-div_cancel, div-mul-le_self, div-zero, zero-div, mul-le-mul_left}
@@ -9,7 +9,7 @@ use Rattle.array_meaning.specs.Work.{Work, turns, span, loop}
 use Rattle.array_meaning.specs.Members.{first_of, member_work, member_works}
 use Rattle.array_meaning.proofs.StepLemmas.{followed_by_assoc}
 
--- a loop is cut anywhere
+-- A loop may be cut at any turn.
 pub turns_add : (body : ℤ → Steps) (low : ℤ) (a b : ℕ) → turns body low (a + b) ≡ followed_by (turns body low a) (turns body (low +ℤ pos a) b)
 turns_add body low zero b =
     let none : zero + b ≡ b = omega arith in
@@ -21,7 +21,7 @@ turns_add body low (suc a) b =
     rw more (ap (followed_by (body low)) (turns_add body (low +ℤ pos 1) a b ∙ ap (λ x. followed_by (turns body (low +ℤ pos 1) a) (turns body x b)) same)
     ∙ sym (followed_by_assoc (body low) (turns body (low +ℤ pos 1) a) (turns body (low +ℤ pos (suc a)) b)))
 
--- the numbers between two places
+-- The number of iterations between two bounds.
 pub span_cut : (low : ℤ) (a b : ℕ) → a ≤ b → span (low +ℤ pos a) (low +ℤ pos b) ≡ b - a
 span_cut low a b h = grind (arith, ints)
 
@@ -29,7 +29,7 @@ div_mono : (a b m : ℕ) → a ≤ b → a / m ≤ b / m
 div_mono a b zero h = rw (div-zero a, div-zero b) (let le : 0 ≤ 0 = omega arith in le)
 div_mono a b (suc m) h = le-div (a / suc m) b (suc m) (omega arith) (let small = div-mul-le_self a (suc m) in omega arith)
 
--- a later member begins no earlier
+-- A later member begins no earlier.
 pub first_of_far : (n m j k : ℕ) → first_of n m j ≤ first_of n m (j + k)
 first_of_far n m j k = div_mono (n * j) (n * (j + k)) m (mul-le-mul_left n (let le : j ≤ j + k = omega arith in le))
 
@@ -60,7 +60,7 @@ join_members name low high m body j (suc k) vars =
     ∙ sym (turns_add one (low +ℤ pos a) (b - a) (c - b))
     ∙ ap (turns one (low +ℤ pos a)) sum
 
--- all members together are the loop
+-- All members together are the loop.
 pub members_loop : (name : List ℕ) (low high : ℤ) (m : ℕ) (body : Work) (vars : Vars) → 0 < m →
     join (member_works name low high m body 0 m vars) ≡ loop name low high body vars
 members_loop name low high m body vars h =

@@ -1,4 +1,4 @@
--- Merging a piece does what its writes do.
+-- Merging a piece has the same effect as its writes.
 use Rattle.std.proofs.Common.{◌≡◌, ◌≢◌, ℕ, ◌<◌, Bool, true, false, cond, List, [], ◌∷◌, length, Option, Some, None, ℤ, refl, sym, ap, ◌∙◌, set, get_or, arith, length-set, get_or-set_same, get_or-set_other}
 use Rattle.std.specs.Prelude.{nat_eq}
 use Rattle.std.proofs.lemmas.Bool.Decides.{nat_tests}
@@ -10,7 +10,7 @@ use Rattle.array_meaning.specs.Pieces.{lays, last_writes, piece_of, value_at, la
 use Rattle.array_meaning.proofs.StepLemmas.{length_after, writes_followed_by}
 use Rattle.array_meaning.proofs.LastLemmas.{value_at_lays, last_value_last, same_rising, rising_lays, lays_append}
 
--- a piece laid over what was written does what its writes do
+-- A piece laid over writes has the same effect as the piece's own writes.
 pub lays_last : (ws w : List Write) → IsRising w → lays (last_writes ws) w ≡ lays ws w
 lays_last ws w q = same_rising (lays (last_writes ws) w) (lays ws w) (rising_lays (last_writes ws) w q) (rising_lays ws w q)
     (λ k. value_at_lays (last_writes ws) w k ∙ ap (λ x. option_or x (value_at w k)) (last_value_last ws k) ∙ sym (value_at_lays ws w k))
@@ -37,13 +37,13 @@ at_after (w ∷ ws) s k d h =
     both None y z = refl
     both (Some x) y z = refl
 
--- the store after a piece is the store after its writes
+-- The store after a piece is the store after its writes.
 pub after_last : (ws : List Write) (s : Store) → after (last_writes ws) s ≡ after ws s
 after_last ws s = same_lists (after (last_writes ws) s) (after ws s) (length_after (last_writes ws) s ∙ sym (length_after ws s))
     (λ k d h. let lt : k < length s = (let e = length_after (last_writes ws) s in omega (arith, e)) in
     at_after (last_writes ws) s k d lt ∙ ap (λ x. or_kept x (get_or s k d)) (last_value_last ws k) ∙ sym (at_after ws s k d lt))
 
--- a machine that awaits what a construct writes, and is supplied with its piece, goes on with the rest
+-- A machine that is supplied with the piece of the construct it waits for continues with the rest.
 pub supplied : (arrays : Arrays) (construct rest : Steps) (cells : Store) (w : List Write) → IsRising w →
     lays (writes_of arrays rest (after (piece_of arrays construct cells) cells)) (lays (piece_of arrays construct cells) w)
     ≡ lays (writes_of arrays (followed_by construct rest) cells) w

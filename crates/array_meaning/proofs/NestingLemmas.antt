@@ -1,11 +1,11 @@
--- The sites of a part are inside the construct around it or inside each other.
+-- The sites of a part are inside the construct around it or inside one another.
 use Rattle.std.proofs.Common.{ℕ, zero, suc, ◌+◌, ◌<◌, ◌≤◌, inl, inr, ⊎_elim, List, [], ◌∷◌, ◌++◌, length, refl, arith}
 use Rattle.array_tree.specs.Trees.{Statement, Assign, For, If, Par, Team, Sequence, ended, followed, Sequences, no_more, beside}
 use Rattle.array_meaning.specs.Work.{span}
 use Rattle.array_meaning.specs.Plans.{Parents, and_then, repeated, construct, statement_parents, sequence_parents, branches_parents, phases_parents, AreInside, AreOutside, StayInside}
 use Rattle.array_meaning.specs.Laws.{StayInsideParts, LaterPartsAreOutside}
 
--- from an earlier site on they are so all the more
+-- Sites that are inside from `first` on are inside from an earlier site on.
 inside_wider : (around first wider : ℕ) (ps : List ℕ) → wider ≤ first → AreInside around first ps → AreInside around wider ps
 inside_wider around first wider [] le h = tt
 inside_wider around first wider (p ∷ ps) le h = (⊎_elim (λ same. inl same) (λ far. inr (omega (arith, far, le))) h.0, inside_wider around first wider ps le h.1)
@@ -14,7 +14,7 @@ inside_append : (around first : ℕ) (ps qs : List ℕ) → AreInside around fir
 inside_append around first [] qs h k = k
 inside_append around first (p ∷ ps) qs h k = (h.0, inside_append around first ps qs h.1 k)
 
--- what is inside a construct is inside from the construct's own site on
+-- Sites inside a construct are inside from the construct's own site on.
 inside_construct : (around first : ℕ) (ps : List ℕ) → AreInside first (first + 1) ps → AreInside around first ps
 inside_construct around first [] h = tt
 inside_construct around first (p ∷ ps) h = (⊎_elim (λ same. inr (omega (arith, same))) (λ far. inr (omega (arith, far))) h.0, inside_construct around first ps h.1)

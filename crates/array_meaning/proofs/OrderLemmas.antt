@@ -1,4 +1,4 @@
--- Pieces that are apart can be run from one store, and merged in any order.
+-- Pieces that are apart may run from one store and be merged in any order.
 use Rattle.std.proofs.Common.{◌≡◌, ℕ, ◌<◌, Bool, true, false, cond, List, [], ◌∷◌, ◌++◌, Option, Some, None, ℤ, refl, sym, ap, ◌∙◌, subst, ◌⊎◌, inl, inr, ⊎_elim, arith, map}
 use Rattle.std.specs.Prelude.{nat_eq}
 use Rattle.std.proofs.lemmas.Bool.Decides.{nat_tests}
@@ -16,7 +16,7 @@ concat [] = []
 concat (p ∷ ps) = p ++ concat ps
 
 module _ (arrays : Arrays) (sizes : (name : List ℕ) → 0 < length_of arrays name) where
-  -- what is apart from each is apart from all of them together
+  -- A piece that is apart from each other one is apart from all of them together.
   pub separate_join : (w : Bool) (a : Steps) (bs : List Steps) (c : ℕ) → IsSeparateFrom arrays a bs → changes_of arrays a c → Touches arrays w (walk arrays (join bs)) c → ⊥
   separate_join w a [] c apart changed touched = touched
   separate_join w a (b ∷ bs) c apart changed touched =
@@ -29,7 +29,7 @@ module _ (arrays : Arrays) (sizes : (name : List ℕ) → 0 < length_of arrays n
       either true b c h = inr h
       either false b c h = inl h
 
-  -- one after another they write what each writes from the one store
+  -- In sequence, parts that are apart write what each writes from the one store.
   writes_join : (bs : List Steps) (s : Store) → IsApart arrays bs → writes_of arrays (join bs) s ≡ concat (map (λ b. writes_of arrays b s) bs)
   writes_join [] s apart = refl
   writes_join (b ∷ bs) s apart =
@@ -40,11 +40,11 @@ module _ (arrays : Arrays) (sizes : (name : List ℕ) → 0 < length_of arrays n
 
 -- ---- any order
 
--- two that leave something at one cell leave the same
+-- Two pieces with a value at this cell have the same value.
 abbrev Agreeing : List (List Write) → ℕ → Type 0
 Agreeing ps k = (x y : List Write) → IsMember x ps → IsMember y ps → (u v : ℤ) → last_value x k ≡ Some u → last_value y k ≡ Some v → u ≡ v
 
--- what is left comes from one of them
+-- A value after the merge comes from one of the pieces.
 from_some : (ps : List (List Write)) (k : ℕ) (u : ℤ) → last_value (concat ps) k ≡ Some u → (p : List Write) × IsMember p ps × (last_value p k ≡ Some u)
 from_some [] k u e = absurd (cc)
 from_some (p ∷ ps) k u e = cases (from_some ps k) (last_value (concat ps) k) refl (sym (last_value_append p (concat ps) k) ∙ e)
@@ -54,7 +54,7 @@ from_some (p ∷ ps) k u e = cases (from_some ps k) (last_value (concat ps) k) r
     cases ih None f g = (p, inl refl, g)
     cases ih (Some x) f g = let r = ih u (f ∙ g) in (r.0, inr r.1, r.2)
 
--- and what one of them leaves is not lost
+-- A cell with a value in one of the pieces has a value after the merge.
 to_some : (ps : List (List Write)) (k : ℕ) (p : List Write) (u : ℤ) → IsMember p ps → last_value p k ≡ Some u → (v : ℤ) × (last_value (concat ps) k ≡ Some v)
 to_some [] k p u m e = absurd m
 to_some (q ∷ ps) k p u (inl same) e =
@@ -67,7 +67,7 @@ to_some (q ∷ ps) k p u (inr m) e =
     let r = to_some ps k p u m e in
     (r.0, rw (last_value_append q (concat ps) k, r.1) refl)
 
--- the same pieces in another order leave the same, where those at one cell agree
+-- The same pieces in another order leave the same value at a cell on which they agree.
 same_pieces : (ps qs : List (List Write)) (k : ℕ) → ((x : List Write) → IsMember x ps → IsMember x qs) → ((x : List Write) → IsMember x qs → IsMember x ps) →
     Agreeing ps k → last_value (concat ps) k ≡ last_value (concat qs) k
 same_pieces ps qs k to from agree = cases (last_value (concat ps) k) (last_value (concat qs) k) refl refl
@@ -121,7 +121,7 @@ module _ (arrays : Arrays) (sizes : (name : List ℕ) → 0 < length_of arrays n
   separate_either a (c ∷ bs) b apart (inl e) = subst (λ x. IsSeparate arrays a x) e apart.0
   separate_either a (c ∷ bs) b apart (inr m) = separate_either a bs b apart.1 m
 
-  -- two of those that are apart are one, or separate
+  -- Two parts of a list of parts that are apart are equal, or change no common cell.
   one_or_separate : (bs : List Steps) (a b : Steps) → IsApart arrays bs → IsMember a bs → IsMember b bs →
       (a ≡ b) ⊎ ((c : ℕ) → changes_of arrays a c → changes_of arrays b c → ⊥)
   one_or_separate [] a b apart m n = absurd m
@@ -150,8 +150,8 @@ module _ (arrays : Arrays) (sizes : (name : List ℕ) → 0 < length_of arrays n
       last_value_append (piece_of arrays b s) _ k
       ∙ rw (last_value_pieces order s k, last_value_last (writes_of arrays b s) k) (sym (last_value_append (writes_of arrays b s) _ k))
 
-  -- the pieces of those that are apart, each run from the one store, and merged in any order, are the last
-  -- values of what they write one after another
+  -- Pieces of parts that are apart, each run from the one store and merged in any order, are the last values of what the parts
+  -- write in sequence.
   pub any_order : (bs order : List Steps) (s : Store) → IsApart arrays bs → HaveSameMembers order bs →
       merged (map (λ b. piece_of arrays b s) order) [] ≡ last_writes (writes_of arrays (join bs) s)
   any_order bs order s apart same =

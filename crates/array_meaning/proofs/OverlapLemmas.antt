@@ -1,4 +1,4 @@
--- No cell passes the test of an overlap exactly where each two pieces are separate.
+-- No cell passes the overlap test iff each two pieces are separate.
 use Rattle.std.proofs.Common.{◌≡◌, ℕ, ◌+◌, ◌<◌, ◌≤◌, Bool, true, false, List, [], ◌∷◌, Option, Some, None, ℤ, refl, sym, ap, ◌∙◌, ◌⊎◌, inl, inr, ⊎_elim, arith}
 use Rattle.std.specs.Prelude.{not, ◌&&◌, ◌||◌, nat_lt, nat_le}
 use Rattle.std.proofs.lemmas.Bool.{false≢true, and_parts}
@@ -115,7 +115,7 @@ module _ (arrays : Arrays) where
   Free w r [] = Unit {0}
   Free w r (p ∷ ps) = ((c : ℕ) → (changed arrays (walk arrays p) c && (r c || w c) || read arrays (walk arrays p) c && w c) ≡ false) × Free w r ps
 
-  -- the same for two that went before
+  -- Pieces that are free of two sets of marks are free of each.
   weaken : (w w' r r' : ℕ → Bool) (ps : List Steps) → Free (λ c. w c || w' c) (λ c. r c || r' c) ps → Free w r ps × Free w' r' ps
   weaken w w' r r' [] h = (tt, tt)
   weaken w w' r r' (p ∷ ps) h =
@@ -129,7 +129,7 @@ module _ (arrays : Arrays) where
   strengthen w w' r r' (p ∷ ps) h k =
       (λ c. more (changed arrays (walk arrays p) c) (read arrays (walk arrays p) c) (w c) (w' c) (r c) (r' c) (h.0 c) (k.0 c), strengthen w w' r r' ps h.1 k.1)
 
-  -- free of one piece is separate from it
+  -- A piece that is free of another is separate from it.
   separate_of : (a : Steps) (ps : List Steps) → Free (changed arrays (walk arrays a)) (read arrays (walk arrays a)) ps → IsSeparateFrom arrays a ps
   separate_of a [] h = tt
   separate_of a (p ∷ ps) h = (
@@ -161,7 +161,7 @@ module _ (arrays : Arrays) where
     of_separate a ps h.1,
   )
 
-  -- where no cell passes the test, all are separate, and free of what went before
+  -- If no cell passes the test, all pieces are separate, and free of the earlier marks.
   clear : (w r : ℕ → Bool) (ps : List Steps) → ((c : ℕ) → overlaps arrays (w c) (r c) ps c ≡ false) → Free w r ps × IsApart arrays ps
   clear w r [] h = (tt, tt)
   clear w r (p ∷ ps) h =
@@ -172,7 +172,7 @@ module _ (arrays : Arrays) where
         (separate_of p ps parts.1, next.1),
       )
 
-  -- and back
+  -- If all pieces are separate and free of the earlier marks, no cell passes the test.
   unclear : (w r : ℕ → Bool) (ps : List Steps) → Free w r ps → IsApart arrays ps → (c : ℕ) → overlaps arrays (w c) (r c) ps c ≡ false
   unclear w r [] free apart c = refl
   unclear w r (p ∷ ps) free apart c =

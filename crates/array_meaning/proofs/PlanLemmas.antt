@@ -98,7 +98,7 @@ mutual
       then_earlier (repeated n (sequence_parents first)) (phases_parents rest n)
       (repeated_earlier n (sequence_parents first) (sequence_earlier first)) (phases_earlier rest n) around next below
 
--- ---- as many sites as parents
+-- ---- one value per parent
 
 turn_sites_length : (n count : ℕ) (body : ℤ → List Site) (low : ℤ) → ((x : ℤ) → length (body x) ≡ count) →
     length (turn_sites body low n) ≡ n * count

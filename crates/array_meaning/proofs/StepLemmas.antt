@@ -1,4 +1,4 @@
--- Steps one after another, and loops turn by turn.
+-- Steps in sequence, and loops turn by turn.
 use Rattle.std.proofs.Common.{◌≡◌, ℕ, suc, cond, List, [], ◌∷◌, ◌++◌, length, true, false, ℤ, pos, ◌+ℤ◌, ◌<ℤ◌, refl, ap, ◌∙◌, arith, append_assoc, length-set}
 use Rattle.array_tree.specs.Trees.{ProgramTree}
 use Rattle.std.proofs.lemmas.List.{length-replicate}
@@ -31,14 +31,14 @@ writes_followed_by arrays (Choose l vs t left right rest) b store =
     let side = cond (holds (value_of arrays vs t store)) (writes_of arrays left store) (writes_of arrays right store) in
     rw (writes_followed_by arrays rest b (after side store), after_append side (writes_of arrays rest (after side store)) store, append_assoc) refl
 
--- running one and then the other
+-- Two steps in sequence.
 pub exec_followed_by : (arrays : Arrays) (a b : Steps) (store : Store) →
     exec arrays (followed_by a b) store ≡ exec arrays b (exec arrays a store)
 exec_followed_by arrays a b store =
     ap (λ ws. after ws store) (writes_followed_by arrays a b store)
     ∙ after_append (writes_of arrays a store) (writes_of arrays b (after (writes_of arrays a store) store)) store
 
--- a choice runs one of its sides
+-- A choice runs one of its sides.
 pub exec_choose : (arrays : Arrays) (line : ℕ) (vars : Vars) (test : _) (left right : Steps) (store : Store) →
     exec arrays (Choose line vars test left right Done) store
     ≡ cond (holds (value_of arrays vars test store)) (exec arrays left store) (exec arrays right store)
@@ -50,24 +50,24 @@ exec_choose arrays line vars test left right store =
         ≡ cond b (exec arrays left store) (exec arrays right store)
     sides b = elim b as (λ d. after (cond d (writes_of arrays left store) (writes_of arrays right store)) store ≡ cond d (exec arrays left store) (exec arrays right store)) [ true ↦ refl | false ↦ refl ]
 
--- one turn fewer
+-- One more turn is left.
 pub span_next : (x high : ℤ) → x <ℤ high → span x high ≡ suc (span (x +ℤ pos 1) high)
 span_next x high h = grind (arith, ints)
 
 pub span_none : (x high : ℤ) → (x <ℤ high → ⊥) → span x high ≡ 0
 span_none x high h = grind (arith, ints)
 
--- a loop is its first turn and then the rest
+-- A loop is its first turn and then the remaining turns.
 pub loop_next : (var : List ℕ) (x high : ℤ) (body : Work) (vars : Vars) → x <ℤ high →
     loop var x high body vars ≡ followed_by (body ((var, x) ∷ vars)) (loop var (x +ℤ pos 1) high body vars)
 loop_next var x high body vars h = ap (turns (λ y. body ((var, y) ∷ vars)) x) (span_next x high h)
 
--- writes keep the number of cells
+-- Writes keep the number of cells.
 pub length_after : (ws : List Write) (store : Store) → length (after ws store) ≡ length store
 length_after [] store = refl
 length_after (w ∷ ws) store = length_after ws (written store w.0 w.1) ∙ length-set store w.0 w.1
 
--- a program's store has one value per cell of its arrays
+-- A program's store has one value per cell of its arrays.
 pub length_final_store : (program : ProgramTree) → length (final_store program) ≡ cells_of (arrays_of program.arrays)
 length_final_store program =
     let arrays = arrays_of program.arrays in

@@ -1,4 +1,4 @@
--- How printed texts are cut into tokens: what tokens a text becomes, whatever follows it that is safe.
+-- How printed texts are cut into tokens, for any safe rest that follows.
 use Rattle.std.proofs.Common.{◌≡◌, ℕ, suc, ◌+◌, List, [], ◌∷◌, ◌++◌, length, take, true, false, Result, Ok, Err, None, refl, sym, ap, ◌∙◌, subst, arith, append_assoc, length-append, append-nil, one-add, nat_lt}
 use Rattle.std.proofs.lemmas.Bool.Decides.{nat_tests}
 use Rattle.std.specs.List.{prefix_len}
@@ -9,15 +9,15 @@ use Rattle.array_tokens.specs.declared.fault.TokenFault.{TokenFault}
 use Rattle.array_tokens.proofs.Cutting.{cut_step, newlines, with_tokens-none}
 use Rattle.array_lang.specs.Grammar.{spot}
 
--- From s up to t stands one token of this lexeme.
+-- One token of this lexeme stands from s up to t.
 pub data One (l : Lexeme) : List Spot → List Spot → Type 0 where
   one : {t : List Spot} {a n : ℕ} → One l (spot l a n ∷ t) t
 
--- From s up to t stands no token.
+-- No token stands from s up to t.
 pub data Nothing : List Spot → List Spot → Type 0 where
   nothing : {t : List Spot} → Nothing t t
 
--- The first relation holds up to somewhere, and the second from there.
+-- The first relation holds up to some position, and the second from there.
 pub data Then (R S : List Spot → List Spot → Type 0) (s u : List Spot) : Type 0 where
   joined : {t : List Spot} → R s t → S t u → Then R S s u
 
@@ -37,14 +37,14 @@ NoName (b ∷ bs) = is_name_byte b ≡ false
 abbrev pub Anything : List ℕ → Type 0
 Anything rest = Unit {0}
 
--- At this place the text before the rest becomes tokens that stand in the relation.
+-- At this position, before this rest, the text becomes tokens that stand in the relation.
 pub record Cut (text : List ℕ) (R : List Spot → List Spot → Type 0) (at line : ℕ) (rest : List ℕ) : Type 0 where
   pub last : ℕ
   pub tokens : List Spot
   pub spells : (t : List Spot) → R (tokens ++ t) t
   pub is : cut 0 at line (text ++ rest) ≡ with_tokens tokens (cut 0 (at + length text) last rest)
 
--- The same everywhere, before every safe rest.
+-- The same at each position, before each safe rest.
 pub record CutsInto (text : List ℕ) (R : List Spot → List Spot → Type 0) (Safe : List ℕ → Type 0) : Type 0 where
   pub ascii : AreAscii text
   pub cuts : (rest : List ℕ) → Safe rest → (at line : ℕ) → Cut text R at line rest
@@ -53,7 +53,7 @@ with_both : (a b : List Spot) (r : Result (List Spot) TokenFault) → with_token
 with_both a b (Ok ts) = ap Ok (sym (append_assoc a b ts))
 with_both a b (Err e) = refl
 
--- one text after another
+-- Two texts in sequence.
 pub cuts_both : {R S : List Spot → List Spot → Type 0} {Safe Then' : List ℕ → Type 0} {a b : List ℕ} → CutsInto a R Safe → CutsInto b S Then' → ((rest : List ℕ) → Then' rest → Safe (b ++ rest)) → CutsInto (a ++ b) (Then R S) Then'
 cuts_both {R} {S} {Safe} {Then'} {a} {b} f g safe = record {
   ascii = ascii_both a b f.ascii g.ascii;
@@ -71,18 +71,18 @@ cuts_both {R} {S} {Safe} {Then'} {a} {b} f g safe = record {
       };
 }
 
--- what follows from the relation
+-- A relation may be replaced by a weaker one.
 pub cuts_as : {R S : List Spot → List Spot → Type 0} {Safe : List ℕ → Type 0} {text : List ℕ} → CutsInto text R Safe → ((s t : List Spot) → R s t → S s t) → CutsInto text S Safe
 cuts_as f g = record {
   ascii = f.ascii;
   cuts = λ rest h at line. let x = f.cuts rest h at line in record { last = x.last; tokens = x.tokens; spells = λ t. g (x.tokens ++ t) t (x.spells t); is = x.is };
 }
 
--- a text that needs less behind it
+-- The condition on the rest may be strengthened.
 pub weaker : {R : List Spot → List Spot → Type 0} {Safe Then' : List ℕ → Type 0} {text : List ℕ} → ((rest : List ℕ) → Then' rest → Safe rest) → CutsInto text R Safe → CutsInto text R Then'
 weaker f g = record { ascii = g.ascii; cuts = λ rest h. g.cuts rest (f rest h) }
 
--- a text that is one token
+-- A text that is one token.
 pub cuts_one : {Safe : List ℕ → Type 0} (b : ℕ) (bs : List ℕ) (l : Lexeme) → AreAscii (b ∷ bs) → ((rest : List ℕ) → Safe rest → (piece l, suc (length bs)) ≡ front_of b (b ∷ (bs ++ rest))) → CutsInto (b ∷ bs) (One l) Safe
 cuts_one b bs l small f = record {
   ascii = small;
@@ -96,14 +96,14 @@ cuts_one b bs l small f = record {
       };
 }
 
--- no text
+-- The empty text.
 pub cuts_none : CutsInto [] Nothing Anything
 cuts_none = record {
   ascii = tt;
   cuts = λ rest h at line. record { last = line; tokens = []; spells = λ t. nothing; is = ap (λ n. cut 0 n line rest) (omega arith) ∙ sym (with_tokens-none _) };
 }
 
--- a text that is a blank
+-- A text that is a blank.
 cuts_gap : (b : ℕ) → is_ascii b ≡ true → ((rest : List ℕ) → (gap, 1) ≡ front_of b (b ∷ rest)) → CutsInto (b ∷ []) Nothing Anything
 cuts_gap b small f = record {
   ascii = (small, tt);
@@ -127,7 +127,7 @@ no_byte bs h =
     let none : nat_lt (prefix_len (λ b. not (not (is_ascii b))) bs) (length bs) ≡ false = grind (arith, nat_tests) in
     rw none refl
 
--- the tokens of a whole text
+-- The tokens of a complete text.
 pub record Whole (text : List ℕ) (R : List Spot → List Spot → Type 0) : Type 0 where
   pub tokens : List Spot
   pub cut_is : tokens_of text ≡ Ok tokens

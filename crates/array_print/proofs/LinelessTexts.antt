@@ -1,4 +1,4 @@
--- Lines leave no trace in a printed text.
+-- Line numbers don't affect a printed text.
 use Rattle.std.proofs.Common.{◌≡◌, ℕ, Bool, true, false, List, [], ◌∷◌, ◌++◌, map, Result, Ok, Err, IfOk, refl, sym, ap, ap₂, ◌∙◌, subst}
 use Rattle.std.specs.Prelude.{codes, flat_map}
 use Rattle.array_tree.specs.Trees.{Statement, Assign, For, If, Par, Team, Sequence, ended, followed, Sequences, no_more, beside, Declaration, ProgramTree}
@@ -51,13 +51,13 @@ printed_lineless p = ap₂ (λ (a b : List ℕ). a ++ b) (declarations_lineless 
 same_text : (p q : ProgramTree) → SameButLines p q → printed p ≡ printed q
 same_text p q same = sym (printed_lineless p) ∙ ap printed same ∙ printed_lineless q
 
--- where some text spells the program up to line numbers, the printed text does too
+-- If some text spells the program up to line numbers, the printed text does too.
 spelled_by_printed : (p : ProgramTree) → IsSpelledButLines p → SpellsButLines (printed p) p
 spelled_by_printed p (text, (q, spells, same)) =
     let own = printed_spells text q spells in
     (own.0, subst (λ (t : List ℕ). Spells t own.0) (same_text q p same) own.1, own.2 ∙ same)
 
--- the same of what a function answers
+-- The same for a function's result.
 pub answer_spells : {T F : Type 0} (r : Result T F) (view : T → List ℕ) (p : ProgramTree) → IsSpelledButLines p → IfOk r (λ x. view x ≡ printed p) → IfOk r (λ x. SpellsButLines (view x) p)
 answer_spells (Ok x) view p h e = subst (λ text. SpellsButLines text p) (sym e) (spelled_by_printed p h)
 answer_spells (Err f) view p h e = tt

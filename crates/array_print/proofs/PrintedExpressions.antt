@@ -1,4 +1,4 @@
--- What is printed of an expression spells it, with no mark that its tree doesn't need.
+-- The printed text of an expression spells it, with no mark that its tree doesn't need.
 use Rattle.std.proofs.Common.{◌≡◌, ℕ, pos, negsuc, ◌+◌, ◌≤◌, List, [], ◌∷◌, ◌++◌, Bool, true, false, nat_lt, nat_le, Some, refl, arith}
 use Rattle.std.proofs.lemmas.Bool.Decides.{nat_tests}
 use Rattle.array_tokens.specs.Lexemes.{Lexeme, name, number, sign, Spot}
@@ -19,7 +19,7 @@ pub record IsExpression (x : Expression) (m : ℕ) (s t : List Spot) : Type 0 wh
   pub d : SpellsExpression s t x
   pub few : mark_count s ≤ mark_count t + m
 
--- The same at the strength k: what an operand of that strength may be.
+-- The same at the strength k of an operand.
 data Level (x : Expression) (m k : ℕ) : List Spot → List Spot → Type 0 where
   as_factor : {s t : List Spot} → (d : SpellsFactor s t x) → mark_count s ≤ mark_count t + m → Level x m k s t
   as_term : {s t : List Spot} → k ≤ 3 → (d : SpellsTerm s t x) → mark_count s ≤ mark_count t + m → Level x m k s t
@@ -56,7 +56,7 @@ more_marks m n h (as_term b d f) = as_term b d (omega arith)
 more_marks m n h (as_sum b d f) = as_sum b d (omega arith)
 more_marks m n h (as_expr b d f) = as_expr b d (omega arith)
 
--- The same at the strength j or a greater one.
+-- The same at strength j or greater.
 record AtLeast (x : Expression) (m j : ℕ) (s t : List Spot) : Type 0 where
   k : ℕ
   bound : j ≤ k
@@ -66,7 +66,7 @@ in_parentheses : {x : Expression} {m k j : ℕ} {s t : List Spot} → Then (Then
 in_parentheses {j} (joined (joined one d) one) =
     let e = to_expr d in record { k = j; bound = omega arith; level = as_factor (grouped e.0) (omega (arith, e.1)) }
 
--- an operand, in parentheses or not
+-- An operand, with parentheses or without.
 operand_cuts : (j : ℕ) (b : Bool) (x : Expression) → (b ≡ false → j ≤ strength_of x) → CutsInto (expression_text x) (Level x (marks_of x) (strength_of x)) NoName → CutsInto (grouped_text b (expression_text x)) (AtLeast x (parens b + marks_of x) j) NoName
 operand_cuts j false x h f = cuts_as f (λ s t d. record { k = strength_of x; bound = h refl; level = more_marks (marks_of x) (0 + marks_of x) (omega arith) d })
 operand_cuts j true x h f =
@@ -216,6 +216,6 @@ level_cuts (Binary op x y) p =
     (operand_cuts (op_strength op + 1) (groups_right op y) y (right_enough (strength_of y) (op_strength op)) (level_cuts y p.1)) (λ rest h. tt))
     (λ s t d. binary_level op x y (parens (groups_left op x) + marks_of x) (parens (groups_right op y) + marks_of y) d)
 
--- the text of an expression becomes tokens that spell it
+-- The text of an expression becomes tokens that spell it.
 pub expression_cuts : (x : Expression) → IsPrintable x → CutsInto (expression_text x) (IsExpression x (marks_of x)) NoName
 expression_cuts x p = cuts_as (level_cuts x p) (λ s t d. let e = to_expr d in record { d = e.0; few = e.1 })

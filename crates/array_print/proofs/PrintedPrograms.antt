@@ -1,4 +1,4 @@
--- The printed text of a program that some text spells spells it up to line numbers.
+-- The printed text of a program that some text spells does so too, up to line numbers.
 use Rattle.std.proofs.Common.{◌≡◌, ℕ, ℤ, pos, negsuc, List, [], ◌∷◌, ◌++◌, None, map, refl, ap, ◌∙◌}
 use Rattle.std.specs.Prelude.{codes, flat_map}
 use Rattle.array_tokens.specs.Lexemes.{name, word, sign, Spot}
@@ -94,11 +94,11 @@ whole_spells text p w =
     let r = program_is p w.spells in
     (r.tree, record { tokens = w.tokens; cut = w.cut_is; tree = r.d; fits = r.fits }, r.same)
 
--- a writable program is spelled by its printed text, up to line numbers
+-- The printed text of a writable program spells it, up to line numbers.
 pub writable_spells : (p : ProgramTree) → IsWritable p → SpellsButLines (printed p) p
 writable_spells p h = whole_spells (printed p) p (cuts_whole (program_cuts p h.declares h.does) tt)
 
--- a program that some text spells is writable
+-- A program that some text spells is writable.
 pub spelled_writable : (text : List ℕ) (p : ProgramTree) → Spells text p → IsWritable p
 spelled_writable text p h =
     let declares = declarations_good h.tree.declares (tokens_good text h.tokens h.cut) in
@@ -106,6 +106,6 @@ spelled_writable text p h =
     let does = sequence_stands h.tree.does 0 declares.1 clear.1 in
     record { declares = declares.0; does = does.0 }
 
--- where some text spells the program, the printed text does too, up to line numbers
+-- If some text spells the program, the printed text does too, up to line numbers.
 pub printed_spells : (text : List ℕ) (p : ProgramTree) → Spells text p → SpellsButLines (printed p) p
 printed_spells text p h = writable_spells p (spelled_writable text p h)

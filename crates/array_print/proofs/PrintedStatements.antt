@@ -1,4 +1,4 @@
--- What is printed of statements spells them up to line numbers, within the limits on nesting.
+-- The printed text of statements spells them up to line numbers, within the limits on nesting.
 use Rattle.std.proofs.Common.{◌≡◌, ℕ, ℤ, pos, negsuc, ◌+◌, ◌<◌, List, [], ◌∷◌, ◌++◌, Bool, true, false, not, ◌&&◌, nat_le, refl, ap, ◌∙◌, arith}
 use Rattle.std.specs.Prelude.{codes, negsuc}
 use Rattle.std.specs.Fmt.{signed_decimal}
@@ -179,7 +179,7 @@ else_cuts : (depth : ℕ) (margin inside : List ℕ) (q : Sequence) → CutsInto
 else_cuts depth margin inside ended f = cuts_as cuts_none (λ s t d. no_else_is d)
 else_cuts depth margin inside (followed c p) f = cuts_as (cuts_both cuts_else f (λ rest h. refl)) (λ s t d. some_else_is d)
 
--- the marks of an outermost expression are few
+-- An outermost expression has few marks.
 whole_fits : {x : Expression} {s t : List Spot} (e : IsExpression x (marks_of x) s t) → IsWhole x → no_true (expression_beyond e.d) ≡ true
 whole_fits e w = few_clear e.d (omega (arith, e.few, w.1))
 

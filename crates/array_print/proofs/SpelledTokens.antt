@@ -10,7 +10,7 @@ use Rattle.array_tokens.specs.declared.token.Sign.{Sign}
 use Rattle.array_tokens.specs.declared.fault.TokenFault.{TokenFault}
 use Rattle.array_print.specs.Writable.{AreNameBytes, IsName}
 
--- A name is one that texts spell, and a number is no greater than they spell.
+-- A name that texts can spell, and a number that they can spell.
 abbrev pub IsGood : Lexeme → Type 0
 IsGood (name b) = IsName b
 IsGood (number v) = v ≤ greatest_literal
@@ -27,7 +27,7 @@ FrontIsGood (piece l) = IsGood l
 FrontIsGood no_token = Unit {0}
 FrontIsGood too_large = Unit {0}
 
--- either side of a choice
+-- Either side of a choice.
 either : {X : Type 0} (P : X → Type 0) (b : Bool) (x y : X) → (b ≡ true → P x) → (b ≡ false → P y) → P (cond b x y)
 either P true x y f g = f refl
 either P false x y f g = g refl
@@ -112,6 +112,6 @@ ascii_good (Some at) text = tt
 whole_good : (text : List ℕ) → ResultIsGood (tokens_of text)
 whole_good text = ascii_good _ text
 
--- the tokens of a text are good
+-- The tokens of a text are good.
 pub tokens_good : (text : List ℕ) (tokens : List Spot) → tokens_of text ≡ Ok tokens → AreGood tokens
 tokens_good text tokens e = subst ResultIsGood e (whole_good text)

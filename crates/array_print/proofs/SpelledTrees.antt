@@ -1,4 +1,4 @@
--- A tree that tokens spell within the limits is one whose printed text does.
+-- A tree that tokens spell within the limits is one that its printed text spells.
 use Rattle.std.proofs.Common.{◌≡◌, ℕ, zero, suc, ℤ, pos, ◌+◌, ◌<◌, ◌≤◌, List, [], ◌∷◌, ◌++◌, Bool, true, false, not, ◌&&◌, nat_lt, nat_le, Option, None, Some, refl, subst, arith}
 use Rattle.std.proofs.lemmas.Bool.Decides.{nat_tests}
 use Rattle.std.specs.Prelude.{neg_ℤ}
@@ -16,7 +16,7 @@ use Rattle.array_print.specs.Texts.{op_strength, strength_of, groups_left, group
 use Rattle.array_print.specs.Writable.{IsName, IsBound, IsPrintable, IsWhole, IsSome, CanStand, CanFollow, CanBranch, parens, marks_of}
 use Rattle.array_print.proofs.SpelledTokens.{AreGood}
 
--- what holds of names and numbers
+-- names and numbers
 
 mutual
   expression_good : {s t : List Spot} {x : Expression} → SpellsExpression s t x → AreGood s → IsPrintable x × AreGood t
@@ -38,7 +38,7 @@ mutual
   factor_good (indexed d) h = let p = expression_good d h.1.1 in ((h.0, p.0), p.1.1)
   factor_good (grouped d) h = let p = expression_good d h.1 in (p.0, p.1.1)
 
--- The printed text has no mark more than any text that spells the tree.
+-- The printed text has at most as many marks as any text that spells the tree.
 
 parens_less : (a b : Bool) → (a ≡ true → b ≡ true) → parens a ≤ parens b
 parens_less true true h = omega arith

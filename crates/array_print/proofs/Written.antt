@@ -1,4 +1,4 @@
--- One text written behind another.
+-- Texts that are written in sequence.
 use Rattle.std.proofs.Common.{◌≡◌, ℕ, List, ◌++◌, Result, OnOk, ap, ◌∙◌, append_assoc}
 use Rattle.std.proofs.lemmas.Result.{on_ok_weaker}
 

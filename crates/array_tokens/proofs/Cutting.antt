@@ -1,4 +1,4 @@
--- Cutting goes on from place to place.
+-- Cutting a text into tokens, from one position to the next.
 use Rattle.std.proofs.Common.{◌≡◌, ℕ, zero, suc, ◌+◌, ◌-◌, ◌*◌, ◌<◌, ◌≤◌, ◌==◌, List, [], ◌∷◌, ◌++◌, length, take, drop, Result, Ok, Err, refl, sym, ap, ◌∙◌, arith, add-zero, count_by, fold, false, append_assoc, get_or, nat_le, ◌^◌}
 use Rattle.std.proofs.Math.Seq.{drop-cons}
 use Rattle.std.proofs.lemmas.List.Sums.{prefix_len-le-length}
@@ -54,7 +54,7 @@ pub digits_grow : (digits : List ℕ) (v : ℕ) → v ≤ fold digit_step v digi
 digits_grow [] v = omega arith
 digits_grow (d ∷ digits) v = omega (arith, digits_grow digits (digit_step v d))
 
--- digits whose value so far is too large
+-- Digits whose value so far exceeds the limit.
 pub too_large_from : (digits : List ℕ) (i v : ℕ) → i < length digits → fold digit_step v (drop i digits) ≡ number_of_digits digits → 2 ^ 64 ≤ v * 10 + (get_or digits i 0 - byte "0") → nat_le (number_of_digits digits) greatest_literal ≡ false
 too_large_from digits i v within goes_on large =
     let grown : v * 10 + (get_or digits i 0 - byte "0") ≤ fold digit_step v (drop i digits) =

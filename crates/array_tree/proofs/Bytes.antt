@@ -1,4 +1,4 @@
--- Comparing bytes one after another.
+-- Comparisons of bytes, one by one.
 use Rattle.std.proofs.Common.{◌≡◌, ℕ, ◌+◌, ◌<◌, ◌&&◌, Bool, true, false, List, [], ◌∷◌, ◌++◌, length, take, get_or, refl, sym, ap, ◌∙◌, arith}
 use Rattle.std.specs.Prelude.{nat_eq}
 use Rattle.std.specs.Cmp.Lexicographic.{pointwise}
@@ -16,7 +16,7 @@ and_false : (a : Bool) → (a && false) ≡ false
 and_false true = refl
 and_false false = refl
 
--- where there are more on one side, they differ
+-- Byte strings of different lengths differ.
 pub bytes_uneven : (xs ys : List ℕ) → (length xs ≡ length ys → ⊥) → pointwise nat_eq xs ys ≡ false
 bytes_uneven [] [] h = absurd (h refl)
 bytes_uneven [] (y ∷ ys) h = refl
@@ -30,7 +30,6 @@ one_after (a ∷ xs) [] x y e = absurd (omega (arith, e))
 one_after (a ∷ xs) (b ∷ ys) x y e =
     ap (λ r. nat_eq a b && r) (one_after xs ys x y (omega (arith, e))) ∙ and_assoc (nat_eq a b) (pointwise nat_eq xs ys) (nat_eq x y)
 
--- one more is compared
 pub byte_next : (a b : List ℕ) (i : ℕ) → i < length a → i < length b →
     (pointwise nat_eq (take i a) (take i b) && nat_eq (get_or a i 0) (get_or b i 0)) ≡ pointwise nat_eq (take (i + 1) a) (take (i + 1) b)
 byte_next a b i h k =

@@ -1,4 +1,4 @@
--- Comparing lists of children one after another.
+-- Comparisons of lists of children, one by one.
 use Rattle.std.proofs.Common.{◌≡◌, ℕ, ◌&&◌, Bool, true, false, List, [], ◌∷◌, ◌+◌, ◌<◌, length, map, drop, get_or, refl, arith, add-one, vec_len}
 use Rattle.std.proofs.Math.Seq.{drop-cons}
 use Rattle.std.proofs.lemmas.Grind.{common_steps}
@@ -14,7 +14,7 @@ and_false : (a : Bool) → (a && false) ≡ false
 and_false true = refl
 and_false false = refl
 
--- lists of different lengths differ
+-- Lists of different lengths differ.
 pub statements_uneven : (xs ys : List Stmt) → (length xs ≡ length ys → ⊥) → sequence_eq (sequence (map statement_of xs)) (sequence (map statement_of ys)) ≡ false
 statements_uneven [] [] h = absurd (h refl)
 statements_uneven [] (y ∷ ys) h = refl
@@ -49,7 +49,7 @@ sides_uneven a b h =
     rw (blocks_of a, blocks_of b)
     (blocks_uneven (out-Blocks a).blocks.items (out-Blocks b).blocks.items (λ e. h (grind (arith, common_steps))))
 
--- where two blocks are the same, the rest decides
+-- If two blocks are equal, the rest of the lists decides.
 pub blocks_step : (xs ys : List Block) (i : ℕ) (x y : Block) → i < length xs → i < length ys → x ≡ get_or xs i x → y ≡ get_or ys i y → true ≡ sequence_eq (sequence_of x) (sequence_of y) → sequences_eq (sequences (map sequence_of (drop i xs))) (sequences (map sequence_of (drop i ys))) ≡ sequences_eq (sequences (map sequence_of (drop (i + 1) xs))) (sequences (map sequence_of (drop (i + 1) ys)))
 blocks_step xs ys i x y k l e f h =
     rw (drop-cons xs i x, drop-cons ys i y, ← e, ← f, ← h, add-one) refl

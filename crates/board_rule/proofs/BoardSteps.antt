@@ -50,7 +50,7 @@ use Rattle.board_rule.proofs.Layouts.{length_of, word_next, insiders_elsewhere}
 
 -- ---- what another hart sees of an entry
 
--- an entry leaves the homes of the other harts as they are
+-- An entry leaves the homes of the other harts.
 pub lives_with-other : (p : Plan) → IsPlan p → (es : List Entry) (t : TableState) (e : Entry) → Reaches p es t → Fits p t → IsAllowed p t e → (h : ℕ) → h ≢ hart_of e → (y : ℕ) → IsSite p y → lives_with (effect_of p t e) y h ≡ lives_with t y h
 lives_with-other p plan es t e leads fits a h other y site = at_site p t e y (λ x r. x ≡ y → (is_live r.stage && is_home r.home h) ≡ lives_with t y h) fits a site
     (λ z. let Q : ℕ → Type 0 = λ q. (is_live (row_after t e).stage && is_home (row_after t e).home h) ≡ lives_with t q h in subst Q z (here e a other))
@@ -64,7 +64,7 @@ lives_with-other p plan es t e leads fits a h other y site = at_site p t e y (λ
     here (Unregister g s) a n = rw (a.3, ne_eqb g h (λ z. n (sym z))) (sym (and-false (is_live (row t s).stage)))
     here (Skip g s) a n = ap (λ (r : Row). is_live r.stage && is_home r.home h) (sym (legal_blank p plan es t leads s a.1 a.3))
 
--- an entry changes the guests of no site: a hart that is reserved comes in, and one that yields is leaving
+-- An entry changes no site's guests: a reserved hart enters, and a hart that yields is leaving.
 pub guests_stay : (lay : Layout) (p : Plan) (plan : IsPlan p) (es : List Entry) (t : TableState) (e : Entry) → Reaches p es t → IsAllowed p t e → (vs : List View) (id : ℕ) (v w : View) → get_elem? vs id ≡ some v
     → ((y : ℕ) → y ≢ site_of e → part w.doing y ≡ part v.doing y)
     → guests lay p (effect_of p t e) (set vs id w) (site_of e) ≡ guests lay p t vs (site_of e)
@@ -74,8 +74,8 @@ guests_stay lay p plan es t e leads a vs id v w at elsewhere here y site = dite 
     (λ n. ap (λ (g : ℕ). g + (load y (set vs id w)).reserves + (load y (set vs id w)).lands + (load y (set vs id w)).leaves) (insiders_elsewhere lay p plan es t e leads a y site n)
     ∙ guests-load lay p t vs (set vs id w) y (load-same y vs id v w at (elsewhere y n)))
 
--- what a seat knows of the sites lasts over an entry that leaves its homes and the guests, and brings no hart into a site that
--- it saw empty
+-- A seat's knowledge of the sites survives an entry that leaves its homes and the guests, and brings no hart into a site
+-- that the seat saw empty.
 pub sites_moved : (p : Plan) (t : TableState) (e : Entry) → Fits p t → IsAllowed p t e → (h : ℕ) (m : Marks) (c : ℕ → Bool) (f f' : ℕ → ℕ)
     → ((y : ℕ) → IsSite p y → lives_with (effect_of p t e) y h ≡ lives_with t y h)
     → ((y : ℕ) → IsSite p y → f' y ≡ f y)
@@ -95,7 +95,7 @@ sites_moved p t e fits a h m c f f' homes stay arrives k = record {
   gone = λ x is. let r = k.gone x is in (r.0, gone_lasts p t e fits a x r.0 r.1);
 }
 
--- and over other numbers of guests that are the same at every site
+-- A seat's knowledge of the sites holds for any guest counts that are equal at every site.
 pub sites_same : (p : Plan) (t : TableState) (h : ℕ) (m : Marks) (c : ℕ → Bool) (f f' : ℕ → ℕ) → ((y : ℕ) → IsSite p y → f' y ≡ f y) → KnowsSites p t h m c f → KnowsSites p t h m c f'
 sites_same p t h m c f f' stay k = record {
   sized = k.sized;
@@ -108,7 +108,7 @@ sites_same p t h m c f f' stay k = record {
   gone = k.gone;
 }
 
--- what a seat is about lasts over an entry of another hart
+-- What a seat is in the middle of stays valid after an entry of another hart.
 pub does_lasting : (lay : Layout) (p : Plan) → IsPlan p → (es : List Entry) (t : TableState) (e : Entry) → Reaches p es t → Fits p t → IsAllowed p t e → (v : View) (d : Doing) → IsHart p v.hart → v.owner ≡ owner t v.hart → ((y : ℕ) → d ≡ Claiming y → y ≢ site_of e)
     → (d ≡ Reserved (site_of e) → (row t (site_of e)).stage ≡ Live → (row_after t e).stage ≡ Live)
     → DoesRight lay p es t v d → DoesRight lay p (es ++ e ∷ []) (effect_of p t e) v d
@@ -139,7 +139,7 @@ in_plan lay p s k id v at seat = let Q : Plan → Type 0 = λ q. v.hart < q.hart
 pub made_above : (m h : ℕ) → one_if (nat_le m h) ≡ 0 → h < m
 made_above m h e = grind (arith, nat_tests)
 
--- a hart with a seat was made and isn't ended, and no other seat is its
+-- A hart with a seat was made and isn't ended, and has no other seat.
 pub one_seat : (lay : Layout) (p : Plan) (s : St) (k : Stands lay p s) (id : ℕ) (v : View) → get_elem? s.views id ≡ some v → IsSeat v → (total (numbered v.hart) s.views ≡ 1) × (total (ended_as v.hart) k.ended ≡ 0) × (v.hart < k.made)
 one_seat lay p s k id v at seat =
     let all = k.seats v.hart (in_plan lay p s k id v at seat) in

@@ -1,4 +1,4 @@
--- The words of sites are small.
+-- Bounds on the words of sites.
 use Rattle.std.proofs.Common.{◌≡◌, ◌≢◌, ℕ, zero, suc, ◌+◌, ◌-◌, ◌<◌, ◌≤◌, ◌==◌, ◌&&◌, not, Bool, true, false, if◌then◌else◌, eq-eqb, ne_eqb, List, [], ◌∷◌, slice_index, refl, sym, ap, ◌∙◌, subst, arith}
 use mathlib.Core.Option.{some}
 use mathlib.Core.Logic.{dite}
@@ -55,7 +55,7 @@ unfolding seat_below
 counted zero h v is lt = absurd (omega arith)
 counted (suc n) h v is lt = dite (ℕ_discrete h n) (λ e. let one : numbered n v ≡ 1 = ap one_if (eq-eqb v.hart n (is ∙ e)) in omega arith) (λ less. let r = counted n h v is (omega arith) in omega arith)
 
--- at most one seat for each hart
+-- Each hart has at most one seat.
 few_seats : (lay : Layout) (p : Plan) (s : St) (k : Stands lay p s) (n : ℕ) → n ≤ p.harts → total (seat_below n) s.views ≤ n
 unfolding seat_below
 few_seats lay p s k zero le = let z = none s.views in omega arith
@@ -65,7 +65,7 @@ few_seats lay p s k zero le = let z = none s.views in omega arith
     none (v ∷ vs) = let r = none vs in omega arith
 few_seats lay p s k (suc n) le = let r = few_seats lay p s k n (omega arith) in let one = k.seats n (omega arith) in let b = total-both (numbered n) (seat_below n) s.views in omega arith
 
--- what is counted of a load: the harts on the way in or out
+-- the harts of a load that are on the way in or out
 abbrev on_way : Load → ℕ
 on_way l = l.reserves + l.lands + l.leaves
 
@@ -78,13 +78,13 @@ one_way (Landing x) = omega arith
 one_way (Leaving x) = omega arith
 one_way (Sealing x) = omega arith
 
--- a seat is on its way to one site at most
+-- A seat is on its way to at most one site.
 at_most_one : (d : Doing) (x : ℕ) → on_way (part d x) ≤ 1
 at_most_one d x = dite (ℕ_discrete (busy_at d) x)
     (λ e. let w = one_way d in let P : Load → Type 0 = λ l. on_way l ≤ 1 in subst P (sym (part-here d x e)) w)
     (λ n. let P : Load → Type 0 = λ l. on_way l ≤ 1 in subst P (sym (part-elsewhere d x n)) (let z : 0 + 0 + 0 ≤ 1 = omega arith in z))
 
--- what a view is about at a site: 1 where it is on the way
+-- 1 if a view's hart is on the way in or out at a site
 abbrev way : ℕ → View → ℕ
 way x v = on_way (part v.doing x)
 
@@ -96,13 +96,13 @@ no_way v x d is none = dite (ℕ_discrete (busy_at d) x)
 elsewhere : (v : View) (x : ℕ) (d : Doing) → v.doing ≡ d → busy_at d ≢ x → way x v ≡ 0
 elsewhere v x d is n = let P : Load → Type 0 = λ l. on_way l ≡ 0 in subst P (sym (ap (λ (q : Doing). part q x) is ∙ part-elsewhere d x n)) refl
 
--- the harts on the way, over all seats
+-- The sum over all seats is the number of harts on the way.
 ways_are : (x : ℕ) (vs : List View) → total (way x) vs ≡ on_way (load x vs)
 ways_are x vs =
     let a = total-both (λ v. (part v.doing x).reserves) (λ v. (part v.doing x).lands) vs in
     let b = total-both (λ v. (part v.doing x).reserves + (part v.doing x).lands) (λ v. (part v.doing x).leaves) vs in omega arith
 
--- they are no more than the harts
+-- At most as many harts are on the way as there are harts.
 pub few_on_way : (lay : Layout) (p : Plan) (s : St) (k : Stands lay p s) (x : ℕ) → on_way (load x s.views) ≤ p.harts
 few_on_way lay p s k x =
     let all = ways_are x s.views in
@@ -117,9 +117,9 @@ small_word lay p s k x site =
     let i = k.sites x site in let f = fields (slice_index s.words x) (k.closing x) (load x s.views) (shown k.journal k.table x) (insiders lay p k.table x) (few_wishes lay p s k x site) i in
     let shows = f.shows in let few = few_on_way lay p s k x in let inner = few_insiders lay p k.plan k.journal k.table k.legal x site in let harts = few_harts p k.plan in omega arith
 
--- ---- no site has as many guests as there are harts, where those inside are counted
+-- ---- no site has as many guests as there are harts, if the word counts those inside
 
--- the same of the view of hart n alone, and of those of the harts below n
+-- the same for hart n alone, else 0; and summed over the harts below n
 abbrev way_of : ℕ → ℕ → View → ℕ
 way_of x n v = if v.hart == n then way x v else 0
 
@@ -128,7 +128,7 @@ ways_below x zero v = 0
 ways_below x (suc n) v = way_of x n v + ways_below x n v
 
 module _ (p : Plan) (s : St) (k : Stands Guests p s) (x : ℕ) (site : IsSite p x) where
-  -- a hart that is on the way in, or leaving, is outside: it is in the site's parent
+  -- A hart that is on the way in, or leaving, is in the site's parent.
   outside : (j : ℕ) (v : View) → get_elem? s.views j ≡ some v → IsSeat v → is_within p x (owner k.table v.hart) ≡ true → way x v ≡ 0
   outside j v at seat inner = by_doing v.doing refl (k.views j v at seat).does
     where
@@ -154,7 +154,7 @@ module _ (p : Plan) (s : St) (k : Stands Guests p s) (x : ℕ) (site : IsSite p 
   of_spent : (j : ℕ) (v : View) → get_elem? s.views j ≡ some v → ¬ IsSeat v → way x v ≡ 0
   of_spent j v at not = no_way v x Idle (ap (λ (u : View). u.doing) (k.spent j v at not)) refl
 
-  -- at most one seat of a hart is on the way
+  -- At most one seat of a hart is on the way.
   one_of : (n : ℕ) → IsHart p n → total (way_of x n) s.views ≤ 1
   one_of n hart = let le = total-le (way_of x n) (numbered n) s.views (λ j v at. by_bit v (v.hart == n)) in let one = k.seats n hart in omega arith
     where
@@ -162,7 +162,7 @@ module _ (p : Plan) (s : St) (k : Stands Guests p s) (x : ℕ) (site : IsSite p 
       by_bit v true = at_most_one v.doing x
       by_bit v false = omega arith
 
-  -- and none where the hart is inside
+  -- A hart that is inside isn't on the way.
   none_of : (n : ℕ) → is_within p x (owner k.table n) ≡ true → total (way_of x n) s.views ≡ 0
   none_of n inner = total-none (way_of x n) s.views (λ j v at. dite (ℕ_discrete v.hart n)
       (λ z. dite (dec_le (suc v.hart) v.plan.harts)
@@ -174,7 +174,7 @@ module _ (p : Plan) (s : St) (k : Stands Guests p s) (x : ℕ) (site : IsSite p 
       zero_if true n z = z
       zero_if false n z = refl
 
-  -- a hart counts once
+  -- A hart counts once.
   once : (n : ℕ) → IsHart p n → guest_at p k.table x n + total (way_of x n) s.views ≤ 1
   once n hart = by_bit (is_within p x (owner k.table n)) refl
     where
@@ -191,7 +191,7 @@ module _ (p : Plan) (s : St) (k : Stands Guests p s) (x : ℕ) (site : IsSite p 
       none (v ∷ vs) = let r = none vs in omega arith
   sums (suc n) le = let r = sums n (omega arith) in let one = once n (omega arith) in let b = total-both (way_of x n) (ways_below x n) s.views in omega arith
 
-  -- the home doesn't count
+  -- The home doesn't count.
   but_one : (h n : ℕ) → h < n → n ≤ p.harts → guest_at p k.table x h ≡ 0 → total (way_of x h) s.views ≡ 0 → guests_below p k.table x n + total (ways_below x n) s.views ≤ n - 1
   unfolding ways_below
   but_one h zero lt le g w = absurd (omega arith)

@@ -1,4 +1,4 @@
--- The two steps by which a seat comes to be about a site: a claim, and a reserve.
+-- The two steps by which a seat starts a call on a site: a claim, and a reserve.
 use Rattle.std.proofs.Common.{◌≡◌, ◌≢◌, ℕ, ◌+◌, ◌-◌, ◌/◌, ◌%◌, ◌<◌, ◌≤◌, Bool, true, false, eqb, cond, eq-eqb, ne_eqb, [], ◌∷◌, ◌++◌, set, slice_index, refl, sym, ap, ◌∙◌, subst, arith, bit_or}
 use mathlib.Core.Option.{some}
 use mathlib.Core.Logic.{dite}
@@ -27,7 +27,7 @@ use Rattle.board_rule.proofs.SiteWords.{claimed_word, reserved_word, wanted_live
 use Rattle.board_rule.proofs.SiteSteps.{site_step, sites_other, closing_with, closing_lasts}
 use Rattle.board_rule.proofs.Looks.{look_step, few_wishes}
 
--- an idle seat turns to the site x
+-- An idle seat starts a call on site x.
 pub turns_to : (v : View) (x : ℕ) (d : Doing) → v.doing ≡ Idle → busy_at d ≡ x → (y : ℕ) → y ≢ x → part d y ≡ part v.doing y
 turns_to v x d idle at y n = part-elsewhere d y (λ z. n (sym z ∙ at)) ∙ sym (ap (λ (q : Doing). part q y) idle ∙ part-idle y)
 
@@ -54,7 +54,7 @@ claim_keeps lay p s k id v x at seat may =
     (turns_to v x (Claiming x) idle refl) (λ z. z) (λ _. omega arith) done.1 (site, may.2, row-new p k.plan k.journal k.table k.legal v.hart x (subst (λ (q : Plan). v.hart < q.harts) (k.views id v at seat).itself.plan seat) site (sym (k.views id v at seat).itself.owner ∙ may.2) done.0, may.0.1)
     (sites_other p k.table v.hart v.marks k.closing (closing_with k.closing x (k.closing x)) (guests lay p k.table s.views) (guests lay p k.table s.views) (closing_lasts k.closing x (k.closing x) (λ z. z)) (λ _ _ z. z) know)))
 
--- what it means that a word wants a hart
+-- a word wants a hart
 pub record Wants (w : ℕ) : Type 0 where
   pub unclosed : w / 2 % 2 ≢ 1
   pub some : want_of w ≢ 0

@@ -25,7 +25,7 @@ use Rattle.board_rule.specs.Layouts.{insiders}
 use Rattle.board_rule.proofs.SiteSteps.{guests-load, site_step, sites_other, closing_with, closing_lasts, closing_here}
 use Rattle.board_rule.proofs.Looks.{few_wishes, home_live}
 
--- a seat that is about x ends it, and the word of x becomes n
+-- A seat that is busy at x ends its call, and the word of x becomes n.
 done_step : (lay : Layout) (p : Plan) (s : St) (k : Stands lay p s) (id : ℕ) (v : View) (x n : ℕ) (d : Doing) → get_elem? s.views id ≡ some v → IsSeat v → IsSite p x → v.doing ≡ d → busy_at d ≡ x
     → ((c c' : Load) → Shifts c c' (weight d) no_load → IsSiteWord (slice_index s.words x) (k.closing x) c (shown k.journal k.table x) (insiders lay p k.table x) → IsSiteWord n (k.closing x) c' (shown k.journal k.table x) (insiders lay p k.table x))
     → Keeps lay p s k (after_step s x n id (done_view v))

@@ -1,4 +1,4 @@
--- Once all seats are joined nothing is drawn, so each place of the journal is written.
+-- Once all seats are joined no index is drawn but unwritten, so each journal word is written.
 use Rattle.std.proofs.Common.{◌≡◌, ◌≢◌, ℕ, suc, ◌+◌, ◌<◌, List, length, slice_index, slice_get, sym, ap, ◌∙◌, arith, Option, Some, None}
 use mathlib.Core.Option.{some, some-injective}
 use mathlib.Core.Logic.{dite}
@@ -43,7 +43,7 @@ settled lay p s k id v at zeroth seat undrawn all i e is = (k.places i e is).wri
         let m = all u.hart (let low : u.hart ≢ 0 = λ z. other (z ∙ sym zeroth) in omega arith) lt in omega arith)))
         (λ not. ap (λ (c : View). draws_in c.drawn i) (k.spent j u there not))
 
--- the entry whose word was read
+-- A word that was read has its entry in the journal.
 pub place_of : (lay : Layout) (p : Plan) (ws : List ℕ) (es : List Entry) → Spells lay p ws es → (head n m i : ℕ) → get_elem? ws 0 ≡ some head → i < entries_of lay head → m ≡ site_count p → get_elem? ws (1 + m + i) ≡ some n
     → (e : Entry) × (slice_get es i ≡ Some e) × (n ≡ spelled e) × IsEntryOf p e
 place_of lay p ws es sp head n m i at lt is there =
@@ -55,7 +55,7 @@ place_of lay p ws es sp head n m i at lt is there =
     let word : journal_word p ws i ≡ n = ap (λ (q : ℕ). slice_index ws (1 + q + i)) (sym is) ∙ index_of ws (1 + m + i) n 0 there in
     (e.0, e.1, sym word ∙ here.0, here.1)
 
--- the words at the end have the journal
+-- The words at the end have the journal.
 pub ends : (lay : Layout) (p : Plan) (s : St) (k : Stands lay p s) (id : ℕ) (v : View) → get_elem? s.views id ≡ some v → v.hart ≡ 0 → IsSeat v → v.drawn ≡ None → AllEnded p v → Spells lay p s.words k.journal × IsJournal p v k.journal
 ends lay p s k id v at zeroth seat undrawn all =
     let know = k.views id v at seat in

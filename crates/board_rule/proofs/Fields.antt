@@ -28,7 +28,7 @@ field_over (o ∷ os) r zero lt f = let a : o ≤ 4095 = f 0 (omega arith) in om
 field_over (o ∷ os) r (suc g) lt f = let a : o ≤ 4095 = f 0 (omega arith) in
     rw (pow-succ' 4096 g, ← div-div-eq-div-mul (o + 4096 * over os r) 4096 (4096 ^ g), first_field o (over os r) a) (field_over os r g (omega arith) (λ h l. f (suc h) (omega arith)))
 
--- the unit of the length is a digit's unit, whatever the number of harts
+-- The unit of the length is the unit of a digit, for any number of harts.
 unit_is : (n l : ℕ) → n ≤ 4 → l * length_unit ≡ l * 4096 ^ (4 - n) * 4096 ^ n
 unit_is zero l le = omega arith
 unit_is (suc zero) l le = omega arith
@@ -55,10 +55,10 @@ small n (a ∷ b ∷ c ∷ []) len le f = let r = digits-small (a ∷ b ∷ c �
 small n (a ∷ b ∷ c ∷ d ∷ []) len le f = let r = digits-small (a ∷ b ∷ c ∷ d ∷ []) f in omega arith
 small n (a ∷ b ∷ c ∷ d ∷ e ∷ os) len le f = absurd (omega arith)
 
--- the owners are less than one unit of the length
+-- The owners are less than one unit of the length.
 pub digits_small : (p : Plan) → IsPlan p → p.harts ≤ 4 → (es : List Entry) (t : TableState) → Reaches p es t → owner_digits t.owners < length_unit
 digits_small p plan four es t leads = small p.harts t.owners (legal_position p plan es t leads).owners four (owners_small p plan es t leads)
 
--- the board word tells the length
+-- The board word determines the length.
 pub entries_is : (n l : ℕ) (os : List ℕ) → n ≡ l * length_unit + owner_digits os → owner_digits os < length_unit → entries_in n ≡ l
 entries_is n l os is less = omega arith

@@ -1,4 +1,4 @@
--- What follows from the rule.
+-- What follows from the invariant.
 use Rattle.std.proofs.Common.{◌≡◌, subst, sym, arith}
 use Rattle.transfer_table.specs.Table.{TableState, row}
 use Rattle.transfer_table.specs.declared.entry.Stage.TheVariants.{Gone}

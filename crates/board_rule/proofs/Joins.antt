@@ -1,4 +1,4 @@
--- Hart 0's seat takes in another hart's.
+-- Hart 0's seat takes in another hart's seat.
 use Rattle.std.proofs.Common.{◌≡◌, ◌≢◌, ℕ, ◌+◌, Bool, true, false, ne_eqb, List, [], ◌∷◌, ◌++◌, set, refl, sym, ap, ◌∙◌, subst, arith, Option, ⊎_elim}
 use mathlib.Core.Option.{some}
 use lib.ListN.{get_elem?}
@@ -33,7 +33,7 @@ use Rattle.board_rule.proofs.SiteSteps.{sites_other, guests-load}
 use Rattle.board_rule.proofs.Looks.{few_harts}
 use Rattle.board_rule.proofs.BoardSteps.{other_hart}
 
--- what both knew to be gone is known, and nothing is seen empty
+-- A site that either seat knew to be gone is known to be gone, and no site is seen empty.
 sites_joined : (p : Plan) (t : TableState) (h g : ℕ) (m n : Marks) (c : ℕ → Bool) (f : ℕ → ℕ) → KnowsSites p t h m c f → KnowsSites p t g n c f → KnowsSites p t h (record m { empty = no_site p; gone = union m.gone n.gone }) c f
 sites_joined p t h g m n c f k j = let none : (x : ℕ) → is_in (no_site p) x ≡ true → ⊥ = λ x is. let no = in-no_site p x in cc in record {
   sized = record { homes = k.sized.homes; closed = k.sized.closed; drained = k.sized.drained; empty = length-replicate (site_count p + 1) false; gone = length-union m.gone n.gone (k.sized.gone ∙ sym j.sized.gone) ∙ k.sized.gone };
@@ -56,7 +56,7 @@ join_keeps lay p s k id other v w at apart there zeroth seat idle seat_w ready_w
     let mid : List View = set s.views id both in
     let vs : List View = set mid other spent_view in
     let at_other : get_elem? mid other ≡ some w = set_else s.views id other both apart ∙ there in
-    -- a count that is 0 of the spent view and of the other
+    -- A sum to which the spent view and the other view add 0.
     let same : (f : View → ℕ) → f both ≡ f v → f w ≡ 0 → f spent_view ≡ 0 → total f vs ≡ total f s.views
     = λ f a b c. let x = total-same f s.views id v both at a in let y = total-set f mid other w spent_view at_other in omega arith in
     let w_hart : w.hart ≢ 0 = λ z. other_hart lay p s k id other v w at seat apart there (z ∙ sym zeroth) in

@@ -1,4 +1,4 @@
--- The step that writes an entry at the place that was drawn.
+-- The step that writes an entry at the index that was drawn.
 use Rattle.std.proofs.Common.{◌≡◌, ◌≢◌, ℕ, ◌<◌, ◌≤◌, true, eqb, eq-eqb, ne_eqb, List, length, set, slice_get, refl, sym, ap, ◌∙◌, subst, arith, Option, Some, ⊎_elim, length-set, get_or-set_same, get_or-set_other}
 use mathlib.Core.Option.{some}
 use mathlib.Core.Logic.{dite}

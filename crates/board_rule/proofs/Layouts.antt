@@ -1,4 +1,4 @@
--- What the layouts say otherwise of an entry.
+-- How the layouts differ for an entry.
 use Rattle.std.proofs.Common.{◌≡◌, ◌≢◌, ℕ, ◌+◌, ◌*◌, ◌%◌, ◌^◌, ◌≤◌, List, length, refl, sym, ap, ◌∙◌, subst, arith}
 use Rattle.transfer_table.specs.Plan.{Plan, IsPlan, IsSite}
 use Rattle.transfer_table.specs.Table.{TableState, effect_of, owner, row}
@@ -27,12 +27,12 @@ use Rattle.board_rule.proofs.Loads.{part-elsewhere, part-here, part-idle}
 
 -- ---- the first word
 
--- it tells the length
+-- The first word determines the length.
 pub length_of : (lay : Layout) (p : Plan) → IsPlan p → HasRoom lay p.harts → (es : List Entry) (t : TableState) → Reaches p es t → (n : ℕ) → n ≡ first_word lay t (length es) → entries_of lay n ≡ length es
 length_of Owners p plan few es t leads n is = entries_is n (length es) t.owners is (digits_small p plan few es t leads)
 length_of Guests p plan few es t leads n is = is
 
--- and it goes on with an entry
+-- The first word after an entry is the first word of the longer journal.
 pub word_next : (lay : Layout) (p : Plan) → IsPlan p → HasRoom lay p.harts → (es : List Entry) (t : TableState) (e : Entry) → Reaches p es t → IsAllowed p t e → (n amount o : ℕ) (v : View) → n ≡ first_word lay t (length es)
     → hart_of e ≡ v.hart → v.owner ≡ owner t v.hart → o ≡ owner_after p e → Adds lay v.owner v.hart o amount → (n + amount) % 2 ^ 64 ≡ first_word lay (effect_of p t e) (length es + 1)
 word_next Owners p plan few es t e leads a n amount o v is by own next adds =
@@ -44,17 +44,17 @@ word_next Guests p plan few es t e leads a n amount o v is by own next adds =
 
 -- ---- the guests that are inside
 
--- an entry changes those of its own site alone
+-- An entry changes the insiders of its own site only.
 pub insiders_elsewhere : (lay : Layout) (p : Plan) → IsPlan p → (es : List Entry) (t : TableState) (e : Entry) → Reaches p es t → IsAllowed p t e → (y : ℕ) → IsSite p y → y ≢ site_of e → insiders lay p (effect_of p t e) y ≡ insiders lay p t y
 insiders_elsewhere Owners p plan es t e leads a y site n = refl
 insiders_elsewhere Guests p plan es t e leads a y site n = ((guests_change p es t plan leads).1 e a).elsewhere y site n
 
--- and not those where nobody comes or goes
+-- An entry by which no hart comes or goes leaves them.
 pub insiders_stay : (lay : Layout) (p : Plan) → IsPlan p → (es : List Entry) (t : TableState) (e : Entry) → Reaches p es t → IsAllowed p t e → comes_in e ≡ 0 → goes_out e ≡ 0 → insiders lay p (effect_of p t e) (site_of e) ≡ insiders lay p t (site_of e)
 insiders_stay Owners p plan es t e leads a none none' = refl
 insiders_stay Guests p plan es t e leads a none none' = let here = ((guests_change p es t plan leads).1 e a).here in omega arith
 
--- a site that isn't live has none
+-- A site that isn't live has none.
 pub no_insider : (lay : Layout) (p : Plan) → IsPlan p → (es : List Entry) (t : TableState) → Reaches p es t → (y : ℕ) → IsSite p y → (row t y).stage ≢ Live → insiders lay p t y ≡ 0
 no_insider Owners p plan es t leads y site idle = refl
 no_insider Guests p plan es t leads y site idle = (guests_change p es t plan leads).0.idle y site idle
@@ -65,7 +65,7 @@ few_insiders Guests p plan es t leads y site = let few = (guests_change p es t p
 
 -- ---- an Enter
 
--- What a hart that comes in has still to do at the site is d. The insiders were m and are m': it is among them, or landing.
+-- A hart that comes in has d left to do at the site. The insiders were m and are m': the hart is among them, or landing.
 pub record Comes (d : Load) (m m' : ℕ) : Type 0 where
   pub claims : d.claims ≡ 0
   pub seals : d.seals ≡ 0
@@ -92,7 +92,7 @@ enter_right Guests p es t v x site last = tt
 
 -- ---- a Yield
 
--- What a hart that goes out has still to do at the site is d. It was among the insiders, and is leaving, or it wasn't counted.
+-- A hart that goes out has d left to do at the site. It was an insider and is leaving, or it wasn't counted.
 pub record Goes (d : Load) (m m' : ℕ) : Type 0 where
   pub claims : d.claims ≡ 0
   pub seals : d.seals ≡ 0

@@ -1,4 +1,4 @@
--- What all seats do at a site, when one of them does something else.
+-- What all seats do at a site, if one of them starts or ends a step.
 use Rattle.std.proofs.Common.{◌≡◌, ◌≢◌, ℕ, ◌+◌, Bool, true, false, eqb, cond, eq-eqb, ne_eqb, List, set, refl, ap, subst}
 use mathlib.Core.Option.{some}
 use lib.ListN.{get_elem?}
@@ -21,7 +21,7 @@ either_none false = refl
 pub part-idle : (x : ℕ) → part Idle x ≡ no_load
 part-idle x = either_none (eqb 0 x)
 
--- the load c has become c', where one seat's part was a and is b
+-- the load c becomes c' if one seat's part was a and is b
 pub record Shifts (c c' a b : Load) : Type 0 where
   pub claims : c'.claims + a.claims ≡ c.claims + b.claims
   pub seals : c'.seals + a.seals ≡ c.seals + b.seals
@@ -40,7 +40,7 @@ load-shift x vs j v w a b at was is = let P : Load × Load → Type 0 = λ z. Sh
   credits = total-set (λ u. (part u.doing x).credits) vs j v w at;
 })
 
--- a seat that does the same at the site leaves the load as it is
+-- A seat that does the same at the site leaves the load as it is.
 pub load-same : (x : ℕ) (vs : List View) (j : ℕ) (v w : View) → get_elem? vs j ≡ some v → part w.doing x ≡ part v.doing x → load x (set vs j w) ≡ load x vs
 load-same x vs j v w at same = λ i. record {
   claims = total-same (λ u. (part u.doing x).claims) vs j v w at (ap (λ (c : Load). c.claims) same) i;

@@ -1,4 +1,4 @@
--- A step that leaves the words: a look.
+-- A look: a step that changes no word.
 use Rattle.std.proofs.Common.{◌≡◌, ◌≢◌, ℕ, zero, suc, ◌/◌, ◌%◌, ◌<◌, ◌≤◌, Bool, true, false, eqb, if◌then◌else◌, ◌||◌, ◌&&◌, not, ◌==◌, eq-eqb, ne_eqb, List, length, set, slice_index, refl, sym, ap, ◌∙◌, subst, arith, Some, ⊎_elim, length-set}
 use mathlib.Core.Option.{some}
 use mathlib.Core.Logic.{dite}
@@ -41,11 +41,11 @@ use Rattle.board_words.proofs.Bits.{is_live-stage}
 use Rattle.guest_counts.proofs.Changes.{guests_change}
 use Rattle.board_rule.proofs.Fields.{owners_small, field_is}
 
--- a plan has at most 16 harts
+-- A plan has at most 16 harts.
 pub few_harts : (p : Plan) → IsPlan p → p.harts ≤ 16
 few_harts p plan = let few = plan.few_harts in omega arith
 
--- so a site has few wishes
+-- A site has at most 255 wishes.
 pub few_wishes : (lay : Layout) (p : Plan) (s : St) (k : Stands lay p s) (x : ℕ) → IsSite p x → (shown k.journal k.table x).wishes ≤ 255
 few_wishes lay p s k x site = let w = shown-wishes p k.plan k.journal k.table k.legal x site in let l = legal_wishes p k.plan k.journal k.table k.legal x site in let few = few_harts p k.plan in omega (arith, l.0, l.1)
 
@@ -54,12 +54,12 @@ both true true e = (refl, refl)
 both true false e = absurd (cc)
 both false b e = absurd (cc)
 
--- a home is live
+-- A home is live.
 pub home_live : (lay : Layout) (p : Plan) (s : St) (k : Stands lay p s) (id : ℕ) (v : View) (x : ℕ) → get_elem? s.views id ≡ some v → IsSeat v → is_in v.marks.homes x ≡ true → IsSite p x × ((row k.table x).stage ≡ Live) × (is_home (row k.table x).home v.hart ≡ true)
 home_live lay p s k id v x at seat home = let know = (k.views id v at seat).sites in let site = know.homes_in x home in
     let r = both (is_live (row k.table x).stage) (is_home (row k.table x).home v.hart) (sym (know.homes x site) ∙ home) in (site, is_live-stage (row k.table x).stage r.0, r.1)
 
--- the seat knows other sites, or has one more look, and no word has changed
+-- The seat knows more of the sites, or has one more look, and no word has changed.
 pub look_step : (lay : Layout) (p : Plan) (s : St) (k : Stands lay p s) (id : ℕ) (v : View) (m : Marks) (ls : List Look) (i n : ℕ) → get_elem? s.views id ≡ some v → IsSeat v → v.doing ≡ Idle → n ≡ slice_index s.words i
     → KnowsSites p k.table v.hart m k.closing (guests lay p k.table s.views)
     → Keeps lay p s k (after_step s i n id (record v { marks = m; looks = ls }))
@@ -188,7 +188,7 @@ sites_empty p t h m c f x drained apart k = record {
   gone = k.gone;
 }
 
--- where the guests that are inside are counted, a site without a guest holds no hart but its home
+-- If the word counts the guests inside, a site without a guest holds no hart but its home.
 sites_without : (lay : Layout) (p : Plan) (s : St) (k : Stands lay p s) (v : View) → IsSite p v.owner → is_in v.marks.closed v.owner ≡ true → (row k.table v.owner).home ≡ Some v.hart → guests lay p k.table s.views v.owner ≡ 0
     → KnowsSites p k.table v.hart v.marks k.closing (guests lay p k.table s.views) → KnowsSites p k.table v.hart (marks_without lay v) k.closing (guests lay p k.table s.views)
 sites_without Owners p s k v site closed home none know = sites_drained p k.table v.hart v.marks k.closing (guests Owners p k.table s.views) v.owner closed none know
@@ -216,7 +216,7 @@ see_drained_keeps lay p s k id v at seat may =
 
 -- ---- a look at a first word that has the owners, which sees the owner empty
 
--- where no other hart's field is the site, none is below the number of harts
+-- If no other hart's field is the site, the field of each other hart isn't the site.
 pub none_at : (n w h x : ℕ) → others_at n w h x ≡ false → (g : ℕ) → g < n → g ≢ h → owner_field w g ≢ x
 none_at zero w h x none g lt other = absurd (omega arith)
 none_at (suc n) w h x none g lt other = let both = neither (not (eqb n h) && eqb (owner_field w n) x) (others_at n w h x) none in

@@ -43,7 +43,7 @@ use Rattle.board_words.proofs.Shown.{shown-live, shown-wishes, shown-after}
 
 -- ---- enter
 
--- a seat that is reserved to the site is on its way in
+-- A seat that is reserved to the site is on its way in.
 reserved_one : (lay : Layout) (p : Plan) (s : St) (k : Stands lay p s) (id : ℕ) (v : View) (x : ℕ) → get_elem? s.views id ≡ some v → v.doing ≡ Reserved x → 1 ≤ (load x s.views).reserves
 reserved_one lay p s k id v x at does = let r = total-one (λ (q : View). (part q.doing x).reserves) s.views id v at in
     let one : (part v.doing x).reserves ≡ 1 = ap (λ (q : Doing). (part q x).reserves) does ∙ ap (λ (l : Load). l.reserves) (part-here (Reserved x) x refl) in omega arith
@@ -89,11 +89,11 @@ enter_appends lay p s k id v z amount at seat reserved adds =
 
 -- ---- yield
 
--- a hart comes out of a live site, so no seat has seen all children of the parent gone
+-- A hart comes out of a live site, so no seat has seen all children of the parent gone.
 still_inside : (lay : Layout) (p : Plan) (s : St) (k : Stands lay p s) (j : ℕ) (u : View) (x : ℕ) → get_elem? s.views j ≡ some u → IsSeat u → IsSite p x → (row k.table x).stage ≡ Live → SawChildren p u.marks (parent p x) → ⊥
 still_inside lay p s k j u x there seat site live saw = let gone = ((k.views j u there seat).sites.gone x (saw x site refl)).1 in let bad : is_live Gone ≡ true = sym (ap is_live gone) ∙ ap is_live live in cc
 
--- the owner of a hart that isn't in the base is live
+-- The owner of a hart that isn't in the base is live.
 pub owner_live : (lay : Layout) (p : Plan) (s : St) (k : Stands lay p s) (id : ℕ) (v : View) → get_elem? s.views id ≡ some v → IsSeat v → v.owner ≢ 0 → IsSite p v.owner × ((row k.table v.owner).stage ≡ Live)
 owner_live lay p s k id v at seat inside = let know = (k.views id v at seat).itself in let Q : ℕ → Type 0 = λ o. IsSite p o × ((row k.table o).stage ≡ Live) in
     subst Q (sym know.owner) (⊎_elim (λ z. absurd (inside (know.owner ∙ z))) (λ r. r) (legal_owner p k.plan k.journal k.table k.legal v.hart (in_plan lay p s k id v at seat)))

@@ -1,4 +1,4 @@
--- The board as it is made, and a hart's seat that is split off.
+-- The first board, and a hart's seat that is split off.
 use Rattle.std.proofs.Common.{◌≡◌, ◌≢◌, ℕ, zero, suc, ◌+◌, ◌<◌, Bool, true, false, eqb, ne_eqb, ◌&&◌, nat_le, List, [], ◌∷◌, ◌++◌, set, replicate, refl, sym, ap, ◌∙◌, subst, arith, ⊎_elim}
 use mathlib.Core.Option.{some, some-injective, some-ne-none}
 use lib.ListN.{get_elem?}
@@ -41,7 +41,7 @@ no_digits : (n : ℕ) → owner_digits (replicate n 0) ≡ 0
 no_digits zero = refl
 no_digits (suc n) = let r = no_digits n in omega arith
 
--- the first word of a new board
+-- The first word of a new board is 0.
 opening_word : (lay : Layout) (p : Plan) → first_word lay (first_state p) 0 ≡ 0
 opening_word Owners p = let z = no_digits p.harts in omega arith
 opening_word Guests p = refl
@@ -56,7 +56,7 @@ first_is v w (suc j) e = absurd (some-ne-none w (sym e))
 flags : (p : Plan) → HasFlags p (no_marks p)
 flags p = let n = length-replicate (site_count p + 1) false in record { homes = n; closed = n; drained = n; empty = n; gone = n }
 
--- nothing is in the sets of a fresh seat
+-- The empty sets of a fresh seat are right.
 nothing_known : (p : Plan) (t : TableState) (h : ℕ) (c : ℕ → Bool) (f : ℕ → ℕ) → ((x : ℕ) → IsSite p x → lives_with t x h ≡ false) → KnowsSites p t h (no_marks p) c f
 nothing_known p t h c f homeless = let none : (x : ℕ) → is_in (no_site p) x ≡ true → ⊥ = λ x is. let no = in-no_site p x in cc in record {
   sized = flags p;
@@ -69,7 +69,7 @@ nothing_known p t h c f homeless = let none : (x : ℕ) → is_in (no_site p) x 
   gone = λ x is. absurd (none x is);
 }
 
--- an idle seat adds nothing to a load
+-- An idle seat adds nothing to a load.
 load-idle : (x : ℕ) (v : View) → v.doing ≡ Idle → load x (v ∷ []) ≡ no_load
 load-idle x v idle = let e : part v.doing x ≡ no_load = ap (λ (d : Doing). part d x) idle ∙ part-idle x in
     λ i. record { claims = (e i).claims + 0; seals = (e i).seals + 0; reserves = (e i).reserves + 0; lands = (e i).lands + 0; leaves = (e i).leaves + 0; credits = (e i).credits + 0 }
@@ -117,7 +117,7 @@ split_keeps lay p s k id v at zeroth is_plan below idle =
     let vs : List View = set s.views id l ++ r ∷ [] in
     let unmade = k.unmade v.made (omega arith) in
     let idle_hart = legal_idle p k.plan k.journal k.table k.legal v.made unmade in
-    -- a count that is 0 of a fresh view
+    -- A sum to which a fresh view adds 0.
     let none : (f : View → ℕ) → f l ≡ f v → f r ≡ 0 → total f vs ≡ total f s.views = λ f a b. total-snoc f (set s.views id l) r ∙ (let c = total-same f s.views id v l at a in omega arith) in
     let idle_part : (x : ℕ) → part r.doing x ≡ no_load = λ x. part-idle x in
     let load_same : (x : ℕ) → load x vs ≡ load x s.views = λ x. let e = idle_part x in λ i. record {

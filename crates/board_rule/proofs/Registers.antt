@@ -1,4 +1,4 @@
--- The step that makes a Register, and the one that makes a Request.
+-- The steps that make a Register, a Skip and a Request.
 use Rattle.std.proofs.Common.{◌≡◌, ℕ, ◌+◌, ◌<◌, Bool, true, false, ◌&&◌, eq-eqb, length, set, slice_index, refl, sym, ap, ◌∙◌, subst, arith, ⊎_elim, inr, length-set}
 use mathlib.Core.Option.{some}
 use mathlib.Core.Logic.{dite}
@@ -38,7 +38,7 @@ use Rattle.board_rule.proofs.Claims.{turns_to, idle_part}
 use Rattle.board_rule.proofs.Looks.{home_live}
 use Rattle.board_words.proofs.Asked.{asked_by_home, is_home-some}
 
--- a site's word tells of its row where that is shown
+-- A site's word with a row is also its word with an equal row.
 pub word_row : {w : ℕ} {b : Bool} {c : Load} {r r' : Row} {m : ℕ} → r ≡ r' → IsSiteWord w b c r m → IsSiteWord w b c r' m
 word_row {w = w} {b = b} {c = c} {m = m} same word = subst (λ (r : Row). IsSiteWord w b c r m) same word
 
@@ -104,7 +104,7 @@ register_appends lay p s k id v z amount at seat claiming adds =
 pub skip_allowed : (lay : Layout) (p : Plan) (s : St) (k : Stands lay p s) (id : ℕ) (v : View) (x : ℕ) → get_elem? s.views id ≡ some v → IsSeat v → v.doing ≡ Claiming x → IsAllowed p k.table (Skip v.hart x)
 skip_allowed lay p s k id v x at seat does = register_allowed lay p s k id v x at seat does
 
--- a skip leaves the homes
+-- A skip leaves the homes.
 lives_with-skip : (lay : Layout) (p : Plan) (s : St) (k : Stands lay p s) (g x : ℕ) → IsAllowed p k.table (Skip g x) → (h y : ℕ) → IsSite p y → lives_with (effect_of p k.table (Skip g x)) y h ≡ lives_with k.table y h
 lives_with-skip lay p s k g x a h y site = let t : TableState = k.table in let lives : Row → Bool = λ r. is_live r.stage && is_home r.home h in
     at_site p t (Skip g x) y (λ q r. lives r ≡ lives_with t q h) (legal_position p k.plan k.journal t k.legal) a site
@@ -142,7 +142,7 @@ skip_appends lay p s k id v z amount at seat claiming adds =
 
 -- ---- request
 
--- an entry that leaves stage and home leaves the homes
+-- An entry that leaves stage and home leaves the homes.
 pub lives_with-kept : (p : Plan) (t : TableState) (e : Entry) → Fits p t → IsAllowed p t e → ((y : ℕ) → covers p e y ≡ false) → (row_after t e).stage ≡ (row t (site_of e)).stage → (row_after t e).home ≡ (row t (site_of e)).home
     → (h y : ℕ) → IsSite p y → lives_with (effect_of p t e) y h ≡ lives_with t y h
 lives_with-kept p t e fits a plain stage home h y site = at_site p t e y (λ x r. (is_live r.stage && is_home r.home h) ≡ lives_with t x h) fits a site (λ i. is_live (stage i) && is_home (home i) h) (λ _ _. refl) (λ _ c. absurd (let z : true ≡ false = sym c ∙ plain y in cc))

@@ -25,7 +25,7 @@ use Rattle.board_words.proofs.Totals.{total-same}
 use Rattle.board_words.proofs.Places.{place_at}
 use Rattle.board_rule.proofs.Loads.{load-same}
 
--- the closing bits, where that of x is b
+-- the closing bits, with bit b for x
 abbrev pub closing_with : (ℕ → Bool) → ℕ → Bool → ℕ → Bool
 closing_with c x b y = if y == x then b else c y
 
@@ -35,13 +35,13 @@ closing_here c x b = rw (eq-eqb x x refl) refl
 pub closing_else : (c : ℕ → Bool) (x : ℕ) (b : Bool) (y : ℕ) → y ≢ x → closing_with c x b y ≡ c y
 closing_else c x b y n = rw (ne_eqb y x n) refl
 
--- no site that was closing is open
+-- A site that was closing stays closing.
 pub closing_lasts : (c : ℕ → Bool) (x : ℕ) (b : Bool) → (c x ≡ true → b ≡ true) → (y : ℕ) → c y ≡ true → closing_with c x b y ≡ true
 closing_lasts c x b last y is = dite (ℕ_discrete y x)
     (λ z. let Q : ℕ → Type 0 = λ q. closing_with c x b q ≡ true in subst Q (sym z) (closing_here c x b ∙ last (ap c (sym z) ∙ is)))
     (λ n. closing_else c x b y n ∙ is)
 
--- more sites are closing, and a site that is closing and has no guest gets none
+-- What a seat knows stays if more sites are closing and a closing site without a guest gets none.
 pub sites_other : (p : Plan) (t : TableState) (h : ℕ) (m : Marks) (c c' : ℕ → Bool) (f f' : ℕ → ℕ) → ((x : ℕ) → c x ≡ true → c' x ≡ true) → ((x : ℕ) → c' x ≡ true → f x ≡ 0 → f' x ≡ 0)
     → KnowsSites p t h m c f → KnowsSites p t h m c' f'
 sites_other p t h m c c' f f' close flown k = record {
@@ -59,18 +59,18 @@ pub knows_other : (lay : Layout) (p : Plan) (es : List Entry) (t : TableState) (
     → Knows lay p es t v c f made ended → Knows lay p es t v c' f' made ended
 knows_other lay p es t v c c' f f' made ended close flown k = record { itself = k.itself; does = k.does; sites = sites_other p t v.hart v.marks c c' f f' close flown k.sites }
 
--- where the loads are the same, so are the guests
+-- Equal loads have equal guests.
 pub guests-load : (lay : Layout) (p : Plan) (t : TableState) (vs ws : List View) (x : ℕ) → load x ws ≡ load x vs → guests lay p t ws x ≡ guests lay p t vs x
 guests-load lay p t vs ws x same = ap (λ (c : Load). insiders lay p t x + c.reserves + c.lands + c.leaves) same
 
--- nobody comes to a closing site
+-- No hart comes to a closing site.
 pub guests_fall : (lay : Layout) (p : Plan) (t : TableState) (vs : List View) (id : ℕ) (v w : View) (x : ℕ) (c : ℕ → Bool) → get_elem? vs id ≡ some v → ((y : ℕ) → y ≢ x → part w.doing y ≡ part v.doing y)
     → (c x ≡ true → guests lay p t (set vs id w) x ≤ guests lay p t vs x) → (y : ℕ) → c y ≡ true → guests lay p t vs y ≡ 0 → guests lay p t (set vs id w) y ≡ 0
 guests_fall lay p t vs id v w x c at elsewhere fall y closing none = dite (ℕ_discrete y x)
     (λ z. let le = fall (ap c (sym z) ∙ closing) in let n : guests lay p t vs x ≡ 0 = ap (guests lay p t vs) (sym z) ∙ none in ap (guests lay p t (set vs id w)) z ∙ (let r : guests lay p t (set vs id w) x ≡ 0 = omega arith in r))
     (λ n. guests-load lay p t vs (set vs id w) y (load-same y vs id v w at (elsewhere y n)) ∙ none)
 
--- the seat id knows w, and the word of x is n
+-- The seat gets the view w, and the word of x becomes n.
 pub site_step : (lay : Layout) (p : Plan) (s : St) (k : Stands lay p s) (id : ℕ) (v : View) (d : Doing) (m : Marks) (ls : List Look) (x n : ℕ) (b : Bool) → get_elem? s.views id ≡ some v → IsSeat v → IsSite p x
     → ((y : ℕ) → y ≢ x → part d y ≡ part v.doing y)
     → (k.closing x ≡ true → b ≡ true)

@@ -1,4 +1,4 @@
--- A site's word through each kind of step, as facts on numbers.
+-- A site's word in each kind of step, as facts on numbers.
 use Rattle.std.proofs.Common.{◌≡◌, ◌≢◌, ℕ, ◌+◌, ◌-◌, ◌*◌, ◌/◌, ◌%◌, ◌^◌, ◌<◌, ◌≤◌, Bool, true, false, refl, ap, arith, bit_or, Some}
 use Rattle.std.specs.Option.{is_some}
 use Rattle.transfer_table.specs.Table.{is_gone, blank, swept_row}
@@ -30,11 +30,11 @@ fields w b c r m few i = let a = i.wishes in let is = i.word_is in let one = i.c
     let small : bits ≤ 7 = omega arith in
     record { claimed = omega arith; closing = omega arith; closed = omega arith; wanted = omega arith; shows = omega arith }
 
--- a word with the closed bit is a gone site's
+-- A word with the closed bit is a gone site's.
 pub closed_gone : (w : ℕ) (b : Bool) (c : Load) (r : Row) (m : ℕ) → r.wishes ≤ 255 → IsSiteWord w b c r m → w / 4 % 2 ≡ 1 → r.stage ≡ Gone
 closed_gone w b c r m few i bit = let f = (fields w b c r m few i).closed in let g = gone_bit r.stage in all_gone r.stage (omega arith)
 
--- an open site with a want is live
+-- An open site with a want is live.
 pub wanted_live : (w : ℕ) (b : Bool) (c : Load) (r : Row) (m : ℕ) → (r.stage ≡ New → is_some r.home ≡ false) → (is_some r.home ≡ false → r.wishes ≡ 0) → (i : IsSiteWord w b c r m) → b ≡ false → 1 ≤ i.want → r.stage ≡ Live
 wanted_live w b c r m homeless askless i unclosed some_want = let a = i.wishes in
     live_now r.stage (λ z. let none = askless (homeless z) in absurd (omega arith)) (λ z. by_home (is_some r.home) refl z)
@@ -180,7 +180,7 @@ requested_word w n b c c' r m m' x shift inner i =
       word_is = omega arith;
     }
 
--- one that was reserved is inside, or landing
+-- A hart that was reserved is inside, or landing.
 pub entered_word : (w : ℕ) (b : Bool) (c c' d : Load) (r : Row) (m m' x : ℕ) → Shifts c c' (weight (Reserved x)) d → Comes d m m' → IsSiteWord w b c r m → IsSiteWord w b c' (record r { wishes = r.wishes - 1 }) m'
 entered_word w b c c' d r m m' x shift comes i =
     let a = i.wishes in let is = i.word_is in let one = i.claimed in let sealed = i.sealed in
@@ -196,7 +196,7 @@ entered_word w b c c' d r m m' x shift comes i =
       word_is = omega arith;
     }
 
--- one that was inside is leaving, or was not counted
+-- A hart that was inside is leaving, or wasn't counted.
 pub yielded_word : (w : ℕ) (b : Bool) (c c' d : Load) (r : Row) (m m' x : ℕ) → Shifts c c' no_load d → Goes d m m' → IsSiteWord w b c r m → IsSiteWord w b c' r m'
 yielded_word w b c c' d r m m' x shift goes i =
     let a = i.wishes in let is = i.word_is in let one = i.claimed in let sealed = i.sealed in

@@ -1,4 +1,4 @@
--- From a step that keeps the rule to what the table of words asks of it.
+-- From a step that keeps the invariant to what the atomic table requires of it.
 use Rattle.std.proofs.Common.{◌≡◌, ℕ, zero, suc, ◌<◌, ◌≤◌, ◌^◌, Bool, true, false, List, [], ◌∷◌, length, slice_index, refl, sym, subst, arith, ⊎_elim}
 use mathlib.Core.Option.{some, some-ne-none}
 use lib.ListN.{get_elem?}
@@ -18,7 +18,7 @@ inside [] i a e = absurd (some-ne-none a (sym e))
 inside (x ∷ xs) zero a e = omega arith
 inside (x ∷ xs) (suc i) a e = let r = inside xs i a e in omega arith
 
--- the rule tells of each seat that it fits its plan
+-- The view of each seat fits its plan.
 pub fits_plan : (lay : Layout) (p : Plan) (s : St) (k : Stands lay p s) (id : ℕ) (v : View) → get_elem? s.views id ≡ some v → IsSeat v → FitsPlan v
 fits_plan lay p s k id v at seat =
     let know = k.views id v at seat in
@@ -32,7 +32,7 @@ fits_plan lay p s k id v at seat =
     by_case true is = absurd (let low = ((k.views id v at seat).sites.homes_in 0 is).0 in omega arith)
     by_case false is = refl
 
--- A step may be taken where its new state keeps the rule. It tells the new view, that this fits its plan, and what else is known.
+-- A step is allowed if its new state keeps the invariant. The result has the new view, that it fits its plan, and E.
 pub allowed : (lay : Layout) (p : Plan) (slots id : ℕ) (me : Me (Unit {0}) View) (i : ℕ) (f : ℕ → ℕ) (next : ℕ → View → View) (E : ℕ → Type 0) → ((n : ℕ) → IsSeat (next n me.0))
     → ((s : St) (k : Stands lay p s) → get_elem? s.views id ≡ some me.0 → slice_index s.words i < 2 ^ 64 → Stands lay p (after_step s i (f (slice_index s.words i)) id (next (slice_index s.words i) me.0)) × E (slice_index s.words i))
     → Allows (Stands lay p) slots id me i f (λ n after. (after ≡ (next n me.0, me.1)) × FitsPlan after.0 × E n)

@@ -14,7 +14,7 @@ use Rattle.lent_board.specs.declared.seat.HartSeat.{HartSeat}
 use Rattle.lent_board.specs.declared.port.BoardPort.{BoardPort}
 use Rattle.lent_board.specs.Seats.{IsNewSeat, AreSeats, AreAll}
 
--- a new hart is in the base, and the home of no site
+-- A new hart is in the base, and the home of no site.
 is_new : (z : TableId) (p : Plan) (n h : ℕ) (q : HartSeat) → IsNewSeat z p n h q → IsNew p (port_view q)
 is_new z p n h q new = record {
   plan = ap (λ (v : View). v.plan) new.view;
@@ -32,7 +32,7 @@ module _ {L : Type 0} {laid : Ghosts L} where
       subst (λ (q : HartSeat). IsNew p (port_view q)) (get_or-map seat_of ports k d d.seat lt)
       (is_new z p (length (map seat_of ports)) k (get_or (map seat_of ports) k d.seat) (seats k d.seat inside))
 
-  -- harts that are the same are on the board's seats
+  -- The same harts are on the board's seats.
   pub all_back : (z : TableId) (p : Plan) (xs ys : List (BoardPort L laid)) → AreSeats z p (map seat_of xs) → length xs ≡ p.harts
       → length ys ≡ length xs → ((k : ℕ) (d : BoardPort L laid) → k < length xs → IsSameHart (port_view (get_or xs k d).seat) (port_view (get_or ys k d).seat)) → AreAll z p (map seat_of ys)
   all_back z p xs ys seats count many same = record {

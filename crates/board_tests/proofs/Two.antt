@@ -1,4 +1,4 @@
--- One seat of a board, and two.
+-- Seats of a board: one, and two.
 use Rattle.std.proofs.Common.{◌≡◌, ℕ, zero, suc, ◌<◌, List, [], ◌∷◌, length, slice_index_or, sym, arith}
 use Rattle.atomic_table.specs.Seated.{TableId}
 use Rattle.transfer_table.specs.Plan.{Plan}

@@ -1,4 +1,4 @@
--- What one hart made of a site's registers and requests.
+-- Which registers and requests of a site one hart made.
 use Rattle.std.proofs.Common.{◌≡◌, ◌≢◌, ℕ, suc, ◌≤◌, Bool, true, false, eqb, cond, not, ◌==◌, eq-eqb, ne_eqb, if◌then◌else◌, List, [], ◌∷◌, refl, sym, ap, ◌∙◌, arith, Option, Some, None}
 use mathlib.Core.Logic.{dite}
 use native.Mathlib.Decide.{ℕ_discrete}
@@ -35,7 +35,7 @@ not_asked t x h (Yield g s) home by other = none_asked (eqb s x) 0 refl
 not_asked t x h (Unregister g s) home by other = none_asked (eqb s x) 0 refl
 not_asked t x h (Skip g s) home by other = none_asked (eqb s x) 0 refl
 
--- all requests of a site are its home's
+-- All requests of a site are by its home.
 requested_by_home : (t : TableState) (x h : ℕ) → (row t x).home ≡ Some h → (es : List Entry) → All (IsByHome t) es → requested x (made_by h es) ≡ requested x es
 requested_by_home t x h home [] all = refl
 requested_by_home t x h home (e ∷ es) all =
@@ -48,14 +48,14 @@ requested_by_home t x h home (e ∷ es) all =
     (λ other. let none = not_asked t x h e home here other in
     let left : requested x (made_by h (e ∷ es)) ≡ requested x (made_by h es) = rw (ne_eqb (hart_of e) h other) refl in omega arith)
 
--- a home has asked for its site what the site has asked
+-- A site's requests are those that its home made.
 pub asked_by_home : (p : Plan) → IsPlan p → (es : List Entry) (t : TableState) → Reaches p es t → (x h : ℕ) → IsSite p x → (row t x).home ≡ Some h → (row t x).asked ≡ requested x (made_by h es)
 asked_by_home p plan es t leads x h site home = (legal_balance p plan es t leads x site).asked ∙ sym (requested_by_home t x h home es (legal_by_home p plan es t leads))
 
 fewer : (f : Entry → ℕ) (h : ℕ) (es : List Entry) → Rattle.std.specs.List.sum_by f (made_by h es) ≤ Rattle.std.specs.List.sum_by f es
 fewer f h es = let both = sum_by-filter_both (λ (e : Entry). hart_of e == h) (λ (e : Entry). not (hart_of e == h)) (λ _. refl) f es in omega arith
 
--- nobody has registered a new site, or asked for it
+-- No hart has registered a new site or made a request for it.
 pub new_untouched : (p : Plan) → IsPlan p → (es : List Entry) (t : TableState) → Reaches p es t → (x h : ℕ) → IsSite p x → (row t x).stage ≡ New → (registers x (made_by h es) ≡ 0) × (requested x (made_by h es) ≡ 0)
 new_untouched p plan es t leads x h site new =
     let came : registers x es ≡ 0 = let z = ((legal_begins p plan es t leads x site).fresh new).0 in omega arith in

@@ -1,4 +1,4 @@
--- The bits of a site's word, and the stages that they tell.
+-- The bits of a site's word, and the stages that they encode.
 use Rattle.std.proofs.Common.{◌≡◌, ◌≢◌, ℕ, ◌+◌, ◌*◌, ◌/◌, ◌%◌, ◌≤◌, Bool, true, false, refl, arith, bit_or, bit_and}
 use Rattle.std.specs.Int.Bits.{or_add_and}
 use Rattle.std.proofs.lemmas.Nat.{and_mask}
@@ -18,7 +18,7 @@ or_two n = let a = or_add_and n 2 in let b : bit_and n 2 ≡ n / 2 % 2 * 2 = and
 pub or_four : (n : ℕ) → bit_or n 4 + n / 4 % 2 * 4 ≡ n + 4
 or_four n = let a = or_add_and n 4 in let b : bit_and n 4 ≡ n / 4 % 2 * 4 = and_high n 1 2 in omega arith
 
--- setting a claimed bit that is set changes nothing
+-- Setting a claimed bit that is set changes nothing.
 pub claimed_again : (n : ℕ) → n % 2 ≡ 1 → bit_or n 1 ≡ n
 claimed_again n odd = let o = or_one n in omega arith
 

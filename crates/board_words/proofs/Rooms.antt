@@ -9,6 +9,6 @@ use Rattle.transfer_table.proofs.Admits.{admits}
 use Rattle.transfer_table.proofs.Positions.{legal_position}
 use Rattle.transfer_table.proofs.Bounds.{legal_room}
 
--- an entry that is allowed finds its place in the journal
+-- An allowed entry has an index within the journal.
 pub has_room : (p : Plan) → IsPlan p → (es : List Entry) (t : TableState) (e : Entry) → Reaches p es t → IsAllowed p t e → length es < room p
 has_room p plan es t e leads a = legal_room p plan es t (effect_of p t e) e leads (admits p t e (legal_position p plan es t leads) a)

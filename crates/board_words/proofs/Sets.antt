@@ -22,15 +22,15 @@ without-same [] x = refl
 without-same (b ∷ f) zero = refl
 without-same (b ∷ f) (suc x) = without-same f x
 
--- what is in the set with the site is the site, or was in the set
+-- A site in the set with x is x or was in the set.
 pub with_site-in : (f : List Bool) (x y : ℕ) → is_in (with_site f x) y ≡ true → (y ≡ x) ⊎ (is_in f y ≡ true)
 with_site-in f x y is = dite (ℕ_discrete y x) (λ e. inl e) (λ n. inr (sym (with_site-other f x y n) ∙ is))
 
--- what is in the set without the site isn't the site, and was in the set
+-- A site in the set without x isn't x and was in the set.
 pub without-in : (f : List Bool) (x y : ℕ) → is_in (without f x) y ≡ true → (y ≢ x) × (is_in f y ≡ true)
 without-in f x y is = let apart : y ≢ x = λ e. let gone : is_in (without f x) y ≡ false = ap (is_in (without f x)) e ∙ without-same f x in cc in (apart, sym (without-other f x y apart) ∙ is)
 
--- what was in the set is in it with the site
+-- A site of the set stays in the set with x.
 pub with_site-keeps : (f : List Bool) (x y : ℕ) → x < length f → is_in f y ≡ true → is_in (with_site f x) y ≡ true
 with_site-keeps f x y lt is = dite (ℕ_discrete y x) (λ e. ap (is_in (with_site f x)) e ∙ with_site-same f x lt) (λ n. with_site-other f x y n ∙ is)
 

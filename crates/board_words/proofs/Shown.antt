@@ -43,7 +43,7 @@ pub shown-never : (es : List Entry) (t : TableState) (x : ℕ) → has_begun es 
 shown-never es t x b = rw b refl
 
 module _ (p : Plan) (plan : IsPlan p) (es : List Entry) (t : TableState) (leads : Reaches p es t) where
-  -- a live site has begun
+  -- A live site has begun.
   live_begun : (x : ℕ) → IsSite p x → (row t x).stage ≡ Live → has_begun es x ≡ true
   live_begun x site live = begun_some (registers x es + skips x es) (let r = ((legal_begins p plan es t leads x site).live live).0 in omega arith)
 
@@ -59,7 +59,7 @@ module _ (p : Plan) (plan : IsPlan p) (es : List Entry) (t : TableState) (leads 
   pub row-gone : (x : ℕ) → (shown es t x).stage ≡ Gone → (row t x).stage ≡ Gone
   row-gone x gone = by_begun es x (λ b. ap (λ (r : Row). r.stage) (sym (shown-begun es t x b)) ∙ gone) (λ b. absurd (let z : (shown es t x).stage ≡ New = ap (λ (r : Row). r.stage) (shown-never es t x b) in cc))
 
-  -- a child of a hart's owner that is shown as new is new
+  -- A child of a hart's owner that is shown as new is new.
   pub row-new : (h x : ℕ) → IsHart p h → IsSite p x → owner t h ≡ parent p x → (shown es t x).stage ≡ New → (row t x).stage ≡ New
   row-new h x hart site own new = by_begun es x (λ b. ap (λ (r : Row). r.stage) (sym (shown-begun es t x b)) ∙ new) (λ b. by_stage (row t x).stage refl (none_begun (registers x es + skips x es) b))
     where
@@ -69,7 +69,7 @@ module _ (p : Plan) (plan : IsPlan p) (es : List Entry) (t : TableState) (leads 
       by_stage Gone e none = absurd (let up = (legal_begins p plan es t leads x site).left_out e none in
           ⊎_elim (λ base. let low = up.0.0 in let z : parent p x ≡ 0 = sym own ∙ base in absurd (omega arith)) (λ r. let Q : ℕ → Type 0 = λ o. (row t o).stage ≡ Live in let live = subst Q own r.1 in let gone = up.1 in cc) (legal_owner p plan es t leads h hart))
 
-  -- where no home is shown, no wish is
+  -- A site that is shown without a home is shown without wishes.
   pub shown-askless : (x : ℕ) → IsSite p x → is_some (shown es t x).home ≡ false → (shown es t x).wishes ≡ 0
   shown-askless x site none = by_begun es x
       (λ b. let e = shown-begun es t x b in ap (λ (r : Row). r.wishes) e ∙ (legal_askless p plan es t leads x site (ap (λ (r : Row). is_some r.home) (sym e) ∙ none)).0)
@@ -80,7 +80,7 @@ module _ (p : Plan) (plan : IsPlan p) (es : List Entry) (t : TableState) (leads 
       (λ b. let e = shown-begun es t x b in ap (λ (r : Row). is_some r.home) (e ∙ legal_blank p plan es t leads x site (ap (λ (r : Row). r.stage) (sym e) ∙ new)))
       (λ b. ap (λ (r : Row). is_some r.home) (shown-never es t x b))
 
-  -- the wishes are those of the row
+  -- The wishes that are shown are those of the row.
   pub shown-wishes : (x : ℕ) → IsSite p x → (shown es t x).wishes ≡ (row t x).wishes
   shown-wishes x site = by_begun es x (λ b. ap (λ (r : Row). r.wishes) (shown-begun es t x b))
       (λ b. ap (λ (r : Row). r.wishes) (shown-never es t x b) ∙ sym (home_none (is_some (row t x).home) refl (none_begun (registers x es + skips x es) b)))
@@ -89,7 +89,7 @@ module _ (p : Plan) (plan : IsPlan p) (es : List Entry) (t : TableState) (leads 
       home_none false e none = (legal_askless p plan es t leads x site e).0
       home_none true e none = absurd (let one : registers x es ≡ 1 = (rows_tell p plan es t leads x site).came ∙ ap (λ (b : Bool). if b then 1 else 0) e in omega arith)
 
-  -- a step on another site, or one that skips a site around it, leaves what is shown
+  -- An entry of another site leaves what is shown, also if it skips a site around this one.
   pub shown-other : (e : Entry) → IsAllowed p t e → (y : ℕ) → IsSite p y → y ≢ site_of e → shown (es ++ e ∷ []) (effect_of p t e) y ≡ shown es t y
   shown-other e a y site n =
       let fits = legal_position p plan es t leads in
@@ -105,7 +105,7 @@ module _ (p : Plan) (plan : IsPlan p) (es : List Entry) (t : TableState) (leads 
   of_live : (e : Entry) → IsSite p (site_of e) → (row t (site_of e)).stage ≡ Live → 1 ≤ registers (site_of e) (es ++ e ∷ []) + skips (site_of e) (es ++ e ∷ [])
   of_live e site live = let r = registers-here es e in let l = ((legal_begins p plan es t leads (site_of e) site).live live).0 in omega arith
 
-  -- an entry that is allowed begins its site, or finds it begun
+  -- An allowed entry begins its site, or the site has begun.
   begins : (e : Entry) → IsAllowed p t e → 1 ≤ registers (site_of e) (es ++ e ∷ []) + skips (site_of e) (es ++ e ∷ [])
   begins (Register h x) a = let r = registers-here es (Register h x) in omega arith
   begins (Request h x k) a = of_live (Request h x k) a.1 (live_home p plan es t leads h x a.0 a.1.0 a.2)
@@ -114,19 +114,19 @@ module _ (p : Plan) (plan : IsPlan p) (es : List Entry) (t : TableState) (leads 
   begins (Unregister h x) a = of_live (Unregister h x) a.1 (live_home p plan es t leads h x a.0 a.1.0 a.2)
   begins (Skip h x) a = let r = skips-here es (Skip h x) in omega arith
 
-  -- and then its new row is shown
+  -- After an allowed entry its site's new row is shown.
   pub shown-after : (e : Entry) → IsAllowed p t e → shown (es ++ e ∷ []) (effect_of p t e) (site_of e) ≡ row_after t e
   shown-after e a = let fits = legal_position p plan es t leads in
       shown-begun (es ++ e ∷ []) (effect_of p t e) (site_of e) (begun_some (registers (site_of e) (es ++ e ∷ []) + skips (site_of e) (es ++ e ∷ [])) (begins e a)) ∙ row-effect_same p t e fits a
 
-  -- what is shown as gone stays so
+  -- A site that is shown as gone stays so.
   pub shown-lasts : (e : Entry) → IsAllowed p t e → (y : ℕ) → IsSite p y → (shown es t y).stage ≡ Gone → (shown (es ++ e ∷ []) (effect_of p t e) y).stage ≡ Gone
   shown-lasts e a y site gone = dite (ℕ_discrete y (site_of e))
       (λ z. let fits = legal_position p plan es t leads in let Q : ℕ → Type 0 = λ q. (shown (es ++ e ∷ []) (effect_of p t e) q).stage ≡ Gone in
       subst Q (sym z) (ap (λ (r : Row). r.stage) (shown-after e a ∙ sym (row-effect_same p t e fits a)) ∙ gone_lasts p t e fits a (site_of e) (subst (IsSite p) z site) (let R : ℕ → Type 0 = λ q. (row t q).stage ≡ Gone in subst R z (row-gone y gone))))
       (λ n. ap (λ (r : Row). r.stage) (shown-other e a y site n) ∙ gone)
 
-  -- no skip around it covers a child of a hart's owner
+  -- No skip of a site around it covers a child of a hart's owner.
   pub uncovered : (e : Entry) → IsAllowed p t e → (h y : ℕ) → IsHart p h → IsSite p y → owner t h ≡ parent p y → y ≢ site_of e → covers p e y ≡ false
   uncovered (Register g x) a h y hart site own n = refl
   uncovered (Request g x k) a h y hart site own n = refl

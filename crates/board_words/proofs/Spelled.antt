@@ -7,7 +7,7 @@ use Rattle.transfer_table.specs.declared.entry.Entry.{Entry}
 use Rattle.transfer_table.specs.declared.entry.Entry.TheVariants.{Register, Request, Enter, Yield, Unregister, Skip}
 use Rattle.board_words.specs.Words.{spelled}
 
--- the kind of an entry, as its word has it
+-- the number of an entry's kind, as in its word
 kind : Entry → ℕ
 kind (Register h s) = 1
 kind (Request h s k) = 2

@@ -1,17 +1,17 @@
--- What a caller of all seats of a table needs.
+-- Facts for a caller that has all seats of a table.
 use Rattle.std.proofs.Common.{◌≡◌, ◌<◌, ℕ, suc, zero, List, [], ◌∷◌, map, length, get_or, set, arith, refl}
 use Rattle.std.proofs.Math.Seq.{map-set_same}
 use Rattle.claim_words.specs.declared.seat.ClaimSeat.{ClaimSeat}
 use Rattle.claim_words.specs.declared.table.ClaimTable.{ClaimTable}
 use Rattle.claim_words.specs.Seats.{kin, IsOf, AreOf}
 
--- each of them is of the table
+-- Each seat is of the table.
 pub each_of : (t : ClaimTable) (seats : List ClaimSeat) → AreOf t (map kin seats) → (h : ℕ) (d : ClaimSeat) → h < length seats → IsOf t (kin (get_or seats h d))
 each_of t [] are h d there = absurd (omega (arith, there))
 each_of t (s ∷ seats) are zero d there = are.0
 each_of t (s ∷ seats) are (suc h) d there = each_of t seats are.1 h d (omega (arith, there))
 
--- one seat moved on, or each
+-- One seat changes, or each seat does, and no identity changes.
 pub one_moved : (seats : List ClaimSeat) (h : ℕ) (y d : ClaimSeat) → kin y ≡ kin (get_or seats h d) → map kin (set seats h y) ≡ map kin seats
 one_moved seats h y d same = map-set_same kin seats h y d same
 

@@ -1,4 +1,4 @@
--- Seats that are cut and joined keep the account.
+-- A cut and a join of seats keep the account.
 use Rattle.std.proofs.Common.{◌≡◌, ◌<◌, ℕ, ◌+◌, ◌-◌, List, [], ◌∷◌, ◌++◌, map, set, sym, refl, ap, ◌∙◌, inl, inr, ⊎_elim, arith, slice_index}
 use mathlib.Core.Option.{some}
 use lib.ListN.{get_elem?}
@@ -31,7 +31,7 @@ pub snoc-of : (t : ClaimTable) (xs : List ClaimSeat) (s : ClaimSeat) → AreOf t
 snoc-of t [] s are is = (is, tt)
 snoc-of t (x ∷ xs) s are is = (are.0, snoc-of t xs s are.1 is)
 
--- a seat that has drawn nothing, and gives a part away
+-- A new seat that gives a part away stays new.
 pub cut-fresh : (v w : Sight) (counts : List ℕ) → v ≡ fresh v.parts counts → w ≡ record v { parts = v.parts - 1 } → w ≡ fresh w.parts counts
 cut-fresh v w counts is cut =
     let parts : w.parts ≡ v.parts - 1 = ap (λ (u : Sight). u.parts) cut in

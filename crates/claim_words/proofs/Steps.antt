@@ -46,7 +46,7 @@ module _ (counts : List ℕ) where
       } in
       (w, keeps, tt, subst (λ (ws : List ℕ). ClaimsStand counts (record { words = ws; homes = s.homes; views = set s.views id w })) (sym (set-get_or s.words row 0)) all, refl)
 
-  -- the view after a member was drawn, and after a number past them
+  -- The view after a member was drawn, and after a number past the members.
   abbrev taken : Sight → ℕ → ℕ → Sight
   taken v row n = record v { trying = 0; looks = v.looks ++ look row kind.Draw n ∷ []; claimed = v.claimed ++ (row, n) ∷ []; past = v.past }
 
@@ -68,7 +68,7 @@ module _ (counts : List ℕ) where
     after_words : List ℕ
     after_words = set s.words row (slice_index s.words row + 1)
 
-    -- the others' facts stay, since no word falls
+    -- No word falls, so the other seats' facts stay.
     rises : (r : ℕ) → slice_index s.words r ≤ slice_index (set s.words row (slice_index s.words row + 1)) r
     rises r = elim (word_after s.words row (slice_index s.words row + 1) r (let long = h.rows in omega (arith, long, there))) [
       | inl x ↦ (let e = x.1 in let f = ap (λ (k : ℕ). slice_index s.words k) x.0 in omega (arith, e, f))

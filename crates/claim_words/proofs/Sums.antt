@@ -39,7 +39,7 @@ word_after words row n r there = elim (cases_eq r row) [
   | inr other ↦ inr (other, get_or-set_other words row r n 0 other)
 ]
 
--- a number below the count that is drawn is one more member
+-- A drawn number below the count is one more member.
 pub once_more : (m n c : ℕ) → n < c → once m (n + 1) c ≡ once m n c + (if n == m then 1 else 0)
 once_more m n c low = grind (arith, nat_tests)
 
@@ -77,7 +77,7 @@ zero_all f (u ∷ views) none idle =
     let rest = zero_all f views (omega (arith, none)) (λ port v at. idle (suc port) v at) in
     omega (arith, here, rest)
 
--- where one seat has every part, a sum is that seat's own
+-- If one seat has all parts, a sum is that seat's own.
 pub total_whole : (f : Sight → ℕ) (views : List Sight) (port : ℕ) (v idle : Sight) → get_elem? views port ≡ some v → weigh (λ u. u.parts) views ≡ v.parts → idle.parts ≡ 0 → f idle ≡ 0
     → Each (λ u. u.parts ≡ 0 → f u ≡ 0) views → weigh f views ≡ f v
 total_whole f views port v idle at whole none here others =
@@ -90,7 +90,7 @@ pub weigh_le : {X : Type 0} (f g : X → ℕ) → ((x : X) → f x ≤ g x) → 
 weigh_le f g le [] = omega arith
 weigh_le f g le (x ∷ xs) = let here = le x in let rest = weigh_le f g le xs in omega (arith, here, rest)
 
--- a word that was read stays below a word that doesn't fall
+-- A word that was read stays below a word that doesn't fall.
 pub past_le : (words after : List ℕ) (x : Look) → slice_index words x.row ≤ slice_index after x.row → past_word after x ≤ past_word words x
 past_le words after x rises = grind (arith, nat_tests)
 

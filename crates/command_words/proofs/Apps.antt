@@ -1,4 +1,4 @@
--- The program with its commands, one after another.
+-- The program with its commands, one by one.
 use Rattle.std.proofs.Common.{◌≡◌, ◌+◌, ◌<◌, ◌≤◌, ℕ, false, List, [], ◌∷◌, length, take, get_or, codes, fold, sym, ap, ap₂, ◌∙◌}
 use Rattle.std.proofs.lemmas.List.{take_all}
 use Rattle.std.proofs.lemmas.List.Sums.{fold_more}
@@ -7,7 +7,7 @@ use Rattle.clap.specs.Words.{App, Shape, with_subcommand}
 use Rattle.command_words.specs.App.{command_with, program_shape}
 use Rattle.command_words.specs.Form.{harts_alone, made_from}
 
--- with the first two, and with one more that has a number of harts alone
+-- the program with the first two commands; and one more command that has only a number of harts
 abbrev pub first_app : App
 first_app = record { top = record program_shape { is_leaf = false }; subs = command_with (codes "solo") [] ∷ command_with (codes "make") made_from ∷ [] }
 

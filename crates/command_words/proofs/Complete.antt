@@ -1,4 +1,4 @@
--- The walk over words that give options has no fault, and finds them.
+-- The walk through words that give options has no fault, and finds these options.
 use Rattle.std.proofs.Common.{◌≡◌, ◌+◌, ℕ, Bool, true, false, cond, List, [], ◌∷◌, ◌++◌, Option, Some, None, refl, sym, ap, subst, ◌∙◌, arith, append_assoc, append-nil, fold}
 use Rattle.std.specs.List.{list_all}
 use Rattle.std.specs.Str.{bytes_eq}
@@ -15,7 +15,7 @@ use Rattle.command_words.proofs.Walks.{State, between, waits, open_one, walk_at,
 use Rattle.command_words.proofs.Sound.{NoDashes, end_of, Turns}
 use Rattle.command_words.proofs.Lists.{used_new, none_rows}
 
--- a value that can't be taken for an option
+-- a value that can't be read as an option
 abbrev pub IsPlain : Text → Type 0
 IsPlain value = (long_of value ≡ None) × (short_of value ≡ None)
 
@@ -23,7 +23,7 @@ abbrev pub ArePlain : List Given → Type 0
 ArePlain [] = Unit {0}
 ArePlain (o ∷ more) = IsPlain o.1 × ArePlain more
 
--- ---- options that are there once
+-- ---- options that occur once
 both_cases : (b : Bool) (m n k : ℕ) → m ≡ n + k → cond b (1 + m) m ≡ cond b (1 + n) n + k
 both_cases true m n k e = omega arith
 both_cases false m n k e = e
@@ -126,7 +126,7 @@ bare_well command names found last word name more options other behind long read
     bare_walk names (rows_for found) (open_one last) idle word name other long known ∙ ap (λ (rows : List Row). at rows (Some (name, [])) (option name)) done.1 in
     well_after command names (between found last) (waits all name) word more (all ++ options) fault turn (behind (waits all name) options read are plain)
 
--- the option that waits is among those that are read
+-- The option that waits for a value is among those that are read.
 waits_known : (names : List Text) (found : List Given) (name : Text) (more : List Text) (options : List Given) → options_from (Some name) more ≡ Some options → AreOnce names (found ++ options) → is_known names name ≡ true
 waits_known names found name [] options e are = cc e
 waits_known names found name (word ∷ more) options e are =

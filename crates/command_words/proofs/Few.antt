@@ -1,4 +1,4 @@
--- The numbers of a command that words give.
+-- The numbers of a command that words give are within limits.
 use Rattle.std.proofs.Common.{◌≡◌, ◌≤◌, ◌&&◌, ◌-◌, ◌^◌, ℕ, Bool, true, false, cond, nat_le, List, [], ◌∷◌, length, codes, Option, Some, None, refl, subst, arith, rules, find}
 use Rattle.std.specs.Option.{option_map, option_and_then}
 use Rattle.std.specs.Str.{bytes_eq, all_ascii_digits}
@@ -27,8 +27,8 @@ within least most value n e =
 number_within : (least most : ℕ) (name : List ℕ) (options : List Given) (n : ℕ) → number_of least most name options ≡ Some n → (least ≤ n) × (n ≤ most)
 number_within least most name options n e = option_and_then_some (number_in least most) (value_of name options) n e (λ value there given. within least most value n given)
 
--- ---- what a form has
--- one to sixteen harts make a command that has few
+-- ---- the limits of a form
+-- One to sixteen harts make a command with few harts.
 abbrev MakesFew : (ℕ → Command) → Type 0
 MakesFew made = (harts : ℕ) → 1 ≤ harts → harts ≤ 16 → AreFew (made harts)
 

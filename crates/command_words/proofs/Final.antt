@@ -1,4 +1,4 @@
--- What the words' clauses come to.
+-- The clauses on words, from the parts.
 use Rattle.std.proofs.Common.{◌≡◌, true, false, List, [], ◌∷◌, codes, Option, Some, None, refl, sym, subst, ◌∙◌, inl, inr, Result, Ok, Err, IfOk}
 use Rattle.std.specs.Str.{bytes_eq}
 use Rattle.clap.specs.Walk.{Text}
@@ -41,7 +41,7 @@ never_empty : (error : Error) (kinds : Kinds) → HasKind kinds error → (kind_
 never_empty error kinds (inl memory) other e = other memory
 never_empty error kinds (inr among) other e = subst (IsAmong (kind_of error)) e among
 
--- words that clap refuses for another cause than memory are no form
+-- Words that clap refuses for a cause other than memory are no form.
 pub refused_is : {E : Type 0} (words : List Text) (error : Error) (r : Result (Option Command) E) → IfOk r (λ command. command ≡ None) → IfOk r (λ _. kind_of error ≡ OutOfMemory → ⊥)
     → HasKind (fault_of lithe_app words) error → IfOk r (λ command. command ≡ form_of words)
 refused_is words error (Ok command) none other has = none ∙ fault_no_form words (never_empty error (fault_of lithe_app words) has other)

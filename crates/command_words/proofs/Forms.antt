@@ -1,4 +1,4 @@
--- What clap finds is the form.
+-- Clap finds the form of the words.
 use Rattle.std.proofs.Common.{◌≡◌, ◌-◌, ◌^◌, ◌||◌, ◌==◌, ℕ, Bool, true, false, cond, List, [], ◌∷◌, codes, Option, Some, None, refl, sym, ap, subst, ◌∙◌, arith}
 use Rattle.std.specs.List.{list_all}
 use Rattle.std.specs.Option.{option_map, option_and_then}
@@ -31,7 +31,7 @@ same_make options = rw (same_number 0 (2 ^ 64 - 1) (codes "seed") options, same_
 these_are : (names words : List Text) (read : ReadsThese names words) → these names words ≡ Some read.options
 these_are names words read = rw (read.read, read.these) refl
 
--- ---- a word is a command, or another
+-- ---- a word is a command's name, or isn't
 pub data Named : Text → Type 0 where
   is_solo : Named (codes "solo")
   is_make : Named (codes "make")
@@ -72,7 +72,7 @@ harts_form word rest found is e =
 abbrev at_rows : List Row → (ℕ → Command) → Option Command
 at_rows rows command = option_map command (harts_at rows)
 
--- ---- without a fault
+-- ---- words without a fault
 solo_right : (rest : List Text) → NoDashes rest → fault_of lithe_app (codes "solo" ∷ rest) ≡ [] → asked_of (subcommand_of lithe_app (codes "solo" ∷ rest)) ≡ form_of (codes "solo" ∷ rest)
 solo_right rest none e =
     let read = leaf_sound (codes "solo") [] rest none (sym (named_fault (codes "solo") [] rest solo_sub) ∙ e) in
@@ -181,7 +181,7 @@ make_serves rest command e =
     (λ name known value v. make_known name options.0 seed.0 size.0 harts.0 seed.1 size.1 harts.1 (bytes_eq (codes "seed") name) (bytes_eq (codes "size") name) (bytes_eq (codes "harts") name) refl refl refl known value v) in
     record { dashes = (refl, leaf.0); fault = named_fault (codes "make") made_from rest make_sub ∙ leaf.1 }
 
--- `--` is no command's name
+-- `--` isn't the name of a command.
 dashes_case : (b : Bool) (word : Text) (command : ℕ → Command) → harts_command word ≡ Some command → (b ≡ true → word ≡ 45 ∷ 45 ∷ []) → b ≡ false
 dashes_case true word command found is = let bad : None ≡ Some command = sym (ap harts_command (is refl)) ∙ found in cc bad
 dashes_case false word command found is = refl

@@ -1,4 +1,4 @@
--- A command's own words: without a fault exactly where they give its options, each once.
+-- A command's own words have no fault iff they give the command's options, each once.
 use Rattle.std.proofs.Common.{◌≡◌, ◌+◌, ◌≤◌, ◌&&◌, ◌==◌, ℕ, Bool, true, false, cond, not, List, [], ◌∷◌, Some, None, refl, sym, ap, subst, ◌∙◌, arith}
 use Rattle.std.specs.List.{list_any, list_all}
 use Rattle.std.specs.Str.{bytes_eq}
@@ -45,7 +45,7 @@ none_missing (name ∷ more) options e =
     let parts = and_parts (times name options == 1) (list_all (λ name. times name options == 1) more) e in
     rw (given_one (times name options) (is_given name (rows_for options)) (given_rows name options) parts.0, none_missing more options parts.1) refl
 
--- what a command without a fault has read
+-- the options that a command without a fault has read
 pub record ReadsThese (names : List Text) (words : List Text) : Type 0 where
   pub options : List Given
   pub read : options_of words ≡ Some options
@@ -69,7 +69,7 @@ leaf_sound command names words none e =
       rows = rows;
     }
 
--- options that are a command's, each once, have no fault
+-- A command's options, each given once, have no fault.
 known_cases : (b : Bool) (first name : Text) (n m : ℕ) → (b ≡ true → first ≡ name) → (first ≡ name → m ≡ n) → m ≡ 1 → (b ≡ false → n ≡ 1) → n ≡ 1
 known_cases true first name n m same to one other = sym (to (same refl)) ∙ one
 known_cases false first name n m same to one other = other refl

@@ -1,4 +1,4 @@
--- Options that were found, and the rows that clap has of them.
+-- Options that were found, and the rows that clap has for them.
 use Rattle.std.proofs.Common.{◌≡◌, ◌+◌, ◌||◌, ◌==◌, ℕ, Bool, true, false, cond, not, List, [], ◌∷◌, ◌++◌, Some, refl, ap, ◌∙◌, arith, find, slice_get, fold}
 use Rattle.std.specs.Option.{option_map, option_map_or, option_and_then}
 use Rattle.std.specs.Str.{bytes_eq}
@@ -12,7 +12,7 @@ use Rattle.clap.specs.Kinds.{or_else}
 use Rattle.command_words.specs.Form.{Given, times, value_of}
 use Rattle.command_words.proofs.Rules.{option_rule, option_rules, row_for, rows_for}
 
--- how many more there are with one more option
+-- the number of further options: 1 or 0
 abbrev pub one_if : Bool → ℕ
 one_if true = 1
 one_if false = 0
@@ -29,7 +29,7 @@ pub times_push : (name : Text) (options : List Given) (o : Given) → times name
 times_push name [] o = first_time (bytes_eq o.0 name)
 times_push name (x ∷ more) o = later_time (bytes_eq x.0 name) (times name (more ++ o ∷ [])) (times name more) (one_if (bytes_eq o.0 name)) (times_push name more o)
 
--- a row is there where an option has the name
+-- If no option has the name, there is no row of the name.
 none_cases : (b rest : Bool) (n : ℕ) → (rest ≡ false → n ≡ 0) → (b || rest) ≡ false → cond b (1 + n) n ≡ 0
 none_cases true rest n next e = cc e
 none_cases false rest n next e = next e
@@ -91,12 +91,12 @@ appended name value (x ∷ more) e =
     appended_cases (bytes_eq x.0 name) (has_row name (rows_for more)) (row_for x) (more_values CommandLine (value ∷ []) (row_for x)) (rows_for more) (with_row name value (rows_for more))
     (rows_for (more ++ (name, value) ∷ [])) (appended name value more) e
 
--- a use of an option that wasn't used
+-- An option is used that wasn't used before.
 pub used_new : (name value : Text) (options : List Given) → has_row name (rows_for options) ≡ false
     → used (option_rule name) (value ∷ []) (rows_for options) ≡ rows_for (options ++ (name, value) ∷ [])
 used_new name value options none = ap (with_row name value) (without_none name options none) ∙ appended name value options none
 
--- options have no defaults
+-- Options have no defaults.
 same_rows : (b : Bool) (rows : List Row) → cond b rows rows ≡ rows
 same_rows true rows = refl
 same_rows false rows = refl

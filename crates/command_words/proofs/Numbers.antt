@@ -22,7 +22,7 @@ pub numbers_plain : (options : List Given) → AreNumbers options → ArePlain o
 numbers_plain [] are = tt
 numbers_plain (o ∷ more) are = (digits_plain o.1 are.0, numbers_plain more are.1)
 
--- a value is there only where an option is
+-- If a value is found for a name, an option has the name.
 value_cases : (b : Bool) (name : Text) (o : Given) (more : List Given) (value : Text) → option_map (λ (x : Given). x.1) (cond b (Some o) (find (λ x. bytes_eq x.0 name) more)) ≡ Some value
     → (value_of name more ≡ Some value → 1 ≤ times name more) → 1 ≤ cond b (1 + times name more) (times name more)
 value_cases true name o more value e next = omega arith
@@ -54,7 +54,7 @@ all_numbers (o ∷ more) once each = (
   all_numbers more (λ name. less_times name o more (once name)) (λ name value e. each name value (here_value name o more value (once name) e)),
 )
 
--- words that give numbers have no `--` alone
+-- A word that gives an option isn't `--` alone.
 long_cases : (b : Bool) (word : Text) (option : Text × Option Text) → long_of word ≡ Some option → (b ≡ true → word ≡ 45 ∷ 45 ∷ []) → b ≡ false
 long_cases true word option long is = let none : None ≡ Some option = sym (ap long_of (is refl)) ∙ long in cc none
 long_cases false word option long is = refl

@@ -1,4 +1,4 @@
--- The options of a command, as a walk over words finds them.
+-- The options of a command, as a walk through words finds them.
 use Rattle.std.proofs.Common.{◌≡◌, ℕ, Bool, true, false, ◌||◌, cond, List, [], ◌∷◌, map, Option, Some, None, refl, ap}
 use Rattle.std.specs.Str.{bytes_eq}
 use Rattle.std.proofs.lemmas.Slice.Eq.{bytes_eq-Decides}
@@ -8,7 +8,7 @@ use Rattle.clap.specs.declared.parser.matches.ValueSource.TheVariants.{CommandLi
 use Rattle.command_words.specs.App.{needed}
 use Rattle.command_words.specs.Form.{Given, is_known}
 
--- an option of a command that is built
+-- An option of a command that is built.
 abbrev pub option_rule : Text → Rule
 option_rule name = with_index 1 (filled (needed name))
 
@@ -66,7 +66,7 @@ pub no_index : (names : List Text) (i : ℕ) → arg_by_index (option_rules name
 no_index [] i = refl
 no_index (first ∷ more) i = no_index more i
 
--- what was found of options
+-- the row of an option that was found
 abbrev pub row_for : Given → Row
 row_for option = record { id = option.0; values = option.1 ∷ []; count = None; source = Some CommandLine; reading = reading_by (option_rule option.0) }
 

@@ -1,4 +1,4 @@
--- A walk without a fault has read the words' options.
+-- A walk without a fault has read the options of the words.
 use Rattle.std.proofs.Common.{◌≡◌, ◌<◌, ◌==◌, ℕ, Bool, true, false, cond, List, [], ◌∷◌, ◌++◌, length, Option, Some, None, refl, sym, ap, subst, ◌∙◌, arith, append_assoc, append-nil, fold}
 use Rattle.std.specs.Option.{option_and_then}
 use Rattle.std.specs.Prelude.{slice_get}
@@ -18,22 +18,22 @@ abbrev pub NoDashes : List Text → Type 0
 NoDashes [] = Unit {0}
 NoDashes (word ∷ more) = (is_dashes word ≡ false) × NoDashes more
 
--- where the walk ends
+-- the state in which the walk ends
 abbrev pub end_of : List Text → State → List Text → Walk
 end_of names state words = fold (walked (option_rules names) []) (walk_at state) words
 
--- the words' options were read, and the walk found them
+-- the options of the words were read, and the walk found them
 pub record HasRead (names : List Text) (state : State) (words : List Text) : Type 0 where
   pub options : List Given
   pub read : options_from (waiting_in state) words ≡ Some options
   pub once : AreOnce names (found_in state ++ options)
   pub rows : settled_rows (option_rules names) (end_of names state words).held.pending (end_of names state words).held.rows ≡ rows_for (found_in state ++ options)
 
--- a word is read from one state into another, and gives these options
+-- a word leads from one state to another
 abbrev pub Turns : List Text → State → Text → State → Type 0
 Turns names state word next = walked (option_rules names) [] (walk_at state) word ≡ walk_at next
 
--- the words behind a word
+-- A word and the words after it.
 after_word : (names : List Text) (state next : State) (word : Text) (more : List Text) (given : List Given)
     → Turns names state word next → found_in next ≡ found_in state ++ given
     → ((rest : List Given) → options_from (waiting_in next) more ≡ Some rest → options_from (waiting_in state) (word ∷ more) ≡ Some (given ++ rest))
@@ -53,7 +53,7 @@ walk_parts : (command : Text) (names : List Text) (state next : State) (word : T
 unfolding walk_fault
 walk_parts command names state next word more e = nil_both (turn_fault (leaf command names) [] (walk_at state) word) (walk_fault (leaf command names) [] (walked (option_rules names) [] (walk_at state) word) more) e
 
--- a word that begins with one `-` is no option: it is refused, or taken as no flag
+-- a word that begins with one `-` is no option: it is refused, or read without a flag
 pub data IsDashed (names : List Text) (rows : List Row) (pending : Option (Text × List Text)) (flags : Text) : Type 0 where
   refuses : ((again : Bool) → flags_fault (option_rules names) again (length flags) flags 0 (held rows pending) ≡ UnknownArgument ∷ []) → IsDashed names rows pending flags
   passes : ((again : Bool) → flags_fault (option_rules names) again (length flags) flags 0 (held rows pending) ≡ []) → bundle_met (option_rules names) (length flags) flags 0 plain (held rows pending) ≡ (held rows pending, plain) → IsDashed names rows pending flags
@@ -110,12 +110,12 @@ dashed_walk : (command : Text) (names : List Text) (rows : List Row) (name word 
     → walked (option_rules names) [] (at rows (Some (name, [])) (option name)) word ≡ at rows (Some (name, word ∷ [])) idle
 dashed_walk command names rows name word flags other long short known e = waiting_cases command names rows name word flags other long short known e (dashed names rows (Some (name, [])) word flags short)
 
--- the words behind, from any state
+-- the words after a word, from any state
 abbrev Next : Text → List Text → List Text → Type 0
 Next command names more = (state : State) → IsGood names state → walk_fault (leaf command names) [] (walk_at state) more ≡ []
     → settle_fault (option_rules names) false (end_of names state more).held ≡ [] → HasRead names state more
 
--- the walk behind a word that was read
+-- The walk continues after a word that was read.
 go_on : (command : Text) (names : List Text) (state next : State) (word : Text) (more : List Text) (given : List Given) → Next command names more
     → walk_fault (leaf command names) [] (walk_at state) (word ∷ more) ≡ [] → settle_fault (option_rules names) false (end_of names state (word ∷ more)).held ≡ []
     → Turns names state word next → IsGood names next → found_in next ≡ found_in state ++ given
@@ -187,7 +187,7 @@ between_word command names found last word more other good walks settled behind 
 between_word command names found last word more other good walks settled behind (Some (name, None)) long = bare_next command names found last word name more other good walks settled behind long (is_known names name) refl
 between_word command names found last word more other good walks settled behind (Some (name, Some value)) long = joined_next command names found last word name value more other good walks settled behind long (is_known names name) refl
 
--- where an option waits for its value, a further option is none
+-- If an option waits for its value, the next word is no option.
 option_never : (command : Text) (names : List Text) (found : List Given) (name word next : Text) (value : Option Text) → is_dashes word ≡ false → is_known names name ≡ true → long_of word ≡ Some (next, value)
     → turn_fault (leaf command names) [] (walk_at (waits found name)) word ≡ [] → (known : Bool) → is_known names next ≡ known → ⊥
 option_never command names found name word next value other good long turn false known = unknown_never command names (rows_for found) (Some (name, [])) (option name) word next value other long known turn
@@ -216,7 +216,7 @@ waits_word command names found name word more other good walks settled behind No
 waits_word command names found name word more other good walks settled behind (Some next) long =
     absurd (option_never command names found name word next.0 next.1 other good.1 long (word_fault_none command names (waits found name) word more walks) (is_known names next.0) refl)
 
--- a walk without a fault has read the words' options
+-- A walk without a fault has read the options of the words.
 pub sound : (command : Text) (names : List Text) (words : List Text) (state : State) → NoDashes words → IsGood names state
     → walk_fault (leaf command names) [] (walk_at state) words ≡ [] → settle_fault (option_rules names) false (end_of names state words).held ≡ [] → HasRead names state words
 sound command names [] (between found last) none good walks settled =

@@ -1,4 +1,4 @@
--- The first word, and the command that it names.
+-- The first word, and the command it names.
 use Rattle.std.proofs.Common.{◌≡◌, ◌&&◌, ℕ, Bool, true, false, cond, List, [], ◌∷◌, map, codes, Option, Some, None, is_some, refl, sym, ap, ap₂, ◌∙◌, find, fold}
 use Rattle.std.specs.Option.{option_map, option_map_or}
 use Rattle.std.specs.Str.{bytes_eq}
@@ -20,7 +20,7 @@ use Rattle.command_words.proofs.Leaves.{leaf_fault}
 use Rattle.command_words.proofs.Sound.{IsDashed, refuses, passes, dashed}
 use Rattle.command_words.proofs.Walks.{nil_both, cons_nil}
 
--- the program that is built, the names of its commands, and the command that a word names
+-- The program that is built, the names of its commands, and the command that a word names.
 abbrev top_shape : Shape
 top_shape = (built lithe_app).top
 
@@ -30,8 +30,8 @@ top_names = names_of (built lithe_app)
 abbrev pub sub_at : Text → Option Shape
 sub_at word = find (λ s. answers_to word (label_of s)) (built lithe_app).subs
 
--- ---- the commands with a number of harts alone
--- the word names none of the others
+-- ---- the commands with only a number of harts
+-- the word is the name of none of the others
 pub record IsElse (word : Text) : Type 0 where
   pub solo : bytes_eq word (codes "solo") ≡ false
   pub make : bytes_eq word (codes "make") ≡ false
@@ -67,7 +67,7 @@ else_sub word is =
     rw (solo, make) (in_list harts_commands word)
 
 -- ---- a word that names a command
--- the whole, by where the walk over the words stops and by its fault
+-- the fault of all words, by the walk's end and fault
 abbrev whole_fault : Walk → Kinds → Kinds
 whole_fault w fault =
     let a = built lithe_app in
@@ -124,7 +124,7 @@ or_nil : (kinds : Kinds) → or_else kinds [] ≡ kinds
 or_nil [] = refl
 or_nil (k ∷ ks) = refl
 
--- what is behind the word, where it names the command that was found
+-- the fault of the words after a word, if it names the command that was found
 abbrev behind : List Text → Option Shape → Kinds
 behind rest found =
     or_else (option_map_or (λ (s : Shape). level_fault s [] nothing_held rest false []) found [])

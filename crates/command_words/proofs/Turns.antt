@@ -1,4 +1,4 @@
--- What one word does to the walk over the words behind a command.
+-- The effect of one word on the walk through the words after a command.
 use Rattle.std.proofs.Common.{◌≡◌, Bool, true, false, List, [], ◌∷◌, Option, Some, None, refl}
 use Rattle.std.specs.Str.{bytes_eq}
 use Rattle.clap.specs.Lexer.{long_of, short_of}
@@ -11,7 +11,7 @@ use Rattle.command_words.specs.App.{lithe_app, command_with}
 use Rattle.command_words.specs.Form.{is_known}
 use Rattle.command_words.proofs.Rules.{option_rule, option_rules, known_long, unknown_long, known_id, no_index, text_same}
 
--- a command that is built
+-- A command that is built.
 abbrev pub leaf : Text → List Text → Shape
 leaf name names = record (built_leaf (inherited lithe_app.top (command_with name []))) { rules = option_rules names }
 
@@ -52,14 +52,14 @@ unfolding walked
 bare_walk names rows pending idle word name plain long known = rw (plain, long, known_long names name known) refl
 bare_walk names rows pending waiting word name plain long known = rw (plain, long, known_long names name known) refl
 
--- an option that the command hasn't
+-- An option that the command doesn't have.
 pub unknown_fault : (command : Text) (names : List Text) (rows : List Row) (pending : Option (Text × List Text)) (waiting : Waiting) (word name : Text) (value : Option Text)
     → is_dashes word ≡ false → long_of word ≡ Some (name, value) → is_known names name ≡ false
     → turn_fault (leaf command names) [] (at rows pending waiting) word ≡ UnknownArgument ∷ []
 unknown_fault command names rows pending idle word name value plain long known = rw (plain, long, unknown_long names name known) refl
 unknown_fault command names rows pending waiting word name value plain long known = rw (plain, long, unknown_long names name known) refl
 
--- a word that is no flag, behind an option that waits, and where none waits
+-- A word that is no flag, after an option that waits for a value, and after none.
 pub value_fault : (command : Text) (names : List Text) (rows : List Row) (name word : Text) → is_dashes word ≡ false → long_of word ≡ None → short_of word ≡ None → is_known names name ≡ true
     → turn_fault (leaf command names) [] (at rows (Some (name, [])) (option name)) word ≡ []
 value_fault command names rows name word plain long short known = rw (plain, long, short) refl

@@ -1,4 +1,4 @@
--- The walk over the words behind a command, and the options that these words give.
+-- The walk through the words after a command, and the options that these words give.
 use Rattle.std.proofs.Common.{◌≡◌, ◌+◌, ◌≤◌, ◌&&◌, Bool, true, false, cond, List, [], ◌∷◌, ◌++◌, Option, Some, None, refl, sym, ap, ◌∙◌, arith}
 use Rattle.std.specs.List.{list_all}
 use Rattle.std.specs.Str.{bytes_eq}
@@ -20,7 +20,7 @@ pub nil_both : (a b : Kinds) → or_else a b ≡ [] → (a ≡ []) × (b ≡ [])
 nil_both [] b e = (refl, e)
 nil_both (k ∷ ks) b e = absurd (cons_nil k ks e)
 
--- where the walk stands: the options that are settled, and one that isn't settled yet or waits for its value
+-- the state of the walk: the settled options, and one that isn't settled yet or waits for its value
 pub data State : Type 0 where
   between : List Given → Option Given → State
   waits : List Given → Text → State
@@ -94,7 +94,7 @@ never_waits names rows name known e =
 pub settle_last : (names : List Text) (rows : List Row) (o : Given) → is_known names o.0 ≡ true → settle_fault (option_rules names) false (held rows (Some (o.0, o.1 ∷ []))) ≡ use_fault false (option_rule o.0) (o.1 ∷ []) rows
 settle_last names rows o known = rw (known_id names o.0 known) refl
 
--- what settles an option that isn't settled yet
+-- The settling of an option that isn't settled yet.
 pub settles : (names : List Text) (found : List Given) (last : Option Given) → IsGood names (between found last) → settle_fault (option_rules names) false (held (rows_for found) (open_one last)) ≡ []
     → AreOnce names (with_last found last) × (settled_rows (option_rules names) (open_one last) (rows_for found) ≡ rows_for (with_last found last))
 settles names found None good e = (good, refl)

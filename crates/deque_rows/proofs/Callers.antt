@@ -1,4 +1,4 @@
--- What a caller of the rows of all harts needs.
+-- Facts for a caller that has the deques of all harts.
 use Rattle.std.proofs.Common.{◌≡◌, ◌<◌, ℕ, suc, List, [], ◌∷◌, ◌++◌, map, length, get_or, set, sym, ap, subst, ◌∙◌, arith, refl}
 use Rattle.std.proofs.lemmas.List.{length-map, length-append, get_or_push, get_or_append_left}
 use Rattle.std.proofs.Math.Seq.{map-set_same}
@@ -6,12 +6,12 @@ use Rattle.std.proofs.Math.ListN.{get_or-map as get_or-map_same}
 use Rattle.deque_rows.specs.declared.hart.HartRows.{HartRows}
 use Rattle.deque_rows.specs.Rows.{Kin, kin, AreAll}
 
--- each hart reaches the rows of all
+-- Each hart reaches the deques of all harts.
 pub reaches_all : (rows : List HartRows) → AreAll (map kin rows) → (h : ℕ) (d : HartRows) → h < length rows → (get_or rows h d).harts ≡ length rows
 reaches_all rows all h d there =
     ap (λ (k : Kin). k.harts) (sym (get_or-map_same kin rows h d)) ∙ all.reaches h (kin d) (subst (λ n. h < n) (sym (length-map rows kin)) there) ∙ length-map rows kin
 
--- of rows that all reach as many harts: so does the last, and so do those before it
+-- If all harts reach n harts, the last one does, and so do those before it.
 pub last_reaches : (rs rs' : List HartRows) (r : HartRows) (n : ℕ) → rs ≡ rs' ++ r ∷ [] → ((h : ℕ) (d : HartRows) → h < length rs → (get_or rs h d).harts ≡ n) → r.harts ≡ n
 last_reaches rs rs' r n split all =
     let there : length rs' < length rs = omega (arith, ap length split, length-append rs' (r ∷ [])) in
@@ -23,7 +23,7 @@ rest_reach rs rs' r n split all h d below =
     let there : h < length rs = omega (arith, below, ap length split, length-append rs' (r ∷ [])) in
     ap (λ (x : HartRows). x.harts) (sym (get_or_append_left rs' (r ∷ []) d h below) ∙ ap (λ xs. get_or xs h d) (sym split)) ∙ all h d there
 
--- one hart's rows moved on, or each hart's
+-- One hart's deques change, or each hart's do, and no identity changes.
 pub one_moved : (rows : List HartRows) (h : ℕ) (y d : HartRows) → kin y ≡ kin (get_or rows h d) → map kin (set rows h y) ≡ map kin rows
 one_moved rows h y d same = map-set_same kin rows h y d same
 

@@ -1,4 +1,4 @@
--- How the rows come about.
+-- How the deques are made.
 use Rattle.std.proofs.Common.{◌≡◌, ◌<◌, ◌≤◌, ◌*◌, ◌+◌, ◌-◌, ◌/◌, ◌%◌, ℕ, true, List, [], ◌∷◌, map, length, replicate, get_or, set, sym, ap, subst, ◌∙◌, arith, inl, inr, refl}
 use Rattle.std.proofs.lemmas.List.{get_or-map, get_or-replicate, get_or-set_same, get_or-set_other, length-map, length-set}
 use Rattle.std.proofs.lemmas.Bool.{cases_eq}
@@ -12,7 +12,7 @@ use Rattle.deque_rows.specs.Rows.{Kin, kin, share, home_logs, home_names, pass_l
 use Rattle.deque_rows.specs.Lines.{IsHome, IsAt, IsLine, Standing, standing, less, end_log, end_name}
 use Rattle.deque_rows.proofs.Places.{hart_of_row, mod_three, pick, hart_row, row_at-map}
 
--- two maps one after another
+-- Two maps in sequence are one map.
 pub map_one : {X Y Z : Type 0} (f : Y → Z) (g : X → Y) (h : X → Z) → ((x : X) → f (g x) ≡ h x) → (xs : List X) → map f (map g xs) ≡ map h xs
 map_one f g h same [] = refl
 map_one f g h same (x ∷ xs) = λ i. same x i ∷ map_one f g h same xs i
@@ -38,17 +38,17 @@ begun harts rows count homes = (
       }),
 )
 
--- what stands as it did among the rows
+-- A hart whose standing is the same in both lists.
 pub stands : (rows mid : List HartRows) (h : ℕ) (d : HartRows) → map standing mid ≡ map standing rows → standing (get_or mid h d) ≡ standing (get_or rows h d)
 stands rows mid h d same = sym (get_or-map_same standing mid h d) ∙ ap (λ l. get_or l h (standing d)) same ∙ get_or-map_same standing rows h d
 
--- one hart's rows that changed take as many codes as before, and so do all
+-- If one hart's deques keep their capacities, all do.
 pub rooms_kept : (rows mid : List HartRows) (h : ℕ) (d y : HartRows) → rooms y ≡ rooms (get_or mid h d) → map standing mid ≡ map standing rows → map rooms (set mid h y) ≡ map rooms rows
 rooms_kept rows mid h d y same stay =
     let of : (l : List HartRows) → map rooms l ≡ map (λ (s : Standing). s.rooms) (map standing l) = λ l. sym (map_one (λ (s : Standing). s.rooms) standing rooms (λ r. refl) l) in
     map-set_same rooms mid h y d same ∙ of mid ∙ ap (map (λ (s : Standing). s.rooms)) stay ∙ sym (of rows)
 
--- rows that take so many codes each, and as many after
+-- All deques have this capacity, and keep it.
 pub have_rooms : (harts room : ℕ) (rows after : List HartRows) → map rooms after ≡ map rooms rows → ((h : ℕ) (d : HartRows) → h < harts → rooms (get_or rows h d) ≡ replicate 3 room)
     → (h : ℕ) (d : HartRows) → h < harts → HasRooms room (get_or after h d)
 have_rooms harts room rows after same each h d there level is =
@@ -56,7 +56,7 @@ have_rooms harts room rows after same each h d there level is =
     let at : rooms (get_or after h d) ≡ replicate 3 room = sym (get_or-map_same rooms after h d) ∙ ap (λ z. get_or z h (rooms d)) same ∙ get_or-map_same rooms rows h d ∙ each h d there in
     ap (λ z. get_or z (level - 1) 0) at ∙ get_or-replicate 3 (level - 1) room 0 l
 
--- each row has lent an end, and the next hart gets these
+-- Each deque has lent an end, and the next hart gets these ends.
 module _ (harts g : ℕ) (rows mid : List HartRows) (d0 y : HartRows) (ends : List StealingEnd)
     (count : length rows ≡ harts) (few : g < harts)
     (owners : (r : ℕ) → r < 3 * harts → owner_log rows r ≡ blank (64 - g) true)
@@ -105,7 +105,7 @@ module _ (harts g : ℕ) (rows mid : List HartRows) (d0 y : HartRows) (ends : Li
         }
   ]
 
--- all harts have their ends
+-- All harts have their ends.
 module _ (harts : ℕ) (rows : List HartRows) (count : length rows ≡ harts) (few : harts ≤ 16)
     (owners : (r : ℕ) → r < 3 * harts → owner_log rows r ≡ blank (64 - harts) true)
     (ats : (h : ℕ) (d : HartRows) → h < harts → IsAt harts harts (map home_names rows) h (get_or rows h d)) where
@@ -121,7 +121,7 @@ module _ (harts : ℕ) (rows : List HartRows) (count : length rows ≡ harts) (f
   is_at : (h : ℕ) (there : h < length (map kin rows)) → IsAt harts harts (map home_names rows) h (get_or rows h (some_at h there))
   is_at h there = ats h (some_at h there) (subst (λ n. h < n) all_kin there)
 
-  -- the ends of one hart
+  -- The ends of one hart.
   ends_of : (h r : ℕ) (there : h < length (map kin rows)) → r < 3 * length (map kin rows) → r < length (get_or rows h (some_at h there)).ends.items
   ends_of h r there below =
       let q = get_or rows h (some_at h there) in

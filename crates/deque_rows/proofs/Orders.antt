@@ -1,8 +1,8 @@
--- Codes that stand in the order of others.
+-- Indices in the order of other indices.
 use Rattle.std.proofs.Common.{ℕ, List, [], ◌∷◌, ◌++◌, refl, inl, inr}
 use Rattle.deque_rows.specs.Account.{InOrder}
 
--- a further code may stand before, which is left out
+-- An order stays an order if one more index stands before and is left out.
 pub order_wider : (y : ℕ) (xs ys : List ℕ) → InOrder xs ys → InOrder xs (y ∷ ys)
 order_wider y [] ys h = tt
 order_wider y (x ∷ xs) ys h = inr h

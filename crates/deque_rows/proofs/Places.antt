@@ -1,4 +1,4 @@
--- The rows of all harts, of which one changes.
+-- The deques of all harts, of which one changes.
 use Rattle.std.proofs.Common.{◌≡◌, ◌≢◌, ℕ, ◌<◌, ◌*◌, ◌/◌, ◌%◌, ◌+◌, false, suc, zero, List, [], ◌∷◌, ◌++◌, length, map, set, get_or, sym, ap, ◌∙◌, subst, arith, inl, inr}
 use Rattle.std.proofs.Math.Nat.{div-add-mod, mod-lt}
 use Rattle.std.proofs.lemmas.List.{get_or-map, map-set, get_or-set_same, get_or-set_other, length-map, get_or_append_left, length-append, length-set}
@@ -21,7 +21,7 @@ pub ok_map : {X E : Type 0} {P Q : X → Type 0} (r : Result X E) → ((x : X) �
 ok_map (Ok x) f h = f x h
 ok_map (Err e) f h = h
 
--- an own end that changed
+-- the log of an own end
 abbrev pub home_log_of : HomeEnd → Log
 home_log_of h = worker_view h.worker
 
@@ -37,7 +37,7 @@ name_at xs i was n is there = ap home_name_of is ∙ sym (get_or-map home_name_o
 pub home_put : (xs : List HomeEnd) (i : ℕ) (y was : HomeEnd) (F : Log → Log) → was ≡ get_or xs i was → i < length xs → home_log_of y ≡ F (home_log_of was) → map home_log_of (set xs i y) ≡ set (map home_log_of xs) i (F (get_or (map home_log_of xs) i idle))
 home_put xs i y was F is there e = map-set home_log_of xs i y ∙ ap (λ (u : Log). set (map home_log_of xs) i u) (e ∙ ap F (home_at xs i was is there))
 
--- what such an end pushed in a push
+-- One push adds one pushed index to the log of an own end.
 pub room_after : (xs : List HomeEnd) (i : ℕ) (y was : HomeEnd) (code : ℕ) → was ≡ get_or xs i was → i < length xs → home_log_of y ≡ after_push (home_log_of was) (code ∷ [])
     → length (get_or (map home_log_of (set xs i y)) i idle).pushed ≡ length (get_or (map home_log_of xs) i idle).pushed + 1
 room_after xs i y was code is there e =
@@ -53,11 +53,11 @@ made_kept xs i y was is same = map-set_same (λ (h : HomeEnd). h.made) xs i y wa
 pub mod_three : (r : ℕ) → r % 3 < 3
 mod_three r = mod-lt r (omega arith)
 
--- a place of a row lies in one of the harts
+-- The index of a deque determines its hart.
 pub hart_of_row : (r n : ℕ) → r < 3 * n → r / 3 < n
 hart_of_row r n few = let d = div-add-mod r 3 in omega (arith, d, few)
 
--- a hart's rows that changed, among those of all
+-- One hart's deques change.
 module _ (rows : List HartRows) (r : ℕ) (there : r < 3 * length rows) (y d : HartRows) where
   abbrev pub was : HartRows
   was = get_or rows (r / 3) d
@@ -72,7 +72,7 @@ module _ (rows : List HartRows) (r : ℕ) (there : r < 3 * length rows) (y d : H
       ∙ ap (λ l. set (map home_logs rows) (r / 3) l) e
       ∙ ap (λ l. set (map home_logs rows) (r / 3) (set l (r % 3) (F (get_or l (r % 3) idle)))) (sym own)
 
--- what stands at a place, after one of them changed
+-- The element at an index, after it was replaced.
 pub at_put : {X : Type 0} (homes : List (List X)) (r : ℕ) (d x : X) → r / 3 < length homes → r % 3 < length (get_or homes (r / 3) []) → row_at d (put homes r x) r ≡ x
 at_put homes r d x there within =
     let own = get_or-set_same homes (r / 3) (set (get_or homes (r / 3) []) (r % 3) x) [] there in
@@ -88,7 +88,7 @@ else_put homes r j d x there other = elim (cases_eq (j / 3) (r / 3)) [
   | inr apart ↦ ap (λ l. get_or l (j % 3) d) (get_or-set_other homes (r / 3) (j / 3) (set (get_or homes (r / 3) []) (r % 3) x) [] apart)
 ]
 
--- each hart has three rows of its own
+-- Each hart has three deques of its own.
 pub three : (rows : List HartRows) (i : ℕ) → i < length rows → length (get_or (map home_logs rows) i []) ≡ 3
 three [] i there = absurd (omega (arith, there))
 three (x ∷ rows) zero there = let l = length-map x.own.items home_log_of in let k = x.own.ok in let n = x.levels in omega (arith, l, k, n)
@@ -117,7 +117,7 @@ line_more names ends e are new of r d n there = elim (cases_eq r (length ends)) 
       (ap end_log at ∙ (are r d n below).0, ap end_name at ∙ (are r d n below).1)
 ]
 
--- the l-th row of hart h
+-- The l-th deque of hart h.
 pub hart_row : {X : Type 0} (d : X) (homes : List (List X)) (h l : ℕ) → l < 3 → row_at d homes (3 * h + l) ≡ get_or (get_or homes h []) l d
 hart_row d homes h l few =
     let a : (3 * h + l) / 3 ≡ h = ap (λ n. n / 3) (let e : 3 * h + l ≡ h * 3 + l = omega arith in e) ∙ div-mul-add h 3 l few in
@@ -127,7 +127,7 @@ hart_row d homes h l few =
 pub row_at-map : {X Y : Type 0} (f : X → Y) (homes : List (List X)) (d : X) (r : ℕ) → row_at (f d) (map (map f) homes) r ≡ f (row_at d homes r)
 row_at-map f homes d r = ap (λ l. get_or l (r % 3) (f d)) (get_or-map_same (map f) homes (r / 3) []) ∙ get_or-map_same f (get_or homes (r / 3) []) (r % 3) d
 
--- an element of a list that has a place
+-- the element of a list at an index
 pub pick : {X : Type 0} (xs : List X) (i : ℕ) → i < length xs → X
 pick [] i there = absurd (omega (arith, there))
 pick (x ∷ xs) i there = x

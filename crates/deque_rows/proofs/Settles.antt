@@ -1,4 +1,4 @@
--- How the account of the rows is settled.
+-- How the account of the deques is settled.
 use Rattle.std.proofs.Common.{◌≡◌, ◌<◌, ◌≤◌, ◌*◌, ◌+◌, ◌-◌, ℕ, List, [], ◌++◌, map, length, get_or, sym, ap, subst, ◌∙◌, arith, refl}
 use Rattle.std.proofs.lemmas.List.{get_or-map, length-map}
 use Rattle.std.proofs.Math.ListN.{get_or-map as get_or-map_same}
@@ -13,7 +13,7 @@ use Rattle.deque_rows.proofs.Orders.{order_rest}
 use Rattle.deque_rows.proofs.Places.{row_at-map}
 use Rattle.deque_rows.proofs.Makes.{map_one, map_twice}
 
--- what is told of a row when all its ends are back
+-- The account of a deque once all its ends are back.
 pub settled : (v : Log) (stolen items : List ℕ) → Tells (gathered v 64 stolen) items → IsSettled v stolen
 settled v stolen items told = record {
   left = items;
@@ -38,7 +38,7 @@ module _ (first : List HartRows) (all : AreAll (map kin first)) where
   in_kin : (h : ℕ) → h < length first → h < length (map kin first)
   in_kin h there = subst (λ n. h < n) (sym few_kin) there
 
-  -- before the first is given back
+  -- No end is back yet.
   pub untouched : (r : ℕ) → r < 3 * length first → owner_log first r ≡ gathered (owner_log first r) (64 - length first + 0) []
   untouched r there =
       let same : map (λ (k : Kin). k.home_shares) (map kin first) ≡ map (map share) (map home_logs first) = map_twice (λ (k : Kin). k.home_shares) kin (map share) home_logs (λ q. refl) first in
@@ -46,7 +46,7 @@ module _ (first : List HartRows) (all : AreAll (map kin first)) where
       let parts : 64 - length (map kin first) ≡ 64 - length first + 0 = omega (arith, few_kin) in
       ap (λ (x : ℕ × List ℕ). gathered (owner_log first r) x.0 x.1) own ∙ ap (λ p. gathered (owner_log first r) p []) parts
 
-  -- the ends of hart h, of which nothing was given back yet
+  -- The ends of hart h, none of which is back yet.
   module _ (h : ℕ) (d : HartRows) (there : h < length first) where
     abbrev pub q : HartRows
     q = get_or first h d
@@ -67,7 +67,7 @@ module _ (first : List HartRows) (all : AreAll (map kin first)) where
         ∙ all.passes h r (kin d) n (in_kin h there) (omega (arith, below, few_kin))
         ∙ ap (λ l. row_at n l r) (map_one (λ (z : Kin). z.home_names) kin home_names (λ z. refl) first)
 
-    -- the log of such an end, in the list that tells what was stolen
+    -- The log of an end of hart h, in the list of stolen indices.
     pub end_in_line : (r : ℕ) (e : StealingEnd) → r < 3 * length first → end_log (get_or q.ends.items r e) ≡ get_or (get_or (map pass_logs first) h []) r idle
     end_in_line r e below =
         let k = q.ends.ok in
@@ -91,6 +91,6 @@ few_rows first all = let a = all.few in let b = length-map first kin in omega (a
 pub sums : (a g : ℕ) → a + g + 1 ≡ a + (g + 1)
 sums a g = omega arith
 
--- a log that takes one more hart's end
+-- A log after one more hart's end is joined in.
 pub gathers : (v w : Log) (parts : ℕ) (stolen : List ℕ) → w.parts ≡ 1 → joined (gathered v parts stolen) w ≡ gathered v (parts + 1) (stolen ++ w.stolen)
 gathers v w parts stolen one = ap (λ p. gathered v (parts + p) (stolen ++ w.stolen)) one

@@ -23,6 +23,6 @@ end_parts xs i y was is same =
 pub end_at : (xs : List StealingEnd) (i : ℕ) (was : StealingEnd) → was ≡ get_or xs i was → i < length xs → end_log was ≡ get_or (map end_log xs) i idle
 end_at xs i was is there = ap end_log is ∙ sym (get_or-map end_log xs i was idle there)
 
--- an end whose log stayed leaves the logs as they were
+-- An end whose log stayed leaves the list of logs as it was.
 pub end_kept : (xs : List StealingEnd) (i : ℕ) (y was : StealingEnd) → was ≡ get_or xs i was → end_log y ≡ end_log was → map end_log (set xs i y) ≡ map end_log xs
 end_kept xs i y was is same = map-set_same end_log xs i y was (same ∙ ap end_log is)

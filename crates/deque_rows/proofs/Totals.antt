@@ -19,7 +19,7 @@ pub total_snoc : (f : Log → ℕ) (logs : List Log) (w : Log) → total f (logs
 total_snoc f [] w = omega arith
 total_snoc f (u ∷ logs) w = let rest = total_snoc f logs w in omega (arith, rest)
 
--- a fact of each log, after one of them changed
+-- A property of each log, after one log changed.
 pub each_set : (F : ℕ → Log → Type 0) (logs : List Log) (port : ℕ) (w : Log) → F port w → ((j : ℕ) (u : Log) → j ≢ port → get_elem? logs j ≡ some u → F j u) → (j : ℕ) (u : Log) → get_elem? (set logs port w) j ≡ some u → F j u
 each_set F logs port w mine others j u e = ⊎_elim (λ (x : (j ≡ port) × (w ≡ u)). subst (λ (y : ℕ × Log). F y.0 y.1) (λ i. (sym x.0 i, x.1 i)) mine)
     (λ (x : (j ≢ port) × (get_elem? logs j ≡ some u)). others j u x.0 x.1) (at_set logs port j w u e)
@@ -34,7 +34,7 @@ zero_all f (u ∷ logs) none spent =
     let rest = zero_all f logs (omega (arith, none)) (λ port v at. spent (suc port) v at) in
     omega (arith, here, rest)
 
--- where one pass has every part, a sum is that pass's own
+-- If one pass has all parts, a sum is that pass's own.
 pub total_whole : (f : Log → ℕ) (logs : List Log) (port : ℕ) (v none_of : Log) → get_elem? logs port ≡ some v → total (λ u. u.parts) logs ≡ v.parts → none_of.parts ≡ 0 → f none_of ≡ 0
     → ((j : ℕ) (u : Log) → get_elem? logs j ≡ some u → u.parts ≡ 0 → f u ≡ 0) → total f logs ≡ f v
 total_whole f logs port v none_of at whole none here others =

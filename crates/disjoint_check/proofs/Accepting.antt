@@ -1,4 +1,4 @@
--- A program fails none of the conditions exactly where it is accepted.
+-- A program fails none of the conditions iff it is accepted.
 use Rattle.std.proofs.Common.{◌≡◌, ℕ, true, List, [], ◌∷◌, Option, Some, None, refl, sym, ap, ◌∙◌}
 use Rattle.std.specs.Option.{option_map}
 use Rattle.array_tree.specs.Trees.{ProgramTree}
@@ -19,7 +19,7 @@ use Rattle.disjoint_check.specs.FaultOf.{of_walk, meaning_fault_of, check_fault_
 use Rattle.disjoint_check.specs.Meaning.{HasMeaningFor, IsAcceptedFor}
 use Rattle.disjoint_check.proofs.Conditions.{limits_from, limits_to, limits_of, sized_from}
 
--- the walk's fault is the first of its two
+-- The walk's fault is the first of its two faults.
 either_of_walk : (a b : Option WalkFault) → first_fault (option_map of_walk a ∷ option_map of_walk b ∷ []) ≡ option_map of_walk (option_or a b)
 either_of_walk None None = refl
 either_of_walk None (Some g) = refl
@@ -44,14 +44,14 @@ no_limit : (limit : Option CheckFault) (more : List (Option CheckFault)) → fir
 no_limit None more h = refl
 no_limit (Some f) more h = cc
 
--- a condition on names, ranges or size that fails comes first
+-- A failed condition on names, ranges or size is reported first.
 pub limit_is_first : (program : ProgramTree) (harts : ℕ) (why : CheckFault) → limit_fault_of program harts ≡ Some why → check_fault_of program harts ≡ Some why
 limit_is_first program harts why h = ap (λ o. first_fault (o ∷ option_map of_walk (out_of_range_of program) ∷ option_map of_walk (overlap_of program) ∷ [])) h
 
 pub limit_before_meaning : (program : ProgramTree) (harts : ℕ) (why : CheckFault) → limit_fault_of program harts ≡ Some why → meaning_fault_of program harts ≡ Some why
 limit_before_meaning program harts why h = ap (λ o. first_fault (o ∷ option_map of_walk (out_of_range_of program) ∷ [])) h
 
--- else what the walk finds
+-- If these conditions hold, the walk's fault is reported.
 pub walk_is_next : (program : ProgramTree) (harts : ℕ) (f : WalkFault) → limit_fault_of program harts ≡ None → walk_fault_of program ≡ Some f → check_fault_of program harts ≡ Some (of_walk f)
 walk_is_next program harts f none h =
     after_limits (limit_fault_of program harts) (out_of_range_of program) (overlap_of program) none ∙ ap (option_map of_walk) h
@@ -63,7 +63,7 @@ meaning_after_limits limit (Some f) h = ap (λ o. first_fault (o ∷ Some (of_wa
 pub index_is_next : (program : ProgramTree) (harts : ℕ) (f : WalkFault) → limit_fault_of program harts ≡ None → out_of_range_of program ≡ Some f → meaning_fault_of program harts ≡ Some (of_walk f)
 index_is_next program harts f none h = meaning_after_limits (limit_fault_of program harts) (out_of_range_of program) none ∙ ap (option_map of_walk) h
 
--- a program that passes the limits can be walked through
+-- A program within the limits can be walked through.
 pub sized : (program : ProgramTree) (harts : ℕ) → limit_fault_of program harts ≡ None → AreSized (arrays_of program.arrays)
 sized program harts none = sized_from program (limits_from program harts none).ranges
 

@@ -50,7 +50,7 @@ names_more ds i d h =
     ∙ ap reverse (names_append (take i ds) (get_or ds i d ∷ []))
     ∙ reverse-append (names (take i ds)) ((get_or ds i d).name ∷ [])
 
--- the search for a name that is taken twice, at one declaration
+-- One declaration of the search for a name that is declared twice.
 pub duplicates_next : (ds : List ArrayDecl) (i : ℕ) (d : ArrayDecl) → i < length ds →
     duplicate_declaration (map declaration_of (drop i ds)) (reverse (names (take i ds)))
     ≡ first_fault

@@ -1,4 +1,4 @@
--- There is no fault of names, ranges and size exactly where these conditions are met.
+-- There is no fault of names, ranges and size iff these conditions hold.
 use Rattle.std.proofs.Common.{◌≡◌, ◌<◌, ◌≤◌, ℕ, ℤ, pos, negsuc, Bool, true, ◌&&◌, List, [], ◌∷◌, length, Option, None, refl, sym, ◌∙◌, arith, nat_le, unsigned_abs}
 use Rattle.std.specs.Option.{option_map}
 use Rattle.std.proofs.lemmas.Bool.{and_parts, and_from}
@@ -34,7 +34,7 @@ true_le a b h = grind (arith, nat_tests)
 le_true : (a b : ℕ) → a ≤ b → nat_le a b ≡ true
 le_true a b h = grind (arith, nat_tests)
 
--- the parts of the list, from one on
+-- the limits on the number of sites
 abbrev are_few : ProgramTree → ℕ → Bool
 are_few p harts = nat_le (sites_in p.body) 4095 && nat_le (room_for (sites_in p.body) harts) 65535
 
@@ -99,7 +99,7 @@ have_cells (d ∷ ds) h =
     let both = and_parts (is_up_to (pos 4096) d.length) (have_right_lengths ds) h in
     (some_cells d.length both.0, have_cells ds both.1)
 
--- arrays inside their limits can be walked over
+-- A program in range has arrays that can be walked through.
 pub sized_from : (p : ProgramTree) → is_in_range p ≡ true → AreSized (arrays_of p.arrays)
 sized_from p h =
     let all = and_parts (have_right_lengths p.arrays && (nat_le (length p.arrays) 64 && nat_le (cells_of (arrays_of p.arrays)) 4096)) (has_right_ranges p.body) h in

@@ -1,4 +1,4 @@
--- When there is no first fault.
+-- The condition for no first fault.
 use Rattle.std.proofs.Common.{◌≡◌, Bool, true, false, ◌&&◌, List, [], ◌∷◌, Option, Some, None, refl, ap, ◌∙◌}
 use Rattle.std.specs.Option.{option_map}
 use Rattle.disjoint_check.specs.Faults.{unless, first_fault}

@@ -1,4 +1,4 @@
--- There is no first fault of names exactly where the names are right.
+-- There is no first fault of names iff the names are right.
 use Rattle.std.proofs.Common.{◌≡◌, ℕ, not, ◌&&◌, List, [], ◌∷◌, refl}
 use Rattle.array_tree.specs.Trees.{Statement, Assign, For, If, Par, Team, Sequence, ended, followed, Sequences, no_more, beside, Declaration, ProgramTree}
 use Rattle.array_meaning.specs.Names.{is_among, names_of, uses_known_names, are_declared_once, has_new_variables, statement_has_new_variables, have_new_variables, has_single_names, has_known_names, statement_has_known_names, have_known_names, has_only_known_names}

@@ -1,4 +1,4 @@
--- The parents of the sites that unrolling gives are the plan.
+-- The parents that unrolling gives are the plan.
 use Rattle.std.proofs.Common.{◌≡◌, ℕ, zero, suc, ◌+◌, ◌*◌, ◌<◌, ◌≤◌, min, List, [], ◌∷◌, ◌++◌, length, Some, None, Bool, true, false, nat_le, cond, arith, refl, ap, sym, subst, ◌∙◌, append_assoc, length-append, unsigned_abs}
 use Rattle.std.specs.Prelude.{if◌then◌else◌}
 use Rattle.std.proofs.lemmas.List.{append-nil, map-append, length-map}
@@ -136,7 +136,7 @@ mutual
       (λ next. phases_parents bs n around next) (n * sites_in p) (n * branches_sites_in bs)
       (many n (λ rows. with_sequence p around rows) (sequence_parents p) around (sites_in p) (sequence_adds p around)) (phases_add bs n around))
 
--- the plan of a program that has few sites
+-- The plan of a program with few sites.
 pub plan_is : (program : ProgramTree) → sites_in program.body ≤ 4095 → parents_in (with_sequence program.body 0 []) ≡ plan_of program
 plan_is program few = (sequence_adds program.body 0).list [] (omega (arith, few))
 
@@ -153,7 +153,7 @@ IsGood parents = (around next : ℕ) → around < next → bad_parent (parents a
 not_le : (a b : ℕ) → b < a → nat_le a b ≡ false
 not_le a b h = grind (arith, nat_tests)
 
--- one element more
+-- One more element.
 good_more : (q : ℕ) (xs ys : List ℕ) (k : ℕ) (b : Bool) → nat_le k q ≡ b → bad_parent (q ∷ xs) k ≡ None → bad_parent ys (k + length (q ∷ xs)) ≡ None →
     (bad_parent xs (k + 1) ≡ None → bad_parent ys (k + 1 + length xs) ≡ None → bad_parent (xs ++ ys) (k + 1) ≡ None) →
     bad_parent (q ∷ xs ++ ys) k ≡ None

@@ -1,4 +1,4 @@
--- There is no first place outside a limit exactly where everything is inside.
+-- There is no first position outside a limit iff everything is inside.
 use Rattle.std.proofs.Common.{◌≡◌, inl, inr, ℕ, suc, ◌+◌, ◌≤◌, ◌<◌, Bool, true, false, ◌&&◌, List, [], ◌∷◌, length, refl, ap, ◌∙◌, sym, arith, nat_lt, nat_le, int_le, pos, unsigned_abs}
 use Rattle.std.proofs.lemmas.Bool.{cases_lt}
 use Rattle.std.proofs.lemmas.Bool.Decides.{nat_tests}
@@ -77,7 +77,7 @@ same_arrays a n = omega arith
 same_cells : (c x n : ℕ) → c + x + n ≡ c + (x + n)
 same_cells c x n = omega arith
 
--- one declaration more, where `more` is what the rest comes to
+-- One more declaration; `rest` is the result for the remaining ones.
 step : (up lengths : Bool) (arrays cells size count sum : ℕ) (rest : Bool) → arrays ≤ 64 → cells ≤ 4096 →
     (arrays + 1 ≤ 64 → cells + size ≤ 4096 → rest ≡ (lengths && (nat_le (arrays + 1 + count) 64 && nat_le (cells + size + sum) 4096))) →
     ((up && (nat_lt arrays 64 && nat_le (cells + size) 4096)) && rest)

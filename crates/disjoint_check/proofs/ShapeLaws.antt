@@ -1,4 +1,4 @@
--- The shapes of the sites that unrolling gives are those of the program.
+-- The shapes that unrolling gives are those of the program's sites.
 use Rattle.std.proofs.Common.{◌≡◌, ℕ, ℤ, pos, negsuc, zero, suc, ◌≤◌, true, ◌&&◌, List, [], ◌∷◌, ◌++◌, arith, ap, sym, ◌∙◌, append_assoc, int_le, unsigned_abs}
 use Rattle.std.proofs.lemmas.List.{append-nil, map-append}
 use Rattle.std.proofs.lemmas.Bool.{and_parts}
@@ -86,6 +86,6 @@ mutual
       in_turn (λ r. repeat n (with_sequence p around) r) (λ r. with_phases bs n around r) (turns_of_shapes n (sequence_shapes p)) (phases_shapes bs n)
       (many n (λ r. with_sequence p around r) (sequence_shapes p) (sequence_shows p around both.0)) (phases_show bs n around both.1) rows
 
--- the shapes of a program whose ranges are right
+-- The shapes of a program with right ranges.
 pub shapes_are : (program : ProgramTree) → is_in_range program ≡ true → shapes_in (with_sequence program.body 0 []) ≡ shapes_of program
 shapes_are program h = sequence_shows program.body 0 (and_parts _ (has_right_ranges program.body) h).1 []

@@ -1,4 +1,4 @@
--- What unrolling gives: the plan of a program, and the shapes of its sites.
+-- The result of unrolling: the plan of a program, and the shapes of its sites.
 use Rattle.std.proofs.Common.{◌≡◌, ℕ, zero, suc, ◌+◌, ◌*◌, ◌-◌, ◌<◌, arith, refl, ap, ◌∙◌}
 use Rattle.array_tree.specs.Trees.{Statement, Assign, For, If, Par, Team, Sequence, ended, followed}
 use Rattle.array_meaning.specs.Work.{span}
@@ -22,7 +22,7 @@ right_zero a b h = omega arith
 one_more : {A : Type 0} (a : ℕ) → 1 + a ≡ 0 → A
 one_more a h = absurd (omega arith)
 
--- where there is no turn, or no site in one, nothing is added
+-- Without a turn, or without a site in a turn, nothing is added.
 no_turn : (n s : ℕ) (more : Rows → Rows) (rows : Rows) → n * s ≡ 0 → (s ≡ 0 → more rows ≡ rows) → repeat n more rows ≡ rows
 no_turn zero s more rows h same = refl
 no_turn (suc n) s more rows h same = let none : s ≡ 0 = none_of n s h in repeat_same (suc n) more rows (same none)

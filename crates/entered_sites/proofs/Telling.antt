@@ -1,4 +1,4 @@
--- Telling of one part and then of the next is telling of both.
+-- The entered sites of two parts in sequence are those of the first, then those of the second.
 use Rattle.std.proofs.Common.{◌≡◌, ℕ, zero, suc, ◌+◌, ◌*◌, ◌<◌, ◌≤◌, Bool, List, [], ◌∷◌, ◌++◌, map, length, drop, get_or, drop-cons, add-one, append_assoc, ℤ, pos, ◌+ℤ◌, ◌<ℤ◌, refl, sym, ap, ◌∙◌, arith}
 use Rattle.std.proofs.lemmas.List.{append-nil}
 use Rattle.array_tree.specs.declared.tree.Stmt.{Stmt}
@@ -33,7 +33,7 @@ told_followed arrays p q t = same_parts
     (sym (append_assoc t.sites (p.1 t.trace.cells) (q.1 (exec arrays p.0 t.trace.cells)))
     ∙ ap (λ cells. (t.sites ++ p.1 t.trace.cells) ++ q.1 cells) (sym (cells_after (writes_of arrays p.0 t.trace.cells) t.trace)))
 
--- ---- what comes first is cut off
+-- ---- the first part is split off
 
 pub statements_left : (arrays : Arrays) (ss : List Stmt) (i : ℕ) (d : Stmt) (vars : Vars) (t : Told) → i < length ss →
     told arrays (sequence_part arrays (sequence (map statement_of (drop i ss))) vars) t
@@ -72,7 +72,7 @@ turns_left arrays var x high body vars t h =
     ap (λ n. turns_told arrays var x n body vars t) (span_next x high h)
     ∙ told_followed arrays (sequence_part arrays body ((var, x) ∷ vars)) (loop_part arrays var (x +ℤ pos 1) high (sequence_part arrays body) vars) t
 
--- ---- where nothing is left, nothing is told
+-- ---- nothing is left
 
 ended : (t : Told) → made t.trace (t.sites ++ []) ≡ t
 ended t = ap (λ sites. made t.trace sites) (append-nil t.sites)
@@ -102,7 +102,7 @@ pub turns_ended : (arrays : Arrays) (var : List ℕ) (x high : ℤ) (body : Sequ
     told arrays (loop_part arrays var x high (sequence_part arrays body) vars) t ≡ t
 turns_ended arrays var x high body vars t h = ap (λ n. turns_told arrays var x n body vars t) (span_none x high h) ∙ ended t
 
--- ---- what has no site
+-- ---- parts without sites
 
 none : (sites : List Bool) → length sites ≡ 0 → sites ≡ []
 none [] e = refl
@@ -111,7 +111,7 @@ none (b ∷ sites) e = absurd (omega (arith, e))
 uncapped : (n : ℕ) → capped n ≡ 0 → n ≡ 0
 uncapped n e = omega (arith, e)
 
--- a part without a site
+-- A part without sites.
 plain : (arrays : Arrays) (part : Part) (before after : Told) → length (part.1 before.trace.cells) ≡ 0 →
     after.trace ≡ traced arrays part.0 before.trace → after.sites ≡ before.sites → after ≡ told arrays part before
 plain arrays part before after e same_trace same_sites =

@@ -1,4 +1,4 @@
--- Jobs that leave a pool from the last on.
+-- Jobs that leave a pool, the last one first.
 use Rattle.std.proofs.Common.{◌≡◌, ◌+◌, ◌≤◌, ℕ, suc, List, [], ◌∷◌, ◌++◌, length, sym, ap, subst, ◌∙◌, arith, refl}
 use Rattle.std.specs.Prelude.{Some, None}
 use Rattle.deque_rows.specs.declared.hart.HartRows.{HartRows}
@@ -12,7 +12,7 @@ use Rattle.forkjoin_sched.specs.Pools.{PoolParts, IsPieceAt, GivesJob, with_agen
 use Rattle.forkjoin_sched.specs.Hands.{RunsTo, IsFalling, PushesCodes, OffersJobs, code_at}
 use Rattle.forkjoin_sched.proofs.RowSteps.{pushes_none, pushes_more, falls_on, falls_more}
 
--- the last one is taken
+-- The last job is taken.
 pub runs_less : (n : ℕ) (rest : List PoolWork) (last : PoolWork) → RunsTo (suc n) (rest ++ last ∷ []) → RunsTo n rest
 runs_less n [] last h = tt
 runs_less n (Begin job ∷ rest) last h = (
@@ -21,7 +21,7 @@ runs_less n (Begin job ∷ rest) last h = (
 )
 runs_less n (Ready context ∷ rest) last h = absurd h
 
--- the last one has the last place
+-- The last job has the last index.
 pub run_ends : (n : ℕ) (work : PoolWork) (works : List PoolWork) → RunsTo (suc n) (work ∷ works)
     → (rest : List PoolWork) × (last : PoolWork) × ((work ∷ works) ≡ rest ++ last ∷ []) × IsPieceAt n last
 run_ends n (Ready context) works h = absurd h
@@ -30,7 +30,7 @@ run_ends n (Begin job) (work ∷ works) h =
     let more = run_ends n work works h.1 in
     (Begin job ∷ more.0, more.1, ap (λ ws. Begin job ∷ ws) more.2, more.3)
 
--- none is left where the last one doesn't have the last place
+-- If the last job doesn't have the last index, no job is left.
 pub run_over : (n : ℕ) (works : List PoolWork) → RunsTo (suc n) works
     → ((rest : List PoolWork) (last : PoolWork) → works ≡ rest ++ last ∷ [] → ¬ IsPieceAt n last) → RunsTo n works
 run_over n [] h none = tt
@@ -41,7 +41,7 @@ run_done [] h = refl
 run_done (Begin job ∷ works) h = absurd (let e = h.0 in omega (arith, e))
 run_done (Ready context ∷ works) h = absurd h
 
--- The places from k on are done, of n.
+-- of n jobs, those from index k on are offered
 pub record HasOffered (site level n k : ℕ) (pool : PoolParts) (rows : HartRows) (places : List ℕ) (pool' : PoolParts) (rows' : HartRows) : Type 0 where
   pub below : k ≤ n
   pub falling : IsFalling n k places

@@ -1,4 +1,4 @@
--- What a hand's calls do to the rows, one after another.
+-- The effect of a hand's calls on the deques, in sequence.
 use Rattle.std.proofs.Common.{◌≡◌, ◌<◌, ◌≤◌, ◌*◌, ◌+◌, ◌-◌, ℕ, zero, suc, List, [], ◌∷◌, ◌++◌, length, map, get_or, set, slice_index, sym, ap, subst, ◌∙◌, arith, refl, inl, inr}
 use Rattle.std.proofs.lemmas.List.{get_or-set_same, set-set, set-get_or, append-nil, append_assoc, map-append, length-map, length-append}
 use Rattle.std.proofs.lemmas.Bool.{cases_eq}
@@ -16,21 +16,21 @@ use Rattle.deque_rows.specs.Rows.{IsLevel, Kin, kin, home_logs, pass_logs, bares
 use Rattle.deque_rows.specs.Calls.{FoundBare, Pushes, PopGives, StealGives}
 use Rattle.forkjoin_sched.specs.Hands.{Keeps, IsFoundBare, HasTaken, TakesCode, TakesMore, PushesCodes, IsFalling, code_at}
 
--- how many rows there are
+-- A hart has three deques of its own.
 own_count : (r : HartRows) → length (home_logs r) ≡ 3
 own_count r = let l = length-map r.own.items (λ (h : HomeEnd). worker_view h.worker) in let k = r.own.ok in let n = r.levels in omega (arith, l, k, n)
 
 pass_count : (r : HartRows) → length (pass_logs r) ≡ 3 * r.harts
 pass_count r = let l = length-map r.ends.items (λ (s : StealingEnd). view s.pass) in let k = r.ends.ok in let n = r.reaches in omega (arith, l, k, n)
 
--- what stands at a row that changed
+-- The log of a deque that changed.
 pub home_set : (old new : HartRows) (level : ℕ) (w : Log) → IsLevel level → home_logs new ≡ set (home_logs old) (level - 1) w → home_log new level ≡ w
 home_set old new level w is e = ap (λ l. get_or l (level - 1) idle) e ∙ get_or-set_same (home_logs old) (level - 1) w idle (let n = own_count old in omega (arith, n, is.0, is.1))
 
 pub pass_set : (old new : HartRows) (hart level : ℕ) (w : Log) → IsLevel level → hart < old.harts → pass_logs new ≡ set (pass_logs old) (place hart level) w → pass_log new hart level ≡ w
 pass_set old new hart level w is few e = ap (λ l. get_or l (place hart level) idle) e ∙ get_or-set_same (pass_logs old) (place hart level) w idle (let n = pass_count old in omega (arith, n, few, is.0, is.1))
 
--- counts that rise
+-- A counter that rises.
 rises : (xs : List ℕ) (i n r : ℕ) → get_or xs i 0 ≤ n → get_or xs r 0 ≤ get_or (set xs i n) r 0
 rises [] i n r h = let e : 0 ≤ get_or (set [] i n) r 0 = omega arith in e
 rises (x ∷ xs) zero n zero h = h
@@ -59,7 +59,7 @@ same_least old new same r = subst (λ xs. slice_index (bares old) r ≤ slice_in
 pushed : Log → List ℕ
 pushed v = v.pushed
 
--- the steps of a hart that takes a code
+-- The steps of a hart that takes an index.
 pub keeps_none : (rows : HartRows) → Keeps rows rows
 keeps_none rows = record { kin = refl; pushed = refl; bares = same_least rows rows refl }
 
@@ -94,7 +94,7 @@ keeps_steal old new hart level Empty same gives = record {
   bares = found_least old new hart level gives.1;
 }
 
--- what the hart has taken from a row only grows
+-- The indices that a hart took from a deque only grow.
 pub takes_none : (rows : HartRows) (home level : ℕ) → TakesMore home level rows rows
 takes_none rows home level = record {
   popped = [];
@@ -123,7 +123,7 @@ taken_then a b c home level code kept h (inr k) =
 none_more : (l : List ℕ) → l ≡ l ++ []
 none_more l = sym (append-nil l)
 
--- a pop
+-- A pop takes an index.
 popped_to : (old new : HartRows) (level code : ℕ) → IsLevel level → PopGives old level (Some code) new → (home_log new level).popped ≡ (home_log old level).popped ++ code ∷ []
 popped_to old new level code is gives = ap (λ (v : Log). v.popped) (home_set old new level gives.0 is gives.2) ∙ ap (λ (v : Log). v.popped) gives.1.1
 
@@ -146,7 +146,7 @@ taken_if old new level (Some code) is gives =
     λ home own. inl (own, [], popped_to old new level code is gives ∙ ap (λ l. l ++ code ∷ []) (none_more (home_log old level).popped))
 taken_if old new level None is gives = tt
 
--- a steal
+-- A steal takes an index.
 stolen_to : (old new : HartRows) (home level code : ℕ) → IsLevel level → home < old.harts → StealGives old home level (Code code) new
     → (pass_log new home level).stolen ≡ (pass_log old home level).stolen ++ code ∷ []
 stolen_to old new home level code is few gives =
@@ -170,7 +170,7 @@ pub taken_by_steal : (old new : HartRows) (home level code : ℕ) → IsLevel le
 taken_by_steal old new home level code is few gives =
     inr ([], stolen_to old new home level code is few gives ∙ ap (λ l. l ++ code ∷ []) (none_more (pass_log old home level).stolen))
 
--- none is taken where the row was found bare
+-- A steal that finds the deque empty takes none.
 pub bare_by_steal : (old new : HartRows) (home level : ℕ) → IsLevel level → home < old.harts → StealGives old home level Empty new → IsFoundBare home level old new
 bare_by_steal old new home level is few gives = (
   subst (Rose (bare old home level)) (sym (ap (λ xs. get_or xs (place home level) 0) gives.1.2 ∙ get_or-set_same (bares old) (place home level) gives.1.0 0
@@ -184,12 +184,12 @@ bare_on a b c home level kept bare = (rose_on (bare_of a) (bare_of b) (bare_of c
     bare_of : HartRows → ℕ
     bare_of r = slice_index (bares r) (place home level)
 
--- what comes of a code after other steps
+-- The result for an index, after other steps.
 pub takes_on : (a b c : HartRows) (home level : ℕ) (result : Option ℕ) → Keeps a b → TakesMore home level a b → TakesCode home level b result c → TakesCode home level a result c
 takes_on a b c home level (Some code) kept more takes = taken_then a b c home level code kept more takes
 takes_on a b c home level None kept more takes = bare_on a b c home level kept takes
 
--- the steps of a home that offers
+-- The steps of a home that offers jobs.
 push_none : (v : Log) → after_push v [] ≡ v
 push_none v = λ i. record v { pushed = append-nil v.pushed i; kept = append-nil v.kept i }
 
@@ -228,7 +228,7 @@ room_after site level places before after is h =
     ∙ length-append (home_log before level).pushed (map (code_at site) places)
     ∙ ap (λ n. length (home_log before level).pushed + n) (length-map places (code_at site))
 
--- places that fall
+-- Falling indices.
 pub falls_on : (n least : ℕ) (places : List ℕ) → IsFalling n (suc least) places → IsFalling n least places
 falls_on n least [] h = omega (arith, h)
 falls_on n least (p ∷ ps) h = (h.0, falls_on p least ps h.1)

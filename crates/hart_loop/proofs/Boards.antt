@@ -1,4 +1,4 @@
--- The harts of a board: before a run and after it. What is seen as a hart is a seat of either board.
+-- The harts of a board, before a run and after it. A hart is seen as a seat of either board.
 use Rattle.std.proofs.Common.{◌≡◌, ◌<◌, ◌∙◌, ◌+◌, ℕ, false, List, [], ◌∷◌, ◌++◌, length, map, get_or, ap, sym, subst, arith}
 use Rattle.std.proofs.lemmas.List.Elements.{AllZip-get_or}
 use Rattle.std.proofs.lemmas.Slice.Zip.{AllZip-long}
@@ -9,12 +9,12 @@ use Rattle.hart_port.specs.Ledger.{no_site}
 use Rattle.hart_loop.specs.Harts.{StartsIn, IsAt, IsSameHart, AllStart, AreSame, AreBack}
 use Rattle.hart_loop.proofs.Crews.{zip_map, all_of_map}
 
--- the hart h of a board that nobody has used
+-- hart h of an unused board
 pub record IsNewHart (name : List ℕ) (p : Plan) (h : ℕ) (v : PortView) : Type 0 where
   pub at : IsAt name p h v
   pub starts : StartsIn p v
 
--- what it knows
+-- the view of such a hart
 abbrev pub fresh : List ℕ → Plan → ℕ → PortView
 fresh name p h = record {
   plan = p;
@@ -45,11 +45,11 @@ new_hart name p h v is = record {
 }
 
 module _ {Q : Type 0} (seen : Q → PortView) where
-  -- that of hart h is at place h
+  -- the hart at index h is hart h
   abbrev pub AreNew : List ℕ → Plan → List Q → Type 0
   AreNew name p qs = (h : ℕ) (d : Q) → h < length qs → IsNewHart name p h (seen (get_or qs h d))
 
-  -- harts of a new board have come back
+  -- Harts of a new board have returned.
   new_back : (name : List ℕ) (p : Plan) (qs ws : List Q) → length qs ≡ p.harts → AreNew name p qs → AreSame seen qs ws → AreBack seen name p ws
   new_back name p qs ws count new same = record {
     count = long ∙ count;
@@ -67,7 +67,7 @@ module _ {Q : Type 0} (seen : Q → PortView) where
       long : length ws ≡ length qs
       long = AllZip-long _ qs ws same
 
-  -- a hart that ran alone is the last of those that are back
+  -- A hart that ran alone is the last of those that returned.
   pub one_back : (x : Q) (xs ys rest : List Q) (y : Q) → xs ≡ x ∷ [] → ys ≡ rest ++ y ∷ [] → AreSame seen xs ys → IsSameHart (seen x) (seen y)
   one_back x xs ys rest y one last same = found rest (subst (AreSame seen (x ∷ [])) last (subst (λ qs. AreSame seen qs ys) one same))
     where
@@ -76,12 +76,12 @@ module _ {Q : Type 0} (seen : Q → PortView) where
       found (r ∷ []) both = absurd both.1
       found (r ∷ s ∷ more) both = absurd both.1
 
-  -- ports of these seats
+  -- Ports of these seats.
   module _ {P : Type 0} (seat_of : P → Q) where
     pub ports_start : (name : List ℕ) (p : Plan) (qs : List Q) (xs : List P) → AreNew name p qs → map seat_of xs ≡ qs → AllStart (λ x. seen (seat_of x)) p xs
     ports_start name p qs xs new are = all_of_map seat_of (λ q. StartsIn p (seen q)) xs (subst (AllStart seen p) (sym are) (λ h d below. (new h d below).starts))
 
-    -- harts that ran by them are back with their seats
+    -- Harts that ran by these ports have returned with their seats.
     pub ports_back : (name : List ℕ) (p : Plan) (qs ws : List Q) (xs ys : List P) → length qs ≡ p.harts → AreNew name p qs → map seat_of xs ≡ qs → ws ≡ map seat_of ys
         → AreSame (λ x. seen (seat_of x)) xs ys → AreBack seen name p ws
     ports_back name p qs ws xs ys count new before after same =

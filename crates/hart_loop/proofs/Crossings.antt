@@ -1,5 +1,5 @@
--- A hart may go to a thread of its own where its port may. A search through all of its parts at once runs out of steps, so each
--- part stands by itself.
+-- A hart may move to another thread if its port may. A search through all parts at once exceeds the prover's step limit, so
+-- each part is proved separately.
 use denote.RattleType.{RattleType}
 use denote.Param.Send.{IsSend, IsSync, sendable}
 use denote.Param.SendFields.{declared_send}
@@ -24,7 +24,7 @@ piece_send p = let job = job_send p in search (crosses, sendable) depth 60 fits 
 schedulers_send : (a p s : NamedLft) → IsSend (HartSchedulers.the_row a p (SharedSite.the_row s))
 schedulers_send a p s = let line = line_send a s in let tools = ToolsCrosses.the_send a in search (crosses, sendable) depth 20
 
--- each type of a hart names lifetimes of its own
+-- Each type of a hart has lifetimes of its own.
 pub hart_send : (a p s : NamedLft) (P : RattleType) → IsSend P → IsSend (Hart.the_row a p P (SharedSite.the_row s))
 hart_send a p s P port =
     let schedulers = schedulers_send a p s in let base = base_sync in let job = job_send p in let piece = piece_send p in

@@ -1,4 +1,4 @@
--- A hart that is back is the hart that it was.
+-- A hart that returned is the same hart.
 use Rattle.std.proofs.Common.{◌∙◌, ap}
 use Rattle.hart_port.specs.PortView.{PortView}
 use Rattle.site_steps.specs.Back.{IsBack, HasLooked}
@@ -11,7 +11,7 @@ same_back v after back = record {
   table = back.table;
 }
 
--- so is one that came back twice, and then looked at sites
+-- A hart that returned twice, and then looked at sites, is the same hart.
 pub same_looked : (v w u after : PortView) → IsBack v w → IsBack w u → HasLooked u after → IsSameHart v after
 same_looked v w u after ran swept looked = record {
   plan = ap (λ (h : PortView). h.plan) looked.same ∙ swept.plan ∙ ran.plan;

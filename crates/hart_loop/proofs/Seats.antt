@@ -15,13 +15,13 @@ use Rattle.hart_loop.proofs.Boards.{AreNew, new_hart}
 abbrev pub seat_of : {R L : Type 0} {laid : Ghosts L} → WaitingPort (BoardPort L laid) R → HartSeat
 seat_of w = w.port.seat
 
--- new seats are new harts'
+-- New seats are new harts' seats.
 pub all_new : (z : TableId) (p : Plan) (qs : List HartSeat) → AreSeats z p qs → AreNew port_view (table_name z) p qs
 all_new z p qs seats h d below =
     let new = seats h d below in
     new_hart (table_name z) p h (port_view (get_or qs h d)) (λ i. shared_view (table_name (new.board i)) (new.view i))
 
--- seats of harts that are back are all seats of the board
+-- The seats of all harts that returned are all seats of the board.
 pub all_back : (z : TableId) (p : Plan) (qs : List HartSeat) → AreBack port_view (table_name z) p qs → AreAll z p qs
 all_back z p qs back = record {
   count = back.count;

@@ -1,4 +1,4 @@
--- The sites that live with a hart, as a set, and how each entry changes it.
+-- The sites whose home is a hart, as a set, and how each entry changes the set.
 use Rattle.std.proofs.Common.{◌≡◌, ℕ, zero, suc, ◌+◌, ◌-◌, ◌<◌, ◌≤◌, Bool, true, false, if◌then◌else◌, List, [], ◌∷◌, length, map, replicate, get_or, set, refl, sym, ap, subst, ◌∙◌, arith, slice_set, eq-eqb}
 use Rattle.std.proofs.lemmas.List.{map-set, length-map}
 use Rattle.std.proofs.Math.Seq.{map-set_same}
@@ -28,7 +28,7 @@ set_tail : (xs : List Bool) (s : ℕ) (b : Bool) → 1 ≤ s → slice_set (fals
 set_tail xs zero b low = absurd (omega arith)
 set_tail xs (suc i) b low = let same : suc i - 1 ≡ i = omega arith in let P : ℕ → Type 0 = λ j. false ∷ set xs i b ≡ false ∷ set xs j b in subst P (sym same) refl
 
--- the homes, when the site's row is this one
+-- the set of homes, if the site's row is this one
 set_row : (rows : List Row) (h s : ℕ) (r : Row) (b : Bool) → 1 ≤ s → is_home_of h r ≡ b → false ∷ map (is_home_of h) (set rows (s - 1) r) ≡ slice_set (false ∷ map (is_home_of h) rows) s b
 set_row rows h s r b low is = ap (λ (l : List Bool). false ∷ l) (map-set (is_home_of h) rows (s - 1) r ∙ ap (set (map (is_home_of h) rows) (s - 1)) is) ∙ sym (set_tail (map (is_home_of h) rows) s b low)
 
@@ -41,7 +41,7 @@ homes_of-request p t h s k = ap (λ (l : List Bool). false ∷ l) (map-set_same 
 pub homes_of-unregister : (p : Plan) (t : TableState) (h s : ℕ) → 1 ≤ s → homes_of (effect_of p t (Unregister h s)) h ≡ without (homes_of t h) s
 homes_of-unregister p t h s low = set_row t.rows h s _ false low refl
 
--- what is swept lives with nobody, before and after
+-- Skipped sites are no hart's home, before the skip and after.
 swept_homes : (p : Plan) (s h : ℕ) (rows : List Row) (k : ℕ) → ((i : ℕ) → i < length rows → is_within p s (k + i) ≡ true → get_or rows i blank ≡ blank) → map (is_home_of h) (swept p s rows k) ≡ map (is_home_of h) rows
 swept_homes p s h [] k f = refl
 swept_homes p s h (r ∷ rows) k f = split (is_within p s k) refl (swept_homes p s h rows (k + 1) (λ i lt w. let e : k + suc i ≡ k + 1 + i = omega arith in f (suc i) (omega arith) (ap (is_within p s) e ∙ w)))

@@ -1,4 +1,4 @@
--- A ledger goes on with what its table admits, and its words fit.
+-- A ledger continues with what its table admits, and its words fit.
 use Rattle.std.proofs.Common.{◌≡◌, ℕ, suc, ◌+◌, ◌-◌, ◌*◌, ◌^◌, ◌<◌, ◌≤◌, List, [], ◌∷◌, length, get_or, take, drop, sym, ap, subst, ◌∙◌, arith, ⊎_elim}
 use Rattle.std.proofs.Math.Seq.{drop-cons}
 use Rattle.std.proofs.lemmas.List.{length-take, length-drop, get_or-take, get_or-drop}
@@ -9,11 +9,11 @@ use Rattle.transfer_table.proofs.Bounds.{few_entries, legal_owner}
 use Rattle.hart_port.specs.Words.{owner_digits}
 use Rattle.hart_port.specs.Ledger.{LedgerState, IsLedger}
 
--- each hart is in the base or in a site of the plan
+-- Each hart is in the base or in a site of the plan.
 pub owner_inside : (l : LedgerState) → IsLedger l → (h : ℕ) → IsHart l.plan h → owner l.state h ≤ site_count l.plan
 owner_inside l is h hart = ⊎_elim (λ z. omega arith) (λ r. let high = r.0.1 in high) (legal_owner l.plan is.plan l.entries l.state is.reached h hart)
 
--- up to four owners fit in 48 bits
+-- Up to four owners fit in 48 bits.
 small : (os : List ℕ) → ((i : ℕ) → i < length os → get_or os i 0 ≤ 4095) → length os ≤ 4 → owner_digits os < 2 ^ 48
 small [] f few = omega arith
 small (a ∷ []) f few = let x : a ≤ 4095 = f 0 (omega arith) in omega arith
@@ -31,13 +31,13 @@ digits_small l is n = let fits = legal_position l.plan is.plan l.entries l.state
     small (drop n first) (λ i lt. subst (λ (x : ℕ). x ≤ 4095) (sym (get_or-drop n first i 0 ∙ get_or-take 4 l.state.owners (n + i) 0 (omega (arith, few.0))))
     (let high = owner_inside l is (n + i) (omega (arith, few.1)) in let sites = is.plan.few_sites in omega arith)) (omega (arith, few.0))
 
--- one hart more
+-- The owners' digits, with one more hart.
 pub digits_before : (os : List ℕ) (h : ℕ) → 0 < h → h ≤ length os → owner_digits (drop (h - 1) os) ≡ owner_digits (drop h os) * 4096 + get_or os (h - 1) 0
 digits_before os h low high = let n : suc (h - 1) ≡ h = omega arith in
     let e = drop-cons os (h - 1) 0 (omega arith) in
     let f : drop (h - 1) os ≡ get_or os (h - 1) 0 ∷ drop h os = e ∙ ap (λ (x : ℕ). get_or os (h - 1) 0 ∷ drop x os) n in
     let g : owner_digits (drop (h - 1) os) ≡ get_or os (h - 1) 0 + 4096 * owner_digits (drop h os) = ap owner_digits f in omega arith
 
--- a journal is short
+-- A journal has at most 65,535 entries.
 pub entries_few : (l : LedgerState) → IsLedger l → length l.entries < 65536
 entries_few l is = let few = few_entries l.plan is.plan l.entries l.state is.reached in omega (arith, few)

@@ -1,4 +1,4 @@
--- What the bits of a site word are.
+-- The bits of a site's word.
 use Rattle.std.proofs.Common.{◌≡◌, ◌≢◌, ℕ, ◌+◌, ◌*◌, ◌%◌, Bool, true, false, refl, sym, subst, arith, eq-eqb}
 use Rattle.transfer_table.specs.declared.entry.Row.{Row}
 use Rattle.transfer_table.specs.declared.entry.Stage.{Stage}
@@ -12,7 +12,7 @@ claimed Live false w n = omega arith
 claimed Gone true w n = omega arith
 claimed Gone false w n = omega arith
 
--- the word of a site that isn't new is claimed
+-- The word of a site that isn't new is claimed.
 pub is_claimed-site_word : (r : Row) (b : Bool) → r.stage ≢ New → is_claimed (site_word r b) ≡ true
 is_claimed-site_word r b n = eq-eqb (site_word r b % 2) 1 (claimed r.stage b r.wishes n)
 
@@ -24,6 +24,6 @@ unwanted Live false = refl
 unwanted Gone true = refl
 unwanted Gone false = refl
 
--- the word of a site with no wish wants no hart
+-- The word of a site with no wish wants no hart.
 pub is_wanted-site_word : (r : Row) (b : Bool) → r.wishes ≡ 0 → is_wanted (site_word r b) ≡ false
 is_wanted-site_word r b none = let P : ℕ → Type 0 = λ w. is_wanted (stage_bits r.stage + closing_bit b + 256 * w) ≡ false in subst P (sym none) (unwanted r.stage b)

@@ -1,4 +1,4 @@
--- Rows that are added one by one, as far as there is room, are those of all sites.
+-- Claim counters that are added one by one, as far as there is room, are those of all sites.
 use Rattle.std.proofs.Common.{◌≡◌, ◌∙◌, ℕ, ◌+◌, ◌-◌, ◌<◌, ◌≤◌, List, [], ◌∷◌, ◌++◌, length, length-append, map, append_assoc, append-nil, replicate, take, slice_get, ◌==◌, if◌then◌else◌, Bool, true, false, Some, None, sym, ap, refl, inl, inr, arith}
 use Rattle.std.specs.Option.{option_map}
 use Rattle.std.proofs.lemmas.List.{take_all, take-append-le, length-take, length-take-le, length-map, map-append, get_or_append_left, take_more}
@@ -13,7 +13,7 @@ use Rattle.loop_team.specs.Teams.{phases_in}
 use Rattle.hart_tools.specs.ClaimRows.{rows_of_shape, rows_of_shapes, claim_rows, shape_of, AreBehind, at_site, IsFirstRow}
 use Rattle.hart_tools.specs.declared.claims.SiteRows.{SiteRows}
 
--- ---- the first n of a list to which more is added
+-- ---- the first n of a list that grows
 pub take_room : {X : Type 0} (n : ℕ) (xs : List X) (x : X) → length (take n xs) < n → take n xs ++ x ∷ [] ≡ take n (xs ++ x ∷ [])
 take_room n xs x below =
     let short : length xs < n = omega (arith, length-take n xs, below) in
@@ -31,7 +31,7 @@ take_twice n xs ys = elim (cases_lt (length xs) n) [
       take-append-le n (take n xs) ys (omega (arith, whole)) ∙ take_all n (take n xs) (omega (arith, whole)) ∙ sym (take-append-le n xs ys long)
 ]
 
--- ---- the rows of a further site
+-- ---- the counters of one more site
 get_left : {X : Type 0} (xs ys : List X) (i : ℕ) (d : X) → i < length xs → slice_get (xs ++ ys) i ≡ slice_get xs i
 get_left xs ys i d below =
     slice_get-get_or (xs ++ ys) i d (omega (arith, below, length-append xs ys)) ∙ ap Some (get_or_append_left xs ys d i below) ∙ sym (slice_get-get_or xs i d below)
@@ -49,7 +49,7 @@ rows_next shapes shape =
     take_twice MOST_ROWS (rows_of_shapes shapes) (rows_of_shape shape)
     ∙ ap (take MOST_ROWS) (ap (λ l. rows_of_shapes shapes ++ l) (sym (append-nil (rows_of_shape shape))) ∙ sym (rows_append shapes (shape ∷ [])))
 
--- so many sites have their rows
+-- so many sites have their counters
 pub record ArePlaced (sites : List SiteRows) (counts : List ℕ) : Type 0 where
   pub rows : counts ≡ claim_rows (map shape_of sites)
   pub behind : AreBehind sites
@@ -57,7 +57,7 @@ pub record ArePlaced (sites : List SiteRows) (counts : List ℕ) : Type 0 where
 pub none_placed : ArePlaced [] []
 none_placed = record { rows = refl; behind = λ i rows e. cc e }
 
--- and one more, whose first row is behind them
+-- One more site, whose first counter comes after them.
 pub placed_next : (sites : List SiteRows) (counts counts' : List ℕ) (rows : SiteRows) → ArePlaced sites counts → rows.first ≡ length counts
     → counts' ≡ take MOST_ROWS (counts ++ rows_of_shape (shape_of rows)) → ArePlaced (sites ++ rows ∷ []) counts'
 placed_next sites counts counts' rows are first more = record { rows = told; behind = behind }
@@ -84,7 +84,6 @@ placed_next sites counts counts' rows are first more = record { rows = told; beh
           ap (λ (s : SiteRows). s.first) (sym same) ∙ first ∙ ap length are.rows ∙ ap (λ l. length (claim_rows l)) (sym all)
     ]
 
--- one row more of a site
 pub row_next : (before : List ℕ) (n member : ℕ) → (before ++ replicate n member) ++ member ∷ [] ≡ before ++ replicate (n + 1) member
 row_next before n member = append_assoc before (replicate n member) (member ∷ []) ∙ ap (λ l. before ++ l) (sym (replicate_next n member))
 
@@ -95,7 +94,7 @@ pub shapes_next : (shapes : List Shape) (i : ℕ) (shape : Shape) → slice_get 
 shapes_next shapes i shape at =
     take_more shapes i shape (slice_get_within shapes i shape at) ∙ ap (λ s. take i shapes ++ s ∷ []) (get_or_from_slice_get shapes i shape shape at)
 
--- ---- what stands at a site's place
+-- ---- the shape of a site
 at_shapes : (sites : List SiteRows) (site : ℕ) → at_site (map shape_of sites) site ≡ option_map shape_of (at_site sites site)
 at_shapes sites site = go (site == 0)
   where
@@ -119,7 +118,7 @@ first_row sites nested rows behind at same = record {
   behind = behind (nested.site - 1) rows (at_place sites nested.site rows at);
 }
 
--- a site's first row is one, and its phases are its rows'
+-- A site has one first counter, and as many counters as phases.
 pub only_row : (sites : List SiteRows) (nested : NestedParts) (rows : SiteRows) (row : ℕ) → AreBehind sites → at_site sites nested.site ≡ Some rows
     → IsFirstRow (map shape_of sites) nested row → (rows.phases ≡ phases_in nested) × (row ≡ rows.first)
 only_row sites nested rows row behind at is =

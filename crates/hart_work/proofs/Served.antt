@@ -1,4 +1,4 @@
--- How what is said of a hart that is alone goes over from one view of it to the next.
+-- How facts on a hart that is alone carry over from one view to the next.
 use Rattle.std.proofs.Common.{◌≡◌, ℕ, ◌∙◌, ◌++◌, ◌∷◌, [], List, true, false, Result, Ok, Err, sym, ap, subst}
 use Rattle.std.specs.Prelude.{OnOk, IfOk, IsErr}
 use Rattle.std.specs.Result.{is_err}
@@ -9,7 +9,7 @@ use Rattle.hart_port.specs.PortView.{PortView, registered}
 use Rattle.site_steps.specs.Back.{IsBack}
 use Rattle.hart_work.specs.Accounts.{Account}
 
--- what is so of the plan and the site before is so behind, and the other way
+-- A relation of plan and site holds before iff it holds after a return.
 pub at_back : (v w : PortView) → IsBack v w → (R : Plan → ℕ → Type 0) → R v.plan v.owner → R w.plan w.owner
 at_back v w back R r = subst (λ p. R p w.owner) (sym back.plan) (subst (R v.plan) (sym back.owner) r)
 
@@ -20,7 +20,7 @@ back_at v w back R r = subst (λ p. R p v.owner) back.plan (subst (R w.plan) bac
 abbrev pub begun : PortView → ℕ → List Entry
 begun h s = h.mine ++ Register h.hart s ∷ []
 
--- a hart that has registered a site, and asked for nobody, serves it from there on
+-- A hart that has registered a site without a request serves the site from then on.
 pub serves_first : (Q : Account) (h a asked : PortView) (s n : ℕ) → s ≡ n → a ≡ registered h s → (a.alone ≡ true → asked ≡ a) → asked.alone ≡ a.alone →
     (h.alone ≡ true → Q h.plan n (begun h n) (begun h n)) → asked.alone ≡ true → Q asked.plan asked.owner (begun h s) asked.mine
 serves_first Q h a asked s n number is quiet same q alone =
@@ -28,7 +28,7 @@ serves_first Q h a asked s n number is quiet same q alone =
     let at : h.alone ≡ true = sym (ap (λ (x : PortView). x.alone) is) ∙ one in
     subst (λ (v : PortView). Q v.plan v.owner (begun h s) v.mine) (sym (quiet one ∙ is)) (subst (λ k. Q h.plan k (begun h k) (begun h k)) (sym number) (q at))
 
--- what holds where an answer is Ok
+-- A property of an Ok result, if the result isn't an error.
 pub at_ok : {A E : Type 0} (r : Result A E) (Q : Type 0) → is_err r ≡ false → OnOk r Q → Q
 at_ok (Ok x) Q is q = q
 at_ok (Err e) Q is q = cc

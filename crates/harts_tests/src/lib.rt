@@ -1,5 +1,5 @@
-//! Tests of several harts, by public calls alone: sites that one hart opens and another finds, and whole runs, each hart on a
-//! thread.
+//! Tests of several harts, through public calls only: sites that one hart opens and another finds, and complete runs, each
+//! hart on a thread.
 #![tactic(auto)]
 
 #[cfg(test)]

@@ -1,4 +1,4 @@
--- How a machine goes on, as the procedure sees it, and how its account goes on with it.
+-- How a machine continues, as the procedure sees it, and how its account continues.
 use Rattle.std.proofs.Common.{◌≡◌, ℕ, ℤ, false, List, Option, refl, sym, ap, subst}
 use Rattle.contexts.specs.declared.machine.Step.{Step}
 use Rattle.contexts.specs.declared.machine.Step.TheVariants as step

@@ -1,4 +1,4 @@
-//! Whole programs as jobs.
+//! Complete programs as jobs.
 ghost use Rattle.std.specs.Prelude.{◌≡◌};
 
 use crate::driving::{driven, holds, parsed};

@@ -1,4 +1,4 @@
--- Books: their places, and what is merged of them.
+-- Books: their slots, and what is merged of them.
 use Rattle.std.proofs.Common.{◌≡◌, ◌≢◌, ◌⊎◌, inl, inr, ℕ, suc, zero, ◌+◌, add-one, ◌<◌, ◌≤◌, List, [], ◌∷◌, ◌++◌, length, map, Some, None, slice_get, slice_set, get_or, nat_lt, true, refl, sym, ◌∙◌, ap, subst, arith, All, replicate, option_map}
 use borrow.Author.Tests.{ltb-true}
 use Rattle.std.proofs.Math.ListN.{drop}
@@ -53,9 +53,9 @@ pub got : {A : Type 0} → (xs known : List A) (i place : ℕ) (x : A) → true 
 got xs known i place x inside is e f =
     let at : slice_get xs i ≡ Some x = slice_get_read xs (length xs) i x refl (ltb-true i (length xs) (sym inside)) is in cc
 
--- ---- places
+-- ---- slots
 
--- the jobs of a group, as they lie in memory
+-- the jobs of a group, as models of the values in memory
 told_job : (jobs : List JobParts) (i : ℕ) (job : JobParts) → slice_get jobs i ≡ Some job → slice_get (map job_of jobs) i ≡ Some (job_of job)
 told_job jobs i job at = slice_get-map job_of jobs i ∙ ap (option_map job_of) at
 
@@ -69,32 +69,32 @@ group_place jobs group i job at = group.places i (job_of job) (told_job jobs i j
 pub group_some : (jobs : List JobParts) → IsGroup (map job_of jobs) → 0 < length jobs
 group_some jobs group = let some_job = group.some in let same = length-map jobs job_of in omega arith
 
--- a book, as it is told of what it holds
+-- the model of a book
 abbrev pub told_book : List JobParts → List Place → BookParts
 told_book jobs places = record { jobs = jobs; places = map mark_of places }
 
--- each job names its place
+-- each job names its index
 abbrev pub NamePlaces : List JobParts → Type 0
 NamePlaces jobs = (i : ℕ) (job : JobParts) → slice_get jobs i ≡ Some job → job.place ≡ i
 
--- a job's place is the one that it names
+-- A job's index is the one that it names.
 pub own_place : (jobs : List JobParts) (places : List Mark) → IsGroup (map job_of jobs) → (i : ℕ) (job : JobParts) →
     IsPlaceOf (record { jobs = jobs; places = places }) i job → i ≡ job.place
 own_place jobs places group i job is = sym (group_place jobs group i is.0 is.1) ∙ ap (λ tree. tree.place) is.2
 
--- and so it is of a book that is told so
+-- The same for a book that has this model.
 pub only_place : (book : BookParts) (jobs : List JobParts) (places : List Place) → told_book jobs places ≡ book → NamePlaces jobs → (job : JobParts) →
     (i : ℕ) → IsPlaceOf book i job → i ≡ job.place
 only_place book jobs places e named job i is =
     sym (subst NamePlaces (ap (λ b. b.jobs) e) named i is.0 is.1) ∙ ap (λ tree. tree.place) is.2
 
--- the jobs' stores are of one size
+-- The jobs' stores have the same size.
 pub same_size : (jobs : List JobParts) → IsGroup (map job_of jobs) → ((i : ℕ) (job : JobParts) → slice_get jobs i ≡ Some job → IsFit (job_of job)) →
     (i k : ℕ) (a b : JobParts) → slice_get jobs i ≡ Some a → slice_get jobs k ≡ Some b → length a.store ≡ length b.store
 same_size jobs group fit i k a b at there =
     (fit i a at).cells ∙ ap (λ ds. cells_of (arrays_of ds)) (group_alike jobs group i k a b at there).arrays ∙ sym (fit k b there).cells
 
--- no place of a new book is filled
+-- No slot of a new book is filled.
 pub kept_open : (jobs : List JobParts) (places : List Place) → IsGroup (map job_of jobs) → ((i : ℕ) (job : JobParts) → slice_get jobs i ≡ Some job → IsFit (job_of job)) →
     places ≡ replicate (length jobs) place.Open → IsKept jobs places
 kept_open jobs places group fit e = record {
@@ -106,7 +106,7 @@ kept_open jobs places group fit e = record {
   filled = λ i job written own is. let same = at_replicate (length jobs) i place.Open (place.Filled written) (subst (λ (ps : List Place). slice_get ps i ≡ Some (place.Filled written)) e is) in cc;
 }
 
--- and so it is told
+-- The model of a new book.
 pub told_open : (jobs : List JobParts) (places : List Place) → places ≡ replicate (length jobs) place.Open → told_book jobs places ≡ open_book jobs
 told_open jobs places e =
     let f : List Mark → BookParts = λ ms. record { jobs = jobs; places = ms } in
@@ -116,7 +116,7 @@ told_open jobs places e =
     map_replicate zero p = refl
     map_replicate (suc n) p = ap (λ ms. mark_of p ∷ ms) (map_replicate n p)
 
--- a piece of the place's own job is put there
+-- A piece of the slot's own job is put into the slot.
 pub kept_filled : (jobs : List JobParts) (places : List Place) (i : ℕ) (written : Laid) → IsKept jobs places →
     ((own : JobParts) → slice_get jobs i ≡ Some own → written.pairs ≡ piece_of_job (job_of own)) →
     IsKept jobs (slice_set places i (place.Filled written))
@@ -155,7 +155,7 @@ kept_failed jobs places i kept = record {
         let same = at_same places i place.Failed (place.Filled w) (subst P e is) in cc
     first_or_other {k} (inr ne) job w own is = kept.filled k job w own (sym (at_other places i k place.Failed ne) ∙ is)
 
--- an element of a list that was written is the new one, or was there before
+-- An element of a list with one replaced is the new one, or was there before.
 set_cases : {A : Type 0} → (P : ℕ → A → Type 0) (xs : List A) (i k : ℕ) (x y : A) → (k ≡ i → P k x) →
     (k ≢ i → slice_get xs k ≡ Some y → P k y) → slice_get (slice_set xs i x) k ≡ Some y → P k y
 set_cases P xs i k x y new old at = found (cases_eq k i)
@@ -166,7 +166,7 @@ set_cases P xs i k x y new old at = found (cases_eq k i)
         subst (P k) (sym same) (new e)
     found (inr ne) = old ne (sym (at_other xs i k x ne) ∙ at)
 
--- a piece is put in with its job, which names the place and starts from as many cells as the one that stood there
+-- A piece is put in with its job, which names the slot and starts from as many cells as the slot's own job.
 pub kept_put : (jobs : List JobParts) (places : List Place) (i : ℕ) (own job : JobParts) (written : Laid) → IsKept jobs places → slice_get jobs i ≡ Some own →
     job.place ≡ i → length own.store ≡ length job.store → IsFit (job_of job) → written.pairs ≡ piece_of_job (job_of job) →
     IsKept (slice_set jobs i job) (slice_set places i (place.Filled written))
@@ -189,7 +189,7 @@ kept_put jobs places i own job written kept there at_place size is_fit right = r
     as_many : (k : ℕ) (a : JobParts) → slice_get (slice_set jobs i job) k ≡ Some a → length a.store ≡ length own.store
     as_many k a at = set_cases (λ n j. length j.store ≡ length own.store) jobs i k job a (λ e. sym size) (λ ne was. kept.cells k i a own was there) at
 
--- and so it is told
+-- The model of the book with this piece and its job.
 pub told_put : (jobs : List JobParts) (places : List Place) (book : BookParts) (i : ℕ) (written : Laid) (piece : PieceParts) → told_book jobs places ≡ book → i ≡ piece.job.place →
     told_book (slice_set jobs i piece.job) (slice_set places i (place.Filled written)) ≡ with_piece book piece
 told_put jobs places book i written piece e at =
@@ -197,12 +197,12 @@ told_put jobs places book i written piece e at =
     ∙ ap (λ n. record { jobs = slice_set jobs n piece.job; places = slice_set (map mark_of places) n Filled }) at
     ∙ ap (λ b. with_piece b piece) e
 
--- ---- what is told of places
+-- ---- the model of slots
 
 pub marked_at : (places : List Place) (i : ℕ) (p : Place) → slice_get places i ≡ Some p → slice_get (map mark_of places) i ≡ Some (mark_of p)
 marked_at places i p e = slice_get-map mark_of places i ∙ ap (option_map mark_of) e
 
--- a place that is read, as a book tells it
+-- A slot that is read, in the model.
 pub seen_mark : (places xs : List Place) (marks : List Mark) (i : ℕ) (p : Place) → map mark_of places ≡ marks → xs ≡ places → i < length xs →
     p ≡ get_or xs i p → slice_get marks i ≡ Some (mark_of p)
 seen_mark places xs marks i p m e h is =
@@ -210,7 +210,7 @@ seen_mark places xs marks i p m e h is =
     let same : map mark_of xs ≡ marks = ap (map mark_of) e ∙ m in
     let P : List Mark → Type 0 = λ ms. slice_get ms i ≡ Some (mark_of p) in subst P same at
 
--- a place that is written, as a book tells it
+-- A slot that is written, in the model.
 pub marked_same : (jobs : List JobParts) (places : List Place) (book : BookParts) (i k : ℕ) (p : Place) →
     told_book jobs places ≡ book → i ≡ k → told_book jobs (slice_set places i p) ≡ marked_book book k (mark_of p)
 marked_same jobs places book i k p e at =
@@ -219,7 +219,7 @@ marked_same jobs places book i k p e at =
 
 -- ---- merging
 
--- all of them, one after another
+-- all of the lists in sequence
 abbrev joined : List (List Write) → List Write
 joined [] = []
 joined (piece ∷ more) = piece ++ joined more
@@ -228,11 +228,11 @@ merged_joined : (pieces : List (List Write)) (laid : List Write) → merged piec
 merged_joined [] laid = refl
 merged_joined (piece ∷ more) laid = merged_joined more (lays piece laid) ∙ sym (lays_append piece (joined more) laid)
 
--- each cell stands once in what is merged
+-- Each cell occurs once in the merged writes.
 pub merged_last : (pieces : List (List Write)) → last_writes (merged pieces []) ≡ merged pieces []
 merged_last pieces = ap last_writes (merged_joined pieces []) ∙ lays_last (joined pieces) [] tt ∙ sym (merged_joined pieces [])
 
--- what a job writes lies inside its store
+-- A job's writes lie inside its store.
 pub piece_below : (job : JobTree) → IsFit job → All (λ w. w.0 < length job.store) (piece_of_job job)
 piece_below job fit =
     let arrays = arrays_of job.arrays in
@@ -240,11 +240,11 @@ piece_below job fit =
     = rw (names_in_of job.arrays) (known arrays (names_of job.arrays) (names_around job.vars) job.work job.vars fit.known_names) in
     rw fit.cells (piece_inside arrays (sized job fit).each (steps_of job.work job.vars) job.store visited fit.indices)
 
--- what is still to be merged, from a place on
+-- the pieces that are still to be merged, from an index on
 abbrev pub pieces_from : ℕ → List JobParts → List Place → List (List Write)
 pieces_from i jobs places = filled_pieces (drop i jobs) (map mark_of (drop i places))
 
--- a place that isn't filled adds nothing
+-- A slot that isn't filled adds nothing.
 unfilled : (jobs : List JobParts) (p : Place) (places : List Place) → (mark_of p ≡ Filled → ⊥) → 1 ≤ length jobs →
     filled_pieces jobs (map mark_of (p ∷ places)) ≡ filled_pieces (drop 1 jobs) (map mark_of places)
 unfilled [] p places other h = absurd (omega (arith, h))
@@ -260,7 +260,7 @@ next_unfilled jobs places i p e h is other =
     ∙ ap (λ js. filled_pieces js (map mark_of (drop (suc i) places))) (drop-drop 1 i jobs)
     ∙ rw add-one refl
 
--- a filled one adds what its job writes
+-- A filled slot adds its job's writes.
 pub next_filled : (jobs : List JobParts) (places : List Place) (i : ℕ) (written : Laid) (job : JobParts) → IsKept jobs places → i < length places →
     place.Filled written ≡ get_or places i (place.Filled written) → slice_get jobs i ≡ Some job →
     pieces_from i jobs places ≡ written.pairs ∷ pieces_from (i + 1) jobs places
@@ -270,7 +270,7 @@ next_filled jobs places i written job kept h is own =
     let same = kept.filled i job written own (slice_get_read places (length places) i (place.Filled written) refl h is) in
     rw (← here, ← mine, same, add-one) refl
 
--- of a full book without a failed place, every piece is merged
+-- In a full book without a failed slot, every piece is merged.
 pub all_filled : (jobs : List JobParts) (marks : List Mark) → length marks ≡ length jobs →
     ((i : ℕ) → slice_get marks i ≡ Some Open → ⊥) → ((i : ℕ) → slice_get marks i ≡ Some Failed → ⊥) →
     filled_pieces jobs marks ≡ map (λ job. piece_of_job (job_of job)) jobs
@@ -281,9 +281,9 @@ all_filled (job ∷ jobs) (Filled ∷ marks) e full fine =
     ap (λ more. piece_of_job (job_of job) ∷ more) (all_filled jobs marks (omega (arith, e)) (λ i. full (suc i)) (λ i. fine (suc i)))
 all_filled (job ∷ jobs) (Failed ∷ marks) e full fine = absurd (fine zero refl)
 
--- ---- merging a place's piece into a store
+-- ---- merging a slot's piece into a store
 
--- every filled place's writes lie inside a store of the jobs' size
+-- The writes of a filled slot lie inside a store of the jobs' size.
 pub filled_below : (jobs : List JobParts) (places : List Place) (i : ℕ) (written : Laid) (job : JobParts) (n : ℕ) → IsKept jobs places →
     slice_get jobs i ≡ Some job → slice_get places i ≡ Some (place.Filled written) → length job.store ≡ n → All (λ w. w.0 < n) written.pairs
 filled_below jobs places i written job n kept own at cells =
@@ -291,7 +291,7 @@ filled_below jobs places i written job n kept own at cells =
     let P : ℕ → Type 0 = λ m. All (λ w. w.0 < m) written.pairs in
     subst P cells (rw (kept.filled i job written own at) all)
 
--- what is known of a store while a book is merged into it, with the places before this one done
+-- the state of a store while a book is merged into it, with the slots before this one done
 pub record IsMerging (book : BookParts) (places : List Place) (i : ℕ) (store first : Trace) : Type 0 where
   pub cells : length store.cells ≡ length first.cells
   pub marks : length store.marks ≡ length store.cells
@@ -305,7 +305,7 @@ begins book jobs places xs first e f marks = record {
   rest = ap (λ ps. merged (filled_pieces book.jobs ps) (marked first)) (ap (map mark_of) f ∙ ap (λ b. b.places) e);
 }
 
--- a filled place is merged
+-- A filled slot is merged.
 pub merge_filled : (jobs : List JobParts) (places : List Place) (i : ℕ) (written : Laid) (before after first : Trace) → IsKept jobs places →
     HaveCells (told_book jobs places) (length first.cells) → i < length places → place.Filled written ≡ get_or places i (place.Filled written) →
     after ≡ noted_all written.pairs before →
@@ -328,7 +328,7 @@ merge_filled jobs places i written before after first kept have h is now laid me
           rest = rw lays_on (sym (ap (λ ps. merged ps (marked before)) next) ∙ merging.rest);
         })
 
--- a place that isn't filled leaves all as it is
+-- A slot that isn't filled changes nothing.
 pub merge_unfilled : (jobs : List JobParts) (places : List Place) (i : ℕ) (p : Place) (before after first : Trace) → IsKept jobs places →
     i < length places → p ≡ get_or places i p → ((written : Laid) → p ≡ place.Filled written → ⊥) → after ≡ before →
     IsMerging (told_book jobs places) places i before first → IsMerging (told_book jobs places) places (i + 1) after first
@@ -343,7 +343,7 @@ merge_unfilled jobs places i p before after first kept h is other now merging = 
     unmarked (place.Filled written) other m = other written refl
     unmarked place.Failed other m = cc
 
--- at the end nothing is left
+-- At the end nothing is left to merge.
 pub ends : (book : BookParts) (xs : List Place) (i : ℕ) (store first : Trace) → length xs ≤ i → IsMerging book xs i store first →
     marked store ≡ merged (filled_pieces book.jobs book.places) (marked first)
 ends book xs i store first h merging = sym (ap (λ ps. merged ps (marked store)) (none_left (drop i book.jobs) (drop i xs) (simp length-drop (omega (arith, h))))) ∙ merging.rest
@@ -353,12 +353,12 @@ ends book xs i store first h merging = sym (ap (λ ps. merged ps (marked store))
     none_left (job ∷ jobs) [] h = refl
     none_left (job ∷ jobs) (p ∷ places) h = absurd (omega (arith, h))
 
--- from a store with no mark, it is what is merged
+-- From a store without a mark, the result is the merged writes.
 pub merged_from : (book : BookParts) (store first : Trace) → marked first ≡ [] → marked store ≡ merged (filled_pieces book.jobs book.places) (marked first) →
     marked store ≡ merged (filled_pieces book.jobs book.places) []
 merged_from book store first none e = e ∙ ap (merged (filled_pieces book.jobs book.places)) none
 
--- what holds of a book and its places as they lie in memory holds of it as it is told
+-- A property of a book's model and slots holds for equal ones.
 pub carried : (jobs : List JobParts) (places : List Place) (book : BookParts) (xs : List Place) (P : BookParts → List Place → Type 0) →
     told_book jobs places ≡ book → xs ≡ places → P (told_book jobs places) places → P book xs
 carried jobs places book xs P e f h = subst (λ (ps : List Place). P book ps) (sym f) (subst (λ (b : BookParts). P b places) e h)

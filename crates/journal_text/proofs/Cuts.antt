@@ -11,11 +11,11 @@ no_place k n e = grind (arith, nat_tests)
 some_place : (k n i : ℕ) → cond (nat_lt k n) (Some k) None ≡ Some i → (k < n) × (i ≡ k)
 some_place k n i e = grind (arith, nat_tests)
 
--- a list in which nothing passes is one piece
+-- A list without an element that passes is one piece.
 pub uncut : {X : Type 0} (p : X → Bool) (xs : List X) → position p xs ≡ None → slice_split p xs ≡ xs ∷ []
 uncut p xs e = slice_split_none p xs (λ k d h. fails_before_first p xs k d (omega (arith, no_place (position_or_len p xs) (length xs) e)))
 
--- the first element that passes ends the first piece
+-- The first element that passes ends the first piece.
 pub cut_at : {X : Type 0} (p : X → Bool) (xs : List X) (i : ℕ) (d : X) → position p xs ≡ Some i → slice_split p xs ≡ take i xs ∷ slice_split p (drop (i + 1) xs)
 cut_at p xs i d e =
     let at = some_place (position_or_len p xs) (length xs) i e in

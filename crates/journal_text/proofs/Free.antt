@@ -1,4 +1,4 @@
--- Words without a byte, which a cut at that byte gives back.
+-- Words without a given byte: a cut at that byte gives them back.
 use Rattle.std.proofs.Common.{◌≡◌, ◌<◌, ◌≤◌, ◌==◌, ℕ, Bool, true, false, ◌&&◌, nat_le, List, [], ◌∷◌, length, get_or, All, refl, subst, ap, ◌∙◌, arith, ◌^◌}
 use Rattle.std.proofs.lemmas.Grind.{common_steps}
 use Rattle.std.proofs.lemmas.Bool.Decides.{nat_tests}
@@ -26,7 +26,7 @@ split_joined c first (next ∷ more) free =
     slice_split_at (λ byte. byte == c) first c (join_with_byte c (next ∷ more)) free.0 (eq-eqb c c refl)
     ∙ ap (λ (words : List (List ℕ)). first ∷ words) (split_joined c next more free.1)
 
--- words without a byte have none when they stand in a row with another byte between them
+-- Words without a byte stay without it if they are joined by another byte.
 pub joined_free : (c d : ℕ) (first : List ℕ) (more : List (List ℕ)) → (d == c) ≡ false → AreFree c (first ∷ more) → IsFree c (join_with_byte d (first ∷ more))
 joined_free c d first [] other free = free.0
 joined_free c d first (next ∷ more) other free =
@@ -39,7 +39,7 @@ in_range_other byte c low range = not_equal (byte == c) (λ e. let same : byte �
 get_or_any : (xs : List ℕ) (k d e : ℕ) → k < length xs → get_or xs k d ≡ get_or xs k e
 get_or_any xs k d e at = grind (arith, common_steps)
 
--- a number in decimal has digits alone
+-- A decimal number has only digits.
 pub decimal_free : (c n : ℕ) → c < 48 → n < 2 ^ 64 → IsFree c (decimal n)
 decimal_free c n low small k d at =
     in_range_other (get_or (decimal n) k d) c low

@@ -44,7 +44,7 @@ missed true true value never = absurd (never refl refl)
 missed true false value never = refl
 missed false same value never = refl
 
--- what a word spells it spells in decimal, and is at most the bound
+-- A word that spells a number is its decimal, and the number is at most the bound.
 pub number_spelled : (most : ℕ) (word : List ℕ) (n : ℕ) → number_up_to most word ≡ Some n → (n ≤ most) × (word ≡ decimal n)
 number_spelled most word n e =
     let parts = found (nat_le (digits_value 10 word) most) (spells (digits_value 10 word) word) (digits_value 10 word) n e in
@@ -53,14 +53,14 @@ number_spelled most word n e =
       word_is (decimal (digits_value 10 word)) word parts.1 ∙ ap decimal parts.2,
     )
 
--- a number's decimal spells it
+-- A number's decimal spells the number.
 pub number_of_decimal : (most n : ℕ) → most < 2 ^ 64 → n ≤ most → number_up_to most (decimal n) ≡ Some n
 number_of_decimal most n bound small =
     let value : digits_value 10 (decimal n) ≡ n = value_of_decimal n (omega arith) in
     let fits : nat_le n most ≡ true = grind (arith, nat_tests) in
     rw (value, fits, is_word_itself (decimal n)) refl
 
--- nothing else is a number
+-- No other word spells a number.
 pub no_number : (most : ℕ) (word : List ℕ) → ((n : ℕ) → n ≤ most → word ≡ decimal n → ⊥) → number_up_to most word ≡ None
 no_number most word never =
     missed (nat_le (digits_value 10 word) most) (spells (digits_value 10 word) word) (digits_value 10 word)
@@ -94,7 +94,7 @@ large_is_none most word i bound large =
     let value : digits_value 10 word ≡ n = ap (digits_value 10) e ∙ value_of_decimal n (omega arith) in
     omega (arith, digits_value-take-le 10 word i (omega arith), value, large))
 
--- a number that is at most this one is this one exactly where the word spells this one
+-- A found number equals the bound iff the word spells the bound.
 pub spells_found : (number : ℕ) (word : List ℕ) (found : ℕ) → number < 2 ^ 64 → number_up_to number word ≡ Some found → (found == number) ≡ spells number word
 spells_found number word found bound e =
     let spelled = number_spelled number word found e in

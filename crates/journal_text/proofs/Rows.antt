@@ -1,4 +1,4 @@
--- The rows of entries: the words of an entry's line, and that they are read as the entry.
+-- The row of an entry: the words of its line. The words are read as the entry.
 use Rattle.std.proofs.Common.{◌≡◌, ◌&&◌, ◌+◌, ◌≤◌, ℕ, Bool, true, false, cond, List, [], ◌∷◌, ◌++◌, drop, codes, Option, Some, None, Result, Ok, Err, refl, sym, ap, ap₂, subst, ◌∙◌, arith, append_assoc}
 use Rattle.std.specs.Fmt.{decimal}
 use Rattle.std.specs.List.{join_with_byte}
@@ -36,7 +36,7 @@ row_rest row = (104 ∷ row.hart) ∷ action_of row.deed ∷ (115 ∷ row.site) 
 abbrev pub row_words : Row → List (List ℕ)
 row_words row = row.place ∷ row_rest row
 
--- the row of an entry at a place
+-- the row of an entry at an index
 abbrev pub row_for : Plan → ℕ → Entry → Row
 row_for plan place (Register hart site) = row_with (decimal place) (decimal hart) (decimal site) (registers (decimal (parent plan site)))
 row_for plan place (Request hart site count) = row_with (decimal place) (decimal hart) (decimal site) (requests (decimal count))
@@ -45,7 +45,7 @@ row_for plan place (Yield hart site) = row_with (decimal place) (decimal hart) (
 row_for plan place (Unregister hart site) = row_with (decimal place) (decimal hart) (decimal site) unregisters
 row_for plan place (Skip hart site) = row_with (decimal place) (decimal hart) (decimal site) skips
 
--- an entry's line is its row's words with a space between each two, and a newline
+-- An entry's line is its row's words, separated by spaces, and a newline.
 pub line_is_row : (plan : Plan) (place : ℕ) (entry : Entry) → line_text plan place entry ≡ join_with_byte 32 (row_words (row_for plan place entry)) ++ 10 ∷ []
 line_is_row plan place (Register hart site) = simp append_assoc
 line_is_row plan place (Request hart site count) = simp append_assoc
@@ -54,7 +54,7 @@ line_is_row plan place (Yield hart site) = simp append_assoc
 line_is_row plan place (Unregister hart site) = simp append_assoc
 line_is_row plan place (Skip hart site) = simp append_assoc
 
--- words of a row have its form
+-- A deed is read back from its words.
 deed_of_words : (deed : Deed) → deed_of (action_of deed) (words_behind deed) ≡ Some deed
 deed_of_words (registers around) = refl
 deed_of_words (requests count) = refl
@@ -83,7 +83,7 @@ entry_of_row plan place (Skip hart site) small =
 pub entry_is_read : (plan : Plan) (place : ℕ) (entry : Entry) → IsEntry entry → entry_of plan place (row_words (row_for plan place entry)) ≡ Ok entry
 entry_is_read plan place entry small = rw (row_of_words (row_for plan place entry), entry_of_row plan place entry small) refl
 
--- ---- and back
+-- ---- from words to an entry
 if_some : {A : Type 0} (b : Bool) (o : Option A) (y : A) → cond b o None ≡ Some y → (b ≡ true) × (o ≡ Some y)
 if_some true o y e = (refl, e)
 if_some false o y e = cc e
@@ -204,7 +204,7 @@ pub and_ok : {A B : Type 0} (f : A → Result B TextFault) (r : Result A TextFau
 and_ok f (Ok x) y e = (x, refl, e)
 and_ok f (Err why) y e = cc e
 
--- words that are read as an entry are those of its row
+-- Words that are read as an entry are the words of its row.
 pub words_are_read : (plan : Plan) (place : ℕ) (words : List (List ℕ)) (entry : Entry) → entry_of plan place words ≡ Ok entry → (words ≡ row_words (row_for plan place entry)) × IsEntry entry
 words_are_read plan place words entry e =
     let parts = and_ok (λ row. or_fault (BadNumber (place + 2)) (entry_in plan place row)) (or_fault (BadLine (place + 2)) (row_of words)) entry e in

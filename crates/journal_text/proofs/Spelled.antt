@@ -1,4 +1,4 @@
--- A text is read exactly where it is the journal of a list, and then as that list.
+-- A text is read iff it is the journal of a list; the result is that list.
 use Rattle.std.proofs.Common.{◌≡◌, ◌+◌, ◌-◌, ◌<◌, ◌≤◌, ◌==◌, ◌^◌, ℕ, Bool, true, false, cond, List, [], ◌∷◌, ◌++◌, length, get_or, codes, All, Result, Ok, Err, IfOk, refl, sym, ap, ap₂, inl, inr, subst, ◌∙◌, arith, append_assoc}
 use Rattle.std.specs.Fmt.{decimal}
 use Rattle.std.specs.List.{slice_split, join_with_byte}
@@ -20,7 +20,7 @@ use Rattle.journal_text.proofs.Numbers.{word_is, number_of_decimal, number_spell
 use Rattle.journal_text.proofs.Rows.{row_words, row_rest, row_for, line_is_row, entry_is_read, words_are_read, and_ok, or_ok}
 use Rattle.journal_text.proofs.Steps.{entries_step, all_read, counted_right, with_first}
 
--- ---- what is written is read
+-- ---- a written journal is read
 parent_within : (plan : Plan) → IsPlan plan → (k : ℕ) → get_or plan.parents k 0 < 2 ^ 64
 parent_within plan right k =
     elim (cases_lt k (length plan.parents)) [
@@ -37,7 +37,7 @@ bare_free place hart site action c low small h s free = (
   (lettered_free c 104 hart low (omega arith) (omega arith), (free, (lettered_free c 115 site low (omega arith) (omega arith), tt))),
 )
 
--- the words of a row have no byte that is no letter and no digit
+-- The words of a row have only letters and digits.
 row_free : (plan : Plan) → IsPlan plan → (place : ℕ) → place < 2 ^ 32 → (entry : Entry) → IsEntry entry → (c : ℕ) → c < 48 → AreFree c (row_words (row_for plan place entry))
 row_free plan right place small (Register hart site) fits c low = (
   decimal_free c place low (omega arith),
@@ -110,7 +110,7 @@ journal_written plan right list text is =
     ∙ ap (or_fault (fault.BadNumber 1)) (number_of_decimal 65535 (length list) (omega arith) is.few) in
     all_read plan text first rest cut (length list) said list (entries_written plan right 0 list (omega (arith, is.few)) is.entries) ∙ counted_right (length list) list refl
 
--- ---- what is read was written
+-- ---- a text that is read is a written journal
 line_joined : (c : ℕ) (text : List ℕ) → join_with_byte c (slice_split (λ byte. byte == c) text) ≡ text
 line_joined c text = join_with_byte-slice_split c text
 
@@ -178,7 +178,7 @@ journal_parts plan (only ∷ []) list e = cc e
 pub journal_read : (plan : Plan) (text : List ℕ) (list : List Entry) → journal_of plan text ≡ Ok list → IsJournalOf plan list text
 journal_read plan text list e = subst (IsJournalOf plan list) (line_joined 10 text) (journal_parts plan (lines_of text) list e)
 
--- ---- of an answer
+-- ---- from the contract of a reader
 pub reads_found : (plan : Plan) (text : List ℕ) (result : Result (List Entry) TextFault) → Reads (λ list. list) (journal_of plan text) result → IfOk result (λ list. IsJournalOf plan list text)
 reads_found plan text (Ok list) reads = journal_read plan text list reads
 reads_found plan text (Err why) reads = tt

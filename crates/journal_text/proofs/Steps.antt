@@ -1,4 +1,4 @@
--- One line after another.
+-- Reading a text line by line.
 use Rattle.std.proofs.Common.{◌≡◌, ◌+◌, ℕ, Bool, cond, true, false, ◌==◌, List, [], ◌∷◌, ◌++◌, length, take, Result, Ok, Err, refl, sym, ap, ◌∙◌, append_assoc}
 use Rattle.std.specs.List.{slice_split, onto_first}
 use Rattle.std.proofs.lemmas.Bool.{eqb-true, eq-eqb}
@@ -13,7 +13,7 @@ pub not_equal : (b : Bool) → (b ≡ true → ⊥) → b ≡ false
 not_equal true never = absurd (never refl)
 not_equal false never = refl
 
--- the entries behind these
+-- the entries that follow these
 abbrev pub behind : List Entry → Result (List Entry) TextFault → Result (List Entry) TextFault
 behind front (Ok rest) = Ok (front ++ rest)
 behind front (Err fault) = Err fault
@@ -21,7 +21,7 @@ behind front (Err fault) = Err fault
 abbrev pub with_first : Entry → Result (List Entry) TextFault → Result (List Entry) TextFault
 with_first entry rest = and_then (λ more. Ok (entry ∷ more)) rest
 
--- a list that is cut has a piece
+-- A list that is cut has a piece.
 some_onto : {X : Type 0} (x : X) (parts : List (List X)) → (first : List X) × (more : List (List X)) × (onto_first x parts ≡ first ∷ more)
 some_onto x [] = (x ∷ [], [], refl)
 some_onto x (part ∷ parts) = (x ∷ part, parts, refl)
@@ -34,11 +34,11 @@ pub some_piece : {X : Type 0} (p : X → Bool) (xs : List X) → (first : List X
 some_piece p [] = ([], [], refl)
 some_piece p (x ∷ xs) = some_choice (p x) x (slice_split p xs)
 
--- the lines of a text behind a line
+-- The lines of a text after one line.
 pub entries_step : (plan : Plan) (place : ℕ) (line rest : List ℕ) → entries_of plan place (line ∷ lines_of rest) ≡ and_then (λ entry. with_first entry (entries_of plan (place + 1) (lines_of rest))) (entry_of plan place (words_of line))
 entries_step plan place line rest = let piece = some_piece (λ byte. byte == 10) rest in rw piece.2 refl
 
--- seven words tell all that a line's words tell
+-- The first seven words of a line determine its count.
 pub count_of_few : (words : List (List ℕ)) → count_in (take 7 words) ≡ count_in words
 count_of_few [] = refl
 count_of_few (a ∷ []) = refl
@@ -58,7 +58,7 @@ row_of_few (a ∷ b ∷ c ∷ d ∷ e ∷ f ∷ g ∷ more) = refl
 pub entry_of_few : (plan : Plan) (place : ℕ) (words : List (List ℕ)) → entry_of plan place (take 7 words) ≡ entry_of plan place words
 entry_of_few plan place words = rw (row_of_few words) refl
 
--- what is exactly the answer is read
+-- A result that equals the wanted one is a correct read.
 pub reads_exactly : {A : Type 0} (wanted result : Result A TextFault) → result ≡ wanted → Reads (λ x. x) wanted result
 reads_exactly wanted (Ok x) e = sym e
 reads_exactly wanted (Err fault.Memory) e = tt
@@ -66,7 +66,7 @@ reads_exactly wanted (Err (fault.BadLine line)) e = sym e
 reads_exactly wanted (Err (fault.BadNumber line)) e = sym e
 reads_exactly wanted (Err (fault.WrongCount said found)) e = sym e
 
--- a fault that is handed on
+-- A fault that is passed on.
 pub reads_on : {A B C D : Type 0} (seen : A → B) (seen' : C → D) (wanted : Result B TextFault) (wanted' : Result D TextFault) (why : TextFault)
     → Reads seen wanted (Err why) → ((e : TextFault) → wanted ≡ Err e → wanted' ≡ Err e) → Reads seen' wanted' (Err why)
 reads_on seen seen' wanted wanted' fault.Memory reads same = tt
@@ -74,12 +74,12 @@ reads_on seen seen' wanted wanted' (fault.BadLine line) reads same = same (fault
 reads_on seen seen' wanted wanted' (fault.BadNumber line) reads same = same (fault.BadNumber line) reads
 reads_on seen seen' wanted wanted' (fault.WrongCount said found) reads same = same (fault.WrongCount said found) reads
 
--- these entries, one more, and then the rest
+-- These entries, one more, and then the rest.
 behind_one : (front : List Entry) (entry : Entry) (rest : Result (List Entry) TextFault) → behind front (with_first entry rest) ≡ behind (front ++ entry ∷ []) rest
 behind_one front entry (Ok more) = ap Ok (sym (append_assoc front (entry ∷ []) more))
 behind_one front entry (Err why) = refl
 
--- a line with a fault
+-- A line with a fault.
 pub line_fails : (plan : Plan) (all : Result (List Entry) TextFault) (front : List Entry) (place : ℕ) (text line after : List ℕ)
     → all ≡ behind front (entries_of plan place (lines_of text)) → lines_of text ≡ line ∷ lines_of after
     → (why : TextFault) → entry_of plan place (words_of line) ≡ Err why → all ≡ Err why
@@ -87,7 +87,7 @@ line_fails plan all front place text line after same cut why e =
     same ∙ ap (λ (lines : List (List ℕ)). behind front (entries_of plan place lines)) cut
     ∙ ap (behind front) (entries_step plan place line after ∙ ap (and_then (λ entry. with_first entry (entries_of plan (place + 1) (lines_of after)))) e)
 
--- a line with an entry
+-- A line with an entry.
 pub line_read : (plan : Plan) (all : Result (List Entry) TextFault) (front : List Entry) (place : ℕ) (text line after : List ℕ)
     → all ≡ behind front (entries_of plan place (lines_of text)) → lines_of text ≡ line ∷ lines_of after
     → (entry : Entry) → entry_of plan place (words_of line) ≡ Ok entry → all ≡ behind (front ++ entry ∷ []) (entries_of plan (place + 1) (lines_of after))
@@ -96,7 +96,7 @@ line_read plan all front place text line after same cut entry e =
     ∙ ap (behind front) (entries_step plan place line after ∙ ap (and_then (λ entry. with_first entry (entries_of plan (place + 1) (lines_of after)))) e)
     ∙ behind_one front entry (entries_of plan (place + 1) (lines_of after))
 
--- the first line, and what stands behind it
+-- The first line, and the rest of the text.
 pub journal_step : (plan : Plan) (text first rest : List ℕ) → lines_of text ≡ first ∷ lines_of rest
     → journal_of plan text ≡ and_then (λ said. and_then (if_counted said) (entries_of plan 0 (lines_of rest))) (count_in (words_of first))
 journal_step plan text first rest cut = let piece = some_piece (λ byte. byte == 10) rest in rw (cut, piece.2) refl
@@ -107,7 +107,7 @@ counted_right said list e = rw (eq-eqb (length list) said e) refl
 pub counted_wrong : (said : ℕ) (list : List Entry) → (length list ≡ said → ⊥) → if_counted said list ≡ Err (fault.WrongCount said (length list))
 counted_wrong said list other = rw (not_equal (length list == said) (λ e. other (eqb-true (length list) said e))) refl
 
--- the fault of the first line, and of those behind it
+-- The fault of the first line is found before those of the rest.
 pub first_fails : (plan : Plan) (text first rest : List ℕ) → lines_of text ≡ first ∷ lines_of rest
     → (why : TextFault) → count_in (words_of first) ≡ Err why → journal_of plan text ≡ Err why
 first_fails plan text first rest cut why e =

@@ -1,4 +1,4 @@
--- Each kind of step may be taken, and what it tells its seat.
+-- Each kind of step is allowed, and what the step shows its seat.
 use Rattle.std.proofs.Common.{◌≡◌, ℕ, ◌+◌, ◌-◌, ◌*◌, ◌%◌, ◌^◌, ◌<◌, ◌==◌, slice_index, List, sym, ap, subst, arith, bit_or, Some}
 use mathlib.Core.Option.{some}
 use lib.ListN.{get_elem?}
@@ -78,7 +78,7 @@ module _ (lay : Layout) (p : Plan) (slots id : ℕ) (me : M) (seat : IsSeat me.0
   closes x is may = subst (λ (q : ℕ). Allows (Stands lay p) slots id me q (λ n. bit_or n 2) (Tells (λ _. close_view) nothing_more me)) is
       (allowed lay p slots id me me.0.owner (λ n. bit_or n 2) (λ _. close_view) nothing_more (λ _. seat) (λ s k at _. ((close_keeps lay p s k id me.0 at seat may).0, tt)))
 
-  -- the place that the board word tells is inside the journal
+  -- The index that the board word shows is inside the journal.
   placed : (s : St) (k : Stands lay p s) (e : Entry) → get_elem? s.views id ≡ some me.0 → IsAllowed p k.table e → entries_of lay (slice_index s.words 0) < room me.0.plan
   placed s k e at a = let less = has_room p k.plan k.journal k.table e k.legal a in let is = length_of lay p k.plan k.few k.journal k.table k.legal (slice_index s.words 0) k.board in
       subst (λ (q : Plan). entries_of lay (slice_index s.words 0) < room q) (sym (k.views id me.0 at seat).itself.plan) (let r : entries_of lay (slice_index s.words 0) < room p = omega arith in r)

@@ -1,4 +1,4 @@
--- A hart of a plan that the layout has room for.
+-- A layout with room for a plan has a digit for each hart.
 use Rattle.std.proofs.Common.{ℕ, ◌<◌, arith}
 use Rattle.board_rule.specs.declared.layout.Layout.{Layout}
 use Rattle.board_rule.specs.declared.layout.Layout.TheVariants.{Owners, Guests}

@@ -1,4 +1,4 @@
--- What a view has taken in.
+-- What a view has after joins.
 use Rattle.std.proofs.Common.{◌≡◌, ◌≢◌, ℕ, zero, suc, ◌+◌, ◌-◌, ◌<◌, ◌≤◌, nat_le, Bool, true, false, not, cond, if◌then◌else◌, ◌||◌, ◌==◌, eq-eqb, eqb, List, [], ◌∷◌, length, take, get_or, slice_index_or, refl, sym, ap, ◌∙◌, subst, arith}
 use mathlib.Core.Option.{some}
 use mathlib.Core.Logic.{dite}
@@ -61,7 +61,7 @@ right_of : (a b : Bool) → b ≡ true → (a || b) ≡ true
 right_of true b e = refl
 right_of false b e = e
 
--- what either knew to be gone is known
+-- A site that either view knew to be gone is known to be gone.
 union-left : (f g : List Bool) (x : ℕ) → is_in f x ≡ true → is_in (union f g) x ≡ true
 union-left [] g x is = absurd (cc)
 union-left (a ∷ f) [] x is = is
@@ -77,7 +77,7 @@ union-right (a ∷ f) (b ∷ g) (suc x) is = union-right f g x is
 pub gone_more : (v w u : View) → u ≡ joined_view v w → (x : ℕ) → is_in v.marks.gone x ≡ true → is_in u.marks.gone x ≡ true
 gone_more v w u is x old = ap (λ (z : View). is_in z.marks.gone x) is ∙ union-left v.marks.gone w.marks.gone x old
 
--- the sets still have a flag for each site
+-- The sets still have one flag per site.
 pub fits_joined : (v w : View) → v.plan ≡ w.plan → FitsPlan v → FitsPlan w → FitsPlan (joined_view v w)
 fits_joined v w same a b = record {
   owner = a.owner;
@@ -91,7 +91,6 @@ fits_joined v w same a b = record {
   base = a.base;
 }
 
--- one more seat is taken in
 pub has_more : (v w u : View) (all : List HartSeat) (n m : ℕ) → u ≡ joined_view v w → m ≡ n + 1 → HasFrom v all m → ((d : HartSeat) → (w.hart ≡ n + 1) × (w ≡ (slice_index_or all n d).seat.me.0)) → HasFrom u all n
 has_more v w u all n m is next old new i d low high = let P : View → Type 0 = λ z. HasOne z (i + 1) (slice_index_or all i d).seat.me.0 in subst P (sym is) (dite (ℕ_discrete i n)
     (λ z. let e = new d in
@@ -111,7 +110,7 @@ pub all_ended : (p : Plan) (v : View) (others : List HartSeat) (d : HartSeat) �
 all_ended p v others d count has h low lt = let o = has (h - 1) d (omega arith) (omega arith) in let m = total-one (ended_as h) v.ended o.at record { hart = h - 1 + 1; mine = (slice_index_or others (h - 1) d).seat.me.0.mine; places = (slice_index_or others (h - 1) d).seat.me.0.places } o.one in
     let one : one_if (eqb (h - 1 + 1) h) ≡ 1 = ap one_if (eq-eqb (h - 1 + 1) h (omega arith)) in omega arith
 
--- a hart registers a site no more often than all do
+-- A hart registers a site at most as often as all harts together.
 registers-fewer : (x h : ℕ) (es : List Entry) → registers x (made_by h es) ≤ registers x es
 registers-fewer x h es = let f : Entry → ℕ = λ e. cond (if site_of e == x then is_register e else false) 1 0 in let both = sum_by-filter_both (λ (e : Entry). hart_of e == h) (λ (e : Entry). not (hart_of e == h)) (λ _. refl) f es in omega arith
 
@@ -127,7 +126,7 @@ is_some_of n le = grind (arith, nat_tests)
 some_of_is : (n : ℕ) → nat_le 1 n ≡ true → 1 ≤ n
 some_of_is n e = grind (arith, nat_tests)
 
--- a journal has each seat's entries
+-- A journal has each seat's entries.
 pub is_journal_of : (p : Plan) → IsPlan p → (v : View) (all : List HartSeat) (es : List Entry) → length all ≡ p.harts → ((d : HartSeat) → (v.mine ≡ (slice_index_or all 0 d).seat.me.0.mine) × (v.places ≡ (slice_index_or all 0 d).seat.me.0.places))
     → ((d : HartSeat) (x : ℕ) → is_in (slice_index_or all 0 d).seat.me.0.marks.gone x ≡ true → is_in v.marks.gone x ≡ true)
     → HasFrom v (remove all 0) 0 → IsJournal p v es → IsJournalOf p all es

@@ -1,4 +1,4 @@
--- Whose entries a legal list has, and when all sites are gone.
+-- Which hart made which entries of a legal list, and when all sites are gone.
 use Rattle.std.proofs.Common.{◌≡◌, ℕ, zero, suc, ◌+◌, ◌<◌, ◌≤◌, List, [], ◌∷◌, eq-eqb, ne_eqb, refl, sym, subst, arith}
 use mathlib.Core.Logic.{dite}
 use native.Mathlib.Decide.{ℕ_discrete}
@@ -25,7 +25,7 @@ module _ (f : Entry → ℕ) where
       (λ other. let left : made_by h (e ∷ es) ≡ made_by h es = rw (ne_eqb (hart_of e) h other) refl in
       subst (λ (l : List Entry). sum_by f (made_by h es) ≤ sum_by f l) (sym left) (omega arith))
 
-  -- where entries count for something, those of some hart do
+  -- If the sum over all entries isn't 0, some hart's sum isn't.
   pub maker : (p : Plan) (es : List Entry) → All (IsEntryOf p) es → 1 ≤ sum_by f es → (h : ℕ) × IsHart p h × (1 ≤ sum_by f (made_by h es))
   maker p [] all any = absurd (omega arith)
   maker p (e ∷ es) all any =
@@ -34,13 +34,13 @@ module _ (f : Entry → ℕ) where
       (λ none. let r = maker p es (λ k d lt. all (suc k) d (omega arith)) (omega arith) in let more = made_more r.0 e es in let some = r.2 in (r.0, r.1, omega arith))
       (λ some. let own = made_own e es in (hart_of e, (all 0 e (omega arith)).0, omega arith))
 
-  -- where those of no hart do, none do
+  -- If each hart's sum is 0, the sum over all entries is 0.
   pub none_made : (p : Plan) (es : List Entry) → All (IsEntryOf p) es → ((h : ℕ) → IsHart p h → sum_by f (made_by h es) ≡ 0) → sum_by f es ≡ 0
   none_made p es all none = dite (ℕ_discrete (sum_by f es) 0)
       (λ is. is)
       (λ some. let m = maker p es all (omega arith) in let one = m.2 in let zero = none m.0 m.1 in absurd (omega arith))
 
--- where all top sites are gone, all sites are
+-- If all children of the base are gone, all sites are.
 pub all_gone : (p : Plan) → IsPlan p → (es : List Entry) (t : TableState) → Reaches p es t → ((x : ℕ) → IsSite p x → parent p x ≡ 0 → (row t x).stage ≡ Gone) → AllGone p t
 all_gone p plan es t leads tops s site = below (suc s) s (omega arith) site
   where

@@ -1,4 +1,4 @@
--- Tables of one name are the same.
+-- Tables with the same name are equal.
 use Rattle.std.proofs.Common.{◌≡◌, ℕ, List, [], ◌∷◌, ap}
 use Rattle.atomic_table.specs.Seated.{TableId}
 use Rattle.lent_board.specs.PortViews.{table_name}

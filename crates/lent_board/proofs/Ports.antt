@@ -1,4 +1,4 @@
--- What a look at the owner tells a port.
+-- What a port learns from a look at the owner.
 use Rattle.std.proofs.Common.{◌≡◌, ◌≢◌, ◌⊎◌, ℕ, zero, suc, ◌<◌, List, Bool, true, false, not, ◌&&◌, ◌||◌, eqb, eq-eqb, inl, inr, ⊎_elim, refl, ap, arith}
 use Rattle.std.proofs.lemmas.Bool.{eqb-true}
 use Rattle.hart_port.specs.PortView.{Sees as PortSees}
@@ -21,7 +21,7 @@ both : (a b : Bool) → (a && b) ≡ true → (a ≡ true) × (b ≡ true)
 both true b e = (refl, e)
 both false b e = absurd (cc)
 
--- some other hart has the site in its field
+-- Some other hart has the site in its field.
 pub held : (n w h x : ℕ) → others_at n w h x ≡ true → (g : ℕ) × (g < n) × (g ≢ h) × (owner_field w g ≡ x)
 held zero w h x e = absurd (cc)
 held (suc n) w h x e = ⊎_elim
@@ -38,7 +38,7 @@ stays_false : (b : Bool) → (b ≡ true → ⊥) → b ≡ false
 stays_false true n = absurd (n refl)
 stays_false false n = refl
 
--- a hart that has the site in its field is told, and where none has it, none is
+-- The test passes iff some other hart has the site in its field.
 pub held_by : (n w h x g : ℕ) → IsOther n h g × (owner_field w g ≡ x) → others_at n w h x ≡ true
 held_by n w h x g at = stays_true (others_at n w h x) (λ none. none_at n w h x none g at.0.0 at.0.1 at.1)
 

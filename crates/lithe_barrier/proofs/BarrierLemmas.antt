@@ -1,4 +1,4 @@
--- A barrier as pieces come.
+-- A barrier when pieces are deposited.
 use Rattle.std.proofs.Common.{◌≡◌, ◌≢◌, ◌⊎◌, inl, inr, ℕ, List, length, map, Option, Some, None, IsSome, slice_get, slice_set, refl, sym, ◌∙◌, subst}
 use Rattle.std.proofs.lemmas.Bool.{cases_eq, false≢true}
 use Rattle.array_jobs.specs.PieceParts.{PieceParts}
@@ -9,7 +9,7 @@ use Rattle.join_book.proofs.BookLemmas.{at_other, at_same, at_replicate, own_pla
 use Rattle.lithe_barrier.specs.declared.state.Room.{Room}
 use Rattle.lithe_barrier.specs.Arrivals.{Fills, IsRoomFor, IsWaiting}
 
--- a place of the filled book that isn't the one that was filled
+-- A slot of the filled book other than the filled one.
 marked_before : (before : BookParts) (i k : ℕ) (mark : Mark) → mark ≢ Filled → IsMarked (marked_book before i Filled) k mark → IsMarked before k mark
 marked_before before i k mark other at = found (cases_eq k i)
   where
@@ -19,7 +19,7 @@ marked_before before i k mark other at = found (cases_eq k i)
         absurd (other (at_same before.places i Filled mark (subst P e at)))
     found (inr ne) = sym (at_other before.places i k Filled ne) ∙ at
 
--- room for the jobs stays room for them
+-- Room for the jobs stays room for them.
 same_room : (before : BookParts) (i : ℕ) (room : Room) → IsRoomFor before room → IsRoomFor (marked_book before i Filled) room
 same_room before i room is = record {
   blank = record { cells = is.blank.cells; few = is.blank.few; marks = is.blank.marks; unmarked = is.blank.unmarked };
@@ -27,7 +27,7 @@ same_room before i room is = record {
   enough = is.enough;
 }
 
--- a barrier waits on while a place is free
+-- A barrier waits as long as a slot is open.
 pub waits_on : (before after : BookParts) (room : Option Room) (piece : PieceParts) → IsWaiting before room → Fills before piece after → IsWaiting after room
 waits_on before after room piece waiting fills =
     let P : BookParts → Type 0 = λ b. IsWaiting b room in
@@ -39,13 +39,13 @@ waits_on before after room piece waiting fills =
       right = λ r e. same_room before i r (waiting.right r e);
     })
 
--- and is done where none is
+-- A barrier is done if no slot is open.
 pub is_done : (before after : BookParts) (room : Option Room) (piece : PieceParts) → IsWaiting before room → Fills before piece after → IsFull after → IsWaiting after None
 is_done before after room piece waiting fills full =
     let on = waits_on before after room piece waiting fills in
     record { group = on.group; none_failed = on.none_failed; ready = λ k at. absurd (full k at); right = λ r e. let wrong = e in cc }
 
--- where a place was free there is room
+-- If a slot was open, there is room.
 pub has_room : (before after : BookParts) (known : Option Room) (piece : PieceParts) (room : Room) → IsWaiting before known → Fills before piece after →
     known ≡ Some room → IsRoomFor after room
 has_room before after known piece room waiting fills e =
@@ -57,14 +57,14 @@ pub no_room : (before after : BookParts) (known : Option Room) (piece : PiecePar
 no_room before after known piece waiting fills e =
     false≢true (subst (λ (o : Option Room). IsSome o) e (waiting.ready piece.job.place fills.free))
 
--- a job has one place at most
+-- A job has at most one slot.
 pub not_free : (before : BookParts) (room : Option Room) (job : JobParts) → IsWaiting before room → IsPlaceOf before job.place job → (IsMarked before job.place Open → ⊥) →
     (i : ℕ) → IsPlaceOf before i job → IsMarked before i Open → ⊥
 not_free before room job waiting own closed i is at =
     let same = own_place before.jobs before.places waiting.group i job is in
     let P : ℕ → Type 0 = λ n. IsMarked before n Open in closed (subst P same at)
 
--- a new barrier waits for all
+-- A new barrier waits for all slots.
 pub waits_first : (jobs : List JobParts) (book : BookParts) (room : Room) → IsGroup (map job_of jobs) → book ≡ open_book jobs → IsRoomFor book room → IsWaiting book (Some room)
 waits_first jobs book room group e is =
     let P : BookParts → Type 0 = λ b. IsRoomFor b room → IsWaiting b (Some room) in

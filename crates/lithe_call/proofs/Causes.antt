@@ -1,4 +1,4 @@
--- From the faults of the steps to those of the whole.
+-- The faults of a call, from the faults of its steps.
 use Rattle.std.proofs.Common.{◌≡◌, ◌⊎◌, ◌∙◌, ◌≤◌, ◌<◌, ◌+◌, ℕ, List, ◌++◌, length, length-append, Option, Some, None, Result, Ok, Err, IfOk, IfErr, sym, ap, subst, append-nil, arith, inl, inr, refl}
 use Rattle.array_tree.specs.Trees.{ProgramTree}
 use Rattle.array_lang.specs.Spelled.{Spells, HasFault}
@@ -21,7 +21,7 @@ use Rattle.lithe_call.specs.declared.fault.Fault.{Fault}
 use Rattle.lithe_call.specs.declared.fault.Fault.TheVariants as fault
 use Rattle.lithe_call.specs.declared.status.Status.{Status}
 
--- what was read to the end is what a telling source had left
+-- The bytes that were read are those that a source with known bytes had left.
 pub given_bytes : (bytes read : List ℕ) (left left' : Option (List ℕ)) → left ≡ Some bytes → GivesAll left read left' → bytes ≡ read
 given_bytes bytes read None left' e all = cc
 given_bytes bytes read (Some b) None e all = absurd all.given
@@ -29,7 +29,7 @@ given_bytes bytes read (Some b) (Some rest) e all =
     let same : b ≡ bytes = cc in
     sym same ∙ all.given ∙ ap (λ r. read ++ r) all.ended ∙ append-nil read
 
--- why the command has no output for what was read is why it has none for the source
+-- A cause without output for the bytes read is a cause for the source.
 pub no_output_is_fault : (words : List (List ℕ)) (command : Command) (why : Fault) (read : List ℕ) (left left' : Option (List ℕ)) (faults faults' : ℕ) → form_of words ≡ Some command →
     ReadsAll command left read left' → IsNoOutput command read why → IsFault words why left left' faults faults'
 no_output_is_fault words command fault.Usage read left left' faults faults' form all h = absurd h
@@ -51,7 +51,7 @@ output_of_given status text command words (Ok x) read left left' form all h =
     record { command = command; form = form; bytes = read; given = all; output = h }
 output_of_given status text command words (Err why) read left left' form all h = tt
 
--- what a fault's line tells is the status's text
+-- The line of a fault is the text of its status.
 pub fault_told : (words : List (List ℕ)) (why : Fault) (left left' taken : Option (List ℕ)) (faults faults' told : ℕ) (taken' : Option (List ℕ)) (told' : ℕ) →
     IsFault words why left left' faults faults' → Tells taken told (line_of why) taken' told' → TellsStatus words (status_of why) left left' taken told taken' told'
 fault_told words fault.Usage left left' taken faults faults' told taken' told' h tells = record { text = line_of fault.Usage; right = refl; tells = tells }
@@ -63,7 +63,7 @@ fault_told words (fault.Refused line) left left' taken faults faults' told taken
     record { text = line.items; right = record { command = h.0; form = h.1; bytes = h.2.0; given = h.2.1; is = h.2.2 }; tells = tells }
 fault_told words fault.Memory left left' taken faults faults' told taken' told' h tells = record { text = line_of fault.Memory; right = refl; tells = tells }
 
--- more bytes than a limit were given only of more than the limit
+-- If more bytes than a limit were given, the source had more than the limit.
 pub more_of_left : (left left' : Option (List ℕ)) (limit : ℕ) → GivesMore left limit left' → (bytes : List ℕ) → left ≡ Some bytes → limit < length bytes
 more_of_left None left' limit more bytes e = cc
 more_of_left (Some b) None limit more bytes e = absurd more.given
@@ -72,7 +72,7 @@ more_of_left (Some b) (Some rest) limit more bytes e =
     let whole : length b ≡ length more.bytes + length rest = ap length more.given ∙ length-append more.bytes rest in
     subst (λ (l : List ℕ). limit < length l) same (omega (arith, whole, more.longer))
 
--- a program that isn't accepted has no output
+-- A program that isn't accepted has no output.
 pub refused_line : (harts : ℕ) (bytes : List ℕ) (program : ProgramTree) (cause : CheckFault) (why : Fault) → length bytes ≤ 65536 → Spells bytes program → TellsRefusal program cause why →
     (cause ≡ check.Memory) ⊎ (check_fault_of program harts ≡ Some cause) → IsNoRun (SpellRefused harts) bytes why
 refused_line harts bytes program cause fault.Usage short spelled tells first = absurd tells
@@ -91,7 +91,7 @@ refused_line harts bytes program cause (fault.Refused line) short spelled tells 
 ]
 refused_line harts bytes program cause fault.Memory short spelled tells first = tt
 
--- a text that spells no program has no output
+-- A text that spells no program has no output.
 pub syntax_line_told : (AreRefused : List ℕ → List ℕ → Type 0) (bytes : List ℕ) (cause : SyntaxFault) (why : Fault) → length bytes ≤ 65536 → TellsSyntax cause why →
     ((program : ProgramTree) → Spells bytes program → cause ≡ syntax.Memory) → HasFault bytes cause → IsNoRun AreRefused bytes why
 syntax_line_told AreRefused bytes cause fault.Usage short tells only first = absurd tells

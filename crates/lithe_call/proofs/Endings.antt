@@ -1,4 +1,4 @@
--- One status for each input.
+-- Each input has one status.
 use Rattle.std.proofs.Common.{◌≡◌, ◌⊎◌, ◌∙◌, ◌≤◌, ◌<◌, ℕ, Bool, true, false, cond, List, [], ◌∷◌, ◌++◌, codes, length, length-append, Option, Some, None, Result, Ok, Err, IfErr, sym, ap, subst, arith, refl, inl, inr}
 use Rattle.std.specs.List.{join_with_byte}
 use Rattle.std.specs.Option.{option_map}
@@ -32,7 +32,7 @@ use Rattle.lithe_call.specs.declared.status.Status.TheVariants as status
 use Rattle.program_maker.proofs.Writing.{made_spelled}
 use Rattle.lithe_call.proofs.Causes.{given_bytes, more_of_left}
 
--- ---- the second part isn't longer than the whole
+-- ---- the second part is at most as long as the input
 part_cases : (b : Bool) (line rest : List ℕ) (found : Option (List ℕ × List ℕ)) (first second : List ℕ) → ((f s : List ℕ) → found ≡ Some (f, s) → length s ≤ length rest)
     → cond b (Some ([], rest)) (option_map (with_front (line ++ 10 ∷ [])) found) ≡ Some (first, second) → length second ≤ length (line ++ 10 ∷ rest)
 part_cases true line rest found first second each e =
@@ -52,7 +52,7 @@ part_short (line ∷ next ∷ more) first second e =
 pub second_short : (bytes first second : List ℕ) → parts_of bytes ≡ Some (first, second) → length second ≤ length bytes
 second_short bytes first second e = subst (λ (t : List ℕ). length second ≤ length t) (join_with_byte-slice_split 10 bytes) (part_short (lines_of bytes) first second e)
 
--- ---- parts, programs and verdicts are one
+-- ---- an input has one pair of parts, one program and one verdict
 pub same_parts : (bytes first second f s : List ℕ) → parts_of bytes ≡ Some (first, second) → parts_of bytes ≡ Some (f, s) → (first ≡ f) × (second ≡ s)
 same_parts bytes first second f s one other =
     let same = same_Some (first, second) (f, s) (sym one ∙ other) in (ap (λ (p : List ℕ × List ℕ). p.0) same, ap (λ (p : List ℕ × List ℕ). p.1) same)
@@ -103,7 +103,7 @@ refused_made harts text line status.ReadFault fails ends = absurd ends
 refused_made harts text line status.WriteFault fails ends = absurd ends
 refused_made harts text line status.NoMemory fails ends = absurd ends
 
--- only what `make` makes has that status
+-- A refused input ends only with the status `Refused`.
 pub refused_ends : (command : Command) (bytes line : List ℕ) (ended : Status) → IsRefused command bytes line → EndsWith command bytes ended → ended ≡ status.Refused
 refused_ends (Run harts) bytes line ended fails ends = absurd (refused_accepted harts bytes line ends.1.0 fails ends.1.1)
 refused_ends (Tally harts) bytes line ended fails ends = absurd (untallied_tallied harts bytes line ends.1.0 fails ends.1.1)
@@ -139,7 +139,7 @@ much_ends Solo left left' bytes status more e ends = absurd (omega (arith, too_m
 much_ends (Audit harts) left left' bytes status more e ends = absurd (omega (arith, too_much (Audit harts) left left' bytes more e, ends.0))
 much_ends (Make seed size harts) left left' bytes status more e ends = absurd more
 
--- what holds of the command with the bytes that it read holds with its input; what is so of `make` is so with any
+-- A property of the command with the bytes read holds for the input; a property of `make` holds for any bytes.
 pub with_input : (IsSo : Command → List ℕ → Type 0) → ((seed size harts : ℕ) (a b : List ℕ) → IsSo (Make seed size harts) a → IsSo (Make seed size harts) b)
     → (command : Command) (bytes read : List ℕ) (left left' : Option (List ℕ)) → AreInput command left bytes → ReadsAll command left read left' → IsSo command read → IsSo command bytes
 with_input IsSo any (Run harts) bytes read left left' e all is = subst (λ (b : List ℕ). IsSo (Run harts) b) (sym (given_bytes bytes read left left' e all.given)) is
@@ -149,7 +149,7 @@ with_input IsSo any Solo bytes read left left' e all is = subst (λ (b : List �
 with_input IsSo any (Audit harts) bytes read left left' e all is = subst (λ (b : List ℕ). IsSo (Audit harts) b) (sym (given_bytes bytes read left left' e all.given)) is
 with_input IsSo any (Make seed size harts) bytes read left left' e all is = any seed size harts read bytes is
 
--- the same of the command that the words give
+-- The same for the command that the words give.
 pub of_words : (IsSo : Command → List ℕ → Type 0) → ((seed size harts : ℕ) (a b : List ℕ) → IsSo (Make seed size harts) a → IsSo (Make seed size harts) b)
     → (words : List (List ℕ)) (own command : Command) (bytes read : List ℕ) (left left' : Option (List ℕ)) → form_of words ≡ Some own → form_of words ≡ Some command
     → AreInput command left bytes → ReadsAll own left read left' → IsSo own read → IsSo command bytes
@@ -157,7 +157,7 @@ of_words IsSo any words own command bytes read left left' one other e all is =
     let same : own ≡ command = same_Some own command (sym one ∙ other) in
     with_input IsSo any command bytes read left left' e (subst (λ (c : Command). ReadsAll c left read left') same all) (subst (λ (c : Command). IsSo c read) same is)
 
--- ---- what is for the command has no fault but the one that it ends with and want of memory, while the source doesn't fail
+-- ---- a command's only faults are its ending and an allocation failure, unless the source fails
 pub only_memory : (words : List (List ℕ)) (why : Fault) (left left' : Option (List ℕ)) (faults faults' : ℕ) → IsFault words why left left' faults faults'
     → (command : Command) → form_of words ≡ Some command → (bytes : List ℕ) → AreInput command left bytes → (ended : Status) → EndsWith command bytes ended → (FailsToRead command faults faults' → ⊥)
     → (status_of why ≡ ended) ⊎ (status_of why ≡ status.NoMemory)
@@ -178,7 +178,7 @@ only_memory words (fault.Refused line) left left' faults faults' h command form 
     (of_words (λ c b. IsRefused c b line.items) (λ seed size harts a b is. is) words h.0 command bytes h.2.0 left left' h.1 form e h.2.1 h.2.2) ends))
 only_memory words fault.Memory left left' faults faults' h command form bytes e ended ends calm = inr refl
 
--- ---- an output has the status that the input ends with
+-- ---- the output's status is the input's ending
 verdicts_one : (harts : ℕ) (bytes : List ℕ) (one other : Verdict) → HasParts (AreFound harts one) bytes → HasParts (AreFound harts other) bytes → one ≡ other
 verdicts_one harts bytes one other p q =
     let same = same_parts bytes p.first p.second q.first q.second p.parts q.parts in
@@ -205,7 +205,7 @@ ends_one Solo bytes status ending text out ends = out.0 ∙ sym ends.0
 ends_one (Audit harts) bytes status ending text out ends = out.same ∙ ap status_by (verdicts_one harts bytes out.verdict ends.1.0 out.has ends.1.1) ∙ sym ends.1.2
 ends_one (Make seed size harts) bytes status ending text out ends = out.0 ∙ sym (made_done harts (made_text seed size) status out.1.program out.1.input ends)
 
--- what was written is the output for the input
+-- The written text is the output for the input.
 pub output_told : (words : List (List ℕ)) (left left' : Option (List ℕ)) (ending : Status) (text : List ℕ) → IsOutputFor words left left' ending text
     → (command : Command) → form_of words ≡ Some command → (bytes : List ℕ) → AreInput command left bytes → IsOutputOf command bytes ending text
 output_told words left left' ending text out command form bytes e =
@@ -216,7 +216,7 @@ pub one_ending : (words : List (List ℕ)) (left left' : Option (List ℕ)) (end
 one_ending words left left' ending text out command form bytes e status ends =
     ends_one command bytes status ending text (output_told words left left' ending text out command form bytes e) ends
 
--- ---- what a fault has to do with the words
+-- ---- each fault in terms of the words
 pub too_long_told : (words : List (List ℕ)) (why : Fault) (left left' : Option (List ℕ)) (faults faults' : ℕ) → IsFault words why left left' faults faults' → status_of why ≡ status.TooLong → IsTooLong words left left'
 too_long_told words fault.Usage left left' faults faults' h e = cc e
 too_long_told words fault.TooLong left left' faults faults' h e = record { command = h.0; form = h.1; longer = h.2 }
@@ -249,7 +249,7 @@ no_verdict_of_no_run harts first second (fault.Syntax line) h = inl h
 no_verdict_of_no_run harts first second (fault.Refused line) h = h
 no_verdict_of_no_run harts first second fault.Memory h = tt
 
--- ---- what was told, where the source told its bytes
+-- ---- the line of a status, if the source's bytes are known
 told_of : (IsSo : Command → List ℕ → List ℕ → Type 0) → ((seed size harts : ℕ) (a b line : List ℕ) → IsSo (Make seed size harts) a line → IsSo (Make seed size harts) b line)
     → (words : List (List ℕ)) (left left' : Option (List ℕ)) (line : List ℕ) → IsToldOf IsSo words left left' line
     → (command : Command) → form_of words ≡ Some command → (bytes : List ℕ) → AreInput command left bytes → IsSo command bytes line
@@ -277,7 +277,7 @@ line_told words status.ReadFault left left' line is command form bytes e = is
 line_told words status.WriteFault left left' line is command form bytes e = is
 line_told words status.NoMemory left left' line is command form bytes e = is
 
--- ---- a made program is spelled by its text
+-- ---- the text of a made program spells it
 pub no_output_of_made : (seed size harts : ℕ) (bytes : List ℕ) (why : Fault) → size ≤ 40 → IsNoRun (SpellRefused harts) (made_text seed size) why → IsNoOutput (Make seed size harts) bytes why
 no_output_of_made seed size harts bytes fault.Usage few h = h
 no_output_of_made seed size harts bytes fault.TooLong few h = h
@@ -286,7 +286,7 @@ no_output_of_made seed size harts bytes (fault.Syntax line) few h = let spelled 
 no_output_of_made seed size harts bytes (fault.Refused line) few h = h
 no_output_of_made seed size harts bytes fault.Memory few h = tt
 
--- the same of what a function answers, for the text that it was given
+-- The same for a function's result, for the text it was given.
 pub made_faults : {X : Type 0} (r : Result X Fault) (command : Command) (seed size harts : ℕ) (bytes text : List ℕ) → command ≡ Make seed size harts → size_in command ≤ 40
     → text ≡ made_text seed size → IfErr r (IsNoRun (SpellRefused harts) text) → IfErr r (IsNoOutput command bytes)
 made_faults (Ok x) command seed size harts bytes text is few same h = tt

@@ -1,4 +1,4 @@
--- Programs whose members overtake: why one isn't piped.
+-- Why a program isn't piped: members overtake.
 use Rattle.std.proofs.Common.{◌≡◌, ◌⊎◌, ◌≤◌, ◌∙◌, ℕ, List, length, Some, None, sym, refl, inl, inr}
 use Rattle.array_tree.specs.Trees.{ProgramTree}
 use Rattle.array_lang.specs.Spelled.{Spells}
@@ -17,7 +17,7 @@ use Rattle.lithe_call.specs.Pipelines.{IsPiped}
 use Rattle.lithe_call.specs.declared.fault.Fault.{Fault}
 use Rattle.lithe_call.specs.declared.fault.Fault.TheVariants as fault
 
--- a program with a crossing has no run without one
+-- A program with a crossing isn't free of crossings.
 crossed_uncrossed : (program : ProgramTree) (cause : PipeFault) → (cause ≡ pipe.Memory → ⊥) → IsFaultOf program cause → HasNoCrossings program → ⊥
 crossed_uncrossed program (pipe.Crossing line cell) real is none = none is.number is.site is.here cell is.crosses
 crossed_uncrossed program pipe.Memory real is none = real refl
@@ -43,7 +43,7 @@ unpiped_line harts bytes program (fault.Refused line) short spelled tells = reco
 }
 unpiped_line harts bytes program fault.Memory short spelled tells = tt
 
--- the check refuses it
+-- The check refuses the program.
 pub check_told : (harts : ℕ) (program : ProgramTree) (cause : CheckFault) (why : Fault) → TellsRefusal program cause why
     → (cause ≡ check.Memory) ⊎ (check_fault_of program harts ≡ Some cause) → TellsUnpiped harts program why
 check_told harts program cause fault.Usage tells first = absurd tells
@@ -56,7 +56,7 @@ check_told harts program cause (fault.Refused line) tells first = elim first [
 ]
 check_told harts program cause fault.Memory tells first = tt
 
--- two of its pieces cross
+-- Two pieces of the program cross.
 pub crossing_told : (harts : ℕ) (program : ProgramTree) (cause : PipeFault) (why : Fault) → IsAcceptedFor program harts → TellsCrossing program cause why
     → IsFaultOf program cause → TellsUnpiped harts program why
 crossing_told harts program cause fault.Usage accepted tells is = absurd tells

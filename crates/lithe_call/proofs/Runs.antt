@@ -1,4 +1,4 @@
--- What a run leaves, and what is written of it.
+-- The store after a run, and the text written for it.
 use Rattle.std.proofs.Common.{◌≡◌, ◌∙◌, ℕ, List, length, [], ap, ap₂, subst, pos, Result, Ok, Err, IfOk}
 use Rattle.std.proofs.lemmas.List.{length-replicate}
 use Rattle.transfer_table.specs.Plan.{Plan}
@@ -14,13 +14,13 @@ use Rattle.run_summary.specs.Summary.{summary_text}
 use Rattle.lithe_call.specs.Programs.{table_plan}
 use Rattle.lithe_call.specs.Output.{IsSummary}
 
--- the store that a program ends with has its cells
+-- A program's final store has the cells of its arrays.
 pub final_cells : (program : ProgramTree) → length (final_store program) ≡ cells_of (arrays_of program.arrays)
 final_cells program =
     let arrays = arrays_of program.arrays in
     length_after (writes_of arrays (sequence_work program.body []) (first_store arrays)) (first_store arrays) ∙ length-replicate (cells_of arrays) (pos 0)
 
--- a plan with the parents of the program's
+-- A plan with the parents of the program's plan.
 pub told_plan : (plan : Plan) (program : ProgramTree) → plan.parents ≡ (table_plan program plan.harts).parents → plan ≡ table_plan program plan.harts
 told_plan plan program same = let with_parents : List ℕ → Plan = λ parents. record { harts = plan.harts; parents = parents } in ap with_parents same
 

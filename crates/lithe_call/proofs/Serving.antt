@@ -1,4 +1,4 @@
--- The three ways in which a call ends: with a fault, with an output that the sink took in part, and with one that it took whole.
+-- The three endings of a call: a fault, an output that the sink took in part, and one that it took completely.
 use Rattle.std.proofs.Common.{◌≡◌, ◌⊎◌, ◌∙◌, ℕ, List, Option, Some, None, sym, subst, refl, inl, inr}
 use Rattle.outside_io.specs.Outside.{Rose, Appends}
 use Rattle.command_words.specs.Form.{form_of}
@@ -21,7 +21,7 @@ use Rattle.lithe_call.proofs.Endings.{only_memory, one_ending, too_long_told, re
 
 -- ---- a fault's status
 
--- nothing was written
+-- A fault's status isn't that of a written output.
 pub no_output : (why : Fault) → (status_of why ≡ status.Done) ⊎ (status_of why ≡ status.Illegal) → ⊥
 no_output fault.Usage e = elim e [ inl is ↦ cc is | inr is ↦ cc is ]
 no_output fault.TooLong e = elim e [ inl is ↦ cc is | inr is ↦ cc is ]
@@ -47,7 +47,7 @@ usage_told words (fault.Syntax line) left left' faults faults' h e = cc e
 usage_told words (fault.Refused line) left left' faults faults' h e = cc e
 usage_told words fault.Memory left left' faults faults' h e = cc e
 
--- words that are no form have no command
+-- Words that are no form have no command.
 formless : {X : Type 0} (words : List (List ℕ)) (command : Command) → form_of words ≡ Some command → form_of words ≡ None → X
 formless words command is none = let bad : Some command ≡ None = sym is ∙ none in cc bad
 
@@ -61,13 +61,13 @@ no_form_told words (fault.Syntax line) left left' faults faults' h none = formle
 no_form_told words (fault.Refused line) left left' faults faults' h none = formless words h.0 h.1 none
 no_form_told words fault.Memory left left' faults faults' h none = inr refl
 
--- ---- an answer's status
+-- ---- the status of an ending
 written : (ended : Ending) (s : Status) → status_of_ending ended ≡ s → (s ≡ status.Done) ⊎ (s ≡ status.Illegal)
 written ending.Written s e = inl (sym e)
 written ending.Illegal s e = inr (sym e)
 
 module _ {A B E : Type 0} (see : Outside A B E) (words : List (List ℕ)) (source source' : A) where
-  -- what the words alone say of the source
+  -- the words alone leave the source unread
   abbrev Stays : Type 0
   Stays = (form_of words ≡ None → source' ≡ source)
       × ((seed size harts : ℕ) → form_of words ≡ Some (Make seed size harts) → source' ≡ source)

@@ -1,4 +1,4 @@
--- Programs that are tallied: why one isn't, and what the run of the one with rows leaves of the given one.
+-- Why a program isn't tallied, and the cells of the given program after a run of the spread one.
 use Rattle.std.proofs.Common.{◌≡◌, ◌⊎◌, ◌≤◌, ◌∙◌, ℕ, List, length, take, Option, Some, None, refl, sym, ap, subst, inl, inr, arith}
 use Rattle.std.specs.Option.{option_map}
 use Rattle.std.proofs.lemmas.List.{length-take}
@@ -26,7 +26,7 @@ use Rattle.lithe_call.specs.declared.fault.Fault.{Fault}
 use Rattle.lithe_call.specs.declared.fault.Fault.TheVariants as fault
 use Rattle.lithe_call.proofs.Runs.{final_cells}
 
--- ---- what has a meaning for some harts has one
+-- ---- a program with a meaning for some harts has a meaning
 pub meaning_of : (program : ProgramTree) (harts : ℕ) → HasMeaningFor program harts → HasMeaning program
 meaning_of program harts m = record {
   single_names = m.limits.single_names;
@@ -65,7 +65,7 @@ untallied_line harts bytes program (fault.Refused line) short spelled tells = re
 }
 untallied_line harts bytes program fault.Memory short spelled tells = tt
 
--- its meaning is refused
+-- The program's meaning is refused.
 pub meaning_told : (harts : ℕ) (program : ProgramTree) (cause : CheckFault) (why : Fault) → TellsRefusal program cause why
     → (cause ≡ check.Memory) ⊎ (meaning_fault_of program harts ≡ Some cause) → TellsUntallied harts program why
 meaning_told harts program cause fault.Usage tells first = absurd tells
@@ -78,7 +78,7 @@ meaning_told harts program cause (fault.Refused line) tells first = elim first [
 ]
 meaning_told harts program cause fault.Memory tells first = tt
 
--- its adds are refused
+-- The program's adds are refused.
 given_fault : (found : Option SpreadFault) (cause : TallyFault) → option_map told_of found ≡ Some cause → (f : SpreadFault) × (found ≡ Some f) × (told_of f ≡ cause)
 given_fault None cause e = cc e
 given_fault (Some f) cause e = (f, refl, same_Some (told_of f) cause e)
@@ -96,7 +96,7 @@ adds_told harts program cause (fault.Refused line) meaning tells first = elim fi
 ]
 adds_told harts program cause fault.Memory meaning tells first = tt
 
--- the program with rows is refused
+-- The spread program is refused.
 pub rows_told : (harts : ℕ) (program rows : ProgramTree) (cause : CheckFault) (why : Fault) → HasMeaningFor program harts → spread_fault_of program ≡ None
     → rows ≡ spread_of program → TellsRefusal rows cause why → (cause ≡ check.Memory) ⊎ (check_fault_of rows harts ≡ Some cause) → TellsUntallied harts program why
 rows_told harts program rows cause fault.Usage meaning shaped same tells first = absurd tells
@@ -114,7 +114,7 @@ rows_told harts program rows cause (fault.Refused line) meaning shaped same tell
 ]
 rows_told harts program rows cause fault.Memory meaning shaped same tells first = tt
 
--- ---- the cells of the given program are the first of those that the one with rows leaves
+-- ---- the cells of the given program are the first cells of the spread one
 pub kept_cells : (program rows : ProgramTree) (store : Store) → IsTallyKept program rows → store ≡ final_store rows
     → take (cells_of (arrays_of program.arrays)) store ≡ final_store program
 kept_cells program rows store kept same = ap (take (cells_of (arrays_of program.arrays))) same ∙ kept.store

@@ -6,12 +6,11 @@ use Rattle.lithe_mutex.specs.declared.state.Released.TheVariants as released
 use Rattle.lithe_mutex.specs.Mutex.{Possession, Free, Held}
 use Rattle.lithe_mutex.specs.Order.{Event, Acquire, Release, Does, Ends, Goes, waiting_at, kept_by, handed_by, kept_in, handed_in, LeaveInOrder}
 
--- what holds from the next mutex on holds there too where it is known by an equation
+-- A property of the next mutex holds for one that is equal to it.
 there : {T C : Type 0} → (next known : Possession T C) (kept handed left : List C) → next ≡ known →
     waiting_at next ++ kept ≡ handed ++ left → waiting_at known ++ kept ≡ handed ++ left
 there {T} {C} next known kept handed left e same = let P : Possession T C → Type 0 = λ m. waiting_at m ++ kept ≡ handed ++ left in subst P e same
 
--- one call more in front
 step : {T C : Type 0} → (before next : Possession T C) (event : Event T C) (kept handed left : List C) → Does before event next →
     waiting_at next ++ kept ≡ handed ++ left →
     waiting_at before ++ (kept_by event ++ kept) ≡ (handed_by event ++ handed) ++ left

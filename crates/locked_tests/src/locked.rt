@@ -114,7 +114,7 @@ fn last_piece<'x, 'p: 'x, R: Threads + Wait + Sync>(
     harts.last_mut()?.piece.take()
 }
 
-// The writes of the program's body, by harts over locked ports.
+// The writes of the program's body, by harts with locked ports.
 fn run_body<'x, 'p: 'x, R: Threads + Wait + Sync>(
     rt: &'x R,
     alloc: Global,
@@ -194,7 +194,7 @@ fn is_complete(alloc: Global, plan: &Plan, ledger: Ledger) -> Result<bool, Fail>
     Ok(first_fault(alloc, plan, &all, entries.as_slice())?.is_none())
 }
 
-// Whether harts over locked ports write these cells, and their ledger is a complete journal.
+// Whether harts with locked ports write these cells, and their ledger is a complete journal.
 fn is_right<R: Threads + Wait + Sync>(
     rt: &R,
     alloc: Global,
@@ -236,7 +236,7 @@ fn two_tools<'x>(
     Ok((first, next_tools(&mut tools)?))
 }
 
-// The first hart runs the whole body, without another hart.
+// The first hart runs the complete body, without another hart.
 fn run_whole<'x, 'p: 'x, R: Threads + Wait + Sync>(
     rt: &'x R,
     alloc: Global,
@@ -300,8 +300,8 @@ fn run_first<'x, 'p: 'x, R: Threads + Wait + Sync>(
     )?)
 }
 
-// Whether a hart that comes to the first construct after its site has come and gone writes both branches, although the other
-// hart has run the whole body.
+// Whether a hart that reaches the first construct after its site was registered and unregistered writes both branches,
+// although the other hart has run the complete body.
 fn writes_late<'x, 'p: 'x, R: Threads + Wait + Sync>(
     rt: &'x R,
     alloc: Global,

@@ -1,4 +1,4 @@
--- Jobs that were handed out and came back.
+-- Jobs that were handed out and returned.
 use Rattle.std.proofs.Common.{◌≡◌, ◌≢◌, ℕ, zero, suc, ◌<◌, ◌≤◌, List, [], ◌∷◌, length, map, drop, replicate, slice_get, slice_set, Some, refl, sym, ap, ◌∙◌, subst, arith, inl, inr}
 use Rattle.std.proofs.lemmas.Bool.{cases_eq, cases_lt}
 use Rattle.std.specs.Option.{option_map}
@@ -13,7 +13,7 @@ use Rattle.sched_api.specs.Wishes.{WishList}
 use Rattle.work_agenda.specs.Agenda.{AgendaParts, TakesNext}
 use Rattle.lone_hart.specs.Accounts.{Stands, AllCameBack, AllButOneCameBack}
 
--- Different jobs are begun as different contexts.
+-- different jobs begin as different contexts
 abbrev pub IsOneToOne : {C : Type 0} → (JobParts → C) → Type 0
 IsOneToOne begin = (a b : JobParts) → begin a ≡ begin b → a ≡ b
 
@@ -24,7 +24,7 @@ first_or d (x ∷ xs) = x
 no_first : {C : Type 0} (xs ys : List C) (c : C) → xs ≡ [] → xs ≡ c ∷ ys → ⊥
 no_first xs ys c e f = cc
 
--- the first of those that are left from k on is the k-th
+-- The first of the jobs from k on is the k-th.
 pub drop_first : {C : Type 0} (begin : JobParts → C) → IsOneToOne begin → (k : ℕ) (jobs : List JobParts) (job : JobParts) (rest : List C) →
     drop k (map begin jobs) ≡ begin job ∷ rest → (slice_get jobs k ≡ Some job) × (rest ≡ drop (suc k) (map begin jobs))
 drop_first begin one zero [] job rest e = cc
@@ -32,14 +32,14 @@ drop_first begin one zero (j ∷ js) job rest e = (ap Some (one j job (ap (first
 drop_first begin one (suc k) [] job rest e = cc
 drop_first begin one (suc k) (j ∷ js) job rest e = drop_first begin one k js job rest e
 
--- where none is left from k on there are at most k
+-- If no job is left from k on, there are at most k.
 drop_none : {C : Type 0} (begin : JobParts → C) (k : ℕ) (jobs : List JobParts) → drop k (map begin jobs) ≡ [] → length jobs ≤ k
 drop_none begin zero [] e = omega arith
 drop_none begin zero (j ∷ js) e = cc
 drop_none begin (suc k) [] e = omega arith
 drop_none begin (suc k) (j ∷ js) e = let less = drop_none begin k js e in omega arith
 
--- a job that is there is behind the last one
+-- An index within a list has an element.
 there : {A : Type 0} (xs : List A) (i : ℕ) → i < length xs → (x : A) × (slice_get xs i ≡ Some x)
 there [] i within = absurd (omega arith)
 there (x ∷ xs) zero within = (x, refl)
@@ -49,7 +49,7 @@ replicate_size : {A : Type 0} (n : ℕ) (x : A) → length (replicate n x) ≡ n
 replicate_size zero x = refl
 replicate_size (suc n) x = ap suc (replicate_size n x)
 
--- no job of an open book was handed out
+-- No job of an open book was handed out.
 pub none_out : {C : Type 0} (begin : JobParts → C) (jobs : List JobParts) (agenda : AgendaParts C) → IsGroup (map job_of jobs) → agenda.ready ≡ [] → agenda.unbegun ≡ map begin jobs →
     Stands begin (open_book jobs) agenda 0 0
 none_out begin jobs agenda group none all = record {
@@ -63,7 +63,7 @@ none_out begin jobs agenda group none all = record {
   own = λ i job is. group.places i (job_of job) (slice_get-map job_of jobs i ∙ ap (option_map job_of) is);
 }
 
--- the job that is handed out next is the first that isn't begun
+-- The job that is handed out next is the first that isn't begun.
 pub handed : {C : Type 0} (begin : JobParts → C) → IsOneToOne begin → (book : BookParts) (before after : AgendaParts C) (job : JobParts) (k : ℕ) → Stands begin book before k k →
     TakesNext before (Run (begin job)) after → (slice_get book.jobs k ≡ Some job) × Stands begin book after k (suc k)
 handed begin one book before after job k stands (inl taken) = absurd (no_first before.ready after.ready (begin job) stands.none_ready taken.first)
@@ -84,7 +84,7 @@ pub hand_out : {C : Type 0} (begin : JobParts → C) → IsOneToOne begin → (b
     TakesNext before (Run (begin job)) after → AllButOneCameBack begin book after job
 hand_out begin one book before after job (k, stands) taken = let next = handed begin one book before after job k stands taken in (k, next.0, next.1)
 
--- fewer jobs are left then
+-- Fewer jobs are left after a job is handed out.
 pub hand_out_less : {C : Type 0} (c : C) (before after : AgendaParts C) → before.ready ≡ [] → TakesNext before (Run c) after → length after.unbegun < length before.unbegun
 hand_out_less c before after none (inl taken) = absurd (no_first before.ready after.ready c none taken.first)
 hand_out_less c before after none (inr taken) = let same = ap length taken.first in omega arith
@@ -95,13 +95,13 @@ begun_else begin c other zero (j ∷ js) rest e = other j (ap (first_or c) e)
 begun_else begin c other (suc k) [] rest e = cc
 begun_else begin c other (suc k) (j ∷ js) rest e = begun_else begin c other k js rest e
 
--- a context that is ready is never handed out
+-- A ready context is never handed out.
 pub none_to_go_on : {C : Type 0} (begin : JobParts → C) (book : BookParts) (before after : AgendaParts C) (c : C) → ((job : JobParts) → begin job ≢ c) → AllCameBack begin book before →
     TakesNext before (Run c) after → ⊥
 none_to_go_on begin book before after c other (k, stands) (inl taken) = no_first before.ready after.ready c stands.none_ready taken.first
 none_to_go_on begin book before after c other (k, stands) (inr taken) = begun_else begin c other k book.jobs after.unbegun (sym stands.unbegun ∙ taken.first)
 
--- where none is left, the book is full
+-- If no job is left to begin, the book is full.
 pub full : {C : Type 0} (begin : JobParts → C) (book : BookParts) (agenda : AgendaParts C) → AllCameBack begin book agenda → agenda.unbegun ≡ [] → IsFull book
 full begin book agenda (k, stands) none i is = elim (cases_lt i k) [
   | inl less ↦ stands.back i less is
@@ -112,7 +112,7 @@ full begin book agenda (k, stands) none i is = elim (cases_lt i k) [
       omega arith
 ]
 
--- where a scheduler has nothing to run, none is left
+-- If a scheduler has nothing to run, no job is left to begin.
 pub none_left : {C : Type 0} (before after : AgendaParts C) (next : Next C) → ((c : C) → next ≡ Run c → ⊥) → TakesNext before next after → before.unbegun ≡ []
 none_left before after (Run c) other taken = absurd (other c refl)
 none_left before after (Lend site) other taken = taken.all_begun
@@ -123,7 +123,7 @@ size_set [] i x = refl
 size_set (y ∷ xs) zero x = refl
 size_set (y ∷ xs) (suc i) x = ap suc (size_set xs i x)
 
--- a job that came back, as a piece or as a failure
+-- A job returned, as a piece or as a failure.
 pub came_back : {C : Type 0} (begin : JobParts → C) (book : BookParts) (agenda : AgendaParts C) (k : ℕ) (mark : Mark) → (mark ≡ Open → ⊥) → Stands begin book agenda k (suc k) →
     Stands begin (marked_book book k mark) agenda (suc k) (suc k)
 came_back begin book agenda k mark closed stands = record {
@@ -138,12 +138,12 @@ came_back begin book agenda k mark closed stands = record {
   own = stands.own;
 }
 
--- the job that is out has its own place, and it is open
+-- The job that is out has its own slot, and the slot is open.
 pub out_place : {C : Type 0} (begin : JobParts → C) (book : BookParts) (agenda : AgendaParts C) (job : JobParts) (k : ℕ) → slice_get book.jobs k ≡ Some job → Stands begin book agenda k (suc k) →
     (job.place ≡ k) × IsMarked book k Open × IsPlaceOf book k job
 out_place begin book agenda job k is stands = (stands.own k job is, stands.away k (omega arith) (slice_get_within book.jobs k job is), (job, is, refl))
 
--- a wish that was heard changes nothing of it
+-- A callback changes only the wishes.
 pub heard : {C : Type 0} (begin : JobParts → C) (book : BookParts) (agenda : AgendaParts C) (wishes : WishList) (done begun : ℕ) → Stands begin book agenda done begun →
     Stands begin book (record agenda { wishes = wishes }) done begun
 heard begin book agenda wishes done begun stands = record {
@@ -155,19 +155,19 @@ heard begin book agenda wishes done begun stands = record {
   own = stands.own;
 }
 
--- where the book is full, all its jobs came back
+-- If the book is full, all its jobs returned.
 pub all_back : {C : Type 0} (begin : JobParts → C) (book : BookParts) (agenda : AgendaParts C) (done begun : ℕ) → Stands begin book agenda done begun → IsFull book → length book.jobs ≤ done
 all_back begin book agenda done begun stands is_full = elim (cases_lt done (length book.jobs)) [
   | inl less ↦ absurd (is_full done (stands.away done (omega arith) less))
   | inr up ↦ up
 ]
 
--- the place that was open is marked
+-- The slot that was open is marked.
 pub marked_now : (places : List Mark) (i : ℕ) (mark other : Mark) → slice_get places i ≡ Some other → slice_get (slice_set places i mark) i ≡ Some mark
 marked_now [] i mark other is = cc
 marked_now (p ∷ ps) zero mark other is = refl
 marked_now (p ∷ ps) (suc i) mark other is = marked_now ps i mark other is
 
--- which jobs of a phase there are, seen without where they lie
+-- The jobs of a phase, by their models.
 pub seen_job : (jobs : List JobParts) (trees : List JobTree) (k : ℕ) (job : JobParts) → map job_of jobs ≡ trees → slice_get jobs k ≡ Some job → slice_get trees k ≡ Some (job_of job)
 seen_job jobs trees k job same is = ap (λ js. slice_get js k) (sym same) ∙ slice_get-map job_of jobs k ∙ ap (option_map job_of) is

@@ -1,4 +1,4 @@
--- A callback leaves what a site has settled and is owed.
+-- A callback leaves what a site has settled and what is owed to it.
 use Rattle.std.proofs.Common.{◌≡◌, sym, subst, inl, inr}
 use Rattle.sched_api.specs.Wishes.{WishList, wishes_after}
 use Rattle.sched_api.specs.declared.hearing.Told.{Told}
@@ -37,7 +37,7 @@ team_wishes t wishes = (
   λ job owed. (owed.0, owed.1, heard team.Begin t.barrier t.agenda wishes owed.0 _ owed.2),
 )
 
--- of a pool and of a team that heard a call
+-- A pool after a callback, and a team after a callback.
 pub pool_heard : (nested : NestedParts) (site : LoneSite) (before after : pools.PoolParts) (told : Told) → site ≡ Pool nested before → pools.Hears before told after →
     StaysSettled (IsSettledSite site) (IsOwed site) (IsSettledSite (Pool nested after)) (IsOwed (Pool nested after))
 pool_heard nested site before after told is hears =

@@ -1,4 +1,4 @@
--- The account of sites of a pool, as the only hart serves it.
+-- The account of a pool's sites, as the only hart serves the pool.
 use Rattle.std.proofs.Common.{◌≡◌, ℕ, suc, ◌<◌, ◌≤◌, List, length, map, slice_get, Some, refl, sym, ap, ◌∙◌, subst, arith}
 use Rattle.std.proofs.lemmas.List.{length-map}
 use Rattle.transfer_table.specs.Plan.{Plan}
@@ -31,11 +31,11 @@ one_to_one a b e = ap (λ (w : PoolWork). job_or a w) e
 filled_open : Filled ≡ Open → ⊥
 filled_open e = cc
 
--- it is the pool of the same construct while it has the same jobs
+-- A pool with the same jobs is a pool of the same construct.
 pub pool_of : (nested : NestedParts) (before after : PoolParts) → after.book.jobs ≡ before.book.jobs → IsPoolOf nested before → IsPoolOf nested after
 pool_of nested before after same of = record { fit = of.fit; one_phase = of.one_phase; jobs = ap (map job_of) same ∙ of.jobs }
 
--- there is one phase
+-- A construct has a phase.
 zero_phase : (nested : NestedParts) (pool : PoolParts) → IsPoolOf nested pool → 0 < phases_of (statement_of nested.construct)
 zero_phase nested pool of = let one = of.one_phase in omega (arith, one)
 
@@ -68,7 +68,7 @@ pool_keeps p around start es es' nested before after job lends ran book agenda =
       served = next_jobs_are_done p around start es es' (nested_of nested) 0 k (job_of job) (zero_phase nested before lends.of) (seen_job before.book.jobs _ k job lends.of.jobs lends.own) lends.served ran;
     }
 
--- where it is full, the construct's only phase was run
+-- If the book is full, the construct's only phase was run.
 pub pool_ends : (p : Plan) (around : ℕ) (start es : List Entry) (nested : NestedParts) (pool : PoolParts) → ServesPool p around start es nested pool → IsFull pool.book →
     HasServed p around start es (nested_of nested) (phases_of (statement_of nested.construct)) 0
 pool_ends p around start es nested pool serves full =
@@ -77,7 +77,7 @@ pool_ends p around start es nested pool serves full =
     let size = sym (length-map pool.book.jobs job_of) ∙ ap length serves.of.jobs in
     subst (λ n. HasServed p around start es (nested_of nested) n 0) (sym serves.of.one_phase) (phases_turn p around start es (nested_of nested) 0 k (subst (λ n. n ≤ k) size back) serves.served)
 
--- ---- a callback changes the wishes alone
+-- ---- a callback changes only the wishes
 pub pool_heard_serving : (p : Plan) (around : ℕ) (start es : List Entry) (nested : NestedParts) (pool : PoolParts) (wishes : WishList) → ServesPool p around start es nested pool →
     ServesPool p around start es nested (record pool { agenda = record pool.agenda { wishes = wishes } })
 pool_heard_serving p around start es nested pool wishes serves = record {

@@ -1,4 +1,4 @@
--- What the procedure asks of a site's account: a callback keeps it, and at the end each site inside has ended and the construct was run.
+-- What the procedure requires of a site's account: callbacks keep it; at the end inner sites have ended, the construct was run.
 use Rattle.std.proofs.Common.{◌≡◌, ◌⊎◌, ◌++◌, ◌∷◌, [], ℕ, false, List, Result, Ok, Err, sym, subst, inl, inr}
 use Rattle.std.specs.Prelude.{IfOk, IsErr}
 use Rattle.transfer_table.specs.Plan.{Plan, IsPlan}
@@ -24,7 +24,7 @@ use Rattle.lone_hart.proofs.ServedTeams.{team_ends, team_heard_serving, team_hea
 abbrev Stays : LoneSite → LoneSite → Type 0
 Stays before after = StaysServed (is_serving before) (is_lent before) (is_serving after) (is_lent after)
 
--- of a pool and of a team that heard a call
+-- A pool after a callback, and a team after a callback.
 pub pool_served : (nested : NestedParts) (site : LoneSite) (before after : pools.PoolParts) (told : Told) → site ≡ Pool nested before → pools.Hears before told after →
     Stays site (Pool nested after)
 pool_served nested site before after told is hears =
@@ -46,7 +46,7 @@ team_served site before after told is hears =
     ) in
     subst (λ (q : teams.TeamParts). Stays site (Team q)) (sym hears) (subst (λ (s : LoneSite). Stays s (Team next)) (sym is) one)
 
--- where no job failed and the site's work is over, each site inside has ended
+-- If no job failed and the site's work is done, each site inside has ended.
 pub pool_ended : (nested : NestedParts) (pool : pools.PoolParts) (p : Plan) (around : ℕ) (start es : List Entry) → ¬ HasFailed pool.book → IsFull pool.book ⊎ HasFailed pool.book → IsPlan p →
     serves_pool nested pool p around start es → HaveEnded p around es
 pool_ended nested pool p around start es well (inl full) plan (inr serves) = served_have_ended p around start es (nested_of nested) plan (pool_ends p around start es nested pool serves full)
@@ -56,7 +56,7 @@ pool_ended nested pool p around start es well over plan (inl failed) = absurd (w
 pub team_ended : (t : teams.TeamParts) (p : Plan) (around : ℕ) (start es : List Entry) → t.failed ≡ false → teams.IsOver t → IsPlan p → serves_team t p around start es → HaveEnded p around es
 team_ended t p around start es well over plan serves = served_have_ended p around start es (nested_of t.nested) plan (team_ends p around start es t serves well over)
 
--- and with the Unregister the construct was run
+-- with the Unregister the construct was run
 abbrev Runs : NestedParts → Plan → List Entry → List Entry → ℕ → Type 0
 Runs nested p before es hart = is_run p before (es ++ Unregister hart nested.site ∷ []) nested
 
@@ -72,13 +72,13 @@ pub team_run : (t : teams.TeamParts) (p : Plan) (before es : List Entry) (hart :
 team_run t p before es hart well over plan serves =
     served_are_run p before es hart (nested_of t.nested) plan (team_ends p t.nested.site (before ++ Register hart t.nested.site ∷ []) es t serves well over)
 
--- the plan is kept with each part
+-- The plan is kept with each part.
 pub with_plan : {J : Type 0} (P A : Type 0) (B F : J → Type 0) (next : Task J) → P → HasServing A (λ job. B job × F job) next → HasServing (P × A) (λ job. (P × B job) × (P × F job)) next
 with_plan P A B F (Piece job) plan has = ((plan, has.0), (plan, has.1))
 with_plan P A B F (Visit child) plan has = has
 with_plan P A B F Nothing plan has = (plan, has)
 
--- an answer that is Ok isn't one of a failure
+-- An Ok result isn't a failure.
 pub not_failed : {A E : Type 0} (r : Result A E) (Failed X : Type 0) → (Failed → IsErr r) → (¬ Failed → X) → IfOk r (λ _. X)
 not_failed (Ok x) Failed X errs then = then (λ failed. let is = errs failed in cc)
 not_failed (Err e) Failed X errs then = tt

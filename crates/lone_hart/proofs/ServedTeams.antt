@@ -1,4 +1,4 @@
--- The account of sites of a team, as the only hart serves it.
+-- The account of a team's sites, as the only hart serves the team.
 use Rattle.std.proofs.Common.{◌≡◌, ℕ, suc, ◌≤◌, Bool, true, false, List, [], length, Result, Ok, Err, refl, sym, ap, ◌∙◌, subst, arith, inl, inr}
 use Rattle.std.proofs.lemmas.Bool.{cases_eq}
 use Rattle.std.proofs.lemmas.List.{length-map}
@@ -43,7 +43,7 @@ team_lends p around start es before after job serves taken same =
       next_jobs_are_fresh p around start es (nested_of before.nested) before.opened k (job_of job) serves.jobs.there (seen_job before.barrier.jobs _ k job serves.jobs.same next.0) serves.served,
     )
 
--- the phase that has opened is the last one, or the next one is there to be begun
+-- The opened phase is the last one, or the next one can be begun.
 turned : (p : Plan) (around : ℕ) (start es : List Entry) (now after : TeamParts) → HasServed p around start es (nested_of now.nested) now.opened 0 → now.agenda.ready ≡ [] → GoesOn now after →
     (failed : Bool) → now.failed ≡ failed → serves_team after p around start es
 turned p around start es now after served none goes true is = inl (ap (λ (t : TeamParts). t.failed) (goes.over (inr is)) ∙ is)
@@ -100,7 +100,7 @@ team_arrives {E} p around start es es' before after piece answer moves lends ran
         absurd (moves.0.0 k place.2 place.1)
     arrives (Err refused) (full, fails) = inl (ap (λ (t : TeamParts). t.failed) fails.failed)
 
--- where it is over and not failed, all phases were run
+-- If the team is done and not failed, all phases were run.
 pub team_ends : (p : Plan) (around : ℕ) (start es : List Entry) (t : TeamParts) → serves_team t p around start es → t.failed ≡ false → IsOver t →
     HasServed p around start es (nested_of t.nested) (phases_in t.nested) 0
 team_ends p around start es t (inl failed) well over = absurd (let clash : true ≡ false = sym failed ∙ well in cc)
@@ -108,7 +108,7 @@ team_ends p around start es t (inr (inl served)) well over = subst (λ n. HasSer
 team_ends p around start es t (inr (inr phase)) well (inl last) = let less = phase.jobs.there in absurd (omega (arith, less, last))
 team_ends p around start es t (inr (inr phase)) well (inr failed) = absurd (let clash : true ≡ false = sym failed ∙ well in cc)
 
--- ---- a callback changes the wishes alone
+-- ---- a callback changes only the wishes
 pub team_heard_serving : (p : Plan) (around : ℕ) (start es : List Entry) (t : TeamParts) (wishes : WishList) → serves_team t p around start es →
     serves_team (record t { agenda = record t.agenda { wishes = wishes } }) p around start es
 team_heard_serving p around start es t wishes (inl failed) = inl failed

@@ -1,4 +1,4 @@
--- Teams whose pieces come back one after another.
+-- Teams whose pieces return one by one.
 use Rattle.std.proofs.Common.{◌≡◌, ◌⊎◌, ℕ, suc, ◌+◌, ◌-◌, ◌*◌, ◌<◌, ◌≤◌, Bool, true, false, List, [], ◌∷◌, map, length, Result, Ok, Err, refl, sym, ap, ◌∙◌, subst, arith, inl, inr}
 use Rattle.std.proofs.lemmas.Bool.{cases_eq}
 use Rattle.std.proofs.lemmas.List.{length-map}
@@ -22,17 +22,17 @@ use Rattle.lone_hart.proofs.Accounts.{none_out, came_back, out_place}
 filled_open : Filled ≡ Open → ⊥
 filled_open e = cc
 
--- an open book of one job at least isn't full
+-- An open book with a job isn't full.
 not_full : (jobs : List JobParts) → 0 < length jobs → ¬ IsFull (open_book jobs)
 not_full [] some is = omega arith
 not_full (job ∷ jobs) some is = is 0 refl
 
--- the jobs of a phase are a group
+-- The jobs of a phase are a group.
 pub are_group : (nested : NestedParts) → IsFitNest (nested_of nested) → (phase : ℕ) (jobs : List JobParts) → AreJobsIn nested phase jobs → IsGroup (map job_of jobs)
 are_group nested fit phase jobs are =
     subst IsGroup (sym are.same) (jobs_are_groups (nested_of nested) fit phase (store_before (nested_of nested) phase) are.there)
 
--- a team whose phase begins is running
+-- A team whose phase begins is running.
 pub begins : (nested : NestedParts) → IsFitNest (nested_of nested) → (phase : ℕ) (jobs : List JobParts) → AreJobsIn nested phase jobs → (t : TeamParts) → t.barrier ≡ open_book jobs →
     t.agenda.ready ≡ [] → t.agenda.unbegun ≡ map Begin jobs → IsRunning t
 begins nested fit phase jobs are t open_is none all =
@@ -48,11 +48,11 @@ plus_le n a b less = omega arith
 swap_le : (m n a b : ℕ) → b ≡ a + m → m + a ≤ n + b
 swap_le m n a b is = omega arith
 
--- what is left of later phases falls with each that opens
+-- The work of later phases doesn't grow with a phase that opens.
 later_falls : (phases opened m n : ℕ) → n + (phases - suc (suc opened)) * m ≤ n + (phases - suc opened) * m
 later_falls phases opened m n = plus_le n _ _ (mul-le (phases - suc (suc opened)) m (phases - suc opened) m (omega arith) (omega arith))
 
--- the members of the next phase were among those of later phases
+-- The members of the next phase were among those of later phases.
 next_taken : (phases opened m n : ℕ) → suc opened < phases → m + (phases - suc (suc opened)) * m ≤ n + (phases - suc opened) * m
 next_taken phases opened m n less =
     let one : phases - suc opened ≡ suc (phases - suc (suc opened)) = omega arith in
@@ -63,7 +63,7 @@ pub record HasArrived (before after : TeamParts) : Type 0 where
   pub left : team_jobs_left after ≤ team_jobs_left before
   pub account : IsOver after ⊎ IsRunning after
 
--- a phase has opened, and the team is over
+-- A phase has opened, and the team is done.
 over_opened : (before after : TeamParts) (full : BookParts) → after ≡ opened_team (with_barrier before full) → IsOver (opened_team (with_barrier before full)) → HasArrived before after
 over_opened before after full is over = subst (HasArrived before) (sym is) (record {
   nested = refl;
@@ -71,7 +71,7 @@ over_opened before after full is over = subst (HasArrived before) (sym is) (reco
   account = inl over;
 })
 
--- or its next phase is there to be begun
+-- A phase has opened, and the next one can be begun.
 next_opened : (before after : TeamParts) (full : BookParts) → IsFitNest (nested_of before.nested) → before.agenda.ready ≡ [] → AreJobsIn before.nested (suc before.opened) after.barrier.jobs →
     after ≡ with_phase (opened_team (with_barrier before full)) after.barrier.jobs → HasArrived before after
 next_opened before after full fit none are is =
@@ -99,7 +99,7 @@ goes_on before after full fit none goes false is = elim (cases_eq (suc before.op
   | inr more ↦ let next = goes.next (not_over (opened_team (with_barrier before full)) more is) in next_opened before after full fit none next.0 next.1
 ]
 
--- a piece that came back
+-- A piece that returned.
 pub arrived : {E : Type 0} → (before after : TeamParts) (piece : PieceParts) (answer : Result Arrival E) → IsFitNest (nested_of before.nested) →
     AllButOneCameBack Begin before.barrier before.agenda piece.job → MovesOn before piece answer after → HasArrived before after
 arrived before after piece (Ok Kept) fit (k, is, stands) moves =

@@ -1,4 +1,4 @@
--- A hand as it looks, claims and goes on.
+-- The looks, claims and turns of a hand.
 use Rattle.std.proofs.Common.{◌≡◌, ◌⊎◌, ℕ, ◌+◌, ◌<◌, ◌≤◌, List, [], ◌∷◌, ◌++◌, Option, Some, None, inl, inr, refl, sym, ap, ◌∙◌, subst, arith, slice_index}
 use Rattle.std.proofs.Math.Nat.{eq-or-lt_of_le}
 use Rattle.std.proofs.lemmas.List.{append_assoc, append-nil}
@@ -25,7 +25,7 @@ use Rattle.loop_team.specs.Looks.{TellsReady, TellsRest}
 use Rattle.loop_team.specs.Rows.{RowsFit}
 use Rattle.loop_team.specs.Teams.{phases_in, members_in}
 
--- ---- counts that rise, and lists that grow
+-- ---- counters that rise, and lists that grow
 
 rose_least : (a b : ℕ) → Rose a b → a ≤ b
 rose_least a b (inl less) = omega (arith, less)
@@ -45,7 +45,7 @@ grown xs ys zs one two first second = second ∙ ap (λ l. l ++ two) first ∙ a
 grown_last : {X : Type 0} → (xs ys zs one two : List X) (x : X) → ys ≡ xs ++ one → zs ≡ (ys ++ two) ++ x ∷ [] → zs ≡ (xs ++ (one ++ two)) ++ x ∷ []
 grown_last xs ys zs one two x first second = second ∙ ap (λ l. l ++ x ∷ []) (grown xs ys (ys ++ two) one two first refl)
 
--- what a claim read last, where it found none left
+-- the last read of a claim that found no member left
 abbrev ReadLast : ℕ → ℕ → ℕ → List Look → List Look → Type 0
 ReadLast row count shown before after = (after ≡ before ++ look row kind.Look shown ∷ [])
     ⊎ ((n : ℕ) × (n < count) × (after ≡ before ++ look row kind.Look n ∷ look row kind.Draw shown ∷ []))
@@ -85,7 +85,7 @@ module _ {R : Type 0} where
   tried_same : (before after : TeamHand R) (phase : ℕ) (answer : Claimed) → HasTried before phase answer after → IsSameHand before after
   tried_same before after phase answer tried = record { team = tried.team; claims = tried.claims; row = tried.row; name = tried.name; kin = tried.kin }
 
-  -- a member, whose job is gone
+  -- A member whose job is gone.
   pub empty_turn : (before after : TeamHand R) (phase m : ℕ) → HasTried before phase (Member m) after → HasGoneOn before after
   empty_turn before after phase m tried = record {
     same = tried_same before after phase (Member m) tried;
@@ -94,7 +94,7 @@ module _ {R : Type 0} where
     looks = (let e = tried.looks in omega (arith, e));
   }
 
-  -- a member, whose job it is
+  -- A member whose job it is.
   pub member_turn : (before after : TeamHand R) (phase m : ℕ) (job : JobParts) → RowsFit before.claims.now.counts.items before.row before.shared.now →
       phase < phases_in before.shared.now → HasTried before phase (Member m) after → job.site ≡ before.shared.now.site → job.phase ≡ phase → job.place ≡ m → Enters before (Run (Begin job)) after
   member_turn before after phase m job fits there tried same_site same_phase same_place = record {
@@ -110,7 +110,7 @@ module _ {R : Type 0} where
     });
   }
 
-  -- none is left, and the hand looks under the lock
+  -- No member is left, and the hand looks under the lock.
   none_left : (before mid after : TeamHand R) (phase shown : ℕ) → RowsFit before.claims.now.counts.items before.row before.shared.now →
       phase < phases_in before.shared.now → HasTried before phase (NoneLeft shown) mid → HasLooked mid after → NoneWasLeft before after
   none_left before mid after phase shown fits there tried looked = at tried.gives.2
@@ -182,7 +182,7 @@ module _ {R : Type 0} where
       cause_of Nothing (inl out) = inl (found _ out)
       cause_of Nothing (inr idle) = inr (found _ idle, none)
 
-  -- ---- further turns
+  -- ---- more turns
 
   pub not_moved : (hand : TeamHand R) → HasGoneOn hand hand
   not_moved hand = record {

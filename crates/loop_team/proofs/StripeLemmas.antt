@@ -1,4 +1,4 @@
--- Where the jobs of a phase start.
+-- The stores from which the jobs of a phase start.
 use Rattle.std.proofs.Common.{◌≡◌, ◌≢◌, ◌⊎◌, inl, inr, ◌↔◌, IsTrue, Bool, true, false, ℕ, zero, suc, ◌+◌, ◌*◌, ◌<◌, List, [], ◌∷◌, length, get_or, nat_lt, Some, None, Option, Result, Ok, refl, sym, ap, ◌∙◌, subst, slice_get, slice_set, option_map, arith}
 use Rattle.std.proofs.lemmas.Bool.{cases_eq, false≢true}
 use Rattle.std.proofs.lemmas.Grind.{common_steps}
@@ -22,7 +22,7 @@ use Rattle.loop_team.specs.declared.stripes.TheConstants.{STRIPES}
 use Rattle.loop_team.specs.Teams.{TeamParts, AreJobsIn, MovesOn, writes_in}
 use Rattle.loop_team.specs.Stripes.{StripeParts, StartsFrom, Starts, StartFrom, IsOf, HasCome, HasPiece, Gives, IsRid, with_seat, IsSeatOf, AreSeatsOf, IsNotOpened, IsStillIn}
 
--- each job of a phase starts from the store that the phases before it leave
+-- Each job of a phase starts from the store that the phases before it leave.
 numbered_starts : (nested : NestedTree) (phase : ℕ) (store : Store) (place first : ℕ) (works : List WorkTree) (i : ℕ) (job : JobTree) →
     slice_get (numbered nested phase store place first works) i ≡ Some job → job.store ≡ store
 numbered_starts nested phase store place first [] i job e = absurd cc
@@ -36,7 +36,7 @@ job_starts nested phase jobs are i job at =
     numbered_starts tree phase (store_before tree phase) 0 (nested.site + 1 + earlier_sites tree.construct phase) (piece_trees tree.construct phase) i (job_of job)
     (ap (λ l. slice_get l i) (sym are.same) ∙ slice_get-map job_of jobs i ∙ ap (option_map job_of) at)
 
--- so any two of them start from one store
+-- Any two jobs of a phase start from one store.
 pub one_start : (nested : NestedParts) (phase : ℕ) (jobs : List JobParts) → AreJobsIn nested phase jobs → (i k : ℕ) (a b : JobParts) →
     slice_get jobs i ≡ Some a → slice_get jobs k ≡ Some b → a.store ≡ b.store
 one_start nested phase jobs are i k a b at there = job_starts nested phase jobs are i a at ∙ sym (job_starts nested phase jobs are k b there)
@@ -50,9 +50,9 @@ first_starts team now e running jobs first same some is =
     = λ place waits i job at. one_start team.nested team.opened team.barrier.jobs (running place waits) i 0 job first at here in
     subst (λ t. StartsFrom t first.store) e starts
 
--- ---- the places of a stripe
+-- ---- the slots of a stripe
 
--- what is told of an element that `get` found, or didn't find
+-- A property of the element that `get` finds; the property is false if `get` finds none.
 pub found_at : {A : Type 0} → (P : A → Type 0) (xs known : List A) (i place : ℕ) (x : A) (answer : Bool) → true ≡ nat_lt i (length xs) → x ≡ get_or xs i x →
     xs ≡ known → i ≡ place → IsTrue answer ↔ P x → IsTrue answer ↔ ((s : A) × (slice_get known place ≡ Some s) × P s)
 found_at P xs known i place x answer inside is e f test =
@@ -68,7 +68,7 @@ none_at P xs known i place off e f = (
   λ has. absurd (let h = slice_get_within known place has.0 has.1 in let size = ap length e in grind (arith, common_steps)),
 )
 
--- an element of a list that was written is the new one, or was there before
+-- An element of a list with one replaced is the new one, or was there before.
 pub starts_set : (start : Store) (seats : List Seat) (i : ℕ) (s : Seat) → StartFrom start seats → Starts start s → StartFrom start (slice_set seats i s)
 starts_set start seats i s all new row t at = found (cases_eq row i)
   where
@@ -76,7 +76,7 @@ starts_set start seats i s all new row t at = found (cases_eq row i)
     found (inl e) = subst (Starts start) (sym (at_same seats i s t (subst (λ (n : ℕ). slice_get (slice_set seats i s) n ≡ Some t) e at))) new
     found (inr ne) = all row t (sym (at_other seats i row s ne) ∙ at)
 
--- a row that waits for a job has one with its store
+-- The job of a row starts from the stripe's store.
 pub starts_of : (start : Store) (seats : List Seat) (row : ℕ) (job : JobParts) → StartFrom start seats → (s : Seat) × (slice_get seats row ≡ Some s) × IsOf s job → job.store ≡ start
 starts_of start seats row job all has = of_seat has.0 (all row has.0 has.1) has.2
   where
@@ -85,7 +85,7 @@ starts_of start seats row job all has = of_seat has.0 (all row has.0 has.1) has.
     of_seat (seat.Came piece) starts is = absurd is
     of_seat seat.Gone starts is = absurd is
 
--- what stands for places of the team starts from the team's store
+-- The stripe's slots of the team start from the team's store.
 pub seats_start : (team : TeamParts) (number : ℕ) (start : Store) (seats : List Seat) → StartsFrom team start → AreSeatsOf team number seats → StartFrom start seats
 seats_start team number start seats starts are row s at = of_seat s (are row s at)
   where
@@ -94,7 +94,7 @@ seats_start team number start seats starts are row s at = of_seat s (are row s a
     of_seat (seat.Came piece) is = absurd is
     of_seat seat.Gone is = tt
 
--- a row that gave its piece
+-- A row returns its piece.
 pub rid_of : (before after : StripeParts) (row : ℕ) (found : Option PieceParts) → Gives before row found after → IsRid before row after
 rid_of before after row None gives =
     subst (λ (s : StripeParts). IsRid before row s) (sym gives.1) (record { start = refl; none = gives.0; others = λ other has. has })
@@ -109,7 +109,7 @@ rid_of before after row (Some piece) gives =
     was other has (inl e) = absurd (none_left (subst (λ (n : ℕ). HasPiece (with_seat before row seat.Gone) n) e has))
     was other has (inr ne) = (has.0, sym (at_other before.seats row other seat.Gone ne) ∙ has.1, has.2)
 
--- so are all rows up to the next one
+-- The rows before the next one have no piece.
 pub rid_up_to : (before after : StripeParts) (row : ℕ) → ((k : ℕ) → k < row → HasPiece before k → ⊥) → IsRid before row after → (k : ℕ) → k < row + 1 → HasPiece after k → ⊥
 rid_up_to before after row earlier rid k less has = found (cases_eq k row)
   where
@@ -134,7 +134,7 @@ still_same before after e = record {
   starts = λ store starts. subst (λ (t : TeamParts). StartsFrom t store) (sym e) starts;
 }
 
--- what came of it is what the phase writes, or the team is still in the phase
+-- The result of a piece has the phase's writes, or the team is still in the phase.
 moved : (E : Type 0) (before after : TeamParts) (piece : PieceParts) (arrival : Arrival) (found : Option Laid) → MovesOn {E = E} before piece (Ok arrival) after →
     MatchOption found (IsNotOpened arrival) (λ written. arrival ≡ Opened written) →
     MatchOption found (IsStillIn before after) (λ written. written.pairs ≡ writes_in before.nested before.opened)

@@ -33,7 +33,7 @@ use Rattle.loop_team.specs.Teams.{TeamParts, AreJobsIn, IsOver, GoesOn, Opens, F
 
 -- ---- what a phase writes
 
--- all pieces of a phase's jobs, merged, are what the phase writes
+-- The merged pieces of a phase's jobs are the phase's writes.
 pub phase_written : (nested : NestedParts) → IsFitNest (nested_of nested) → (phase : ℕ) (book : BookParts) → AreJobsIn nested phase book.jobs →
     all_writes book ≡ writes_in nested phase
 phase_written nested fit phase book jobs =
@@ -42,7 +42,7 @@ phase_written nested fit phase book jobs =
     ap (λ ps. merged ps []) (sym (map-map piece_of_job job_of book.jobs) ∙ ap (map piece_of_job) jobs.same)
     ∙ phases_are_merged tree fit phase store jobs.there (jobs_in tree phase store) (record { to = λ job is. is; from = λ job is. is })
 
--- and lie inside the store
+-- The merged writes lie inside the store.
 merged_below : (nested : NestedTree) (phase : ℕ) (store : Store) (place first : ℕ) (works : List WorkTree) (laid : List Write) →
     AreFitJobs (numbered nested phase store place first works) → AreBelow (length store) laid →
     AreBelow (length store) (merged (map piece_of_job (numbered nested phase store place first works)) laid)
@@ -61,7 +61,7 @@ phase_below nested fit phase store there same =
     = merged_below nested phase store 0 _ (piece_trees nested.construct phase) [] (fit_other_store nested fit phase there store same) tt in
     subst (λ ws. AreBelow (length store) ws) (phases_are_merged nested fit phase store there jobs (record { to = λ job is. is; from = λ job is. is })) inside
 
--- one more phase is on the store
+-- One more phase is on the store.
 pub reached_more : (nested : NestedTree) (phase : ℕ) (store next : Trace) (ws : List Write) → IsFitNest nested → phase < phases_of nested.construct →
     HasReached nested phase store → ws ≡ phase_writes nested phase (store_before nested phase) → next ≡ noted_all ws store → HasReached nested (phase + 1) next
 reached_more nested phase store next ws fit there reached written merged =
@@ -78,9 +78,9 @@ reached_more nested phase store next ws fit there reached written merged =
     } in
     rw (merged, written, add-one) more
 
--- ---- a team, as its fields tell it and as it is known before
+-- ---- a team, by its fields and as it was known before
 
--- the last phase has opened where a team is over that isn't failed
+-- The last phase has opened if a team is done and not failed.
 pub all_opened : (team now : TeamParts) → team ≡ now → IsOver now → team.failed ≡ false → team.opened ≡ phases_in team.nested
 all_opened team now e over fine = found (subst IsOver (sym e) over)
   where
@@ -88,7 +88,7 @@ all_opened team now e over fine = found (subst IsOver (sym e) over)
     found (inl all) = all
     found (inr failed) = absurd (false≢true (sym fine ∙ failed))
 
--- the piece opened the barrier
+-- The piece opened the barrier.
 pub moves_opened : (team now : TeamParts) (piece : PieceParts) (written : Laid) (full : BookParts) (later : TeamParts) → team ≡ now →
     Arrives team.barrier piece (Opened written) full → written.pairs ≡ writes_in team.nested team.opened →
     GoesOn (opened_team (with_barrier team full)) later →
@@ -97,7 +97,7 @@ moves_opened team now piece written full later e arrives writes goes =
     let P : TeamParts → Type 0 = λ t. (x : BookParts) × Opens t piece written x × GoesOn (opened_team (with_barrier t x)) later in
     subst P e (full, record { arrives = arrives; writes = writes }, goes)
 
--- and there was no memory for the next phase
+-- The piece opened the barrier, and an allocation failed for the next phase.
 pub moves_failed : {E : Type 0} → (team now : TeamParts) (piece : PieceParts) (answer : Result Arrival E) (full : BookParts) (later : TeamParts) → team ≡ now →
     IsErr answer → Fills team.barrier piece full → IsFull full → (IsOver (opened_team (with_barrier team full)) → ⊥) →
     later ≡ failed_team (opened_team (with_barrier team full)) → MovesOn now piece answer later
@@ -108,7 +108,7 @@ moves_failed team now piece (Err refused) full later e is fills none wanted fail
 
 -- ---- the members that aren't begun
 
--- they stay in order as they are handed out
+-- The members stay in order when one is handed out.
 pub next_in_order : {C : Type 0} → (all : List C) (before later : AgendaParts C) (next : Next C) → TakesNext before next later →
     (begun : ℕ) × (before.unbegun ≡ drop begun all) → (begun : ℕ) × (later.unbegun ≡ drop begun all)
 next_in_order all before later (Run c) (inl ready) known = (known.0, ap (λ a. a.unbegun) ready.rest ∙ known.1)
@@ -121,7 +121,7 @@ pub ready_in_order : {C : Type 0} → (all : List C) (before later : AgendaParts
 ready_in_order all before later c (Ok done) put known = (known.0, ap (λ a. a.unbegun) put.1 ∙ known.1)
 ready_in_order all before later c (Err back) put known = (known.0, ap (λ a. a.unbegun) put.2 ∙ known.1)
 
--- and are members, of which the first may be taken by itself
+-- The first member may be taken by itself; the others stay in order.
 pub member_in_order : {C : Type 0} → (all : List C) (before later : AgendaParts C) (c : C) → before.unbegun ≡ c ∷ later.unbegun →
     (begun : ℕ) × (before.unbegun ≡ drop begun all) → (begun : ℕ) × (later.unbegun ≡ drop begun all)
 member_in_order all before later c taken known = (known.0 + 1, ap (drop 1) (sym taken ∙ known.1) ∙ drop-drop 1 known.0 all)

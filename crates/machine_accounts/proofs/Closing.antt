@@ -29,11 +29,11 @@ constructs_open p around es hart nested plan is =
     let inside : AreFresh p es (s + 1) (n - 1) = λ x site low high. is.fresh x site (omega (arith, low)) (omega (arith, high)) in
     serving_begins p start (arrays_of nested.arrays) (s + 1) (n - 1) (fresh_lasts p es start (s + 1) (n - 1) s 1 (came.own refl) (inr (omega arith)) inside)
 
--- the arrays of a construct have cells
+-- The arrays of a construct have cells.
 have_cells : (nested : NestedTree) → IsFitNest nested → HaveCells (arrays_of nested.arrays)
 have_cells nested fit = arrays_have_cells nested fit (some_phases nested.construct fit.construct fit.limits)
 
--- a construct has its own site
+-- A construct has a site of its own.
 some_sites : (construct : Statement) → is_construct construct ≡ true → 1 ≤ statement_sites_in construct
 some_sites (Assign line array index value) is = absurd (false≢true is)
 some_sites (For line var low high body) is = absurd (false≢true is)

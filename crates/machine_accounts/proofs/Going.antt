@@ -1,4 +1,4 @@
--- How the account of a machine goes on.
+-- How the account of a machine continues.
 use Rattle.std.proofs.Common.{◌≡◌, ℕ, ◌+◌, false, List, [], ◌∷◌, ◌++◌, replicate, Option, Some, None, refl, sym, ap, subst, ◌∙◌, arith}
 use Rattle.std.specs.Prelude.{unwrap_or}
 use Rattle.std.proofs.lemmas.List.{nil_from_length}
@@ -39,7 +39,7 @@ machines_begin p around es job is = record {
 abbrev standing : JobParts → List WorkAt → Trace → ℕ → Stage → Progress
 standing job rest store next stage = record { job = job; rest = rest; store = store; next = next; stage = stage }
 
--- a machine that has moved, and whose account was put forward
+-- A machine after a step, with its account continued.
 moved_on : (p : Plan) (around : ℕ) (start es' : List Entry) (job : JobParts) (w : WorkAt) (more : List WorkAt) (store : Trace) (next : ℕ) (stage : Stage) (m' : Progress) →
     let tree = job_of job in
     let arrays = arrays_of tree.arrays in
@@ -56,7 +56,7 @@ moved_on p around start es' job w more store next stage m' parts went account =
       account = subst (λ s. IsAccounted p start es' arrays tree.first meant (moved arrays store.cells w ++ more) s (next + moved_sites arrays store.cells w)) (sym cells) account;
     }
 
--- a step that hands out no construct
+-- A step that hands out no construct.
 step_on : (p : Plan) (around : ℕ) (start es es' : List Entry) (job : JobParts) (works : List WorkAt) (store : Trace) (next : ℕ) (stage : Stage) (m' : Progress) →
     next_construct works ≡ None → SkipsAsTold p es es' (pass_of (arrays_of (declarations_of job.arrays)) store.cells next works) → HasMoved works (standing job works store next stage) m' →
     IsGoing p around start es (standing job works store next stage) → IsGoing p around start es' m'
@@ -67,9 +67,9 @@ step_on p around start es es' job (w ∷ more) store next stage m' none skips we
     moved_on p around start es' job w more store next stage m' going.parts went
     (accounts_step p start es es' arrays tree.first (work_entered arrays tree.work tree.vars tree.store) w more store.cells next none skips going.account)
 
--- ---- works that are run whole
+-- ---- works that are run at once
 
--- a work without a site in it or behind it enters none
+-- A work without a site in it or behind it enters no site.
 whole_enters : (arrays : Arrays) (w : WorkAt) (more : List WorkAt) (store : Store) → sites_of w.work + w.after ≡ 0 →
     rest_entered arrays (w ∷ more) store ≡ rest_entered arrays more (exec arrays (steps_of w.work w.vars) store)
 whole_enters arrays w more store none =
@@ -123,7 +123,7 @@ machines_run_on p around start es m m' (skims mid last ran stage whole) going =
 
 -- ---- passes
 
--- where a hart is told of a span, no construct is next
+-- If a step passes a span, no construct is next.
 work_passing : (arrays : Arrays) (store : Store) (next : ℕ) (w : WorkTree) (vars : Vars) (span : ℕ × ℕ) → work_pass arrays store next w vars ≡ Some span → construct_of w ≡ None
 work_passing arrays store next (branch_of ended) vars span e = refl
 work_passing arrays store next (branch_of (followed (Assign line array index value) rest)) vars span e = refl
@@ -157,7 +157,7 @@ handing m w construct = record {
   store = m.store.cells;
 }
 
--- what is handed out is the construct that is next
+-- the machine hands out the next construct
 record IsHanded (m : Progress) (w : WorkAt) (nested : NestedTree) : Type 0 where
   construct : Statement
   next : construct_of w.work ≡ Some construct

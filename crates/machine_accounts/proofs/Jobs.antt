@@ -33,7 +33,7 @@ jobs_are_fresh p start es nested done job fit has serving own is new = record {
   fresh = jobs_not_done_are_fresh p start es nested done job fit serving own is new;
 }
 
--- a job of a construct has its arrays
+-- A job of a construct has the construct's arrays.
 arrays_in : (nested : NestedTree) (phase : ℕ) (store : Store) (place first : ℕ) (works : List WorkTree) (job : JobTree) → IsMember job (numbered nested phase store place first works) → job.arrays ≡ nested.arrays
 arrays_in nested phase store place first [] job is = absurd is
 arrays_in nested phase store place first (work ∷ works) job (inl same) = sym (ap (λ (j : JobTree). j.arrays) same)

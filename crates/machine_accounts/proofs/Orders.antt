@@ -1,4 +1,4 @@
--- Jobs of a construct that are run phase after phase, in each in the order of their places.
+-- The jobs of a construct, run phase after phase, in each phase in the order of their indices.
 use Rattle.std.proofs.Common.{◌≡◌, ℕ, zero, suc, ◌+◌, ◌<◌, ◌≤◌, ◌⊎◌, inl, inr, List, [], ◌∷◌, length, Option, None, Some, slice_get, refl, sym, ap, subst, ◌∙◌, arith}
 use Rattle.std.proofs.Math.Nat.{eq-or-lt_of_le}
 use Rattle.std.proofs.lemmas.Option.{slice_get_past, slice_get_within, same_Some}
@@ -14,9 +14,9 @@ use Rattle.machine_accounts.specs.Orders.{with_job, upto, phase_jobs, jobs_befor
 use Rattle.machine_accounts.proofs.Jobs.{jobs_are_fresh, jobs_are_done}
 use Rattle.machine_accounts.proofs.Closing.{constructs_open, children_have_ended, constructs_end}
 
--- ---- the first so many jobs
+-- ---- the first jobs
 
--- a job and where it stands
+-- a job and its index
 record IsAt (jobs : List JobTree) (job : JobTree) : Type 0 where
   place : ℕ
   found : slice_get jobs place ≡ Some job
@@ -31,7 +31,7 @@ member_at [] job is = absurd is
 member_at (first ∷ more) job (inl same) = record { place = 0; found = ap (λ (j : JobTree). Some j) same }
 member_at (first ∷ more) job (inr is) = (let it = member_at more job is in record { place = suc it.place; found = it.found })
 
--- a job among the first so many is one of these, at a lower place
+-- a job of the list at a lower index
 record IsEarlier (jobs : List JobTree) (k : ℕ) (job : JobTree) : Type 0 where
   at : IsAt jobs job
   low : at.place < k
@@ -66,7 +66,7 @@ upto_has before jobs (suc k) i job e less = of (eq-or-lt_of_le {n = i} {m = k} (
     of (inl same) others = subst (λ o. IsMember job (with_job o (upto before jobs k))) (sym e ∙ ap (slice_get jobs) same) (inl refl)
     of (inr lower) others = with_more (slice_get jobs k) (upto before jobs k) job (others lower)
 
--- beyond the last job there is no more
+-- There is no job past the last one.
 upto_past : (before jobs : List JobTree) (k : ℕ) → length jobs ≤ k → upto before jobs k ≡ upto before jobs (length jobs)
 upto_past before jobs zero less = (let none : 0 ≡ length jobs = omega (arith, less) in ap (upto before jobs) none)
 upto_past before jobs (suc k) less = of (eq-or-lt_of_le less) (upto_past before jobs k)
@@ -78,13 +78,13 @@ upto_past before jobs (suc k) less = of (eq-or-lt_of_le less) (upto_past before 
         ap (λ o. with_job o (upto before jobs k)) (slice_get_past jobs k past) ∙ others past
         )
 
--- ---- jobs name their phase and their place
+-- ---- jobs name their phase and their index
 
 phase_numbers : (nested : NestedTree) (phase k : ℕ) (job : JobTree) → slice_get (phase_jobs nested phase) k ≡ Some job →
     IsNumbered nested phase (store_before nested phase) k job
 phase_numbers nested phase k job e = job_parts nested phase (store_before nested phase) k job e
 
--- ---- what was done by a place
+-- ---- the jobs done up to an index
 
 -- a job of an earlier phase
 record IsBefore (nested : NestedTree) (phase : ℕ) (job : JobTree) : Type 0 where
@@ -105,7 +105,7 @@ from_before nested (suc phase) job is = of (from_upto (jobs_before nested phase)
         )
     of (inr here) others = record { its = phase; low = omega arith; at = here.at }
 
--- all jobs of the earlier phases are among those that were done
+-- All jobs of the earlier phases are among those done.
 all_before : (nested : NestedTree) (phase its : ℕ) (job : JobTree) → its < phase → IsMember job (phase_jobs nested its) → IsMember job (jobs_before nested phase)
 all_before nested zero its job less is = absurd (omega (arith, less))
 all_before nested (suc phase) its job less is = of (eq-or-lt_of_le {n = its} {m = phase} (omega (arith, less))) (λ lower. all_before nested phase its job lower is)
@@ -132,7 +132,7 @@ done_are_jobs nested phase k small job is = of (from_upto (jobs_before nested ph
         )
     of (inr here) = record { phase = phase; small = small; one = at_member (phase_jobs nested phase) here.at.place job here.at.found }
 
--- the job at the next place isn't among those that were done
+-- The job at the next index isn't among those done.
 next_is_new : (nested : NestedTree) (phase k : ℕ) (job : JobTree) → slice_get (phase_jobs nested phase) k ≡ Some job → IsMember job (done_at nested phase k) → ⊥
 next_is_new nested phase k job e is = of (from_upto (jobs_before nested phase) (phase_jobs nested phase) k job is)
   where

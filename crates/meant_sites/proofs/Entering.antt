@@ -1,4 +1,4 @@
--- Where no construct stands under an `if`, all sites are entered.
+-- If no construct stands under an `if`, all sites are entered.
 use Rattle.std.proofs.Common.{◌≡◌, ℕ, zero, suc, ◌+◌, ◌*◌, Bool, true, false, cond, List, [], ◌∷◌, ◌++◌, length, replicate, ℤ, pos, ◌+ℤ◌, refl, sym, ap, ◌∙◌, arith}
 use Rattle.std.proofs.lemmas.Bool.{false≢true, and_parts}
 use Rattle.std.proofs.lemmas.List.{replicate-append-replicate}
@@ -14,7 +14,7 @@ use Rattle.array_meaning.proofs.EnteredLemmas as entered
 use Rattle.array_meaning.proofs.PlanLemmas as plans
 use Rattle.meant_sites.specs.Meant.{AllSitesAreEntered}
 
--- what has no site though it stands inside an `if` has none
+-- A part inside an `if` that passes the test has no sites.
 mutual
   pub no_sites : (s : Sequence) → has_no_site_under_if s true ≡ true → sites_in s ≡ 0
   no_sites ended h = refl
@@ -39,7 +39,7 @@ empty : (xs : List Bool) → length xs ≡ 0 → xs ≡ []
 empty [] none = refl
 empty (x ∷ xs) none = absurd (omega (arith, none))
 
--- so many truths
+-- a list of so many `true`
 abbrev trues : ℕ → List Bool
 trues n = replicate n true
 

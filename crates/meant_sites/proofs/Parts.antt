@@ -11,7 +11,7 @@ use Rattle.array_meaning.proofs.PlanLemmas as plans
 use Rattle.array_meaning.proofs.NestingLemmas.{stay_inside_parts}
 use Rattle.meant_sites.specs.Meant.{HasPartFrom, PartsAreSpans, ProgramsAreParts, EnteredIsComplete, EverySiteIsTold}
 
--- behind a list
+-- an index behind a list
 at_right : (xs ys : List ℕ) (i : ℕ) → slice_index (xs ++ ys) (length xs + i) ≡ slice_index ys i
 at_right [] ys i = let z : 0 + i ≡ i = omega arith in ap (slice_index ys) z
 at_right (x ∷ xs) ys i = let z : suc (length xs) + i ≡ suc (length xs + i) = omega arith in ap (slice_index (x ∷ (xs ++ ys))) z ∙ at_right xs ys i
@@ -31,7 +31,7 @@ module _ (p : Plan) (around s : ℕ) (part : List ℕ) (has : HasPartFrom p arou
   sizes : site_count p ≡ length has.before + (length part + length has.after)
   sizes = ap length has.is ∙ length-append has.before (part ++ has.after) ∙ ap (λ n. length has.before + n) (length-append part has.after)
 
-  -- the parent of the site at place i from s on
+  -- The parent of the site at index i from s on.
   parent_at : (x i : ℕ) → x ≡ s + i → parent p x ≡ slice_index (part ++ has.after) i
   parent_at x i e =
       let place = has.place in

@@ -1,4 +1,4 @@
--- What hart 0's view has taken in, and the whole run that the rule then has.
+-- The contents of hart 0's view, and the complete run that the invariant then has.
 use Rattle.std.proofs.Common.{◌≡◌, ℕ, zero, suc, ◌+◌, ◌<◌, ◌≤◌, List, [], ◌∷◌, length, take, get_or, refl, sym, ap, ◌∙◌, subst, arith}
 use mathlib.Core.Option.{some}
 use mathlib.Core.Logic.{dite}
@@ -46,7 +46,7 @@ pub first_default : {A : Type 0} (xs : List A) (d e : A) → 0 < length xs → g
 first_default [] d e lt = absurd (omega arith)
 first_default (x ∷ xs) d e lt = refl
 
--- the seats behind the first
+-- The seats after the first.
 pub others : (z : TableId) (p : Size) (qs : List OpenSeat) → AreAll z p qs → AreAtBase qs → 0 < length qs → AreOthers z p (remove qs 0)
 others z p qs all base filled i d lt =
     let at : get_or qs (suc i) d ≡ get_or (remove qs 0) i d = sym (removed_at qs i d) in
@@ -56,7 +56,6 @@ others z p qs all base filled i d lt =
     let F : OpenSeat → Type 0 = λ q. (q.seat.table_id ≡ z) × (q.seat.me.0.size ≡ p) × (q.seat.me.0.hart ≡ i + 1) × (q.seat.me.0.stack ≡ []) in
     subst F at (all.boards (suc i) d there, all.sizes (suc i) d there, all.harts (suc i) d there ∙ next, base (suc i) d there)
 
--- one more seat is taken in
 pub has_more : (v w u : View) (all : List OpenSeat) (n m : ℕ) → u ≡ joined_view v w → m ≡ n + 1 → HasFrom v all m → ((d : OpenSeat) → (w.hart ≡ n + 1) × (w ≡ view_at all n d)) → HasFrom u all n
 has_more v w u all n m is next old new i d low high = let P : View → Type 0 = λ z. HasOne z (i + 1) (view_at all i d) in subst P (sym is) (dite (ℕ_discrete i n)
     (λ z. let e = new d in
@@ -70,7 +69,7 @@ has_more v w u all n m is next old new i d low high = let P : View → Type 0 = 
       one = at_longer v.ended (record { hart = w.hart; mine = w.mine } ∷ []) o.at _ o.one;
     }))
 
--- where hart 0's view has taken in all others, the rule has the whole run
+-- If hart 0's view has taken in all others, the invariant has the complete run.
 pub finishes : (p : Size) (s : St) (k : Stands p s) (id : ℕ) (v : View) → get_elem? s.views id ≡ some v → IsSeat v → v.hart ≡ 0 → v.stack ≡ []
     → (all : List OpenSeat) → length all ≡ p.harts → ((d : OpenSeat) → v.mine ≡ (view_at all 0 d).mine) → HasFrom v (remove all 0) 0 → HasFinished p all
 finishes p s k id v at seat zeroth base all count mine has = record {

@@ -1,4 +1,4 @@
--- Hart 0's seat takes in another hart's, and what its view has at the end.
+-- Hart 0's seat takes in another hart's seat; the contents of its view at the end.
 use Rattle.std.proofs.Common.{◌≡◌, ℕ, ◌<◌, List, [], ◌∷◌, ◌++◌, length, set, refl, sym, ap, ◌∙◌, subst, arith, ⊎_elim, length-set}
 use lib.ListN.{get_elem?}
 use Rattle.atomic_table.specs.Table.{Joins}

@@ -1,4 +1,4 @@
--- How the account of a machine begins, goes on and ends.
+-- How the account of a machine begins, continues and ends.
 use Rattle.std.proofs.Common.{◌≡◌, ℕ, ◌+◌, ◌-◌, ◌≤◌, Bool, false, List, [], ◌∷◌, ◌++◌, length, replicate, Option, Some, None, refl, sym, ap, subst, ◌∙◌, arith, append_assoc, append-nil, length-append}
 use Rattle.std.proofs.lemmas.List.{length-replicate}
 use Rattle.transfer_table.specs.Plan.{Plan}
@@ -23,7 +23,7 @@ grown_then p a b c one two = record {
   skipped = λ x. let l = one.skipped x in let r = two.skipped x in omega (arith, l, r);
 }
 
--- The sites that are passed are put to the account, whatever they are.
+-- The sites that are passed are added to the account.
 advances : (p : Plan) (start es es' : List Entry) (arrays : Arrays) (first : ℕ) (meant : List Bool) (ws ws' : List WorkAt) (store store' : Store) (next next' t m : ℕ) (x : List Bool) →
     next + length x ≡ next' → rest_entered arrays ws store ≡ x ++ rest_entered arrays ws' store' → AreOverAs p es' next x → IsAhead p es' next' ws' →
     HasGrown p es es' → KeepsOutside p es es' t m → next ≤ t → t + m ≤ next + rest_sites ws →
@@ -45,7 +45,7 @@ advances p start es es' arrays first meant ws ws' store store' next next' t m x 
       outside = kept_joins p start es es' first (length meant) t m first (length meant) a.outside outside le end (omega (arith, was, low)) (omega (arith, was, high, left, all));
     }
 
--- what a step touches lies in what is left
+-- a step touches only what is left
 record Touches (p : Plan) (es es' : List Entry) (next : ℕ) (ws : List WorkAt) : Type 0 where
   first : ℕ
   count : ℕ

@@ -1,4 +1,4 @@
--- How what is ahead of a machine lasts and moves.
+-- How the remaining parts of a machine last and move.
 use Rattle.std.proofs.Common.{◌≡◌, ℕ, zero, suc, ◌+◌, ◌-◌, ◌*◌, ◌≤◌, inl, inr, Bool, true, false, cond, List, [], ◌∷◌, ◌++◌, replicate, Option, Some, None, pos, ◌+ℤ◌, refl, sym, ap, subst, arith}
 use Rattle.std.specs.Prelude.{int_lt}
 use Rattle.transfer_table.specs.Plan.{Plan}
@@ -28,7 +28,7 @@ over_at p es s t n a over = subst (λ x. AreOverAs p es x (replicate n false)) a
 ahead_at : (p : Plan) (es : List Entry) (s t : ℕ) (ws : List WorkAt) → s ≡ t → IsAhead p es s ws → IsAhead p es t ws
 ahead_at p es s t ws a ahead = subst (λ x. IsAhead p es x ws) a ahead
 
--- what is ahead stays so while only sites before it are touched
+-- The remaining parts stay so while only sites before them are touched.
 pub ahead_lasts : (p : Plan) (es es' : List Entry) (next t m : ℕ) (ws : List WorkAt) → HasGrown p es es' → KeepsOutside p es es' t m → t + m ≤ next → IsAhead p es next ws → IsAhead p es' next ws
 ahead_lasts p es es' next t m [] grown keeps le h = tt
 ahead_lasts p es es' next t m (w ∷ ws) grown keeps le h = (
@@ -37,7 +37,7 @@ ahead_lasts p es es' next t m (w ∷ ws) grown keeps le h = (
   ahead_lasts p es es' (next + sites_of w.work + w.after) t m ws grown keeps (omega (arith, le)) h.2,
 )
 
--- the sites of a first statement are fresh, and behind them the rest is ahead
+-- The sites of a first statement are fresh, and the rest after them is ahead.
 pub rest_ahead : (p : Plan) (es : List Entry) (next : ℕ) (first : Statement) (rest : Sequence) (vars : Vars) (n : ℕ) (more : List WorkAt) →
     IsAhead p es next (before (branch_of (followed first rest)) vars n ∷ more) →
     AreFresh p es next (statement_sites_in first) × IsAhead p es (next + statement_sites_in first) (before (branch_of rest) vars n ∷ more)
@@ -47,7 +47,7 @@ rest_ahead p es next first rest vars n more h =
     let both = (fresh_joins p es next a b).0 h.0 in
     (both.0, (both.1, over_at p es (next + (a + b)) (next + a + b) n (omega arith) h.1, ahead_at p es (next + (a + b) + n) (next + a + b + n) more (omega arith) h.2))
 
--- what a hart was told to skip it skipped, if it is but nothing
+-- A hart skipped the span that it was to skip, unless the span is empty.
 told : (p : Plan) (es es' : List Entry) (a n : ℕ) → SkipsAsTold p es es' (some_span a n) → IsSkippedSpan p es es' a n
 told p es es' a zero same = subst (λ e. IsSkippedSpan p es e a 0) (sym same) record {
   over = tt;

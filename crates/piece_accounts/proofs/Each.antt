@@ -1,4 +1,4 @@
--- Sites that are over, number by number.
+-- Sites that have ended, number by number.
 use Rattle.std.proofs.Common.{◌≡◌, ℕ, zero, suc, ◌+◌, ◌<◌, inl, inr, Bool, true, List, [], ◌∷◌, ◌++◌, length, refl, sym, subst, arith}
 use Rattle.transfer_table.specs.Plan.{Plan}
 use Rattle.transfer_table.specs.declared.entry.Entry.{Entry}
@@ -17,7 +17,7 @@ use Rattle.site_passes.proofs.Counts.{work_length}
 use Rattle.site_passes.proofs.Jobs.{jobs_enter_the_construct}
 use Rattle.piece_accounts.specs.Constructs.{IsOverJob, IsOverPhase, ConstructsAreOver}
 
--- the site of each number is over as the value beside it says
+-- the site of each number has ended as the value beside it has it
 abbrev OverEach : Plan → List Entry → List ℕ → List Bool → Type 0
 OverEach p es [] [] = Unit {0}
 OverEach p es [] (m ∷ ms) = ⊥

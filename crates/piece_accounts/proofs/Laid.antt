@@ -1,4 +1,4 @@
--- The jobs of a construct have their sites one after another, so no two have one in common.
+-- The jobs of a construct have their sites in sequence, so no two have a common site.
 use Rattle.std.proofs.Common.{◌≡◌, ℕ, zero, suc, ◌+◌, ◌-◌, ◌<◌, ◌≤◌, inl, inr, List, [], ◌∷◌, ◌++◌, refl, sym, ap, subst, ◌∙◌, arith, append_assoc}
 use mathlib.Core.Logic.{dite}
 use native.Mathlib.Decide.{ℕ_discrete}
@@ -20,7 +20,7 @@ abbrev rest_in : List ℕ → List ℕ
 rest_in [] = []
 rest_in (x ∷ xs) = xs
 
--- numbers in front of others, of which all together are numbers from one on
+-- Numbers in front of others, which together are consecutive.
 cut : (n j f N : ℕ) (R : List ℕ) → numbers_from j n ++ R ≡ numbers_from f N → (n ≤ N) × (0 < n → j ≡ f) × (R ≡ numbers_from (f + n) (N - n))
 cut zero j f N R e = (omega arith, λ none. absurd (omega (arith, none)), e ∙ (let a : f ≡ f + 0 = omega arith in let b : N ≡ N - 0 = omega arith in ap (λ x. numbers_from x N) a ∙ ap (numbers_from (f + 0)) b))
 cut (suc n) j f zero R e = absurd (cc)
@@ -32,7 +32,7 @@ cut (suc n) j f (suc N) R e =
     let b : N - n ≡ suc N - suc n = omega arith in
     (omega (arith, le), λ _. head, more.2 ∙ ap (λ x. numbers_from x (N - n)) a ∙ ap (numbers_from (f + suc n)) b)
 
--- jobs whose sites are so many numbers from one on, job after job
+-- jobs with consecutive sites, job after job
 abbrev AreLaid : ℕ → ℕ → List JobTree → Type 0
 AreLaid f N [] = Unit {0}
 AreLaid f N (job ∷ more) = (sites_of job.work ≤ N) × (0 < sites_of job.work → job.first ≡ f) × AreLaid (f + sites_of job.work) (N - sites_of job.work) more
@@ -53,7 +53,7 @@ laid_bounds (other ∷ more) f N job laid (inr is) some =
     let high = later.1 in
     let le = laid.0 in (omega (arith, low), omega (arith, high, le))
 
--- of two jobs the one that comes first ends before the other
+-- The first of two jobs ends before the other begins.
 head_apart : (jobs : List JobTree) (f N : ℕ) (head other : JobTree) (x : ℕ) → AreLaid f N (head ∷ jobs) → IsMember other jobs →
     head.first ≤ x → x < head.first + sites_of head.work → other.first ≤ x → x < other.first + sites_of other.work → ⊥
 head_apart jobs f N head other x laid is a b c d =

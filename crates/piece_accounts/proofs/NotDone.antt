@@ -9,7 +9,7 @@ use Rattle.piece_accounts.specs.Constructs.{IsInside, JobsNotDoneAreFresh}
 use Rattle.piece_accounts.proofs.Serving.{other_jobs_are_fresh}
 use Rattle.piece_accounts.proofs.Laid.{jobs_have_own_sites}
 
--- a number inside jobs is inside one of them
+-- A number inside jobs is inside one of them.
 inside_some : (x : ℕ) (jobs : List JobTree) → IsInside x jobs → (job : JobTree) × IsMember job jobs × (job.first ≤ x) × (x < job.first + sites_of job.work)
 inside_some x [] h = absurd h
 inside_some x (job ∷ jobs) (inl here) = (job, inl refl, here.0, here.1)

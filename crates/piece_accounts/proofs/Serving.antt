@@ -1,4 +1,4 @@
--- How the jobs of a construct are done one after another, in whatever order.
+-- The jobs of a construct are done one by one, in any order.
 use Rattle.std.proofs.Common.{ℕ, zero, suc, ◌+◌, ◌-◌, ◌<◌, ◌≤◌, ◌⊎◌, inl, inr, ⊎_elim, [], ◌∷◌, ◌++◌, refl, subst, ◌∙◌, arith}
 use Rattle.transfer_table.specs.Entry.{unregisters}
 use Rattle.transfer_table.specs.declared.entry.Entry.TheVariants.{Register, Unregister}
@@ -29,7 +29,7 @@ other_jobs_are_fresh p start es arrays s n done job served lies apart x site low
     let b = in_bounds.1 in
     ⊎_elim (λ fresh. fresh) (λ inside. absurd (apart x low high inside)) (served.fresh x site (omega (arith, low, a)) (omega (arith, high, b)))
 
--- before an interval, in it, or behind it
+-- A number is before an interval, in it, or behind it.
 where_is : (x f m : ℕ) → ((f ≤ x) × (x < f + m)) ⊎ ((x < f) ⊎ (f + m ≤ x))
 where_is x f m = elim (sides x f) [
   | inl below ↦ inr (inl below)

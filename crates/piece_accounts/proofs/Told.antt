@@ -1,4 +1,4 @@
--- The sites of a span that a hart is told of are fresh.
+-- The sites of a span that a hart is to skip are fresh.
 use Rattle.std.proofs.Common.{◌≡◌, ℕ, zero, suc, ◌+◌, ◌-◌, Bool, true, false, cond, List, [], ◌∷◌, Option, Some, None, ap, arith}
 use Rattle.transfer_table.specs.Plan.{Plan}
 use Rattle.transfer_table.specs.declared.entry.Entry.{Entry}

@@ -13,7 +13,7 @@ at_own [] i x less = absurd (omega arith)
 at_own (y ∷ xs) zero x less = refl
 at_own (y ∷ xs) (suc i) x less = at_own xs i x (omega arith)
 
--- ---- those whose place passes
+-- ---- the elements whose index passes the test
 
 pub changed_back : {A : Type 0} (test : ℕ → Bool) (f : A → A) (s : ℕ) (xs : List A) (i : ℕ) (y : A) → slice_get (changed_where test f s xs) i ≡ Some y →
     (x : A) × (slice_get xs i ≡ Some x) × (y ≡ (if test (s + i) then f x else x))
@@ -40,7 +40,7 @@ pub changed_length : {A : Type 0} (test : ℕ → Bool) (f : A → A) (s : ℕ) 
 changed_length test f s [] = refl
 changed_length test f s (x ∷ xs) = ap suc (changed_length test f (s + 1) xs)
 
--- what is told of each
+-- The change in a model of each element.
 pub changed_map : {A B : Type 0} (test : ℕ → Bool) (f : A → A) (g : B → B) (v : A → B) → ((x : A) → v (f x) ≡ g (v x)) → (s : ℕ) (xs : List A) →
     map v (changed_where test f s xs) ≡ changed_where test g s (map v xs)
 changed_map test f g v same s [] = refl
@@ -52,9 +52,9 @@ changed_map test f g v same s (x ∷ xs) =
     by_test true = same x
     by_test false = refl
 
--- ---- one after another
+-- ---- one by one
 
--- Of all elements those before a place are changed, and the others are as they were.
+-- Of all elements those below an index are changed, and the others are unchanged.
 pub record IsChanging {A : Type 0} (test : ℕ → Bool) (f : A → A) (all now : List A) (place : ℕ) : Type 0 where
   pub size : length now ≡ length all
   pub done : (i : ℕ) (x : A) → i < place → slice_get all i ≡ Some x → slice_get now i ≡ Some (if test i then f x else x)
@@ -63,7 +63,7 @@ pub record IsChanging {A : Type 0} (test : ℕ → Bool) (f : A → A) (all now 
 pub none_changed : {A : Type 0} (test : ℕ → Bool) (f : A → A) (all : List A) → IsChanging test f all all 0
 none_changed test f all = record { size = refl; done = λ i x less e. absurd (omega arith); rest = λ i le. refl }
 
--- the next one passes
+-- The next element passes.
 pub one_changed : {A : Type 0} (test : ℕ → Bool) (f : A → A) (all now : List A) (place : ℕ) (x y : A) → place < length now →
     x ≡ get_or now place x → y ≡ f x → test place ≡ true → IsChanging test f all now place → IsChanging test f all (slice_set now place y) (place + 1)
 one_changed {A} test f all now place x y less is to passes changing = record {
@@ -85,7 +85,7 @@ one_changed {A} test f all now place x y less is to passes changing = record {
         subst Q (sym same) (at_own now place y less ∙ ap Some (to ∙ ap f own) ∙ ap (λ b. Some (if b then f z else z)) (sym passes))
     by_place i z lt e (inr ne) = at_other now place i y ne ∙ changing.done i z (omega arith) e
 
--- the next one doesn't
+-- The next element doesn't pass.
 pub one_kept : {A : Type 0} (test : ℕ → Bool) (f : A → A) (all now : List A) (place : ℕ) → test place ≡ false →
     IsChanging test f all now place → IsChanging test f all now (place + 1)
 one_kept {A} test f all now place fails changing = record {
@@ -121,7 +121,7 @@ past_end [] i x e le = cc
 past_end (y ∷ xs) zero x e le = omega arith
 past_end (y ∷ xs) (suc i) x e le = past_end xs i x e (omega arith)
 
--- in the end all are
+-- At the end all elements are changed.
 pub all_changed : {A : Type 0} (test : ℕ → Bool) (f : A → A) (all now : List A) (place : ℕ) → length now ≤ place →
     IsChanging test f all now place → now ≡ changed_where test f 0 all
 all_changed {A} test f all now place end changing = same_lists test f 0 all now changing.size each

@@ -1,5 +1,5 @@
--- A pipe may go from thread to thread, and be shared behind its lock. A search through all of its parts at once runs out of
--- steps, so each part stands by itself.
+-- A pipe may move between threads, and may be shared behind its lock. A search through all parts at once exceeds the
+-- prover's step limit, so each part is proved separately.
 use denote.Param.Send.{IsSend, IsSync, sendable}
 use denote.Ref.{NamedLft}
 use Rattle.std.proofs.Crossing.{crosses}

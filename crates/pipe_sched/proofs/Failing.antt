@@ -1,4 +1,4 @@
--- Pieces that are due and fail, one after another.
+-- Pieces that are due and fail, one by one.
 use Rattle.std.proofs.Common.{◌≡◌, ◌⊎◌, inl, inr, ℕ, zero, suc, ◌+◌, ◌*◌, ◌<◌, ◌≤◌, Bool, true, false, List, [], ◌∷◌, ◌++◌, Some, None, Option, sym, ap, ◌∙◌, subst, arith}
 use Rattle.std.specs.Prelude.{slice_get, if◌then◌else◌, ◌↔◌}
 use Rattle.std.proofs.lemmas.Option.{same_Some}
@@ -7,7 +7,7 @@ use Rattle.pipe_sched.specs.Slots.{Mark, Waiting, Barred, Out, Filled, Lost, Pip
 use Rattle.pipe_sched.specs.Pipes.{GivesDue, FailWhenDue, GivesAfterFailing}
 use Rattle.pipe_sched.proofs.Kept.{it_follows_at}
 
--- one more fails
+-- One more piece fails.
 pub one_more_fails : (before left after : PipeParts) (failed : List (ℕ × ℕ)) (j k : ℕ) → FailWhenDue before failed left → IsDue left j k →
     after ≡ failed_pipe left j k → FailWhenDue before (failed ++ (j, k) ∷ []) after
 one_more_fails before left after [] j k same due e =
@@ -15,7 +15,7 @@ one_more_fails before left after [] j k same due e =
 one_more_fails before left after ((i, h) ∷ failed) j k fail due e =
     (fail.0, one_more_fails (failed_pipe before i h) left after failed j k fail.1 due e)
 
--- ---- how many pieces wait
+-- ---- the number of waiting pieces
 
 abbrev pub waits : Mark → ℕ
 waits Waiting = 1
@@ -61,7 +61,7 @@ one_less_waits test s (mark ∷ marks) (suc i) e passes =
     let rest = one_less_waits test (s + 1) marks i e (ap test next ∙ passes) in
     omega (arith, first, rest)
 
--- Fewer wait where one that is due fails.
+-- Fewer pieces wait after one that is due fails.
 pub fewer_wait : (pipe after : PipeParts) (j k : ℕ) → IsDue pipe j k → after ≡ failed_pipe pipe j k → waiting_in after.marks < waiting_in pipe.marks
 fewer_wait pipe after j k due e =
     let n = phases_in pipe.nested in
@@ -69,7 +69,7 @@ fewer_wait pipe after j k due e =
     let less = one_less_waits (follows n j k) 0 pipe.marks (j * n + k) here.1 (it_follows_at n j k j k here.0 (omega arith) (omega arith)) in
     subst (λ (p : PipeParts). waiting_in p.marks < waiting_in pipe.marks) (sym e) less
 
--- ---- the construct stays
+-- ---- the construct is unchanged
 
 pub failing_stays : (before left : PipeParts) (failed : List (ℕ × ℕ)) → FailWhenDue before failed left → left.nested ≡ before.nested
 failing_stays before left [] same = ap (λ p. p.nested) same
@@ -82,7 +82,7 @@ giving_stays before after None gives = ap (λ p. p.nested) gives.1
 pub given_stays : (before after : PipeParts) (given : Option JobParts) → GivesAfterFailing before given after → after.nested ≡ before.nested
 given_stays before after given gives = giving_stays gives.left after given gives.gives ∙ failing_stays before gives.left gives.failed gives.fail
 
--- ---- one piece is due at most
+-- ---- at most one piece is due
 
 pub same_due : (pipe : PipeParts) (j k i h : ℕ) → IsDue pipe j k → IsDue pipe i h → (j ≡ i) × (k ≡ h)
 same_due pipe j k i h a b = both (a.least i h b.ready) (b.least j k a.ready)

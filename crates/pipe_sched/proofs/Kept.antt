@@ -1,4 +1,4 @@
--- What the type of a pipeline keeps, as its places change.
+-- The invariant of a pipeline, as its slots change.
 use Rattle.std.proofs.Common.{◌≡◌, ◌≢◌, ◌⊎◌, inl, inr, ℕ, zero, suc, ◌+◌, ◌*◌, ◌<◌, ◌≤◌, Bool, true, false, List, [], ◌∷◌, length, map, replicate, Some, refl, sym, ap, ◌∙◌, subst, arith, length-set}
 use Rattle.std.specs.Prelude.{slice_get, slice_set, if◌then◌else◌}
 use Rattle.std.specs.Option.{option_map}
@@ -18,11 +18,11 @@ use Rattle.pipe_sched.specs.Inside.{mark_of, failed_slot, IsRight, AreInOrder, I
 use Rattle.pipe_sched.proofs.Places.{filled_up_to, it_follows}
 use Rattle.pipe_sched.proofs.Changes.{changed_back, changed_at, changed_length, changed_map}
 
--- A pipeline, as it is told of what it holds.
+-- the model of a pipeline, by its construct and slots
 abbrev pub told_pipe : NestedParts → List Slot → PipeParts
 told_pipe nested slots = record { nested = nested; marks = map mark_of slots }
 
--- ---- what is told of a place
+-- ---- facts on a slot
 
 pub told_at : (slots : List Slot) (i : ℕ) (own : Slot) → slice_get slots i ≡ Some own → slice_get (map mark_of slots) i ≡ Some (mark_of own)
 told_at slots i own e = slice_get-map mark_of slots i ∙ ap (option_map mark_of) e
@@ -33,7 +33,7 @@ held_at [] i mark e = absurd (cc)
 held_at (s ∷ slots) zero mark e = (s, refl, same_Some (mark_of s) mark e)
 held_at (s ∷ slots) (suc i) mark e = held_at slots i mark e
 
--- ---- a new one
+-- ---- a new pipeline
 
 waiting_marks : (n : ℕ) → map mark_of (replicate n slot.Waiting) ≡ replicate n Waiting
 waiting_marks zero = refl
@@ -60,9 +60,9 @@ kept_new nested slots team fit e =
           absurd (cc (same, begun));
     }
 
--- ---- one place changes
+-- ---- one slot changes
 
--- what is filled stays so
+-- A filled slot stays filled.
 filled_stays : (n : ℕ) (marks : List Mark) (j k i h : ℕ) (mark : Mark) → k < n → (IsAt n marks j k Filled → ⊥) → IsAt n marks i h Filled →
     IsAt n (slice_set marks (j * n + k) mark) i h Filled
 filled_stays n marks j k i h mark less other filled = (filled.0, by_place (cases_eq (i * n + h) (j * n + k)))
@@ -119,12 +119,12 @@ kept_set nested slots j k own kept less clear other right = record {
     by_place i h s small here (inr ne) =
         kept.right i h s small (sym (at_other slots (j * phases_in nested + k) (i * phases_in nested + h) own ne) ∙ here)
 
--- and so it is told
+-- The model of the slots after one changed.
 pub told_set : (slots : List Slot) (place : ℕ) (own : Slot) (mark : Mark) → mark_of own ≡ mark →
     map mark_of (slice_set slots place own) ≡ slice_set (map mark_of slots) place mark
 told_set slots place own mark e = map-set mark_of slots place own ∙ ap (slice_set (map mark_of slots) place) e
 
--- ---- places fail
+-- ---- slots fail
 
 begun_back : (b : Bool) (m : Mark) → is_begun (if b then failed_mark m else m) ≡ true → is_begun m ≡ true
 begun_back false m e = e
@@ -181,7 +181,7 @@ kept_failed nested slots test kept = record {
   order = subst (AreInOrder (phases_in nested)) (sym (told_failed slots test)) (order_failed (phases_in nested) (map mark_of slots) test kept.order);
 }
 
--- ---- from where pieces fail
+-- ---- where failures begin
 
 not_filled : (n : ℕ) (marks : List Mark) (j k : ℕ) → IsAt n marks j k Out ⊎ IsFirst n marks j k → IsAt n marks j k Filled → ⊥
 not_filled n marks j k (inl out) filled = absurd (cc (out.1, filled.1))
@@ -194,7 +194,7 @@ it_follows_at n j k i h small member phase =
     let column = mod-mul-add i n h small in
     ap (follows n j k) none ∙ it_follows n j k (i * n + h) (omega (arith, row, member)) (omega (arith, column, phase))
 
--- Where a piece fails that is out or due, all that come after it do.
+-- If a piece that is out or due fails, all pieces that come after it do.
 pub fails_from : (n : ℕ) (marks : List Mark) (j k : ℕ) → AreInOrder n marks → IsAt n marks j k Out ⊎ IsFirst n marks j k →
     (i h : ℕ) (mark : Mark) → j ≤ i → k ≤ h → IsAt n (changed_where (follows n j k) failed_mark 0 marks) i h mark → is_failed mark ≡ true
 fails_from n marks j k order open_one i h mark member phase here =

@@ -1,4 +1,4 @@
--- What places hold, merged one after another.
+-- The writes in slots, merged in sequence.
 use Rattle.std.proofs.Common.{◌≡◌, ℕ, ◌+◌, ◌*◌, ◌<◌, List, [], ◌∷◌, ◌++◌, length, get_or, refl, sym, ap, ◌∙◌, add-one}
 use Rattle.std.proofs.lemmas.List.{append-nil}
 use Rattle.std.proofs.lemmas.Option.{slice_get_read, get_or_from_slice_get}
@@ -12,7 +12,6 @@ use Rattle.pipe_sched.specs.declared.slot.Slot.{Slot}
 use Rattle.pipe_sched.specs.declared.slot.Slot.TheVariants as slot
 use Rattle.pipe_sched.specs.Inside.{written_in, column, columns}
 
--- one list more
 pub concat_one_more : {A : Type 0} (xss : List (List A)) (xs : List A) → concat (xss ++ xs ∷ []) ≡ concat xss ++ xs
 concat_one_more xss xs = concat_append xss (xs ∷ []) ∙ ap (λ l. concat xss ++ l) (append-nil xs)
 
@@ -23,7 +22,6 @@ unfilled (slot.Out job) other = refl
 unfilled (slot.Filled job written) other = absurd (other job written refl)
 unfilled (slot.Lost job) other = refl
 
--- one member more of a phase
 pub merged_member : (n : ℕ) (slots : List Slot) (k m : ℕ) (own : Slot) (store next first : Trace) → m * n + k < length slots →
     own ≡ get_or slots (m * n + k) own → next ≡ noted_all (written_in own) store →
     store ≡ noted_all (concat (column n slots k m)) first → next ≡ noted_all (concat (column n slots k (m + 1))) first
@@ -39,7 +37,6 @@ merged_member n slots k m own store next first less is merged done =
     merged ∙ ap (noted_all (written_in own)) done ∙ sym (noted_append front (written_in own) first)
     ∙ ap (λ ws. noted_all ws first) (sym whole)
 
--- one phase more
 pub merged_phase : (n : ℕ) (slots : List Slot) (m k : ℕ) (store next first : Trace) → next ≡ noted_all (concat (column n slots k m)) store →
     store ≡ noted_all (concat (concat (columns n slots m k))) first → next ≡ noted_all (concat (concat (columns n slots m (k + 1)))) first
 merged_phase n slots m k store next first merged done =

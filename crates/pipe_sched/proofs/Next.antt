@@ -1,4 +1,4 @@
--- For each member the first phase of which no piece was handed out, and so which piece is due.
+-- The first piece of each member that was not handed out, and so which piece is due.
 use Rattle.std.proofs.Common.{◌≡◌, ◌≢◌, ◌⊎◌, inl, inr, ℕ, zero, suc, ◌+◌, ◌-◌, ◌*◌, ◌%◌, ◌<◌, ◌≤◌, Bool, true, false, List, [], ◌∷◌, length, map, replicate, Some, refl, sym, ap, ◌∙◌, subst, arith, get_or, length-set}
 use Rattle.std.specs.Prelude.{slice_get, slice_set, if◌then◌else◌, ◌↔◌}
 use Rattle.std.proofs.lemmas.Bool.{cases_lt, cases_eq, false≢true}
@@ -22,7 +22,7 @@ use Rattle.pipe_sched.proofs.Told.{ready_here, room_for, handing_keeps, filling_
 
 -- ---- which piece can be due
 
--- Of a member only its first piece that wasn't handed out looks ready.
+-- Of a member, only the first piece that wasn't handed out looks ready.
 only_next : (n : ℕ) (slots : List Slot) (next : List ℕ) (m h : ℕ) → AreNext n (map mark_of slots) next → h < n → m * n + h < length slots →
     LooksReady n slots (m * n + h) → h ≡ get_or next m 0
 only_next n slots next m h are small there look = by_next (cases_lt h (get_or next m 0)) (cases_eq h (get_or next m 0))
@@ -45,14 +45,14 @@ only_next n slots next m h are small there look = by_next (cases_lt h (get_or ne
     by_next (inr le) (inl e) = e
     by_next (inr le) (inr ne) = absurd (begun (omega arith))
 
--- There is room for the row of a member.
+-- There is room for the slots of a member.
 pub row_within : (m n count size : ℕ) → m < count → size ≡ count * n → m * n + n ≤ size
 row_within m n count size less e =
     let whole : suc m * n ≤ count * n = mul-le (suc m) n count n (omega arith) (omega arith) in
     let row : suc m * n ≡ m * n + n = omega arith in
     omega (arith, whole, row, e)
 
--- So where it doesn't, none of its row does.
+-- If that piece doesn't look ready, none of the member does.
 pub none_in_row : (n : ℕ) (slots : List Slot) (next : List ℕ) (m p : ℕ) → AreNext n (map mark_of slots) next → m * n + n ≤ length slots → p ≡ get_or next m 0 →
     (p < n → LooksReady n slots (m * n + p) → ⊥) → ((i : ℕ) → i < m * n → LooksReady n slots i → ⊥) →
     (i : ℕ) → i < (m + 1) * n → LooksReady n slots i → ⊥
@@ -71,7 +71,7 @@ none_in_row n slots next m p are room is other before i less look = by_row (case
         let same : h ≡ p = only_next n slots next m h are small (omega (arith, place, small, room)) here ∙ sym is in
         other (subst (λ k. k < n) same small) (subst (λ k. LooksReady n slots (m * n + k)) same here)
 
--- And where it does, none before it.
+-- If that piece looks ready, none before it does.
 pub none_before_next : (n : ℕ) (slots : List Slot) (next : List ℕ) (m p place : ℕ) → AreNext n (map mark_of slots) next → m * n + n ≤ length slots → p ≡ get_or next m 0 →
     place ≡ m * n + p → p < n → ((i : ℕ) → i < m * n → LooksReady n slots i → ⊥) →
     (i : ℕ) → i < place → LooksReady n slots i → ⊥
@@ -90,7 +90,7 @@ none_before_next n slots next m p place are room is at less before i lower look 
         let same = only_next n slots next m h are (omega (arith, early, less)) (omega (arith, room, early, less)) here in
         omega (arith, same, is, early)
 
--- ---- as places change
+-- ---- slots change
 
 pub next_new : (n count m : ℕ) (marks : List Mark) → marks ≡ replicate count Waiting → AreNext n marks (replicate m 0)
 next_new n count m marks e j k mark here =
@@ -104,7 +104,7 @@ next_new n count m marks e j k mark here =
     zeros (suc m) zero = refl
     zeros (suc m) (suc j) = zeros m j
 
--- a piece that is ready is handed out
+-- A ready piece is handed out.
 pub next_out : (n : ℕ) (marks : List Mark) (next : List ℕ) (j k : ℕ) → AreNext n marks next → IsReady n marks j k → j < length next →
     AreNext n (slice_set marks (j * n + k) Out) (slice_set next j (k + 1))
 next_out n marks next j k are ready there i h mark here = by_place (cases_eq (i * n + h) (j * n + k))
@@ -150,7 +150,7 @@ next_out n marks next j k are ready there i h mark here = by_place (cases_eq (i 
         subst P (sym same.0) (subst Q (sym same.1) done)
     by_place (inr ne) = by_member ne (cases_eq i j)
 
--- a piece that is out is filled
+-- A piece that is out is filled.
 pub next_filled : (n : ℕ) (marks : List Mark) (next : List ℕ) (j k : ℕ) → AreNext n marks next → IsAt n marks j k Out →
     AreNext n (slice_set marks (j * n + k) Filled) next
 next_filled n marks next j k are out i h mark here = by_place (cases_eq (i * n + h) (j * n + k))
@@ -164,7 +164,7 @@ next_filled n marks next j k are out i h mark here = by_place (cases_eq (i * n +
         (λ begun. there, λ lower. ap is_begun it)
     by_place (inr ne) = are i h mark (here.0, sym (at_other marks (j * n + k) (i * n + h) Filled ne) ∙ here.1)
 
--- pieces fail
+-- Pieces fail.
 begun_as : (b : Bool) (m : Mark) → is_begun (if b then failed_mark m else m) ≡ is_begun m
 begun_as false m = refl
 begun_as true Waiting = refl
@@ -180,9 +180,9 @@ next_failed n marks next test are i h mark here =
     let old = are i h back.0 (here.0, back.1) in
     (λ begun. old.0 (sym same ∙ begun), λ lower. same ∙ old.1 lower)
 
--- ---- what the type keeps
+-- ---- the type's invariant
 
--- a piece that is ready is handed out
+-- A ready piece is handed out.
 pub handing_holds : (nested : NestedParts) (slots : List Slot) (next : List ℕ) (pipe : PipeParts) (j k place f v : ℕ) (job : JobParts) → told_pipe nested slots ≡ pipe →
     IsHeld nested slots next → IsReady (phases_in pipe.nested) pipe.marks j k → IsJobAt (nested_of pipe.nested) j k (job_of job) → place ≡ j * phases_in nested + k →
     f ≡ j → v ≡ k + 1 → IsHeld nested (slice_set slots place (slot.Out job)) (slice_set next f v)
@@ -204,7 +204,7 @@ handing_holds nested slots next pipe j k place f v job e held ready own is g h =
           (next_out n (map mark_of slots) next j k held.begun here there));
     }
 
--- a piece that is out is filled
+-- A piece that is out is filled.
 pub filling_holds : (nested : NestedParts) (slots : List Slot) (next : List ℕ) (pipe : PipeParts) (j k place : ℕ) (job : JobParts) (written : Laid) → told_pipe nested slots ≡ pipe →
     IsHeld nested slots next → IsMarked pipe j k Out → IsJobAt (nested_of pipe.nested) j k (job_of job) → written.pairs ≡ piece_of_job (job_of job) → place ≡ j * phases_in nested + k →
     IsHeld nested (slice_set slots place (slot.Filled job written)) next

@@ -1,4 +1,4 @@
--- Places in a list, by member and phase, and which piece is due.
+-- Indices of slots, by member and phase, and which piece is due.
 use Rattle.std.proofs.Common.{◌≡◌, ◌≢◌, ◌⊎◌, inl, inr, ℕ, zero, suc, ◌+◌, ◌-◌, ◌*◌, ◌/◌, ◌%◌, ◌<◌, ◌≤◌, Bool, true, false, List, [], ◌∷◌, length, map, Some, refl, sym, ap, ◌∙◌, subst, arith}
 use Rattle.std.specs.Prelude.{slice_get, nat_le, ◌&&◌}
 use borrow.Author.Tests.{le-leb, lt-leb}
@@ -12,12 +12,12 @@ use Rattle.pipe_sched.specs.declared.slot.Slot.TheVariants as slot
 use Rattle.pipe_sched.specs.Slots.{Mark, Waiting, Filled, IsAt, IsClear, IsReady, IsFirst, follows}
 use Rattle.pipe_sched.specs.Inside.{mark_of, AreInOrder, mark_at, LooksReady}
 
--- ---- the member and the phase of a place
+-- ---- the member and the phase of an index
 
 pub same_place : (n i : ℕ) → (i / n) * n + i % n ≡ i
 same_place n i = div-add-mod' i n
 
--- the member below is a row of places before
+-- The slot of the member below is n indices before.
 pub place_below : (n q r i : ℕ) → 0 < q → q * n + r ≡ i → ((q - 1) * n + r ≡ i - n) × (n ≤ i)
 place_below n zero r i some e = absurd (omega arith)
 place_below n (suc p) r i some e =
@@ -26,7 +26,7 @@ place_below n (suc p) r i some e =
     let first : p * n + r ≡ i - n = omega (arith, row, e) in
     (ap (λ q. q * n + r) back ∙ first, omega (arith, row, e))
 
--- places are in the order of members, and then of phases
+-- The indices are in the order of members, and then of phases.
 pub in_order : (n q r i h : ℕ) → r < n → h < n → q * n + r ≤ i * n + h → (q < i) ⊎ ((q ≡ i) × (r ≤ h))
 in_order n q r i h small less le = by_member (cases_lt q i) (cases_eq q i)
   where
@@ -53,9 +53,9 @@ read_marked (s ∷ slots) (suc i) mark e = read_marked slots i mark e
 pub read_within : (slots : List Slot) (i : ℕ) (mark : Mark) → slice_get (map mark_of slots) i ≡ Some mark → i < length slots
 read_within slots i mark e = let less = slice_get_within (map mark_of slots) i mark e in let same = length-map slots mark_of in omega arith
 
--- ---- what comes before
+-- ---- the pieces that come before
 
--- a piece that is filled, and all before it
+-- a piece and all pieces before it are filled
 pub filled_up_to : (n : ℕ) (marks : List Mark) (j k : ℕ) → AreInOrder n marks → IsAt n marks j k Filled →
     (i h : ℕ) → i ≤ j → h ≤ k → IsAt n marks i h Filled
 filled_up_to n marks j k order here i h le_i le_h = pick (cases_eq i j) (cases_eq h k)
@@ -68,7 +68,7 @@ filled_up_to n marks j k order here i h le_i le_h = pick (cases_eq i j) (cases_e
     pick (inl e) (inr ne) = order j k Filled here refl i h (record { member = le_i; phase = le_h; other = inr (omega arith) })
     pick (inr ne) other = order j k Filled here refl i h (record { member = le_i; phase = le_h; other = inl (omega arith) })
 
--- Where the two are filled that come right before a piece, all that come before it are.
+-- If the two pieces right before a piece are filled, all pieces before it are.
 pub clear_from : (n : ℕ) (marks : List Mark) (j k : ℕ) → AreInOrder n marks →
     (0 < k → IsAt n marks j (k - 1) Filled) → (0 < j → IsAt n marks (j - 1) k Filled) → IsClear n marks j k
 clear_from n marks j k order earlier below i h before = by_phase (cases_lt h k)
@@ -85,7 +85,7 @@ clear_from n marks j k order earlier below i h before = by_phase (cases_lt h k)
         by_other (inl lt) = lt
         by_other (inr lt) = absurd (omega arith)
 
--- ---- the test of a place
+-- ---- the test of a slot
 
 pub ready_from_look : (n : ℕ) (slots : List Slot) (i : ℕ) → 0 < n → i < length slots → AreInOrder n (map mark_of slots) → LooksReady n slots i →
     IsReady n (map mark_of slots) (i / n) (i % n)
@@ -130,7 +130,7 @@ look_from_ready n slots j k ready =
     not_first zero row = let small = ready.waits.0 in absurd (omega arith)
     not_first (suc m) row = omega arith
 
--- So the first place that looks ready is that of the piece that is due.
+-- The first slot that looks ready is that of the piece that is due.
 pub first_is_due : (n : ℕ) (slots : List Slot) (place : ℕ) → 0 < n → place < length slots → AreInOrder n (map mark_of slots) → LooksReady n slots place →
     ((i : ℕ) → i < place → LooksReady n slots i → ⊥) → IsFirst n (map mark_of slots) (place / n) (place % n)
 first_is_due n slots place some less order look first = record {
@@ -146,12 +146,12 @@ first_is_due n slots place some less order look first = record {
     not_before {m} (inl lt) other = absurd (first m lt other)
     not_before {m} (inr le) other = le
 
--- And where none looks ready no piece is.
+-- If no slot looks ready, no piece is ready.
 pub none_is_ready : (n : ℕ) (slots : List Slot) → ((i : ℕ) → i < length slots → LooksReady n slots i → ⊥) → (j k : ℕ) → IsReady n (map mark_of slots) j k → ⊥
 none_is_ready n slots none j k ready =
     none (j * n + k) (read_within slots (j * n + k) Waiting ready.waits.1) (look_from_ready n slots j k ready)
 
--- ---- which places follow
+-- ---- the slots that follow
 
 pub it_follows : (n j k i : ℕ) → j ≤ i / n → k ≤ i % n → follows n j k i ≡ true
 it_follows n j k i member phase = ap (λ b. b && nat_le k (i % n)) (le-leb j (i / n) member) ∙ le-leb k (i % n) phase

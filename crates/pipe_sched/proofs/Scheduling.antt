@@ -1,4 +1,4 @@
--- What a pipe does as a scheduler.
+-- A pipe as a scheduler.
 use Rattle.std.proofs.Common.{◌≡◌, inl, inr, [], Some, None, ap, ◌∙◌, subst}
 use Rattle.array_jobs.specs.Jobs.{JobParts}
 use Rattle.sched_api.specs.declared.scheduler.Next.{Next}
@@ -23,7 +23,7 @@ answers_begun state after agenda later job none gives = inr (record {
   answer = (gives.gives, ap (told_scheduler after) none.1);
 })
 
--- Where no piece is due, the agenda has a wish at most.
+-- If no piece is due, the agenda has at most a wish.
 pub answers_rest : (state after : PipeParts) (agenda later last : AgendaParts PipeWork) (next : Next PipeWork) → agenda.unbegun ≡ [] → GivesReady agenda None later →
     GivesAfterFailing state None after → TakesNext later next last → Answers (told_scheduler state agenda) next (told_scheduler after last)
 answers_rest state after agenda later last next empty none gives takes =

@@ -1,4 +1,4 @@
--- The store that a piece starts from, by the one that the piece before it left.
+-- The store that a piece starts from, by the store that the piece before it left.
 use Rattle.std.proofs.Common.{◌≡◌, inl, inr, ℕ, zero, suc, ◌+◌, ◌-◌, ◌*◌, ◌<◌, List, [], ◌∷◌, ◌++◌, length, map, Some, refl, sym, ap, ◌∙◌, subst, arith, get_or, append_assoc}
 use Rattle.std.specs.Prelude.{slice_get, slice_index_or}
 use Rattle.std.proofs.lemmas.Option.{slice_get_read, get_or_from_slice_get, same_Some}
@@ -21,7 +21,7 @@ use Rattle.pipe_sched.proofs.Kept.{told_pipe, told_at}
 use Rattle.pipe_sched.proofs.Merges.{concat_one_more}
 use Rattle.pipe_sched.proofs.Writes.{filled_entry, seen_is}
 
--- ---- what a filled piece leaves
+-- ---- the store that a filled piece leaves
 
 started_is : (nested : NestedTree) (j k : ℕ) (own : Slot) → IsRight nested j k own → mark_of own ≡ Filled → started_from own ≡ piped_store nested j k
 started_is nested j k slot.Waiting right e = absurd (cc)
@@ -30,7 +30,7 @@ started_is nested j k (slot.Out job) right e = absurd (cc)
 started_is nested j k (slot.Filled job written) right e = (job_parts nested k (piped_store nested j k) j (job_of job) right.0).its_store
 started_is nested j k (slot.Lost job) right e = absurd (cc)
 
--- what a filled place's job started from, with what it wrote
+-- The store after a filled slot's job is its start with its writes.
 pub left_of : (own : Slot) (job : JobParts) (written : Laid) (store : Store) (start left : Trace) → own ≡ slot.Filled job written → store ≡ job.store →
     start ≡ fresh store → left ≡ noted_all written.pairs start → left.cells ≡ after (written_in own) (started_from own)
 left_of own job written store start left is same begun merged =
@@ -40,7 +40,7 @@ left_of own job written store start left is same begun merged =
     ∙ ap (after written.pairs) same
     ∙ ap (λ (s : Slot). after (written_in s) (started_from s)) (sym is)
 
--- what a pipeline has for the piece of a filled place
+-- The pipeline's entry for the piece of a filled slot.
 entry_is : (nested : NestedParts) (slots : List Slot) (j k : ℕ) → IsKept nested slots → IsAt (phases_in nested) (map mark_of slots) j k Filled →
     get_or (get_or (piped_writes (nested_of nested)) k []) j [] ≡ written_in (slice_index_or slots (j * phases_in nested + k) slot.Barred)
 entry_is nested slots j k kept filled =
@@ -60,7 +60,7 @@ left_by nested slots j k own kept filled here =
     ∙ sym (after_append before (written_in own) nested.store)
     ∙ ap (λ ws. after (before ++ ws) nested.store) (sym entry)
 
--- The store that a filled piece leaves, where it is read.
+-- The store that a filled piece leaves, read from its slot.
 pub left_is_told : (nested : NestedParts) (slots : List Slot) (pipe : PipeParts) (j k place : ℕ) (own : Slot) (left : Store) →
     told_pipe nested slots ≡ pipe → IsKept nested slots → IsMarked pipe j k Filled → place ≡ j * phases_in nested + k →
     place < length slots → own ≡ get_or slots place own → left ≡ after (written_in own) (started_from own) →
@@ -72,9 +72,9 @@ left_is_told nested slots pipe j k place own left e kept marked is less read by 
     by ∙ left_by nested slots j k own kept here there
     ∙ ap (λ (p : PipeParts). after (written_with (piped_writes (nested_of p.nested)) j k) p.nested.store) e
 
--- ---- what comes before the next piece
+-- ---- the pieces before the next one
 
--- of the same member, in the phase after
+-- The writes before a piece in a later phase of the same member.
 seen_later : (nested : NestedParts) (slots : List Slot) (j k : ℕ) → IsKept nested slots → suc k < phases_in nested →
     IsClear (phases_in nested) (map mark_of slots) j (suc k) →
     written_before (piped_writes (nested_of nested)) j (suc k)
@@ -99,7 +99,7 @@ seen_later nested slots j k kept less clear =
     ∙ ap (λ l. written_before rows j k ++ l) (sym (entry_is nested slots j k kept filled)) in
     sym (seen_is nested slots j (suc k) kept less clear) ∙ ap (λ l. l ++ next) (whole ∙ joined)
 
--- of the member above, in the first phase
+-- The writes before a piece in the first phase of the next member.
 seen_above : (nested : NestedParts) (slots : List Slot) (j : ℕ) → IsKept nested slots → 0 < phases_in nested →
     IsClear (phases_in nested) (map mark_of slots) (suc j) 0 →
     written_before (piped_writes (nested_of nested)) (suc j) 0 ≡ written_with (piped_writes (nested_of nested)) j 0
@@ -117,7 +117,7 @@ seen_above nested slots j kept some clear =
 
 -- ---- the store of a piece before which all are filled
 
--- in a phase that isn't the first
+-- The start of a piece that isn't in the first phase.
 pub later_is_told : (nested : NestedParts) (slots given : List Slot) (pipe : PipeParts) (j k p below own : ℕ) (start merged : Trace) (store : Store) →
     told_pipe nested slots ≡ pipe → IsKept nested slots → IsReady (phases_in pipe.nested) pipe.marks j k → 0 < k →
     given ≡ slots → p ≡ phases_in nested → below ≡ j → own ≡ k →
@@ -141,7 +141,7 @@ later_is_told nested slots given pipe j (suc k) p below own start merged store e
     ∙ ap (λ ws. after ws nested.store) (sym (seen_later nested slots j k kept here.waits.0 here.clear))
     ∙ ap (λ (t : PipeParts). piped_store (nested_of t.nested) j (suc k)) e
 
--- in the first phase, of a member that isn't the first
+-- The start of a piece in the first phase, of a member that isn't the first.
 pub above_is_told : (nested : NestedParts) (slots : List Slot) (pipe : PipeParts) (j : ℕ) (start : Trace) (store : Store) →
     told_pipe nested slots ≡ pipe → IsKept nested slots → IsReady (phases_in pipe.nested) pipe.marks j 0 → 0 < j →
     start.cells ≡ after (written_with (piped_writes (nested_of pipe.nested)) (j - 1) 0) pipe.nested.store →
@@ -157,7 +157,7 @@ above_is_told nested slots pipe (suc j) start store e kept ready later left take
     ∙ ap (λ ws. after ws nested.store) (sym (seen_above nested slots j kept here.waits.0 here.clear))
     ∙ ap (λ (t : PipeParts). piped_store (nested_of t.nested) (suc j) 0) e
 
--- of the first piece
+-- The start of the first piece.
 pub first_is_told : (nested : NestedParts) (slots : List Slot) (pipe : PipeParts) (j : ℕ) (store : Store) →
     told_pipe nested slots ≡ pipe → IsKept nested slots → IsReady (phases_in pipe.nested) pipe.marks j 0 → j ≡ 0 →
     store ≡ pipe.nested.store → store ≡ piped_store (nested_of pipe.nested) j 0
@@ -169,7 +169,7 @@ first_is_told nested slots pipe j store e kept ready low taken =
     ∙ ap (λ m. piped_store (nested_of nested) m 0) (sym low)
     ∙ ap (λ (t : PipeParts). piped_store (nested_of t.nested) j 0) e
 
--- ---- what comes right before a piece that is ready is filled
+-- ---- the pieces right before a ready piece are filled
 
 pub earlier_filled : (pipe : PipeParts) (j k : ℕ) → IsReady (phases_in pipe.nested) pipe.marks j k → 0 < k → IsMarked pipe j (k - 1) Filled
 earlier_filled pipe j k ready later =
@@ -179,7 +179,7 @@ pub below_filled : (pipe : PipeParts) (j : ℕ) → IsReady (phases_in pipe.nest
 below_filled pipe j ready later =
     ready.clear (j - 1) 0 (record { member = omega arith; phase = omega arith; other = inl (omega arith) })
 
--- A place of a piece that is filled is filled, where it is read.
+-- A slot that is read is filled if its mark is.
 pub filled_here : (nested : NestedParts) (slots : List Slot) (pipe : PipeParts) (j k place : ℕ) (own : Slot) → told_pipe nested slots ≡ pipe →
     IsMarked pipe j k Filled → place ≡ j * phases_in nested + k → place < length slots → own ≡ get_or slots place own → mark_of own ≡ Filled
 filled_here nested slots pipe j k place own e marked is less read =

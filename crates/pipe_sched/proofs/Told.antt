@@ -1,4 +1,4 @@
--- Pipelines, as they are told of what they hold.
+-- Pipelines, by the models of their slots.
 use Rattle.std.proofs.Common.{◌≡◌, ◌⊎◌, inl, inr, ℕ, zero, suc, ◌+◌, ◌*◌, ◌/◌, ◌%◌, ◌<◌, ◌≤◌, List, [], ◌∷◌, ◌++◌, length, map, replicate, take, drop, get_or, Some, refl, sym, ap, ◌∙◌, subst, arith}
 use Rattle.std.specs.Prelude.{slice_get, slice_set, ◌↔◌}
 use Rattle.std.proofs.lemmas.Bool.{cases_lt}
@@ -48,7 +48,7 @@ failed_is_told nested slots = (
   λ h. let held = held_at slots h.0 h.1 h.2 in (h.0, held.0, held.1, ap is_failed held.2 ∙ h.3),
 )
 
--- ---- a place
+-- ---- a slot
 
 pub place_is : (f p h j n k : ℕ) → f ≡ j → p ≡ n → h ≡ k → f * p + h ≡ j * n + k
 place_is f p h j n k a b c = ap (λ m. m * p + h) a ∙ ap (λ m. j * m + h) b ∙ ap (λ m. j * n + m) c
@@ -78,7 +78,7 @@ unseen_phase nested slots pipe j k e le mark here =
     let less = there.0 in
     omega (arith, less, le)
 
--- ---- what was handed out
+-- ---- the jobs that were handed out
 
 handed_out : (pipe : PipeParts) (own : Slot) (job : JobParts) → IsMarked pipe job.place job.phase (mark_of own) → IsRight (nested_of pipe.nested) job.place job.phase own →
     HasJob own job → WasHandedOut pipe job
@@ -101,7 +101,7 @@ has_own pipe (slot.Out own) job marked right was = same_Some (job_of own) (job_o
 has_own pipe (slot.Filled own written) job marked right was = same_Some (job_of own) (job_of job) (sym right.0 ∙ was.own)
 has_own pipe (slot.Lost own) job marked right was = same_Some (job_of own) (job_of job) (sym right ∙ was.own)
 
--- A place has an equal job exactly where the job was handed out.
+-- A slot has an equal job iff the job was handed out.
 pub has_is_handed_out : (pipe : PipeParts) (own : Slot) (job : JobParts) (j k : ℕ) → j ≡ job.place → k ≡ job.phase →
     IsMarked pipe j k (mark_of own) × IsRight (nested_of pipe.nested) j k own → HasJob own job ↔ WasHandedOut pipe job
 has_is_handed_out pipe own job j k a b is =
@@ -120,12 +120,12 @@ mark_at_job pipe job j k mark a b =
 pub same_mark : (pipe : PipeParts) (j k : ℕ) (a b : Mark) → IsMarked pipe j k a → IsMarked pipe j k b → a ≡ b
 same_mark pipe j k a b x y = same_Some a b (sym x.1 ∙ y.1)
 
--- A place that is there is marked as out exactly where its mark is so.
+-- A slot's mark is out iff its index is marked as out.
 pub mark_is_out : (pipe : PipeParts) (j k : ℕ) (mark : Mark) → IsMarked pipe j k mark → (mark ≡ Out) ↔ IsMarked pipe j k Out
 mark_is_out pipe j k mark marked =
     (λ e. subst (IsMarked pipe j k) e marked, λ out. same_mark pipe j k mark Out marked out)
 
--- ---- what is due
+-- ---- which piece is due
 
 pub due_is_told : (nested : NestedParts) (slots given : List Slot) (pipe : PipeParts) (p place : ℕ) → told_pipe nested slots ≡ pipe → IsKept nested slots →
     given ≡ slots → p ≡ phases_in nested → 0 < p → place < length given → LooksReady p given place →
@@ -183,7 +183,7 @@ member_within j n k m less = by_order (cases_lt j m)
     by_order (inl lt) = lt
     by_order (inr le) = let whole = mul-le m n j n le (omega arith) in absurd (omega (arith, whole, less))
 
--- There is room for a piece that is ready.
+-- there is room for a ready piece
 pub record HasRoom (nested : NestedParts) (slots : List Slot) (j k : ℕ) : Type 0 where
   pub member : j < members_in nested
   pub phase : k < phases_in nested
@@ -240,7 +240,7 @@ take_all_of (suc n) [] le = refl
 take_all_of zero (x ∷ xs) le = absurd (omega arith)
 take_all_of (suc n) (x ∷ xs) le = ap (λ l. x ∷ l) (take_all_of n xs (omega arith))
 
--- what is written through a slice of all places
+-- The slots after a write through a slice of all of them.
 pub failing_whole : (slots given now : List Slot) (len p f h n j k : ℕ) → given ≡ slots → len ≡ length slots → p ≡ n → f ≡ j → h ≡ k →
     now ≡ changed_where (follows p f h) failed_slot 0 given →
     take len (now ++ drop (length now) slots) ≡ changed_where (follows n j k) failed_slot 0 slots
@@ -263,7 +263,7 @@ fails_here nested slots after pipe j k e kept open_one is i h mark member phase 
     let told : map mark_of after ≡ changed_where (follows n j k) failed_mark 0 marks = ap (map mark_of) is ∙ told_failed slots (follows n j k) in
     fails_from n marks j k kept.order (subst P (sym e) open_one) i h mark member phase (subst (λ ms. IsAt n ms i h mark) told here)
 
--- What is handed out names the member and the phase that are due.
+-- A job that is handed out names the member and the phase that are due.
 pub hands_out : (before : PipeParts) (job : JobParts) (after : PipeParts) (j k : ℕ) → IsDue before j k → IsJobAt (nested_of before.nested) j k (job_of job) →
     job.place ≡ j → job.phase ≡ k → after ≡ marked_pipe before j k Out → IsMarked after j k Out → HandsOut before job after
 hands_out before job after j k due own a b marked out = record {

@@ -1,4 +1,4 @@
--- A pipeline whose places are all filled has what its construct writes.
+-- A pipeline whose slots are all filled has its construct's writes.
 use Rattle.std.proofs.Common.{◌≡◌, ℕ, zero, suc, ◌+◌, ◌*◌, ◌<◌, ◌≤◌, true, false, List, [], ◌∷◌, ◌++◌, length, map, take, Some, ℤ, refl, sym, ap, ◌∙◌, subst, arith, get_or}
 use Rattle.std.specs.Prelude.{slice_get, slice_index_or, unsigned_abs, ◌&&◌, pos, int_le}
 use Rattle.std.proofs.lemmas.Bool.{and_parts}
@@ -74,7 +74,7 @@ rows_whole m (row ∷ rows) each =
     ap (λ r. r ∷ map (take m) rows) (take_whole m row (each 0 (omega arith)))
     ∙ ap (λ l. row ∷ l) (rows_whole m rows (λ k less. each (suc k) (omega arith)))
 
--- All members of all phases.
+-- all members of all phases
 pub whole_rows : (nested : NestedTree) → map (take (members_of nested.construct)) (take (phases_of nested.construct) (piped_writes nested)) ≡ piped_writes nested
 whole_rows nested =
     let rounds = rounds_of nested.construct nested.vars in
@@ -87,7 +87,7 @@ whole_rows nested =
     let own = round_counted nested k (omega (arith, count)) in
     omega (arith, members, own))
 
--- ---- what is merged lies inside the store
+-- ---- the merged writes lie inside the store
 
 fit_at : (jobs : List JobTree) (j : ℕ) (job : JobTree) → AreFitJobs jobs → slice_get jobs j ≡ Some job → IsFit job
 fit_at [] j job fit e = absurd (cc)
@@ -161,9 +161,9 @@ columns_below nested slots m (suc k) kept phases members =
     (columns_below nested slots m k kept (omega arith) members)
     (column_below nested slots k m kept (omega arith) members))
 
--- ---- all of it
+-- ---- all writes
 
--- one after another is merged
+-- Writes in sequence are merged.
 writes_merged : (pieces : List (List Write)) (laid : List Write) → merged pieces laid ≡ lays (concat pieces) laid
 writes_merged [] laid = refl
 writes_merged (piece ∷ pieces) laid = writes_merged pieces (lays piece laid) ∙ sym (lays_append piece (concat pieces) laid)
@@ -203,7 +203,7 @@ all_filled nested slots kept full fine j k member phase =
     let filled = settled_is_filled mark (full place mark here) (λ failed. fine (place, mark, here, failed)) in
     (phase, here ∙ ap Some filled)
 
--- What all pieces wrote, merged in the order of phases, is what the construct writes.
+-- The writes of all pieces, merged in the order of phases, are the construct's writes.
 pub all_written : (nested : NestedParts) (slots : List Slot) (store : Trace) → IsKept nested slots →
     IsFull (told_pipe nested slots) → (HasFailed (told_pipe nested slots) → ⊥) →
     store ≡ noted_all (concat (concat (columns (phases_in nested) slots (members_in nested) (phases_in nested)))) (fresh nested.store) →
@@ -231,7 +231,7 @@ pub merged_size : (ws : List Write) (start : Store) (first last : Trace) → fir
 merged_size ws start first last e is =
     ap (λ t. length t.cells) is ∙ ap length (cells_after ws first) ∙ length_after ws first.cells ∙ ap (λ t. length t.cells) e
 
--- and so it comes of merging what the places hold
+-- Merging the slots' writes gives the construct's writes.
 pub all_told : (nested : NestedParts) (slots : List Slot) (pipe : PipeParts) (given : List Slot) (m p : ℕ) (first last : Trace) → told_pipe nested slots ≡ pipe →
     IsKept nested slots → IsFull pipe → (HasFailed pipe → ⊥) → given ≡ slots → m ≡ members_in nested → p ≡ phases_in nested → first ≡ fresh nested.store →
     last ≡ noted_all (concat (concat (columns p given m p))) first → IsUncrossed (nested_of pipe.nested) →

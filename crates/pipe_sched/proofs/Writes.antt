@@ -1,4 +1,4 @@
--- What the places of a pipeline hold is what its pieces write.
+-- The slots of a pipeline hold the writes of its pieces.
 use Rattle.std.proofs.Common.{◌≡◌, inl, inr, ℕ, zero, suc, ◌+◌, ◌*◌, ◌<◌, List, [], ◌∷◌, ◌++◌, length, map, take, Some, refl, sym, ap, ◌∙◌, arith, get_or, add-one}
 use Rattle.std.specs.Prelude.{slice_get, slice_index_or}
 use Rattle.std.specs.Option.{option_map}
@@ -26,7 +26,7 @@ use Rattle.pipe_sched.specs.Pipes.{piped_writes, piped_store, IsJobAt}
 use Rattle.pipe_sched.specs.Inside.{mark_of, IsRight, IsKept, written_in, column, columns}
 use Rattle.pipe_sched.proofs.Kept.{told_pipe, held_at}
 
--- ---- what a piece writes in a pipeline
+-- ---- the writes of a piece in a pipeline
 
 pub round_is : (rounds : List (List Steps)) (k : ℕ) → get_or rounds k [] ≡ round_at rounds k
 round_is [] k = refl
@@ -40,7 +40,7 @@ job_is_piece nested k store j job less own =
     ∙ slice_get-map steps_of_job (jobs_in nested k store) j
     ∙ ap (option_map steps_of_job) own
 
--- The job of a member in a phase writes what a pipeline has for it.
+-- The job of a member in a phase writes the pipeline's entry for it.
 pub piped_piece : (nested : NestedTree) (j k : ℕ) (job : JobTree) → k < phases_of nested.construct → IsJobAt nested j k job →
     entry_at (piped_writes nested) j k ≡ Some (piece_of_job job)
 piped_piece nested j k job less own =
@@ -53,7 +53,7 @@ piped_piece nested j k job less own =
     pieces_are_piped arrays nested.store [] rounds j k (steps_of_job job) (job_is_piece nested k store j job less own)
     ∙ ap Some (sym same)
 
--- ---- what places hold
+-- ---- the writes in slots
 
 right_entry : (nested : NestedTree) (j k : ℕ) (own : Slot) → k < phases_of nested.construct → IsRight nested j k own → mark_of own ≡ Filled →
     entry_at (piped_writes nested) j k ≡ Some (written_in own)
@@ -63,7 +63,7 @@ right_entry nested j k (slot.Out job) less right e = absurd (cc)
 right_entry nested j k (slot.Filled job written) less right e = piped_piece nested j k (job_of job) less right.0 ∙ ap Some (sym right.1)
 right_entry nested j k (slot.Lost job) less right e = absurd (cc)
 
--- A place that is filled holds what a pipeline has for its piece.
+-- A filled slot holds the pipeline's entry for its piece.
 pub filled_entry : (nested : NestedParts) (slots : List Slot) (j k : ℕ) → IsKept nested slots → IsAt (phases_in nested) (map mark_of slots) j k Filled →
     entry_at (piped_writes (nested_of nested)) j k ≡ Some (written_in (slice_index_or slots (j * phases_in nested + k) slot.Barred))
 filled_entry nested slots j k kept filled =
@@ -77,7 +77,7 @@ take_one_more [] m x e = absurd (cc)
 take_one_more (y ∷ xs) zero x e = ap (λ z. z ∷ []) (same_Some y x e)
 take_one_more (y ∷ xs) (suc m) x e = ap (λ l. y ∷ l) (take_one_more xs m x e)
 
--- The first members of a phase, where all of them are filled.
+-- The first members of a phase, if all are filled.
 pub column_is : (nested : NestedParts) (slots : List Slot) (k m : ℕ) → IsKept nested slots →
     ((j : ℕ) → j < m → IsAt (phases_in nested) (map mark_of slots) j k Filled) →
     column (phases_in nested) slots k m ≡ take m (get_or (piped_writes (nested_of nested)) k [])
@@ -100,7 +100,7 @@ rows_one_more [] k less = absurd (omega arith)
 rows_one_more (row ∷ rows) zero less = refl
 rows_one_more (row ∷ rows) (suc k) less = ap (λ l. row ∷ l) (rows_one_more rows k (omega arith))
 
--- The first phases, where the first members of each are filled.
+-- The first phases, if their first members are filled.
 pub columns_are : (nested : NestedParts) (slots : List Slot) (m k : ℕ) → IsKept nested slots → 0 < m →
     ((j h : ℕ) → j < m → h < k → IsAt (phases_in nested) (map mark_of slots) j h Filled) →
     columns (phases_in nested) slots m k ≡ map (take m) (take k (piped_writes (nested_of nested)))
@@ -142,7 +142,7 @@ store_is nested slots j k kept less clear =
     ∙ sym (after_append front own nested.store)
     ∙ ap (λ ws. after ws nested.store) (seen_is nested slots j k kept less clear)
 
--- a job that is read from those of a phase, and copied
+-- A job that is read from those of a phase, and copied.
 pub one_of_jobs : (jobs : List JobParts) (trees : List JobTree) (j i : ℕ) (own job : JobParts) → map job_of jobs ≡ trees → i ≡ j → i < length jobs →
     own ≡ get_or jobs i own → job ≡ own → slice_get trees j ≡ Some (job_of job)
 one_of_jobs jobs trees j i own job same e less is copied =
@@ -152,7 +152,7 @@ one_of_jobs jobs trees j i own job same e less is copied =
     ∙ ap (option_map job_of) (slice_get_read jobs (length jobs) i own refl less is)
     ∙ ap (λ j. Some (job_of j)) (sym copied)
 
--- and so it comes of merging what the places hold
+-- Merging the slots' writes gives the store that a piece starts from.
 pub store_is_told : (nested : NestedParts) (slots : List Slot) (pipe : PipeParts) (j k : ℕ) (one two : List Slot) (p below earlier : ℕ) (first mid last : Trace) →
     told_pipe nested slots ≡ pipe → IsKept nested slots → k < phases_in nested → IsClear (phases_in nested) (map mark_of slots) j k →
     one ≡ slots → two ≡ slots → p ≡ phases_in nested → below ≡ j → earlier ≡ k → first ≡ fresh nested.store →

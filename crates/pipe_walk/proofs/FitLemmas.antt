@@ -1,4 +1,4 @@
--- What pieces touch lies inside the arrays, so the least crossing of their cells is the least of all.
+-- Pieces touch only cells inside the arrays, so the least crossing of these cells is the least of all.
 use Rattle.std.proofs.Common.{◌≡◌, ℕ, zero, suc, ◌+◌, ◌<◌, ◌≤◌, Bool, true, false, List, [], ◌∷◌, length, map, get_or, Option, Some, None, ℤ, refl, sym, ap, subst, ◌∙◌, ⊎_elim, inl, inr, arith}
 use Rattle.std.specs.Prelude.{◌⊎◌, ◌↔◌, not, IsTrue, slice_get, unsigned_abs}
 use Rattle.std.specs.Option.{option_map, option_or, is_some}
@@ -117,7 +117,7 @@ nest_within nested fit j k piece cell at t = ⊎_elim
     rounds : List (List Steps)
     rounds = rounds_of nested.construct nested.vars
 
--- the arrays of a construct are in their limits
+-- The arrays of a construct are within their limits.
 first_fit : (jobs : List JobTree) → AreFitJobs jobs → 0 < length jobs → (job : JobTree) × (slice_get jobs 0 ≡ Some job) × IsFit job
 first_fit [] fit some = absurd (omega arith)
 first_fit (job ∷ jobs) fit some = (job, refl, fit.0)
@@ -146,7 +146,7 @@ nest_sized nested fit phases members =
     let arrays = numbered_arrays nested 0 nested.store 0 (nested.site + 1 + earlier_sites nested.construct 0) (piece_trees nested.construct 0) one.0 one.1 in
     subst (λ ds. AreSized (arrays_of ds)) arrays (sized_in_range (program_in one.0) one.2.ranges)
 
--- ---- what the least crossing tells
+-- ---- what the least crossing shows
 
 pub clear_told : (arrays : Arrays) (rounds : List (List Steps)) → IsTouchedBelow arrays (cells_of arrays) rounds → (found : Option ℕ) →
     found ≡ crossing arrays (cells_of arrays) rounds → IsLeastCrossing arrays rounds found
@@ -159,7 +159,7 @@ none_told arrays rounds None false e h = absurd (false≢true e)
 none_told arrays rounds (Some cell) true e h = absurd (false≢true (sym e))
 none_told arrays rounds (Some cell) false e h = (λ t. absurd (false≢true t), λ k. absurd (k cell h.0))
 
--- pieces of one phase don't cross
+-- Pieces of one phase don't cross.
 pub few_rounds : (arrays : Arrays) (construct : Statement) (vars : Vars) → phases_of construct ≤ 1 →
     crossing arrays (cells_of arrays) (rounds_of construct vars) ≡ None
 few_rounds arrays construct vars few = cases (rounds_of construct vars) (let n = rounds_counted construct vars in omega (arith, n))
@@ -215,7 +215,7 @@ rounds_within arrays [] h j k piece cell at t = absurd (cc)
 rounds_within arrays (r ∷ rs) h j zero piece cell at t = piece_within arrays r j piece h.0 at cell t
 rounds_within arrays (r ∷ rs) h j (suc k) piece cell at t = rounds_within arrays rs h.1 j k piece cell at t
 
--- The first of sites that has a crossing is on the line, and the cell is the least one of its crossings.
+-- the first site with a crossing is on this line, and the cell is the least of its crossings
 record IsFirst (arrays : Arrays) (sites : List Site) (line cell : ℕ) : Type 0 where
   pub number : ℕ
   pub site : Site
@@ -225,7 +225,7 @@ record IsFirst (arrays : Arrays) (sites : List Site) (line cell : ℕ) : Type 0 
   pub least : (c : ℕ) → c < cell → ¬ IsCrossing arrays site.rounds c
   pub earlier : (i : ℕ) (s : Site) → i < number → slice_get sites i ≡ Some s → HasNoCrossing arrays s.rounds
 
--- What is told of sites.
+-- the result for these sites
 abbrev IsTold : Arrays → List Site → Option PipeFault → Type 0
 IsTold arrays sites None = (i : ℕ) (s : Site) → slice_get sites i ≡ Some s → HasNoCrossing arrays s.rounds
 IsTold arrays sites (Some (Crossing line cell)) = IsFirst arrays sites line cell
@@ -273,7 +273,7 @@ sites_told arrays (site ∷ more) h =
       earlier = λ i s less e. absurd (omega arith);
     }
 
--- the first crossing of a program that is accepted
+-- The first crossing of an accepted program.
 program_told : (program : ProgramTree) → IsAccepted program →
     IsTold (arrays_of program.arrays) (sequence_sites program.body []) (first_crossing (arrays_of program.arrays) (sequence_sites program.body []))
 program_told program accepted =
@@ -304,11 +304,11 @@ fault_told program accepted fault e =
     }
     cases Memory h = tt
 
--- the arrays of a program that is accepted are in their limits
+-- The arrays of an accepted program are within their limits.
 pub accepted_sized : (program : ProgramTree) → IsAccepted program → AreSized (arrays_of program.arrays)
 accepted_sized program accepted = sized_in_range program accepted.ranges
 
--- what a loop of the tree stands for
+-- The loop that a `for` of the tree stands for.
 pub for_view : (line : ℕ) (var : List ℕ) (low high : ℤ) (body : Block) →
     statement_of (stmt.For line var low high body) ≡ For line var low high (sequence_of body)
 for_view line var low high body =

@@ -1,4 +1,4 @@
--- What several parts mark, one after another.
+-- The marks of several parts in sequence.
 use Rattle.std.proofs.Common.{◌≡◌, ℕ, true, false, List, [], ◌∷◌, ◌++◌, refl, sym, ap, ◌∙◌}
 use Rattle.array_tree.specs.Trees.{Expression, Number, Var, Read, Neg, Binary}
 use Rattle.array_meaning.specs.Stores.{Arrays, Vars}
@@ -18,7 +18,7 @@ pub piece_followed_by : (arrays : Arrays) (member : ℕ) (a b : Steps) (t : Tabl
 piece_followed_by arrays member a b t =
     ap (λ w. with_visits arrays member w t) (walk_followed_by arrays a b) ∙ visits_append arrays member (walk arrays a) (walk arrays b) t
 
--- no mark tells a line
+-- The marks don't depend on the line.
 reads_marked : (arrays : Arrays) (member line : ℕ) (vs : Vars) (e : Expression) (t : TableParts) →
     with_visits arrays member (reads_in arrays line vs e) t ≡ with_visits arrays member (reads_in arrays 0 vs e) t
 reads_marked arrays member line vs (Number n) t = refl

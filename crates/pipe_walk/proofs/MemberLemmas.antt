@@ -1,4 +1,4 @@
--- Which members did something: several parts of it, and what of them the test of a crossing asks.
+-- Which members did something, in several parts, and what the crossing test needs of them.
 use Rattle.std.proofs.Common.{◌≡◌, ℕ, zero, suc, ◌+◌, ◌-◌, Bool, true, false, List, [], ◌∷◌, take, refl, ap, ◌∙◌, arith}
 use Rattle.std.specs.Prelude.{◌&&◌, ◌||◌, min, max, nat_lt, if◌then◌else◌}
 use Rattle.std.proofs.lemmas.Bool.Decides.{nat_tests}
@@ -31,7 +31,7 @@ members_again Nobody b = refl
 members_again (Between f l) Nobody = both _ _ _ _ (omega arith) (omega arith)
 members_again (Between f l) (Between g m) = both _ _ _ _ (omega arith) (omega arith)
 
--- a member, where there is one
+-- the set with a member, if there is one
 abbrev pub member_if : Bool → ℕ → Members → Members
 member_if true j m = joined_members (Between j j) m
 member_if false j m = m
@@ -51,7 +51,7 @@ last_one false j m = omega arith
 last_one true j Nobody = omega arith
 last_one true j (Between f l) = omega arith
 
--- ---- what pieces do, numbered from one on
+-- ---- the marks of pieces that are numbered from one on
 
 abbrev pub members_in : (Steps → Bool) → ℕ → List Steps → Members → Members
 members_in test j [] m = m
@@ -100,7 +100,7 @@ members_last test j (p ∷ ps) m =
     cases false true = omega arith
     cases false false = omega arith
 
--- where none passes the highest is 0
+-- If no piece passes, the highest is 0.
 pub none_highest : (test : Steps → Bool) (pieces : List Steps) → (if some_of test pieces then 0 + highest test pieces else 0) ≡ highest test pieces
 none_highest test [] = refl
 none_highest test (p ∷ ps) = cases (test p) (some_of test ps)
@@ -111,7 +111,7 @@ none_highest test (p ∷ ps) = cases (test p) (some_of test ps)
     cases false true = omega arith
     cases false false = omega arith
 
--- of two tests
+-- A piece passes one of two tests.
 pub either_some : (s t : Steps → Bool) (pieces : List Steps) → some_of (λ p. s p || t p) pieces ≡ (some_of s pieces || some_of t pieces)
 either_some s t [] = refl
 either_some s t (p ∷ ps) = ap (λ b. (s p || t p) || b) (either_some s t ps) ∙ cases (s p) (t p) (some_of s ps) (some_of t ps)

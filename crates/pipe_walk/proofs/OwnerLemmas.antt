@@ -32,7 +32,7 @@ owner_is number (a ∷ more) c small = cases (nat_lt c a.1) (λ s. owner_is (num
         ∙ rest (omega arith)
         ∙ (let z : (number + 1) + array_at more (c - a.1) ≡ number + (1 + array_at more (c - a.1)) = omega arith in z)
 
--- one more of the same
+-- One more equal element.
 pub replicate_more : (n x : ℕ) (ys : List ℕ) → (ys ++ replicate n x) ++ (x ∷ []) ≡ ys ++ replicate (n + 1) x
 replicate_more n x ys =
     append_assoc ys (replicate n x) (x ∷ []) ∙ ap (λ zs. ys ++ zs) (last n) ∙ ap (λ m. ys ++ replicate m x) (let e : suc n ≡ n + 1 = omega arith in e)

@@ -1,4 +1,4 @@
--- What a table tells of a cell, phase by phase: where the test of a crossing passes.
+-- The table's marks of a cell, phase by phase, and when the crossing test passes.
 use Rattle.std.proofs.Common.{◌≡◌, ℕ, zero, suc, ◌+◌, ◌-◌, ◌<◌, ◌≤◌, Bool, true, false, List, [], ◌∷◌, take, length, replicate, Some, None, ℤ, refl, sym, ap, ◌∙◌, ⊎_elim, arith, length-set}
 use Rattle.std.specs.Prelude.{◌||◌, max, slice_set, slice_index_or, map, drop, get_or, if◌then◌else◌}
 use Rattle.std.proofs.lemmas.Bool.{cases_lt}
@@ -25,7 +25,7 @@ use Rattle.pipe_walk.proofs.PieceLemmas.{told, touch_with_pieces, pieces_stay_fo
 
 -- ---- one phase
 
--- What the pieces of a phase do to a cell.
+-- the marks of a cell by the pieces of a phase
 abbrev pub touch_of : Arrays → ℕ → List Steps → Touch
 touch_of arrays cell round = told (members_in (is_read arrays cell) 0 round Nobody) (members_in (is_changed arrays cell) 0 round Nobody)
 
@@ -55,7 +55,7 @@ passed_is arrays cell past round =
     (ap (λ b. b || starts_below past.changer touch.read) (below_is changed past.toucher round)
     ∙ ap (λ b. some_of changed (take past.toucher round) || b) (below_is read past.changer round))
 
--- Whether pieces of the phases before crossed, or one of these phases crosses an earlier one.
+-- whether pieces of the earlier phases crossed, or one of these phases crosses an earlier one
 abbrev pub crossed_left : Arrays → ℕ → Past → List (List Steps) → Bool
 crossed_left arrays cell past rounds = past.crossed || crosses arrays cell past.toucher past.changer rounds
 
@@ -77,7 +77,7 @@ anywhere zero x i = refl
 anywhere (suc n) x zero = refl
 anywhere (suc n) x (suc i) = anywhere n x i
 
--- What the table keeps between two phases: for each cell what the phases before did, so that what is left tells the same as all.
+-- The table between two phases has each cell's marks of the earlier phases: the remaining phases cross iff all do.
 pub record IsThrough (arrays : Arrays) (all left : List (List Steps)) (table : TableParts) : Type 0 where
   pub for_them : IsFor arrays table
   pub blank : (c : ℕ) → touch_at table c ≡ untouched
@@ -137,7 +137,7 @@ all_through arrays all t c through small = none_more (past_in t.past c).crossed 
     none_more true = refl
     none_more false = refl
 
--- What the table keeps as the phase at hand is put to those before, as far as the cells below one.
+-- The table while the current phase is added to the earlier ones, for the cells below one.
 pub record IsSettling (before now : TableParts) (i : ℕ) : Type 0 where
   pub cells : now.cells ≡ before.cells
   pub everywhere : now.everywhere ≡ before.everywhere
@@ -185,9 +185,9 @@ settling_all before now i h all = record {
   past = λ c there. h.done c (omega arith) there;
 }
 
--- ---- nothing to walk through
+-- ---- constructs without a walk
 
--- one phase
+-- One phase.
 pub few_phases : (arrays : Arrays) (phases : List Block) (var : List ℕ) (low high : ℤ) (members : ℕ) (vars : Vars) → length phases < 2 →
     crossing arrays (cells_of arrays) (phase_rounds (sequences (map sequence_of phases)) var low high members vars) ≡ None
 few_phases arrays [] var low high members vars few = first_none (λ cell. crosses arrays cell 0 0 []) 0 (cells_of arrays) (λ c small. refl)
@@ -196,7 +196,7 @@ few_phases arrays (p ∷ []) var low high members vars few =
     first_none (λ cell. crosses arrays cell 0 0 (round ∷ [])) 0 (cells_of arrays) (λ c small. refl)
 few_phases arrays (p ∷ q ∷ more) var low high members vars few = absurd (omega arith)
 
--- one member
+-- One member.
 lone : (arrays : Arrays) (cell : ℕ) (phases : Sequences) (var : List ℕ) (low high : ℤ) (members : ℕ) (vars : Vars) → members < 2 →
     crosses arrays cell 0 0 (phase_rounds phases var low high members vars) ≡ false
 lone arrays cell no_more var low high members vars few = refl
@@ -218,9 +218,9 @@ same_cells f g i (suc k) h =
     ap (λ b. if b then Some i else first_from f (i + 1) k) (h i (omega arith))
     ∙ ap (λ rest. if g i then Some i else rest) (same_cells f g (i + 1) k (λ c small. h c (omega arith)))
 
--- ---- one more
+-- ---- one more phase or member
 
--- a phase of those that are left
+-- The next of the remaining phases.
 pub phase_next : (phases : List Block) (i : ℕ) (d : Block) (var : List ℕ) (low high : ℤ) (members : ℕ) (vars : Vars) → i < length phases →
     phase_rounds (sequences (map sequence_of (drop i phases))) var low high members vars
     ≡ team_works var low high members (sequence_work (sequence_of (get_or phases i d))) vars
@@ -228,7 +228,7 @@ pub phase_next : (phases : List Block) (i : ℕ) (d : Block) (var : List ℕ) (l
 phase_next phases i d var low high members vars h =
     ap (λ rest. phase_rounds (sequences (map sequence_of rest)) var low high members vars) (drop-cons phases i d h) ∙ rw add-one refl
 
--- none is left
+-- No phase is left.
 pub phases_end : (phases : List Block) (i : ℕ) (var : List ℕ) (low high : ℤ) (members : ℕ) (vars : Vars) → length phases ≤ i →
     phase_rounds (sequences (map sequence_of (drop i phases))) var low high members vars ≡ []
 phases_end [] zero var low high members vars h = refl
@@ -236,7 +236,7 @@ phases_end [] (suc i) var low high members vars h = refl
 phases_end (p ∷ ps) zero var low high members vars h = absurd (omega arith)
 phases_end (p ∷ ps) (suc i) var low high members vars h = phases_end ps i var low high members vars (omega arith)
 
--- a member of those that are left
+-- The next of the remaining members.
 pub member_next : (arrays : Arrays) (var : List ℕ) (low high : ℤ) (m : ℕ) (body : Work) (j : ℕ) (vars : Vars) (t : TableParts) → j < m →
     with_pieces arrays j (member_works var low high m body j (m - j) vars) t
     ≡ with_pieces arrays (j + 1) (member_works var low high m body (j + 1) (m - (j + 1)) vars)

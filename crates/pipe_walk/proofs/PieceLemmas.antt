@@ -1,4 +1,4 @@
--- What a table tells of a cell, visit by visit and piece by piece.
+-- The table's marks of a cell, visit by visit and piece by piece.
 use Rattle.std.proofs.Common.{◌≡◌, ℕ, ◌+◌, ◌<◌, cond, Bool, true, false, List, [], ◌∷◌, length, Option, Some, None, ℤ, refl, sym, ap, ◌∙◌, arith, length-set}
 use Rattle.std.specs.Prelude.{nat_eq, ◌&&◌, ◌||◌, not, slice_set, slice_index_or}
 use Rattle.std.proofs.lemmas.Bool.{false≢true}
@@ -21,7 +21,7 @@ use Rattle.pipe_walk.specs.Inside.Marks.{with_touch, with_visits, with_piece, wi
 use Rattle.pipe_walk.proofs.MemberLemmas.{members_assoc, members_turned, members_again, member_if, members_in}
 use Rattle.pipe_walk.proofs.OwnerLemmas.{owner_is}
 
--- ---- what was done, by members
+-- ---- the marks by members
 
 abbrev pub told : Members → Members → Touch
 told r w = record { read = r; changed = w }
@@ -38,7 +38,7 @@ joined_turned a b c =
 
 -- ---- lists
 
--- at the place that was set, and at others
+-- The values at the index that was set, and at others.
 set_by_test : (xs : List Touch) (i j : ℕ) (t : Touch) (b : Bool) → nat_eq j i ≡ b → j < length xs →
     touch_in (slice_set xs i t) j ≡ cond b t (touch_in xs j)
 set_by_test xs i j t true e h =
@@ -47,7 +47,7 @@ set_by_test xs i j t true e h =
 set_by_test xs i j t false e h =
     get_or-set_other xs i j t untouched (λ same. false≢true (sym e ∙ let yes' : nat_eq j i ≡ true = grind (arith, nat_tests) in yes'))
 
--- What is done, and more where there is more.
+-- the marks with more, if there is more
 abbrev pub touch_if : Bool → Touch → Touch → Touch
 touch_if b more touch = cond b (joined more touch) touch
 
@@ -113,7 +113,7 @@ stays_for arrays j w name None t for_them =
 
 -- ---- a piece
 
--- What was done, after a piece that changes and reads or not.
+-- the marks after a piece that changes the cell, or reads it, or neither
 abbrev pub after_piece : ℕ → Bool → Bool → Touch → Touch
 after_piece j w r touch = told (member_if r j touch.read) (member_if w j touch.changed)
 

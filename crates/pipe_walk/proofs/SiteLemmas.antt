@@ -1,4 +1,4 @@
--- Sites one after another: the first of what is left, and then the rest.
+-- Sites in sequence: the first of the remaining ones, and then the others.
 use Rattle.std.proofs.Common.{◌≡◌, ℕ, zero, suc, ◌+◌, ◌<◌, List, [], ◌∷◌, ◌++◌, map, length, drop, get_or, drop-cons, add-one, Option, Some, None, true, false, ℤ, pos, ◌+ℤ◌, ◌<ℤ◌, refl, sym, ap, ◌∙◌, arith}
 use Rattle.std.specs.Option.{option_or, option_map, is_some}
 use Rattle.std.proofs.lemmas.Bool.{false≢true}
@@ -58,7 +58,7 @@ turn_next arrays var x high body vars s h =
     ap (λ n. or_crossing arrays (turn_sites (λ y. body ((var, y) ∷ vars)) x n) s) (span_next x high h)
     ∙ or_crossing_append arrays (body ((var, x) ∷ vars)) (loop_sites var (x +ℤ pos 1) high body vars) s
 
--- ---- a crossing that is kept, or none
+-- ---- an earlier crossing, or none
 
 pub keep_cell : (found : Option PipeFault) (line cell : ℕ) (o : Option ℕ) → is_some found ≡ false → o ≡ Some cell →
     Some (Crossing line cell) ≡ option_or found (option_map (Crossing line) o)
@@ -73,7 +73,7 @@ pub keep_found : (found : Option PipeFault) (line : ℕ) (o : Option ℕ) → is
 keep_found None line o h = absurd (false≢true h)
 keep_found (Some f) line o h = refl
 
--- a `par` has one phase, and no crossing
+-- A `par` has one phase and no crossing.
 pub par_clear : (arrays : Arrays) (line : ℕ) (round : List Steps) → site_crossing arrays (record { line = line; rounds = round ∷ [] }) ≡ None
 par_clear arrays line round =
     ap (option_map (Crossing line)) (first_none (λ cell. crosses arrays cell 0 0 (round ∷ [])) 0 (cells_of arrays) (λ c small. refl))
@@ -86,7 +86,7 @@ no_turn_sites : (body : ℤ → List Site) → ((x : ℤ) → body x ≡ []) →
 no_turn_sites body none low zero = refl
 no_turn_sites body none low (suc n) = ap (λ sites. sites ++ turn_sites body (low +ℤ pos 1) n) (none low) ∙ no_turn_sites body none (low +ℤ pos 1) n
 
--- a loop whose body enters no site adds none
+-- A loop whose body enters no site adds nothing.
 pub no_sites : (arrays : Arrays) (var : List ℕ) (low high : ℤ) (body : Sequence) (vars : Vars) (found : Option PipeFault) → capped (sites_in body) ≡ 0 →
     found ≡ or_crossing arrays (loop_sites var low high (sequence_sites body) vars) found
 no_sites arrays var low high body vars found e =

@@ -1,4 +1,4 @@
--- Where what is told of each member clashes with nothing that those above it did in the phases before, no two pieces cross.
+-- If each member's recorded stretches don't clash with those of higher members in earlier phases, no two pieces cross.
 use Rattle.std.proofs.Common.{◌≡◌, ℕ, zero, suc, ◌+◌, ◌-◌, ◌<◌, ◌≤◌, Bool, true, false, List, [], ◌∷◌, map, length, get_or, Some, None, ℤ, ◌≤ℤ◌, ◌<ℤ◌, refl, sym, ap, subst, ◌∙◌, ⊎_elim, inl, arith}
 use Rattle.std.specs.Prelude.{slice_get}
 use Rattle.std.proofs.lemmas.Bool.{cases_lt}
@@ -42,7 +42,7 @@ turns_told arrays t bounds var low high within body lies told from to starts end
         let some = some_turn from to n e in
         loop_told arrays t bounds var from to within body some (λ x a b. lies x (omega (arith, ints)) (omega (arith, ints))) told vars inside
 
--- a loop without turns
+-- A loop without turns.
 pub no_turns_told : (arrays : Arrays) (t : List Touch) (bounds : Bounds) (var : List ℕ) (low high : ℤ) (body : Work) → high ≤ℤ low → AreTurnsTold arrays t bounds var low high body
 no_turns_told arrays t bounds var low high body none from to starts ends vars inside =
     let nothing : span from to ≡ 0 = grind (arith, ints) in
@@ -50,7 +50,7 @@ no_turns_told arrays t bounds var low high body none from to starts ends vars in
 
 -- ---- pieces of members
 
--- a later member begins no earlier
+-- A later member begins no earlier.
 start_rises : (low high : ℤ) (m j k : ℕ) → j ≤ k → start_of low high m j ≤ℤ start_of low high m k
 start_rises low high m j k h =
     let there : j + (k - j) ≡ k = omega arith in
@@ -86,7 +86,7 @@ piece_at (b ∷ bs) var low high m vars d j (suc k) piece e =
     let less = rest.0 in
     (omega arith, rest.1, rest.2)
 
--- what is told of a member's own turns
+-- The stretches of a member's own turns.
 pub own_told : (arrays : Arrays) (t : List Touch) (bounds : Bounds) (bs : List Block) (var : List ℕ) (low high : ℤ) (m : ℕ) (d : Block) (j k : ℕ) →
     AreTurnsTold arrays t bounds var (start_of low high m j) (start_of low high m (j + 1)) (sequence_work (sequence_of (get_or bs k d))) →
     (vars : Vars) → AreWithin bounds vars → (piece : Steps) → IsPiece (rounds_in bs var low high m vars) j k piece → AreVisitsTold arrays t (walk arrays piece)
@@ -95,7 +95,7 @@ own_told arrays t bounds bs var low high m d j k told vars inside piece e =
     subst (λ p. AreVisitsTold arrays t (walk arrays p)) (sym found.2)
     (told (start_of low high m j) (start_of low high m (j + 1)) (omega (arith, ints)) (omega (arith, ints)) vars inside)
 
--- and of the turns of all members above it
+-- The stretches of the turns of all higher members.
 pub above_told : (arrays : Arrays) (t : List Touch) (bounds : Bounds) (bs : List Block) (var : List ℕ) (low high : ℤ) (m : ℕ) (d : Block) (j k : ℕ) →
     AreTurnsTold arrays t bounds var (start_of low high m (j + 1)) (start_of low high m m) (sequence_work (sequence_of (get_or bs k d))) →
     (vars : Vars) → AreWithin bounds vars → (above : ℕ) (piece : Steps) → j < above → IsPiece (rounds_in bs var low high m vars) above k piece →
@@ -112,7 +112,7 @@ above_told arrays t bounds bs var low high m d j k told vars inside above piece 
 both_apart : (arrays : Arrays) (t u : List Touch) (a b : Steps) → AreVisitsTold arrays t (walk arrays a) → AreVisitsTold arrays u (walk arrays b) → AreClear arrays t u → IsSeparate arrays a b
 both_apart arrays t u a b ta ub clear = (clear_apart arrays (t ∷ u ∷ []) (a ∷ b ∷ []) (ta, (ub, tt)) (λ number small. ((clear number small, tt), (tt, tt)))).0.0
 
--- What is kept after some phases: all that members above one did in them is told, and its own pieces were clear.
+-- After some phases: the stretches have all that higher members did in them, and the member's own pieces were clear.
 pub record IsPassed (arrays : Arrays) (bounds : Bounds) (member passed : ℕ) (rounds : Vars → List (List Steps)) (above : List Touch) : Type 0 where
   pub told : (vars : Vars) → AreWithin bounds vars → (high k : ℕ) (piece : Steps) → member < high → k < passed → IsPiece (rounds vars) high k piece →
       AreVisitsTold arrays above (walk arrays piece)
@@ -156,7 +156,7 @@ all_passed arrays bounds member n bs var low high m above all h vars inside top 
 
 -- ---- member after member
 
--- there is no piece of a member behind the last
+-- There is no piece of a member past the last one.
 few_pieces : (phases : Sequences) (var : List ℕ) (low high : ℤ) (m : ℕ) (vars : Vars) (j k : ℕ) (piece : Steps) → IsPiece (phase_rounds phases var low high m vars) j k piece → j < m
 few_pieces no_more var low high m vars j k piece e = absurd (cc)
 few_pieces (beside first rest) var low high m vars j zero piece e = (member_at var low high m (sequence_work first) 0 m vars j piece e).0
@@ -170,7 +170,7 @@ never_crossing arrays bounds phases var low high m n all each vars inside cell f
     let apart = each found.low (omega arith) vars inside found.high found.early found.late found.one found.other found.members found.phases found.at_one found.at_other in
     ⊎_elim (λ h. apart.left cell h.0 h.1) (λ h. apart.right cell h.0 (inl h.1)) found.touch
 
--- without a crossing none is found
+-- If there is no crossing, none is found.
 pub nothing_found : (arrays : Arrays) (rounds : List (List Steps)) → HasNoCrossing arrays rounds → crossing arrays (cells_of arrays) rounds ≡ None
 nothing_found arrays rounds clear =
     first_none (λ cell. crosses arrays cell 0 0 rounds) 0 (cells_of arrays) (λ cell small. cases cell (crosses arrays cell 0 0 rounds) refl)

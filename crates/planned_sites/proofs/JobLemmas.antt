@@ -113,7 +113,7 @@ module _ (Has : ℕ → List ℕ → Type 0) where
       members_stand (record nested { construct = Team line var low high members phases }) cuts phase store 0 first var low high m (phase_at phases phase) 0 m (omega arith)
       (subst (λ c. Has first (repeated c (sequence_parents (phase_at phases phase)) nested.site first)) all there)
 
-  -- what is so of the sites inside a construct is so of those of its jobs
+  -- A property of the sites inside a construct holds of those of its jobs.
   pub jobs_stand : (nested : NestedTree) → Cuts Has nested.site → (phase : ℕ) (store : Store) → phase < phases_of nested.construct →
       Has (nested.site + 1) (inside_parents nested.construct nested.site (nested.site + 1)) → JobsHave Has (jobs_in nested phase store)
   jobs_stand nested cuts phase store small st = in_construct nested cuts phase store nested.construct small st
@@ -121,7 +121,7 @@ module _ (Has : ℕ → List ℕ → Type 0) where
 pub jobs_planned : JobsArePlanned
 jobs_planned ps nested phase store small st = jobs_stand (HasParentsFrom ps) nested (planned_cuts ps nested.site) phase store small st
 
--- ---- the numbers inside
+-- ---- the numbers of the sites inside
 
 numbered_above : (nested : NestedTree) (phase : ℕ) (store : Store) (place first : ℕ) (works : List WorkTree) → nested.site < first →
     AreNumberedAbove (numbered nested phase store place first works)

@@ -1,4 +1,4 @@
--- The jobs of all phases of a construct have the sites inside it.
+-- The jobs of all phases of a construct have exactly the sites inside it.
 use Rattle.std.proofs.Common.{◌≡◌, ℕ, zero, suc, ◌+◌, ◌-◌, ◌*◌, ◌<◌, ◌≤◌, true, ℤ, pos, negsuc, List, [], ◌∷◌, ◌++◌, refl, sym, ap, ◌∙◌, arith, unsigned_abs}
 use Rattle.std.specs.Prelude.{IsTrue, ◌&&◌, int_le}
 use Rattle.std.proofs.lemmas.Bool.{false≢true, and_parts}
@@ -19,7 +19,7 @@ use Rattle.step_eval.proofs.NestParts.{first_of_grows, first_of_none, first_of_a
 use Rattle.step_eval.proofs.PieceLemmas.{none_before}
 use Rattle.planned_sites.specs.Numbers.{numbers_from, sites_of_jobs, sites_of_phases, JobsHaveTheSitesInside}
 
--- Numbers from one on, and as many more behind them.
+-- Consecutive numbers split into a front and a rest.
 joined : (a b c first : ℕ) → c ≡ a + b → numbers_from first c ≡ numbers_from first a ++ numbers_from (first + a) b
 joined zero b c first e =
     let same : c ≡ b = omega (arith, e) in
@@ -83,7 +83,7 @@ all_phases (beside first rest) =
     let last : 1 + count_of rest ≡ suc (count_of rest) = omega arith in
     ap (sites_before (beside first rest)) last ∙ ap (λ n. sites_in first + n) (all_phases rest)
 
--- The numbers of the phases from this one on.
+-- the numbers of the phases from this one on
 phases_range : (nested : NestedTree) (stores : ℕ → Store) (line : ℕ) (var : List ℕ) (low high members : ℤ) (phases : Sequences) (k c : ℕ) →
     0 < unsigned_abs members → k + c ≡ count_of phases →
     sites_of_phases (record nested { construct = Team line var low high members phases }) stores k c

@@ -15,7 +15,7 @@ splits ps n a b s =
       },
     )
 
--- What is so of two parts of a plan, the second behind the first, is so of each, if the second stays inside the site around.
+-- A property of two consecutive parts of a plan is one of each, if the second part stays inside the site around.
 abbrev pub Cuts : (ℕ → List ℕ → Type 0) → ℕ → Type 0
 Cuts Has around = (n : ℕ) (a : List ℕ) (f : Parents) → StayInside f → Has n (a ++ f around (n + length a)) → Has n a × Has (n + length a) (f around (n + length a))
 

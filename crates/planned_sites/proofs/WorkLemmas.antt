@@ -30,14 +30,14 @@ module _ (Has : ℕ → List ℕ → Type 0) (around : ℕ) (cuts : Cuts Has aro
   abbrev Works : ℕ → List WorkAt → Type 0
   Works next ws = WorksHave Has around next ws
 
-  -- the same at an equal number
+  -- The same at an equal number.
   works_at : (m n : ℕ) (ws : List WorkAt) → m ≡ n → Works m ws → Works n ws
   works_at m n ws e h = subst (λ k. Works k ws) e h
 
   part_at : (m n : ℕ) (f : Parents) → m ≡ n → Has m (f around m) → Has n (f around n)
   part_at m n f e h = stands_at Has around m n f e h
 
-  -- what follows the first statement of a branch, when so many sites are passed
+  -- The rest after the first statement of a branch, once its sites are passed.
   pub rest_stands : (next : ℕ) (s : Statement) (rest : Sequence) (vars : Vars) (n : ℕ) (more : List WorkAt) → Works next (before (branch_of (followed s rest)) vars n ∷ more) →
       Has next (statement_parents s around next) × Works (next + statement_sites_in s) (before (branch_of rest) vars n ∷ more)
   rest_stands next s rest vars n more h =
@@ -51,7 +51,7 @@ module _ (Has : ℕ → List ℕ → Type 0) (around : ℕ) (cuts : Cuts Has aro
         ),
       )
 
-  -- the two sides of an `if`
+  -- The two sides of an `if`.
   pub sides_stand : (next line : ℕ) (test : Expression) (left right : Sequence) → Has next (statement_parents (If line test left right) around next) →
       Has next (sequence_parents left around next) × Has (next + sites_in left) (sequence_parents right around (next + sites_in left))
   sides_stand next line test left right h =
@@ -60,7 +60,7 @@ module _ (Has : ℕ → List ℕ → Type 0) (around : ℕ) (cuts : Cuts Has aro
       let size : next + length front ≡ next + sites_in left = ap (λ k. next + k) (sequence_length left around next) in
       (cut.0, part_at (next + length front) (next + sites_in left) (sequence_parents right) size cut.1)
 
-  -- a step leaves the works so
+  -- A step leaves the works planned.
   pub work_moves : (next : ℕ) (arrays : Arrays) (store : Store) (w : WorkTree) (vars : Vars) (n : ℕ) (more : List WorkAt) →
       Works next (before w vars n ∷ more) → Works (next + work_passes arrays store w vars n) (work_moved arrays store w vars n ++ more)
   work_moves next arrays store (branch_of ended) vars n more p = works_at (next + 0 + n) (next + n) more (omega arith) p.1
@@ -113,7 +113,7 @@ module _ (Has : ℕ → List ℕ → Type 0) (around : ℕ) (cuts : Cuts Has aro
             ),
           )
 
-  -- the construct that is next
+  -- The next construct is planned.
   pub construct_stands : (next : ℕ) (w : WorkTree) (vars : Vars) (n : ℕ) (more : List WorkAt) (construct : Statement) → construct_of w ≡ Some construct → Works next (before w vars n ∷ more) →
       Has next (around ∷ inside_parents construct next (next + 1)) × (suc (length (inside_parents construct next (next + 1))) ≡ statement_sites_in construct)
   construct_stands next (branch_of ended) vars n more construct is p = absurd (cc)

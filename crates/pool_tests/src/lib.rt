@@ -1,4 +1,4 @@
-//! Tests of the pool over the jobs of a small program, by itself and through hands, through public calls alone.
+//! Tests of the pool with the jobs of a small program, by itself and with hands, through public calls only.
 #![tactic(auto)]
 
 #[cfg(test)]

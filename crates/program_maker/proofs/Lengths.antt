@@ -1,4 +1,4 @@
--- How long printed texts are at most, whatever their numbers.
+-- Bounds on the lengths of printed texts, for any numbers in them.
 use Rattle.std.proofs.Common.{◌≡◌, ◌≤◌, ◌+◌, ℕ, ℤ, suc, pos, negsuc, Bool, true, false, List, [], ◌∷◌, ◌++◌, length, codes, length-append, arith, subst, sym, ap, ◌∙◌, refl, Result, Ok, Err, IfOk}
 use Rattle.std.specs.Prelude.{flat_map}
 use Rattle.std.specs.Fmt.{decimal, signed_decimal}
@@ -12,7 +12,7 @@ use Rattle.array_print.specs.Writable.{IsNumber, IsBound, IsPrintable, CanStand,
 use Rattle.program_maker.specs.Made.{made_program}
 use Rattle.program_maker.proofs.Writing.{made_writable}
 
--- ---- texts one behind another
+-- ---- texts in sequence
 two : (a b : List ℕ) → length (a ++ b) ≡ length a + length b
 two a b = length-append a b
 
@@ -230,7 +230,7 @@ printed_short p h =
 pub made_short : (seed size : ℕ) → size ≤ 40 → length (printed (made_program seed size)) ≤ 65536
 made_short seed size few = omega (arith, printed_short (made_program seed size) (made_writable seed size few))
 
--- the same of what a function answers
+-- The same for a function's result.
 pub short_answer : {T F : Type 0} (r : Result T F) (view : T → List ℕ) (seed size : ℕ) → size ≤ 40 → IfOk r (λ x. view x ≡ printed (made_program seed size)) → IfOk r (λ x. length (view x) ≤ 65536)
 short_answer (Ok x) view seed size few e = subst (λ (t : List ℕ). length t ≤ 65536) (sym e) (made_short seed size few)
 short_answer (Err f) view seed size few e = tt

@@ -1,4 +1,4 @@
--- Made programs are such as texts have them.
+-- Made programs are within what texts can spell.
 use Rattle.std.proofs.Common.{◌≤◌, ◌<◌, ◌+◌, ◌-◌, ◌*◌, ◌/◌, ◌%◌, ◌^◌, ℕ, codes, refl, arith}
 use Rattle.std.proofs.Math.Nat.{div-lt_iff_lt-mul, mod-lt}
 use Rattle.std.proofs.lemmas.Nat.{mul-le}
@@ -28,7 +28,7 @@ h_name = (refl, tt, refl)
 s_name : IsName (codes "s")
 s_name = (refl, tt, refl)
 
--- a number as texts have them
+-- a number that texts can spell
 abbrev IsShort : ℕ → Type 0
 IsShort n = n ≤ greatest_literal
 
@@ -41,7 +41,7 @@ place_prints size row column k r c = ((r, k), c)
 moved_prints : (size by : ℕ) (coordinate : Expression) → IsShort size → IsShort by → IsPrintable coordinate → IsPrintable (moved size coordinate by)
 moved_prints size by coordinate k b c = ((c, b), k)
 
--- statements inside so many braces
+-- Statements inside so many braces.
 columns_stand : (depth low high : ℕ) (body : Statement) → depth < 32 → IsShort low → IsShort high → CanStand (depth + 1) body → CanStand depth (columns low high body)
 columns_stand depth low high body d l h inside = (j_name, l, h, d, (inside, tt))
 
@@ -96,7 +96,7 @@ grid_stands depth size deep few =
       ),
     )
 
--- a team over all rows, with a loop over all columns
+-- A team through all rows, with a loop through all columns.
 all_stand : (depth size : ℕ) (body : Statement) → depth < 20 → size ≤ 40 → CanStand (depth + 1 + 1) body → CanStand depth (rows 0 size 4 (columns 0 size body))
 all_stand depth size body deep few inside =
     let k : IsShort size = short size (omega (arith, few)) in

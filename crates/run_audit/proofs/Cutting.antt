@@ -1,4 +1,4 @@
--- A text that is cut behind a line.
+-- A text that is cut after a line.
 use Rattle.std.proofs.Common.{◌≡◌, ◌-◌, ◌==◌, ℕ, true, false, cond, List, [], ◌∷◌, ◌++◌, codes, length, take, drop, Option, Some, None, refl, sym, ap, ap₂, ◌∙◌, arith, append_assoc, length-append, append-nil}
 use Rattle.std.specs.List.{join_with_byte}
 use Rattle.std.specs.Option.{option_map}
@@ -9,7 +9,7 @@ use Rattle.journal_text.specs.Reading.{lines_of, is_word}
 use Rattle.journal_text.proofs.Steps.{some_piece}
 use Rattle.run_audit.specs.Parts.{with_front, parts_in, parts_of}
 
--- a line, its newline, and what stands behind it
+-- A line, its newline, and the rest.
 pub cut_text : (rest line after : List ℕ) → lines_of rest ≡ line ∷ lines_of after → rest ≡ line ++ 10 ∷ after
 cut_text rest line after cut =
     let piece = some_piece (λ byte. byte == 10) after in
@@ -44,7 +44,7 @@ fronts : (a b : List ℕ) (o : Option (List ℕ × List ℕ)) → option_map (wi
 fronts a b None = refl
 fronts a b (Some parts) = ap (λ (t : List ℕ). Some (t, parts.1)) (sym (append_assoc a b parts.0))
 
--- a line that is no mark, and one that is
+-- A line that is no mark, and one that is.
 pub no_mark : (all : Option (List ℕ × List ℕ)) (front rest line after : List ℕ) → lines_of rest ≡ line ∷ lines_of after → is_word (codes "%%") line ≡ false
     → all ≡ option_map (with_front front) (parts_of rest) → all ≡ option_map (with_front (front ++ (line ++ 10 ∷ []))) (parts_of after)
 no_mark all front rest line after cut other same =

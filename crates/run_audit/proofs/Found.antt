@@ -1,4 +1,4 @@
--- What is found legal.
+-- An output that the audit finds legal.
 use Rattle.std.proofs.Common.{◌≡◌, ◌+◌, ◌-◌, ◌*◌, ◌≤◌, ◌==◌, ◌∙◌, ℕ, Bool, true, false, cond, List, [], ◌∷◌, ◌++◌, length, Option, Some, None, Result, Ok, Err, refl, sym, ap, subst, arith}
 use Rattle.std.specs.List.{join_with_byte}
 use Rattle.std.proofs.lemmas.List.Elements.{All-weaker}
@@ -26,7 +26,7 @@ use Rattle.run_audit.specs.Legal.{IsLegalOutput, LegalOutputsAreFound}
 use Rattle.run_audit.specs.declared.verdict.Verdict.TheVariants as verdict
 use Rattle.run_audit.proofs.Pieces.{IsOfLines, pieces_free, joined_behind, lines_behind, own_lines, text_whole}
 
--- ---- the wanted lines and what stands behind them
+-- ---- the wanted lines and the rest
 abbrev after_wanted : ℕ → List (List ℕ) → ℕ
 after_wanted number [] = number
 after_wanted number (line ∷ more) = after_wanted (number + 1) more
@@ -42,7 +42,7 @@ itself number (line ∷ next ∷ lines) first more =
     ap (and_then (λ (rest : Compared). Ok (after_line number line line rest))) (itself (number + 1) (next ∷ lines) first more)
     ∙ ap Ok (same_line number line record { differs = None; lines = after_wanted (number + 1) (next ∷ lines); rest = first ∷ more } refl)
 
--- ---- a complete list is one that a journal has
+-- ---- a complete list is one that a journal may have
 is_entry : (plan : Plan) → IsPlan plan → (entry : Entry) → IsEntryOf plan entry → IsEntry entry
 is_entry plan is entry of = record {
   hart = omega (arith, of.0, is.few_harts);
@@ -58,7 +58,7 @@ is_journal plan is meant list done =
       spelled = refl;
     }
 
--- ---- an output that is a run's is found
+-- ---- an output of a run is found legal
 pub legal_found : (plan : Plan) → IsPlan plan → (meant : List Bool) → length meant ≡ site_count plan → (arrays : List ℕ) → IsOfLines arrays → (entries : ℕ) (output : List ℕ) → IsLegalOutput plan meant arrays entries output
     → audit_of plan meant arrays output ≡ Ok (verdict.Legal entries)
 legal_found plan is meant many arrays whole entries output legal =
@@ -76,7 +76,7 @@ legal_found plan is meant many arrays whole entries output legal =
     ∙ ap (λ (fault : Option Fault). Ok (of_fault fault (length legal.list))) none
     ∙ ap (λ (n : ℕ). Ok (verdict.Legal n)) legal.many
 
--- ---- and nothing else is
+-- ---- no other output is found legal
 behind_ok : {A : Type 0} (lines : ℕ) (r : Result A TextFault) (x : A) → behind lines r ≡ Ok x → r ≡ Ok x
 behind_ok lines (Ok y) x e = e
 behind_ok lines (Err why) x e = cc e
@@ -89,7 +89,7 @@ of_legal : (plan : Plan) (meant : List Bool) (differs : Option ℕ) (list : List
 of_legal plan meant None list entries e = let own = of_none (first_fault_of plan meant list) (length list) entries e in (refl, own.0, own.1)
 of_legal plan meant (Some line) list entries e = cc e
 
--- what is compared and doesn't differ is the lines that are wanted and the rest
+-- lines without a difference are the wanted lines and the rest
 abbrev StandsBefore : List (List ℕ) → List (List ℕ) → List (List ℕ) → Type 0
 StandsBefore lines others rest = (others ≡ lines ++ rest) × AreFree 10 rest
 

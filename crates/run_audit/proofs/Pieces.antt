@@ -1,4 +1,4 @@
--- Texts of whole lines, and what stands behind them.
+-- Texts of complete lines, and the rest after them.
 use Rattle.std.proofs.Common.{◌≡◌, ◌==◌, ◌∙◌, ℕ, Bool, true, false, cond, List, [], ◌∷◌, ◌++◌, refl, sym, ap, subst, append_assoc, take, drop}
 use Rattle.std.specs.Prelude.{ℤ, flat_map}
 use Rattle.std.specs.Fmt.{signed_decimal}
@@ -12,7 +12,7 @@ use Rattle.journal_text.specs.Reading.{lines_of}
 use Rattle.journal_text.proofs.Free.{AreFree, split_joined}
 use Rattle.journal_text.proofs.Steps.{some_piece}
 
--- the pieces of a text have none of the byte at which it was cut
+-- The pieces of a text don't have the byte at which it was cut.
 step_free : (c x : ℕ) (b : Bool) → (x == c) ≡ b → (pieces : List (List ℕ)) → AreFree c pieces → AreFree c (cond b ([] ∷ pieces) (onto_first x pieces))
 step_free c x true e pieces free = (All-nil (λ (byte : ℕ). (byte == c) ≡ false), free)
 step_free c x false e [] free = (All-cons (λ (byte : ℕ). (byte == c) ≡ false) x [] e (All-nil (λ (byte : ℕ). (byte == c) ≡ false)), tt)
@@ -26,7 +26,7 @@ both_free : (c : ℕ) (a b : List (List ℕ)) → AreFree c a → AreFree c b �
 both_free c [] b f g = g
 both_free c (piece ∷ a) b f g = (f.0, both_free c a b f.1 g)
 
--- lines that each end by a newline, and the first lines of what stands behind them
+-- Lines with a newline each, and the first lines of the rest.
 pub joined_behind : (lines : List (List ℕ)) (first : List ℕ) (more : List (List ℕ))
     → join_with_byte 10 (lines ++ [] ∷ []) ++ join_with_byte 10 (first ∷ more) ≡ join_with_byte 10 (lines ++ first ∷ more)
 joined_behind [] first more = refl
@@ -35,7 +35,7 @@ joined_behind (line ∷ next ∷ lines) first more =
     append_assoc line (10 ∷ join_with_byte 10 (next ∷ lines ++ [] ∷ [])) (join_with_byte 10 (first ∷ more))
     ∙ ap (λ (t : List ℕ). line ++ 10 ∷ t) (joined_behind (next ∷ lines) first more)
 
--- the text is of whole lines
+-- the text consists of complete lines
 pub record IsOfLines (text : List ℕ) : Type 0 where
   pub lines : List (List ℕ)
   pub free : AreFree 10 lines
@@ -46,7 +46,7 @@ cut_joined : (lines : List (List ℕ)) (first : List ℕ) (more : List (List ℕ
 cut_joined [] first more f g = split_joined 10 first more g
 cut_joined (line ∷ lines) first more f g = split_joined 10 line (lines ++ first ∷ more) (both_free 10 (line ∷ lines) (first ∷ more) f g)
 
--- the lines of a text of whole lines and of what stands behind it
+-- The lines of a text of complete lines and of the rest.
 pub lines_behind : (text rest : List ℕ) (whole : IsOfLines text) → lines_of (text ++ rest) ≡ whole.lines ++ lines_of rest
 lines_behind text rest whole =
     let piece = some_piece (λ byte. byte == 10) rest in
@@ -59,7 +59,7 @@ lines_behind text rest whole =
 pub own_lines : (text : List ℕ) (whole : IsOfLines text) → lines_of text ≡ whole.lines ++ [] ∷ []
 own_lines text whole = ap lines_of whole.joined ∙ cut_joined whole.lines [] [] whole.free (All-nil (λ (byte : ℕ). (byte == 10) ≡ false), tt)
 
--- ---- array lines are whole lines
+-- ---- array lines are complete lines
 appended : (a b more : List (List ℕ)) → (a ++ b) ++ more ≡ a ++ (b ++ more)
 appended [] b more = refl
 appended (x ∷ a) b more = ap (λ (l : List (List ℕ)). x ∷ l) (appended a b more)

@@ -1,4 +1,4 @@
--- A fault of a journal tells a line of it.
+-- The line of a journal's fault is a line of the journal.
 use Rattle.std.proofs.Common.{◌+◌, ◌≤◌, ◌==◌, ℕ, Bool, true, false, cond, List, [], ◌∷◌, codes, length, Option, Some, None, Result, Ok, Err, subst, arith}
 use Rattle.std.proofs.lemmas.List.Splits.{length-slice_split}
 use Rattle.std.proofs.lemmas.List.Sums.{count_by-le-length}
@@ -83,7 +83,7 @@ reads_fault seen most wanted (fault.BadLine line) reads within = subst (FailsWit
 reads_fault seen most wanted (fault.BadNumber line) reads within = subst (FailsWithin most) reads within
 reads_fault seen most wanted (fault.WrongCount said found) reads within = tt
 
--- a fault that was read tells a line of the text
+-- The line of a fault that was read is a line of the text.
 pub read_within : (plan : Plan) (text : List ℕ) (why : TextFault) → Reads {A = List Entry} (λ list. list) (journal_of plan text) (Err why) → IsWithin (length text + 1) why
 read_within plan text why reads =
     reads_fault {A = List Entry} (λ list. list) (length text + 1) (journal_of plan text) why reads

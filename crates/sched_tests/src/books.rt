@@ -74,7 +74,7 @@ fn a_full_book_gives_the_writes_of_all(rt: HostRuntime) -> Result<(), Fail> {
     Ok(())
 }
 
-// Deposits the piece of the whole body of a program.
+// Deposits the piece of a program's complete body.
 fn bring_body<'p>(book: &mut Book<'p>, alloc: Global, program: &'p Program) -> Result<Came, Fail> {
     let accepted = accepted(alloc, program)?;
     let stranger = piece_of(alloc, body_job(alloc, accepted.program())?)?;

@@ -1,4 +1,4 @@
-//! Tests of the book and the barrier over the jobs of small programs, through public calls alone.
+//! Tests of the book and the barrier with the jobs of small programs, through public calls only.
 #![tactic(auto)]
 
 #[cfg(test)]

@@ -37,7 +37,7 @@ skipped_over p es zero s all = tt
 skipped_over p es (suc n) s all =
     (all s (omega arith) (omega arith), skipped_over p es n (s + 1) (λ x low high. all x (omega (arith, low)) (omega (arith, high))))
 
--- by cases: the first of them, or one of the others
+-- By cases: the first site, or a later one.
 by_first : {A : Type 0} (s x : ℕ) → s ≤ x → (x ≡ s → A) → (s + 1 ≤ x → A) → A
 by_first s x low here there = dite (ℕ_discrete x s) here (λ no. there (grind (arith, no, low)))
 

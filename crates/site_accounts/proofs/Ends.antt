@@ -1,4 +1,4 @@
--- Where all sites are over as they are meant, the list is complete.
+-- If all sites have ended as they are meant, the list is complete.
 use Rattle.std.proofs.Common.{◌≡◌, ℕ, zero, suc, ◌+◌, ◌-◌, ◌<◌, ◌≤◌, Bool, true, false, not, ◌&&◌, if◌then◌else◌, List, [], ◌∷◌, length, slice_index_or, refl, ◌∙◌, arith}
 use Rattle.std.specs.Option.{is_some}
 use Rattle.transfer_table.specs.Plan.{Plan, IsPlan, IsSite, site_count}
@@ -12,13 +12,13 @@ use Rattle.transfer_table.proofs.Balance.{rows_tell, registered-home}
 use Rattle.site_accounts.specs.Accounts.{IsOverAs, AreOverAs}
 use Rattle.site_accounts.specs.Laws.{AllOverIsComplete}
 
--- the site at a place is over as the list says there
+-- The site at an index has ended as the list has it there.
 over_at : (p : Plan) (es : List Entry) (s i : ℕ) (meant : List Bool) → i < length meant → AreOverAs p es s meant → IsOverAs p es (s + i) (slice_index_or meant i false)
 over_at p es s i [] small over = absurd (omega (arith, small))
 over_at p es s zero (m ∷ more) small over = let z : s + 0 ≡ s = omega arith in rw z over.0
 over_at p es s (suc i) (m ∷ more) small over = let z : s + suc i ≡ s + 1 + i = omega arith in rw z (over_at p es (s + 1) i more (omega (arith, small)) over.1)
 
--- by the stage and the home of the row of a site that is over: it is gone, and has a home where it is meant
+-- A site that has ended is gone, and has a home iff it is meant; by the stage and the home of its row.
 gone_as : (g : Stage) (home m : Bool) (went skipped : ℕ) → went ≡ (if (is_gone g && home) then 1 else 0) → skipped ≡ (if (is_gone g && not home) then 1 else 0)
     → (m ≡ true → 1 ≤ went) → (m ≡ false → 1 ≤ skipped) → (g ≡ Gone) × (home ≡ m)
 gone_as New home true went skipped a b c d = absurd (let e = c refl in omega (arith, a, e))

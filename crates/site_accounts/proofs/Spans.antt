@@ -1,4 +1,4 @@
--- What skips of sites of a span do.
+-- What skips of the sites of a span change.
 use Rattle.std.proofs.Common.{◌≡◌, ℕ, zero, suc, ◌+◌, ◌<◌, ◌≤◌, Bool, true, false, cond, ◌==◌, if◌then◌else◌, List, [], ◌∷◌, ◌++◌, All, refl, sym, ap, subst, ◌∙◌, arith, append-nil, append_assoc}
 use Rattle.std.proofs.lemmas.List.Sums.{sum_by-append}
 use Rattle.std.proofs.lemmas.List.Elements.{All-head, All-tail}
@@ -14,7 +14,7 @@ use Rattle.site_accounts.proofs.Touches.{entries_touch_little, spans_are_skipped
 abbrev IsSkipIn : ℕ → ℕ → Entry → Type 0
 IsSkipIn s n e = (is_skip e ≡ true) × (s ≤ site_of e) × (site_of e < s + n)
 
--- a skip is no register
+-- A skip isn't a register.
 skip_registers_none : (e : Entry) → is_skip e ≡ true → is_register e ≡ false
 skip_registers_none (Register h s) is = absurd (cc)
 skip_registers_none (Request h s k) is = refl
@@ -48,7 +48,7 @@ grown_then p a b c one two = record {
 }
 
 module _ (p : Plan) (plan : IsPlan p) (around s n : ℕ) (span : IsSpan p around s n) where
-  -- one skip after another
+  -- A sequence of skips in a span changes only the span.
   skips_little : (before made : List Entry) → All (IsSkipIn s n) made → HasGrown p before (before ++ made) × KeepsOutside p before (before ++ made) s n
   skips_little before [] all = subst (λ es. HasGrown p before es × KeepsOutside p before es s n) (sym (append-nil before))
       (record { went = λ x. omega arith; skipped = λ x. omega arith }, λ x site out. record { came = refl; went = refl; skipped = refl })

@@ -1,4 +1,4 @@
--- What one entry more touches.
+-- Which sites one more entry touches.
 use Rattle.std.proofs.Common.{◌≡◌, ◌≢◌, ℕ, zero, suc, ◌+◌, ◌<◌, ◌≤◌, ◌⊎◌, inl, inr, ⊎_elim, Bool, true, false, cond, ◌&&◌, List, [], ◌∷◌, ◌++◌, refl, sym, ap, subst, ◌∙◌, arith}
 use Rattle.std.proofs.lemmas.List.Sums.{sum_by-append}
 use Rattle.transfer_table.specs.Plan.{Plan, IsPlan, IsSite, parent, is_within}
@@ -22,7 +22,7 @@ grows p es e = record {
   skipped = λ x. let z = skips_over-snoc p x es e in omega (arith, z);
 }
 
--- an entry that doesn't cover a site other than its own leaves it untouched
+-- An entry that doesn't cover a site other than its own leaves it untouched.
 uncovered : (p : Plan) (es : List Entry) (e : Entry) (x : ℕ) → x ≢ site_of e → covers p e x ≡ false → IsUntouched p es (es ++ e ∷ []) x
 uncovered p es e x other none = record {
   came = registers-other x es e other;
@@ -30,7 +30,7 @@ uncovered p es e x other none = record {
   skipped = let z = skips_over-snoc p x es e in let q : cond {A = ℕ} (covers p e x) 1 0 ≡ 0 = ap (λ (b : Bool). cond {A = ℕ} b 1 0) none in omega (arith, z, q);
 }
 
--- what skips nothing covers nothing
+-- An entry that skips nothing covers no site.
 covers_none : (p : Plan) (e : Entry) (x : ℕ) → is_skip e ≡ false → covers p e x ≡ false
 covers_none p e x none = ap (λ (b : Bool). b && is_within p (site_of e) x) none
 
@@ -38,7 +38,7 @@ own_alone : (p : Plan) (es : List Entry) (e : Entry) → is_skip e ≡ false →
 own_alone p es e none x site outside =
     uncovered p es e x (λ same. ⊎_elim (λ l. omega (arith, same, l)) (λ r. omega (arith, same, r)) outside) (covers_none p e x none)
 
--- what is within a site of a span lies in the span
+-- A site within a site of a span lies in the span.
 within_span : (p : Plan) → IsPlan p → (around s n c x : ℕ) → IsSpan p around s n → s ≤ c → c < s + n → IsSite p x → is_within p c x ≡ true → (s ≤ x) × (x < s + n)
 within_span p plan around s n c x span low high site w =
     within_all p plan c (λ y. (s ≤ y) × (y < s + n)) (low, high)
@@ -76,7 +76,7 @@ entries_touch_little p es e plan = record {
 
 -- ---- spans that are skipped
 
--- what covers a parent covers its child
+-- An entry that covers a parent covers its child.
 covers_down : (p : Plan) → IsPlan p → (e : Entry) (x : ℕ) → IsSite p x → covers p e (parent p x) ≡ true → covers p e x ≡ true
 covers_down p plan e x site c = split (is_skip e) refl c
   where
@@ -88,7 +88,7 @@ covers_down p plan e x site c = split (is_skip e) refl c
         let w : is_within p (site_of e) x ≡ true = within-step p plan (site_of e) x (omega (arith, low, up)) site.1 ∙ g in
         ap (λ (b : Bool). b && is_within p (site_of e) x) f ∙ w
 
--- so a site is skipped at least as often as its parent
+-- A site is skipped at least as often as its parent.
 skips_down : (p : Plan) → IsPlan p → (x : ℕ) → IsSite p x → (es : List Entry) → skips_over p (parent p x) es ≤ skips_over p x es
 skips_down p plan x site [] = omega arith
 skips_down p plan x site (e ∷ es) = split (covers p e (parent p x)) (covers p e x) refl refl (skips_down p plan x site es)
@@ -106,7 +106,7 @@ skips_down p plan x site (e ∷ es) = split (covers p e (parent p x)) (covers p 
         sides false true f g le = omega (arith, le)
         sides false false f g le = omega (arith, le)
 
--- each site of a span was skipped where the topmost ones were
+-- If the topmost sites of a span were skipped, each site of the span was.
 all_skipped : (p : Plan) → IsPlan p → (es : List Entry) (around s n : ℕ) → IsSpan p around s n
     → ((x : ℕ) → s ≤ x → x < s + n → parent p x ≡ around → 1 ≤ skips_over p x es)
     → (k x : ℕ) → x ≤ k → s ≤ x → x < s + n → 1 ≤ skips_over p x es

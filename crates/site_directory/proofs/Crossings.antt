@@ -1,5 +1,5 @@
--- The schedulers of sites may go from thread to thread, and be shared. A search through all of their parts at once runs out of
--- steps, so each part stands by itself.
+-- The schedulers of sites may move between threads, and may be shared. A search through all parts at once exceeds the
+-- prover's step limit, so each part is proved separately.
 use denote.Param.Send.{IsSend, IsSync, sendable}
 use denote.Ref.{NamedLft}
 use Rattle.std.proofs.Crossing.{crosses}
@@ -44,7 +44,7 @@ module _ (l : NamedLft) where
   pub shared_site_sync : IsSync (SharedSite.the_row l)
   shared_site_sync = let pool = shared_pool_sync in let team = shared_team_sync l in let pipe = shared_pipe_sync l in search (crosses, sendable) depth 60 fits 20000
 
--- a line to a cell goes from thread to thread with what the cell shares
+-- A line to a cell moves between threads with what the cell shares.
 pub line_send : (a p : NamedLft) → IsSend (SiteLine.the_row a (SharedSite.the_row p))
 line_send a p =
     let sent = shared_site_send p in

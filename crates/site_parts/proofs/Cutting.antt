@@ -1,4 +1,4 @@
--- A part of a plan, cut in two.
+-- A part of a plan that is cut in two.
 use Rattle.std.proofs.Common.{◌≡◌, ℕ, suc, ◌+◌, inl, inr, ⊎_elim, List, [], ◌∷◌, ◌++◌, length, sym, ap, ◌∙◌, arith, append_assoc, length-append}
 use Rattle.transfer_table.specs.Plan.{Plan}
 use Rattle.array_meaning.specs.Plans.{AreInside, AreOutside}
@@ -14,7 +14,7 @@ outside_both : (s n : ℕ) (a b : List ℕ) → AreOutside s n a → AreOutside 
 outside_both s n [] b h k = k
 outside_both s n (q ∷ a) b h k = (h.0, outside_both s n a b h.1 k)
 
--- outside of some sites is outside of the first of them, and of the last
+-- A site outside of some sites is outside of the first ones, and of the last ones.
 outside_first : (s all n m : ℕ) (ps : List ℕ) → all ≡ n + m → AreOutside s all ps → AreOutside s n ps
 outside_first s all n m [] e h = tt
 outside_first s all n m (q ∷ ps) e h = (⊎_elim (λ low. inl low) (λ high. inr (omega (arith, e, high))) h.0, outside_first s all n m ps e h.1)
@@ -51,7 +51,7 @@ part_cuts p around s a f stay has =
       },
     )
 
--- what is inside a construct is a part inside its site
+-- The sites inside a construct are a part inside the construct's site.
 pub inside_cut : (p : Plan) (around s : ℕ) (part : List ℕ) → AreInside s (s + 1) part → HasPartFrom p around s (around ∷ part) → HasPartFrom p s (s + 1) part
 inside_cut p around s part within has =
     let place = has.place in

@@ -1,4 +1,4 @@
--- How many sites are passed and left.
+-- The numbers of sites that are passed and left.
 use Rattle.std.proofs.Common.{◌≡◌, ℕ, zero, suc, ◌+◌, ◌<◌, ◌≤◌, Bool, true, false, cond, List, [], ◌∷◌, ◌++◌, length, replicate, Option, Some, None, refl, ap, arith, length-append}
 use Rattle.std.proofs.lemmas.List.{length-replicate}
 use Rattle.array_tree.specs.Trees.{Assign, For, If, Par, Team, ended, followed}
@@ -15,7 +15,7 @@ use Rattle.step_eval.specs.Passes.{some_span, work_pass}
 use Rattle.site_passes.specs.Passes.{PassesAreWithin}
 use Rattle.site_passes.specs.Entering.{work_entered, rest_entered, RestIsCounted}
 
--- ---- spans that are told
+-- ---- spans that are passed
 
 of_span : (next first n low high : ℕ) (span : ℕ × ℕ) → some_span first n ≡ Some span → low ≤ first → first + n ≤ high → (span.0 < span.1) × (low ≤ span.0) × (span.1 ≤ high)
 of_span next first zero low high span e a b = absurd (cc)

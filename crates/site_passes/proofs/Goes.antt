@@ -1,4 +1,4 @@
--- How a machine passes the sites that it enters, and those that it doesn't.
+-- How a machine passes the sites that it enters, and the others.
 use Rattle.std.proofs.Common.{◌≡◌, ℕ, suc, Bool, true, false, cond, List, [], ◌∷◌, ◌++◌, replicate, Option, Some, None, ℤ, pos, ◌+ℤ◌, ◌<ℤ◌, refl, sym, ap, ◌∙◌, arith, append_assoc}
 use Rattle.std.specs.Prelude.{int_lt}
 use Rattle.std.proofs.lemmas.Int.{ints}
@@ -22,7 +22,7 @@ abbrev found : Statement → Option Statement → Statement
 found other None = other
 found other (Some c) = c
 
--- Behind the first statement of a work its rest follows, with what is behind the work.
+-- After the first statement of a work come its rest and what is behind the work.
 behind : (arrays : Arrays) (first : Statement) (rest : Sequence) (vars : Vars) (n : ℕ) (more : List WorkAt) (store : Store) (front : List Bool) →
     (front ++ sequence_entered arrays rest vars (exec arrays (statement_work first vars) store))
     ++ (replicate n false ++ rest_entered arrays more (exec arrays (sequence_work (followed first rest) vars) store))
@@ -88,7 +88,7 @@ work_goes arrays store (member_of var low high body) vars n more none = cases (i
 pub steps_pass_sites : StepsPassSites
 steps_pass_sites arrays store w more none = work_goes arrays store w.work w.vars w.after more none
 
--- the store behind a construct is the one that its piece leaves
+-- The store after a construct is the one that its piece leaves.
 work_enters : (arrays : Arrays) (store : Store) (w : WorkTree) (vars : Vars) (n : ℕ) (more : List WorkAt) (c : Statement) → construct_of w ≡ Some c →
     rest_entered arrays (before w vars n ∷ more) store
     ≡ statement_entered arrays c vars store ++ rest_entered arrays (work_moved arrays store w vars n ++ more) (after (moved_writes arrays store w vars) store)

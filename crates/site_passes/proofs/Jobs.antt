@@ -1,4 +1,4 @@
--- A construct enters what its jobs enter.
+-- A construct enters the sites that its jobs enter.
 use Rattle.std.proofs.Common.{◌≡◌, ℕ, zero, suc, ◌+◌, ◌<◌, true, List, ◌∷◌, ◌++◌, ℤ, pos, refl, sym, ap, ◌∙◌, arith, append-nil, add-one}
 use Rattle.std.specs.Prelude.{◌&&◌, int_le, unsigned_abs}
 use Rattle.std.proofs.lemmas.Bool.{false≢true, and_parts}
@@ -35,7 +35,7 @@ member_jobs nested phase store place first var low high m body j (suc k) =
     ap (λ x. loop_entered arrays var (start_of low high m j) (start_of low high m (j + 1)) (sequence_part arrays body) nested.vars store ++ x)
     (member_jobs nested phase store (place + 1) _ var low high m body (j + 1) k)
 
--- the pieces of each phase are those of its body, and apart
+-- The pieces of each phase are those of its body, and are apart.
 phase_round : (ps : Sequences) (var : List ℕ) (low high : ℤ) (m : ℕ) (vars : Vars) (phase : ℕ) → phase < count_of ps →
     round_at (phase_rounds ps var low high m vars) phase ≡ team_works var low high m (sequence_work (phase_at ps phase)) vars
 phase_round no_more var low high m vars phase h = absurd (omega arith)
@@ -53,7 +53,7 @@ module _ (nested : NestedTree) (have : HaveCells (arrays_of nested.arrays)) (lin
   abbrev whole : NestedTree
   whole = record nested { construct = Team line var low high members phases }
 
-  -- a phase leaves the store that its loop leaves
+  -- A phase leaves the store that its loop leaves.
   phase_leaves : (k : ℕ) → k < count_of phases → exec (arrays_of nested.arrays) (loop var low high (sequence_work (phase_at phases k)) nested.vars) (store_before whole k) ≡ store_before whole (k + 1)
   phase_leaves k small =
       let arrays = arrays_of nested.arrays in

@@ -1,4 +1,4 @@
--- How a hart comes back, step by step.
+-- How a hart returns from a child, step by step.
 use Rattle.std.proofs.Common.{◌≡◌, ℕ, ◌+◌, ◌<◌, ◌≤◌, true, false, [], ◌∷◌, ◌++◌, refl, sym, ap, ◌∙◌, subst, arith, inl, inr, Option, Some}
 use Rattle.std.proofs.lemmas.Bool.{cases_eq, cases_lt}
 use Rattle.transfer_table.specs.Plan.{Plan, IsPlan, IsSite, parent}
@@ -31,7 +31,7 @@ back_then a b c f g = record {
   skipped = λ p s. let x = f.skipped p s in let y = g.skipped p s in omega arith;
 }
 
--- the hart registers a child, comes back to it, looks until it is empty, and unregisters it
+-- The hart registers a child, returns to it, looks until it is empty, and unregisters it.
 pub back_over : (h a b c : PortView) (s : ℕ) → IsPlan h.plan → IsSite h.plan s → h.owner ≡ parent h.plan s → IsSettled h → a ≡ registered h s → IsBack a b → HasLooked b c →
     IsBack h (unregistered c) × HasEnded (unregistered c) s
 back_over h a b c s is_plan site around settled is back looked = (
@@ -108,7 +108,7 @@ looked_empty h = record { same = refl; closed = λ x n. refl; gone = λ x is. is
 pub over_looked : (h a : PortView) → HasLooked h a → ChildrenOver h → ChildrenOver a
 over_looked h a looked over = subst ChildrenOver (sym looked.same) over
 
--- one child more was seen gone
+-- One more child was seen gone.
 pub seen_more : (h a : PortView) (n : ℕ) (next : Option ℕ) → HasLooked h a → SeenGoneBefore h (Some n) → NextChild h.plan h.owner n next → is_in a.gone n ≡ true → SeenGoneBefore a next
 seen_more h a n next looked seen is more c site up below =
     let plan : a.plan ≡ h.plan = ap (λ (x : PortView). x.plan) looked.same in
@@ -121,7 +121,7 @@ seen_more h a n next looked seen is more c site up below =
       | inr m ↦ looked.gone c (seen c site' up' (omega arith))
     ]
 
--- one child more is over
+-- One more child has ended.
 pub over_more : (h a : PortView) (n : ℕ) (next : Option ℕ) → IsBack h a → ChildrenOverBefore h (Some n) → NextChild h.plan h.owner n next → (a.alone ≡ true → HasEnded a n) → ChildrenOverBefore a next
 over_more h a n next back over is more alone c site up below =
     let site' = subst (λ p. IsSite p c) back.plan site in
@@ -133,7 +133,7 @@ over_more h a n next back over is more alone c site up below =
           subst (λ (p : Plan). 1 ≤ unregisters c a.mine + skips_over p c a.mine) (sym back.plan) (omega arith)
     ]
 
--- the hart enters a child, comes back to it, and yields
+-- The hart enters a child, returns to it, and yields.
 pub back_visited : (h a b : PortView) (s : ℕ) → IsPlan h.plan → IsSite h.plan s → h.owner ≡ parent h.plan s → IsSettled h → a ≡ entered h s → IsBack a b → IsBack h (yielded b)
 back_visited h a b s is_plan site around settled is back = record {
   plan = plan;
@@ -176,7 +176,7 @@ back_visited h a b s is_plan site around settled is back = record {
     own : parent b.plan b.owner ≡ h.owner
     own = ap (λ (p : Plan). parent p b.owner) plan ∙ ap (parent h.plan) there ∙ sym around
 
--- where the register of a child is refused, the child is over, if no other hart shares the table
+-- If no other hart shares the table, a child whose register is refused has ended.
 pub refused_over : (h a : PortView) (s : ℕ) → IsPortView a → IsSite h.plan s → h.owner ≡ parent h.plan s → a ≡ h → (h.alone ≡ true → HasClaimed h s)
     → a.alone ≡ true → HasEnded a s
 refused_over h a s kept site child is came = subst (λ (x : PortView). x.alone ≡ true → HasEnded x s) (sym is)

@@ -1,4 +1,4 @@
--- Sets of sites, with a site put in or taken out.
+-- Sets of sites with one site added or removed.
 use Rattle.std.proofs.Common.{◌≡◌, ◌≢◌, ℕ, zero, suc, ◌<◌, Bool, true, false, List, [], ◌∷◌, length, refl, sym, ◌∙◌, subst, inl, inr}
 use Rattle.std.proofs.lemmas.Bool.{cases_eq}
 use Rattle.std.proofs.lemmas.List.{get_or-set_same, get_or-set_other}
@@ -23,7 +23,7 @@ here_stays [] s h = h
 here_stays (b ∷ f) zero h = refl
 here_stays (b ∷ f) (suc s) h = here_stays f s h
 
--- what was in the set is so still
+-- A site in the set stays in it.
 pub with_stays : (f : List Bool) (s x : ℕ) → is_in f x ≡ true → is_in (with_site f s) x ≡ true
 with_stays f s x h = elim (cases_eq x s) [
   | inl e ↦ subst (λ y. is_in (with_site f s) y ≡ true) (sym e) (here_stays f s (subst (λ y. is_in f y ≡ true) e h))

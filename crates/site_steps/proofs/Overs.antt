@@ -1,4 +1,4 @@
--- Where no other hart shares the table: what the hart registered is over, unless the hart is inside it.
+-- If no other hart shares the table, the sites that the hart registered have ended, except those that it is inside of.
 use Rattle.std.proofs.Common.{cond, ◌≡◌, ◌⊎◌, ℕ, ◌≤◌, ◌+◌, Bool, true, false, not, ◌&&◌, List, [], ◌∷◌, ◌++◌, if◌then◌else◌, refl, sym, ap, ◌∙◌, subst, arith, inl, inr}
 use Rattle.std.specs.Option.{is_some}
 use Rattle.transfer_table.specs.Plan.{Plan, IsPlan, IsHart, IsSite, parent, IsWithin, is_within}
@@ -49,15 +49,15 @@ taken_over h s hand site around alone came =
       ]
     ]
 
--- a site that was unregistered or skipped is gone
+-- A site that was unregistered or skipped is gone.
 pub over_gone : (p : Plan) (es : List Entry) (t : TableState) (s : ℕ) → IsPlan p → Reaches p es t → IsSite p s → 1 ≤ unregisters s es + skips_over p s es → (row t s).stage ≡ Gone
 over_gone p es t s plan reached site over = went p plan es t reached s site over
 
--- a further entry takes nothing from what is over
+-- One more entry doesn't lower the number of unregisters.
 pub over_stays : (s : ℕ) (es : List Entry) (e : Entry) → unregisters s es ≤ unregisters s (es ++ e ∷ [])
 over_stays s es e = let more = unregisters-snoc s es e in omega arith
 
--- one that is no skip skips nothing
+-- An entry that isn't a skip skips nothing.
 pub skips_stay : (p : Plan) (s : ℕ) (es : List Entry) (e : Entry) → is_skip e ≡ false → skips_over p s (es ++ e ∷ []) ≡ skips_over p s es
 skips_stay p s es e other =
     let more = skips_over-snoc p s es e in

@@ -18,7 +18,7 @@ use Rattle.site_steps.specs.Skips.{IsChildBetween, AreRising, HasSkipped, Childr
 use Rattle.site_steps.specs.Sweeps.{Gives, IsRefused}
 use Rattle.site_steps.proofs.Sweeps.{rose_within}
 
--- further entries take nothing from a count
+-- More entries don't lower the number of registers.
 came_more : (s : ℕ) (es fs : List Entry) → registers s es ≤ registers s (es ++ fs)
 came_more s es fs = let z = sum_by-append (λ x. cond {A = ℕ} (if site_of x == s then is_register x else false) 1 0) es fs in omega (arith, z)
 
@@ -31,13 +31,13 @@ skipped_more p s es fs = let z = sum_by-append (λ x. cond {A = ℕ} (covers p x
 only : (s x : ℕ) → s ≤ x → x < s + 1 → s ≡ x
 only s x low high = omega (arith, low, high)
 
--- ---- what was skipped, of the sites' numbers
+-- ---- which of the sites were skipped
 
 -- the entries that skip these sites
 abbrev skips_of : ℕ → List ℕ → List Entry
 skips_of hart sites = map (λ s. Skip hart s) sites
 
--- a list that rises behind one that rises below it
+-- Two rising lists are one if the first lies below the second.
 rising_append : (middle : ℕ) (xs ys : List ℕ) → All (λ s. s < middle) xs → All (λ s. middle ≤ s) ys → AreRising xs → AreRising ys → AreRising (xs ++ ys)
 rising_append middle [] ys below above one two = two
 rising_append middle (x ∷ xs) ys below above one two =
@@ -53,7 +53,7 @@ all_wider : (h : PortView) (first end low high : ℕ) (sites : List ℕ) → low
 all_wider h first end low high sites a b all = All-weaker (IsChildBetween h first end) (IsChildBetween h low high) (λ s is. wider h first end low high s a b is) sites all
 
 module _ {P : Type 0} (gives : Gives P) where
-  -- within other bounds that the sites are in too
+  -- The same for other bounds that have the same sites between them.
   pub skipped_within : (h a : PortView) (r r' first end high : ℕ) → ((x : ℕ) → first ≤ x → x < end → x < high) → ((x : ℕ) → first ≤ x → x < high → x < end)
       → HasSkipped gives h r a r' first end → HasSkipped gives h r a r' first high
   skipped_within h a r r' first end high bound other made = record {
@@ -64,7 +64,7 @@ module _ {P : Type 0} (gives : Gives P) where
     each = λ s is. made.each s record { low = is.low; high = other s is.low is.high; site = is.site; child = is.child };
   }
 
-  -- nothing was skipped, where no child stands between the bounds
+  -- If the skip of each child between the bounds was refused, nothing was skipped.
   pub skipped_none : (h : PortView) (r r' first end : ℕ) → ((s : ℕ) → IsChildBetween h first end s → Rose r r' × IsRefused gives s) → HasSkipped gives h r h r' first end
   skipped_none h r r' first end none = record {
     sites = [];
@@ -74,7 +74,7 @@ module _ {P : Type 0} (gives : Gives P) where
     each = λ s is. inr (none s is);
   }
 
-  -- at the first bound none was looked at
+  -- At the first bound no site was looked at yet.
   pub skipped_not_yet : (h : PortView) (r first : ℕ) → HasSkipped gives h r h r first first
   skipped_not_yet h r first = skipped_none h r r first first (λ s is. let low = is.low in let high = is.high in absurd (omega (arith, low, high)))
 
@@ -103,7 +103,7 @@ module _ {P : Type 0} (gives : Gives P) where
         ];
       }
 
-  -- a skip of one child
+  -- One child is skipped.
   pub skipped_one : (h a : PortView) (before after : P) (r r' s : ℕ) (answer : Result (Unit {0}) Taken) → IsSite h.plan s → parent h.plan s ≡ h.owner
       → Skips h s answer a → gives before s answer after → RoseIfErr answer r r' → HasSkipped gives h r a r' s (s + 1)
   skipped_one h a before after r r' s (Ok done) site child is told rose = record {
@@ -117,7 +117,7 @@ module _ {P : Type 0} (gives : Gives P) where
       subst (λ x. HasSkipped gives h r x r' s (s + 1)) (sym is.0)
       (skipped_none h r r' s (s + 1) (λ x own. (rose, subst (IsRefused gives) (let l = own.low in let u = own.high in only s x l u) (before, after, taken, told))))
 
-  -- where it is no child there is none to be skipped
+  -- A site that is no child isn't skipped.
   pub skipped_no_child : (h : PortView) (r s : ℕ) → (IsSite h.plan s × (parent h.plan s ≡ h.owner) → ⊥) → HasSkipped gives h r h r s (s + 1)
   skipped_no_child h r s none = skipped_none h r r s (s + 1)
       (λ x own. absurd (none (subst (λ y. IsSite h.plan y × (parent h.plan y ≡ h.owner)) (sym (let l = own.low in let u = own.high in only s x l u)) (own.site, own.child))))
@@ -132,7 +132,7 @@ claimed_one h a s (Err taken) is alone = subst (λ (x : PortView). HasClaimed x 
 pub child_claimed : (h a : PortView) (s : ℕ) (r : Result (Unit {0}) Taken) → Skips h s r a → ChildrenClaimed a s (s + 1)
 child_claimed h a s r is alone x low high site child = subst (HasClaimed a) (only s x low high) (claimed_one h a s r is alone)
 
--- where it is no child there is none to be claimed
+-- A site that is no child isn't claimed.
 pub no_child : (h : PortView) (s : ℕ) → (IsSite h.plan s × (parent h.plan s ≡ h.owner) → ⊥) → ChildrenClaimed h s (s + 1)
 no_child h s none alone x low high site child = absurd (none (subst (λ y. IsSite h.plan y × (parent h.plan y ≡ h.owner)) (sym (only s x low high)) (site, child)))
 
@@ -149,7 +149,7 @@ claimed_then b c made first middle end same one two alone x low high site child 
   | inr late ↦ two alone x (omega (arith, late)) high site child
 ]
 
--- the hart is where it was
+-- A hart that skipped sites is where it was.
 pub skipped_back : (h a : PortView) (made : List Entry) → IsSettled h → a ≡ record h { mine = h.mine ++ made } → IsBack h a
 skipped_back h a made settled same = subst (IsBack h) (sym same) record {
   plan = refl;
@@ -165,7 +165,7 @@ skipped_back h a made settled same = subst (IsBack h) (sym same) record {
   skipped = λ p s. skipped_more p s h.mine made;
 }
 
--- a count of refusals doesn't fall
+-- A counter of refusals doesn't fall.
 pub count_rose : (r : Result (Unit {0}) Taken) (before after : ℕ) → RoseIfErr r before after → before ≤ after
 count_rose (Ok done) before after same = omega (arith, same)
 count_rose (Err taken) before after (inl more) = omega (arith, more)

@@ -1,4 +1,4 @@
--- What was swept is so still, and one child more is.
+-- Children that were registered and unregistered stay so, and one more is.
 use Rattle.std.proofs.Common.{◌≡◌, ℕ, ◌<◌, ◌≤◌, ◌++◌, ◌∷◌, [], sym, ap, ◌∙◌, subst, arith, inl, inr, Option, Some}
 use Rattle.std.proofs.lemmas.Bool.{cases_eq, cases_lt}
 use Rattle.transfer_table.specs.Entry.{unregisters}
@@ -12,7 +12,7 @@ use Rattle.site_steps.specs.Sweeps.{Gives, IsSwept, AreSweptBefore}
 use Rattle.site_steps.proofs.Children.{before_next}
 use Rattle.site_steps.proofs.Overs.{over_stays}
 
--- a count that rose has risen since an earlier time, and until a later one
+-- A counter that rose has risen since any earlier time, and until any later one.
 pub rose_within : (a b c d : ℕ) → a ≤ b → Rose b c → c ≤ d → Rose a d
 rose_within a b c d before (inl more) after = inl (omega arith)
 rose_within a b c d before (inr last) after = elim (cases_lt a d) [
@@ -33,7 +33,7 @@ swept_more gives h a b r r' r'' n next start end before after less more swept is
       | inr m ↦ swept_within gives h h a b r r r' r'' s start (omega arith) (swept s site up (omega arith)) after more
     ]
 
--- the hart registers a child, comes back to it, looks until it is empty, and unregisters it
+-- The hart registers a child, returns to it, looks until it is empty, and unregisters it.
 pub swept_site : (h a b c : PortView) (s : ℕ) → a ≡ registered h s → IsBack a b → HasLooked b c → unregisters s h.mine < unregisters s (unregistered c).mine
 swept_site h a b c s is back looked =
     let here : c.owner ≡ s = ap (λ (x : PortView). x.owner) looked.same ∙ back.owner ∙ ap (λ (x : PortView). x.owner) is in

@@ -71,7 +71,7 @@ fn each_site_comes_and_goes(rt: HostRuntime) -> Result<(), Fail> {
     Ok(())
 }
 
-// A second sweep passes over the sites that came and went.
+// A second sweep leaves out the sites that were registered and unregistered.
 #[test]
 fn a_second_sweep_adds_nothing(rt: HostRuntime) -> Result<(), Fail> {
     let plan = Plan::new(rt.alloc(), 1, &[0, 0])?;

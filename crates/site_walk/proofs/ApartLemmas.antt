@@ -1,4 +1,4 @@
--- Where each index is inside its array and each name known, no least cell of an overlap means that pieces are apart.
+-- If each index is inside its array and each name is known, no overlap means that pieces are apart.
 use Rattle.std.proofs.Common.{◌≡◌, ℕ, zero, suc, ◌+◌, ◌<◌, ◌≤◌, cond, Bool, true, false, List, [], ◌∷◌, ◌++◌, Option, Some, None, ℤ, pos, negsuc, ◌+ℤ◌, refl, sym, ap, subst, ◌∙◌, arith}
 use Rattle.std.specs.Prelude.{◌&&◌, ◌||◌, not, unsigned_abs, nat_eq, nat_lt}
 use Rattle.std.proofs.lemmas.Bool.{false≢true, and_parts}
@@ -25,7 +25,7 @@ use Rattle.site_walk.specs.Outside.{out_of_range_of}
 use Rattle.site_walk.specs.FirstOverlap.{cell_fault, rounds_fault, first_overlap, overlap_of, walk_fault_of}
 use Rattle.site_walk.proofs.OutsideLemmas.{inside_of_none}
 
--- ---- what holds of each visit of a program holds of each visit of each piece
+-- ---- a property of each visit of a program holds of each visit of each piece
 
 module _ (arrays : Arrays) (P : Visit → Type 0) where
   abbrev Each : List Visit → Type 0
@@ -131,7 +131,7 @@ module _ (arrays : Arrays) (P : Visit → Type 0) where
         (of_turns (λ x. sequence_work first ((var, x) ∷ vars)) (λ x. sequence_sites first ((var, x) ∷ vars)) (λ x. of_sequence first ((var, x) ∷ vars)) low (span low high) parts.0)
         (of_inner_phases rest var low high vars parts.1)
 
--- ---- behind the last cell nothing is touched
+-- ---- no cell past the last one is touched
 
 IsFit : Arrays → Visit → Type 0
 IsFit arrays v = (is_inside (length_of arrays v.array) v.index ≡ true) × (base_of arrays v.array + length_of arrays v.array ≤ cells_of arrays)
@@ -216,7 +216,7 @@ sites_apart arrays (s ∷ sites) fit h =
     let parts = no_fault (rounds_fault arrays s.line s.rounds) (first_overlap arrays sites) h in
     (rounds_apart arrays s.line s.rounds fit.0 parts.0, sites_apart arrays sites fit.1 parts.1)
 
--- and back
+-- ---- pieces that are apart don't overlap
 
 rounds_clear : (arrays : Arrays) (line : ℕ) (rs : List (List Steps)) → AreRoundsApart arrays rs → rounds_fault arrays line rs ≡ None
 rounds_clear arrays line [] h = refl
@@ -229,7 +229,7 @@ sites_clear arrays [] h = refl
 sites_clear arrays (s ∷ sites) h =
     ap (λ o. option_or o (first_overlap arrays sites)) (rounds_clear arrays s.line s.rounds h.0) ∙ sites_clear arrays sites h.1
 
--- ---- of a program
+-- ---- the sites of a program
 
 fit_visits : (arrays : Arrays) (vs : List Visit) → are_known (names_in arrays) vs ≡ true → are_inside arrays vs ≡ true → Each arrays (IsFit arrays) vs
 unfolding IsFit
@@ -250,7 +250,7 @@ apart_of_none program known inside h =
 pub none_of_apart : (program : ProgramTree) → HasApartSites program → overlap_of program ≡ None
 none_of_apart program h = sites_clear (arrays_of program.arrays) (sequence_sites program.body []) h
 
--- where the walk finds nothing, both conditions hold
+-- ---- if the walk finds nothing, both conditions hold
 
 pub indices_of_none : (program : ProgramTree) → walk_fault_of program ≡ None → has_indices_inside program ≡ true
 indices_of_none program h =

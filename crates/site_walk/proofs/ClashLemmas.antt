@@ -1,4 +1,4 @@
--- What a table tells of a cell, visit by visit.
+-- The table's marks of a cell, visit by visit.
 use Rattle.std.proofs.Common.{◌≡◌, ℕ, ◌<◌, cond, Bool, true, false, List, length, Option, Some, None, ℤ, refl, sym, ap, subst, ◌∙◌, arith, length-set}
 use Rattle.std.specs.Prelude.{nat_eq, ◌&&◌, ◌||◌, not, slice_set}
 use Rattle.std.proofs.lemmas.Bool.{false≢true}
@@ -18,15 +18,15 @@ use Rattle.site_walk.proofs.NumberLemmas.{array_there, covers_number, inside_num
 
 -- ---- lists of what is done
 
--- at the place that was set
+-- The value at the index that was set.
 set_here : (xs : List Touched) (i j : ℕ) (t : Touched) → j ≡ i → j < length xs → touched_at (slice_set xs i t) j ≡ t
 set_here xs i j t e h = ap (λ k. touched_at (slice_set xs k t) j) (sym e) ∙ get_or-set_same xs j t untouched h
 
--- and at others
+-- The values at other indices stay.
 set_there : (xs : List Touched) (i j : ℕ) (t : Touched) → (j ≡ i → ⊥) → touched_at (slice_set xs i t) j ≡ touched_at xs j
 set_there xs i j t n = get_or-set_other xs i j t untouched n
 
--- both by the test
+-- Both cases, by the test.
 set_by_test : (xs : List Touched) (i j : ℕ) (t : Touched) (b : Bool) → nat_eq j i ≡ b → j < length xs →
     touched_at (slice_set xs i t) j ≡ cond b t (touched_at xs j)
 set_by_test xs i j t true e h = set_here xs i j t (let same : j ≡ i = grind (arith, nat_tests) in same) h
@@ -34,7 +34,7 @@ set_by_test xs i j t false e h = set_there xs i j t (λ same. false≢true (sym 
 
 -- ---- a visit's effect on a cell
 
--- A touch, where there is one.
+-- the marks with a touch, if there is one
 abbrev pub touch_if : Bool → Touched → Touched → Touched
 touch_if b touch done = cond b (joined touch done) done
 
@@ -46,7 +46,7 @@ join_if_right : (b : Bool) (t x y : Touched) → joined x (cond b (joined t y) y
 join_if_right true t x y = joined_turned x t y
 join_if_right false t x y = refl
 
--- the cond of one set at its own place
+-- At its own index, the old marks may stand for those of the set index.
 cond_same : (xs : List Touched) (i j : ℕ) (t : Touched) (b : Bool) → nat_eq j i ≡ b →
     cond b (joined t (touched_at xs i)) (touched_at xs j) ≡ cond b (joined t (touched_at xs j)) (touched_at xs j)
 cond_same xs i j t true e = ap (λ k. joined t (touched_at xs k)) (let same : i ≡ j = grind (arith, nat_tests) in same)
@@ -57,7 +57,7 @@ add_by_test : (xs : List Touched) (i j : ℕ) (t : Touched) → j < length xs �
 add_by_test xs i j t h =
     set_by_test xs i j (joined t (touched_at xs i)) (nat_eq j i) refl h ∙ cond_same xs i j t (nat_eq j i) refl
 
--- what a visit makes of a cell
+-- The marks after a visit.
 pub done_with_touch : (arrays : Arrays) (touch : Touched) (name : List ℕ) (index : Option ℤ) (t : Table) (c : ℕ) → HasPlaces arrays t → c < cells_of arrays →
     done_at arrays (with_touch arrays touch name index t) c ≡ touch_if (covers arrays name index c) touch (done_at arrays t c)
 unfolding with_static with_dynamic
@@ -74,7 +74,7 @@ done_with_touch arrays touch name None t c places small =
     ∙ join_if_right (nat_eq (array_at arrays c) k) touch (touched_at t.cells c) (touched_at t.everywhere (array_at arrays c))
     ∙ ap (λ b. touch_if b touch (done_at arrays t c)) (sym (covers_number arrays name c small))
 
--- ---- places stay
+-- ---- the numbers of entries stay
 
 pub places_stay : (arrays : Arrays) (touch : Touched) (name : List ℕ) (index : Option ℤ) (t : Table) → HasPlaces arrays t →
     HasPlaces arrays (with_touch arrays touch name index t)
@@ -105,10 +105,10 @@ places_stay arrays touch name None t places =
       written = places.written;
     }
 
--- ---- where nothing is suspect, nothing clashes
+-- ---- if nothing is suspect, nothing clashes
 
--- What a table keeps of a cell while nothing is suspect: what was done to it is part of what was done to the cells of
--- its array that are written, or only read; and nothing clashes on it.
+-- What a table keeps of a cell while nothing is suspect: what was done to the cell is part of what was done to the cells of
+-- its array that are written, or only read; and nothing clashes on the cell.
 pub record IsClear (arrays : Arrays) (t : Table) (c : ℕ) : Type 0 where
   pub part : joined (touched_at t.cells c) (cond (touched_at t.cells c).written (touched_at t.written (array_at arrays c)) (touched_at t.read (array_at arrays c)))
       ≡ cond (touched_at t.cells c).written (touched_at t.written (array_at arrays c)) (touched_at t.read (array_at arrays c))
@@ -122,28 +122,28 @@ not_none : (a : Bool) → not a ≡ false → a ≡ true
 not_none true e = refl
 not_none false e = absurd (false≢true (sym e))
 
--- a part of what is joined by more stays a part
+-- A part of the marks stays a part of more marks.
 part_more : (x s t : Touched) → joined x s ≡ s → joined x (joined t s) ≡ joined t s
 part_more x s t e = joined_turned x t s ∙ ap (joined t) e
 
--- and of what may be
+-- The same if the further marks are conditional.
 part_if : (b : Bool) (x s t : Touched) → joined x s ≡ s → joined x (touch_if b t s) ≡ touch_if b t s
 part_if true x s t e = part_more x s t e
 part_if false x s t e = e
 
--- what clashes nowhere with all clashes with no part of it
+-- Marks that don't clash with all don't clash with a part.
 clear_part : (x s y : Touched) → joined x s ≡ s → clashes (joined y s) ≡ false → clashes (joined x y) ≡ false
 clear_part x s y e h =
     clashes_part (joined x y) s
     (ap clashes (joined_assoc x y s ∙ joined_turned x y s ∙ ap (joined y) e) ∙ h)
 
--- what was done to a cell is part of the sums of its array after more is done
+-- What was done to a cell stays part of its array's sums after more is done.
 part_in : (cw bw br : Bool) (x t w r w' r' : Touched) → w' ≡ touch_if bw t w → r' ≡ touch_if br t r →
     joined x (cond cw w r) ≡ cond cw w r → joined x (cond cw w' r') ≡ cond cw w' r'
 part_in true bw br x t w r w' r' e f h = ap (joined x) e ∙ part_if bw x w t h ∙ sym e
 part_in false bw br x t w r w' r' e f h = ap (joined x) f ∙ part_if br x r t h ∙ sym f
 
--- what is added to a sum is part of it
+-- A summand is part of the sum.
 part_own : (cw : Bool) (all w r w' r' : Touched) → (cw ≡ true → w' ≡ joined all w) → (cw ≡ false → r' ≡ joined all r) →
     joined all (cond cw w' r') ≡ cond cw w' r'
 part_own true all w r w' r' e f = ap (joined all) (e refl) ∙ joined_again all w ∙ sym (e refl)
@@ -171,7 +171,7 @@ read_own aw n j all xs h same e =
     read_sum aw n j all xs h ∙ ap (λ b. touch_if (not b && nat_eq j n) all (touched_at xs j)) e
     ∙ ap (λ b. touch_if b all (touched_at xs j)) (let yes' : nat_eq j n ≡ true = grind (arith, nat_tests) in yes')
 
--- What was done is part of one of two sums.
+-- what was done is part of one of two sums
 abbrev IsPart : Touched → Touched → Touched → Type 0
 IsPart x w r = joined x (cond x.written w r) ≡ cond x.written w r
 
@@ -179,7 +179,7 @@ clash_of_sums : (cw : Bool) (all w r : Touched) → clashes (joined all r) ≡ f
 clash_of_sums true all w r e f = f
 clash_of_sums false all w r e f = e
 
--- a touch by a static index
+-- A touch by a static index.
 static_stays : (arrays : Arrays) (touch : Touched) (name : List ℕ) (i : ℤ) (t : Table) (c : ℕ) → HasPlaces arrays t → c < cells_of arrays →
     (t.suspect ≡ false → IsClear arrays t c) → (with_touch arrays touch name (Some i) t).suspect ≡ false →
     (b : Bool) → nat_eq c (cell_of arrays name false i) ≡ b → IsClear arrays (with_touch arrays touch name (Some i) t) c
@@ -231,7 +231,7 @@ static_stays arrays touch name i t c places small before h false e =
       clear = ap (λ x. clashes (joined x (touched_at t.everywhere j))) here ∙ old.clear;
     }
 
--- a touch by a dynamic one
+-- A touch by a dynamic index.
 dynamic_stays : (arrays : Arrays) (touch : Touched) (name : List ℕ) (t : Table) (c : ℕ) → HasPlaces arrays t → c < cells_of arrays →
     (t.suspect ≡ false → IsClear arrays t c) → (with_touch arrays touch name None t).suspect ≡ false →
     (b : Bool) → nat_eq (array_at arrays c) (number_of arrays name) ≡ b → IsClear arrays (with_touch arrays touch name None t) c

@@ -1,4 +1,4 @@
--- Which array a cell belongs to.
+-- The array that a cell belongs to.
 use Rattle.std.proofs.Common.{◌≡◌, ℕ, ◌+◌, ◌-◌, ◌<◌, ◌≤◌, cond, Bool, true, false, List, [], ◌∷◌, length, Some, None, ℤ, pos, negsuc, refl, ap, ◌∙◌, arith}
 use Rattle.std.specs.Prelude.{nat_eq, nat_lt}
 use Rattle.std.proofs.lemmas.Bool.{false≢true}
@@ -25,7 +25,7 @@ in_first c l rest h = grind (arith, nat_tests)
 in_later : (c l rest n : ℕ) → cond (nat_lt c l) 0 (1 + rest) ≡ 1 + n → (l ≤ c) × (rest ≡ n)
 in_later c l rest n h = (grind (arith, nat_tests), grind (arith, nat_tests))
 
--- a cell within the array of a name belongs to it
+-- A cell within the array of a name belongs to that array.
 pub number_within : (arrays : Arrays) (name : List ℕ) (c : ℕ) → c < cells_of arrays →
     base_of arrays name ≤ c → c < base_of arrays name + length_of arrays name → array_at arrays c ≡ number_of arrays name
 number_within [] name c small low high = absurd (omega arith)
@@ -41,7 +41,7 @@ number_within (a ∷ more) name c small low high =
         later_cell c a.1 (1 + array_at more (c - a.1)) (omega arith)
         ∙ ap (λ n. 1 + n) (rest (omega arith) (omega arith) (omega arith))
 
--- and back
+-- A cell that belongs to an array is within it.
 pub within_number : (arrays : Arrays) (name : List ℕ) (c : ℕ) → c < cells_of arrays → array_at arrays c ≡ number_of arrays name →
     (base_of arrays name ≤ c) × (c < base_of arrays name + length_of arrays name)
 within_number [] name c small e = absurd (omega arith)
@@ -60,7 +60,7 @@ within_number (a ∷ more) name c small e = cases (name_eq a.0 name) (λ s l. wi
         let to = rest.1 in
         (omega arith, omega arith)
 
--- the arrays that cells belong to are there
+-- The array of a cell exists.
 pub array_there : (arrays : Arrays) (c : ℕ) → c < cells_of arrays → array_at arrays c < length arrays
 array_there [] c small = absurd (omega arith)
 array_there (a ∷ more) c small = cases (nat_lt c a.1) (λ s. array_there more (c - a.1) s) refl
@@ -69,7 +69,7 @@ array_there (a ∷ more) c small = cases (nat_lt c a.1) (λ s. array_there more 
     cases true below e = omega arith
     cases false below e = let high : a.1 ≤ c = grind (arith, nat_tests) in let rest = below (omega arith) in omega arith
 
--- a dynamic index touches the cells of its array
+-- A dynamic index touches the cells of its array.
 pub covers_number : (arrays : Arrays) (name : List ℕ) (c : ℕ) → c < cells_of arrays →
     covers arrays name None c ≡ nat_eq (array_at arrays c) (number_of arrays name)
 covers_number arrays name c small = cases (nat_eq (array_at arrays c) (number_of arrays name)) (covers arrays name None c) refl refl
@@ -88,7 +88,7 @@ covers_number arrays name c small = cases (nat_eq (array_at arrays c) (number_of
         let same = number_within arrays name c small low high in
         grind (arith, nat_tests)
 
--- the cell of an index inside an array belongs to it
+-- The cell of an index inside an array belongs to the array.
 pub inside_number : (arrays : Arrays) (name : List ℕ) (i : ℤ) (c : ℕ) → c < cells_of arrays →
     is_inside (length_of arrays name) (Some i) ≡ true → c ≡ cell_of arrays name false i → array_at arrays c ≡ number_of arrays name
 inside_number arrays name (pos n) c small inside e =

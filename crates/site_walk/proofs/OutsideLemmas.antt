@@ -1,4 +1,4 @@
--- The first fault of a walk of several parts.
+-- The first fault of a walk with several parts.
 use Rattle.std.proofs.Common.{◌≡◌, ℕ, List, [], ◌∷◌, ◌++◌, Bool, true, false, ℤ, Option, Some, None, refl, sym, ap, ◌∙◌}
 use Rattle.std.specs.Prelude.{◌&&◌, if◌then◌else◌}
 use Rattle.array_tree.specs.Trees.{Expression}

@@ -1,4 +1,4 @@
--- What a table tells of a cell, piece by piece: a clash exactly where two pieces overlap.
+-- The table's marks of a cell, piece by piece: the marks clash iff two pieces overlap.
 use Rattle.std.proofs.Common.{◌≡◌, ℕ, zero, suc, ◌+◌, ◌-◌, ◌<◌, ◌≤◌, cond, Bool, true, false, List, [], ◌∷◌, length, replicate, Some, None, refl, sym, ap, ◌∙◌, arith}
 use Rattle.std.specs.Prelude.{nat_eq, ◌&&◌, ◌||◌, not}
 use Rattle.std.proofs.lemmas.Bool.{false≢true}
@@ -20,14 +20,14 @@ use Rattle.site_walk.proofs.ClashLemmas.{touch_if, done_with_touch, places_stay,
 
 -- ---- one piece
 
--- What was done, after a piece that changes and reads or not.
+-- the marks after a piece that changes the cell, or reads it, or neither
 abbrev pub after_piece : ℕ → Bool → Bool → Touched → Touched
 after_piece p w r done = touch_if (w || r) (touch_of p w) done
 
 twice : (p : ℕ) (w x : Bool) (s : Touched) → joined (touch_of p w) (joined (touch_of p x) s) ≡ joined (touch_of p (w || x)) s
 twice p w x s = sym (joined_assoc (touch_of p w) (touch_of p x) s) ∙ ap (λ b. joined b s) (one_piece_twice p w x)
 
--- one visit and then others
+-- One visit and then the others.
 visit_first : (p : ℕ) (cov x w r : Bool) (s : Touched) →
     after_piece p w r (touch_if cov (touch_of p x) s) ≡ after_piece p ((x && cov) || w) ((not x && cov) || r) s
 visit_first p false true w r s = refl
@@ -64,7 +64,7 @@ visits_stay_clear arrays p (v ∷ vs) t c places small before h =
 
 -- ---- several pieces
 
--- What was done to a cell, after pieces numbered from one on.
+-- the marks of a cell after pieces that are numbered from one on
 abbrev done_after : Arrays → ℕ → List Steps → ℕ → Touched → Touched
 done_after arrays p [] c done = done
 done_after arrays p (q ∷ more) c done =
@@ -88,20 +88,20 @@ pieces_stay_clear arrays p (q ∷ ps) t c places small before h =
     pieces_stay_clear arrays (p + 1) ps (with_piece arrays p q t) c (visits_keep_places arrays p (walk arrays q) t places) small
     (λ g. visits_stay_clear arrays p (walk arrays q) t c places small before g) h
 
--- ---- what was done, and what some piece changed or read
+-- ---- the marks, and what some piece changed or read
 
 abbrev are_some : Pieces → Bool
 are_some Nobody = false
 are_some (One q) = true
 are_some Several = true
 
--- The pieces are of lower numbers.
+-- the pieces have lower numbers
 abbrev AreOlder : ℕ → Pieces → Type 0
 AreOlder p Nobody = Unit {0}
 AreOlder p (One q) = q < p
 AreOlder p Several = Unit {0}
 
--- What was done by pieces of lower numbers: whether some changed it, and whether some read it.
+-- the marks by pieces of lower numbers: whether some piece changed the cell, and whether some piece read it
 record Tells (p : ℕ) (done : Touched) (was_changed was_read : Bool) : Type 0 where
   written : done.written ≡ was_changed
   some : are_some done.by ≡ (was_changed || was_read)
@@ -115,7 +115,7 @@ or_assoc : (a b c : Bool) → ((a || b) || c) ≡ (a || (b || c))
 or_assoc true b c = refl
 or_assoc false b c = refl
 
--- a clash after one more piece
+-- A clash after one more piece.
 abbrev clash_then : Bool → Bool → Bool → Bool → Bool
 clash_then w r x y = w && (y || x) || r && x
 
@@ -162,7 +162,7 @@ clash_next p Nobody w r x y e older = of_nobody p w r x y e
 clash_next p (One q) w r x y e older = of_one p q w r x y (older_test p q older) e
 clash_next p Several w r x y e older = of_several p w r x y e
 
--- ---- and what they tell after it
+-- ---- the marks after a piece
 
 some_with_one : (p : ℕ) (by : Pieces) → are_some (joined_pieces (One p) by) ≡ true
 some_with_one p Nobody = refl
@@ -220,7 +220,7 @@ clash_after arrays p (q ∷ ps) c done x y tells =
     ∙ ap (λ a. (clashes done || clash_then w r a y) || rest) tells.written
     ∙ or_assoc (clashes done) (clash_then w r x y) rest
 
--- ---- a round, from nothing
+-- ---- a round, from an empty table
 
 blank_at : (n i : ℕ) → i < n → touched_at (replicate n untouched) i ≡ untouched
 blank_at n i h = get_or-replicate n i untouched untouched h
@@ -249,7 +249,7 @@ cleared_is_clear arrays t c places small =
       clear = ap clashes (nothing_at arrays t c places small);
     }
 
--- a clash on a cell is an overlap of two pieces
+-- A clash on a cell is an overlap of two pieces.
 pub clash_is_overlap : (arrays : Arrays) (ps : List Steps) (t : Table) (c : ℕ) → HasPlaces arrays t → c < cells_of arrays →
     clashes (done_at arrays (with_pieces arrays 0 ps (cleared t)) c) ≡ overlaps arrays false false ps c
 clash_is_overlap arrays ps t c places small =
@@ -257,7 +257,7 @@ clash_is_overlap arrays ps t c places small =
     ∙ ap (done_after arrays 0 ps c) (nothing_at arrays t c places small))
     ∙ clash_after arrays 0 ps c untouched false false (record { written = refl; some = refl; older = tt })
 
--- and where nothing is suspect there is none
+-- If nothing is suspect, no two pieces overlap.
 pub no_overlap : (arrays : Arrays) (ps : List Steps) (t : Table) (c : ℕ) → HasPlaces arrays t → c < cells_of arrays →
     (with_pieces arrays 0 ps (cleared t)).suspect ≡ false → overlaps arrays false false ps c ≡ false
 no_overlap arrays ps t c places small h =
@@ -277,7 +277,7 @@ first_none f i zero h = refl
 first_none f i (suc k) h =
     ap (λ b. cond b (Some i) (first_from f (i + 1) k)) (h i (omega arith)) ∙ first_none f (i + 1) k (λ c small. h c (omega arith))
 
--- the least clash of a round, sought only where something is suspect, is the least overlap
+-- The least clash of a round, searched only if something is suspect, is the least overlap.
 pub least_overlap : (arrays : Arrays) (ps : List Steps) (t : Table) → HasPlaces arrays t →
     cond (with_pieces arrays 0 ps (cleared t)).suspect
     (first_from (λ c. clashes (done_at arrays (with_pieces arrays 0 ps (cleared t)) c)) 0 (cells_of arrays)) None
@@ -292,7 +292,7 @@ least_overlap arrays ps t places = cases (with_pieces arrays 0 ps (cleared t)).s
     cases false e = sym (first_none (overlaps arrays false false ps) 0 (cells_of arrays)
         (λ c small. no_overlap arrays ps t c places (omega arith) e))
 
--- one cell of the search
+-- One cell of the search.
 pub first_found : (f : ℕ → Bool) (i n : ℕ) → i < n → f i ≡ true → first_from f i (n - i) ≡ Some i
 first_found f i n h e =
     ap (first_from f i) (let more : n - i ≡ suc (n - (i + 1)) = omega arith in more) ∙ ap (λ b. cond b (Some i) (first_from f (i + 1) (n - (i + 1)))) e

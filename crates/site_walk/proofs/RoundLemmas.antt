@@ -1,4 +1,4 @@
--- Marks of a round, and of those before.
+-- Marks of a round and of earlier rounds.
 use Rattle.std.proofs.Common.{◌≡◌, ℕ, zero, suc, ◌+◌, ◌≤◌, cond, true, false, List, [], ◌∷◌, map, length, replicate, set, refl, ap, ◌∙◌, arith}
 use Rattle.std.specs.Prelude.{slice_set, nat_eq}
 use Rattle.std.specs.List.{All}

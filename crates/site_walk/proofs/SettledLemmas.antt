@@ -1,4 +1,4 @@
--- What needs no walk: pieces and sites that are apart, and bodies that enter no site.
+-- Parts that need no walk: pieces and sites that are apart, and bodies that enter no site.
 use Rattle.std.proofs.Common.{◌≡◌, ℕ, false, zero, suc, List, [], ◌∷◌, ◌++◌, length, Option, None, ℤ, pos, ◌+ℤ◌, refl, sym, ap, ◌∙◌, arith}
 use Rattle.array_tree.specs.Trees.{Sequence}
 use Rattle.std.specs.Option.{option_or}
@@ -18,7 +18,7 @@ use Rattle.site_walk.specs.Inside.Kept.{or_overlap}
 use Rattle.array_meaning.proofs.LastLemmas.{or_none}
 use Rattle.site_walk.proofs.PieceLemmas.{first_none}
 
--- pieces that are apart overlap on no cell
+-- Pieces that are apart overlap on no cell.
 pub apart_overlap : (arrays : Arrays) (cells : ℕ) (pieces : List Steps) → IsApart arrays pieces → overlap arrays cells pieces ≡ None
 apart_overlap arrays cells pieces apart = first_none (overlaps arrays false false pieces) 0 cells (λ c small. clear_of_apart arrays pieces apart c)
 
@@ -32,7 +32,7 @@ sites_none arrays [] apart = refl
 sites_none arrays (site ∷ more) apart =
     ap (λ f. option_or f (first_overlap arrays more)) (rounds_none arrays site.line site.rounds apart.0) ∙ sites_none arrays more apart.1
 
--- sites whose pieces are apart add nothing to what was found
+-- Sites whose pieces are apart add nothing to what was found.
 pub apart_sites : (arrays : Arrays) (sites : List Site) (found : Option WalkFault) → AreSitesApart arrays sites → found ≡ or_overlap arrays sites found
 apart_sites arrays sites found apart = sym (ap (option_or found) (sites_none arrays sites apart) ∙ or_none found)
 
@@ -44,7 +44,7 @@ no_turn_sites : (body : ℤ → List Site) → ((x : ℤ) → body x ≡ []) →
 no_turn_sites body none low zero = refl
 no_turn_sites body none low (suc n) = ap (λ sites. sites ++ turn_sites body (low +ℤ pos 1) n) (none low) ∙ no_turn_sites body none (low +ℤ pos 1) n
 
--- a loop whose body enters no site adds none
+-- A loop whose body enters no site adds nothing.
 pub no_sites : (arrays : Arrays) (var : List ℕ) (low high : ℤ) (body : Sequence) (vars : Vars) (found : Option WalkFault) → capped (sites_in body) ≡ 0 →
     found ≡ or_overlap arrays (loop_sites var low high (sequence_sites body) vars) found
 no_sites arrays var low high body vars found e =

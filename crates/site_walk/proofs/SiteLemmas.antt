@@ -1,4 +1,4 @@
--- Sites, rounds and pieces one after another: the first of what is left, and then the rest.
+-- Sites, rounds and pieces in sequence: the first of the remaining ones, and then the others.
 use Rattle.std.proofs.Common.{◌≡◌, ℕ, suc, ◌+◌, ◌-◌, ◌<◌, List, [], ◌∷◌, ◌++◌, map, length, drop, get_or, drop-cons, add-one, Option, Some, None, false, ℤ, pos, ◌+ℤ◌, ◌<ℤ◌, refl, sym, ap, ◌∙◌, arith}
 use Rattle.std.specs.Option.{is_some}
 use Rattle.std.proofs.lemmas.Bool.{false≢true}
@@ -81,7 +81,7 @@ pub member_next : (arrays : Arrays) (var : List ℕ) (low high : ℤ) (m : ℕ) 
 member_next arrays var low high m body j vars t h =
     ap (λ k. with_pieces arrays j (member_works var low high m body j k vars) t) (let e : m - j ≡ suc (m - (j + 1)) = omega arith in e)
 
--- ---- an overlap that is kept, or none
+-- ---- an earlier overlap, or none
 
 pub keep_cell : (found : Option WalkFault) (line cell : ℕ) (o : Option ℕ) → is_some found ≡ false → o ≡ Some cell →
     Some (Overlap line cell) ≡ option_or found (option_or (cell_fault line o) None)

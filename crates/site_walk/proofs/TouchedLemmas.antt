@@ -1,4 +1,4 @@
--- What is done, joined: in any order, and once as well as twice.
+-- Joins of marks: order and repetition make no difference.
 use Rattle.std.proofs.Common.{◌≡◌, ℕ, ◌<◌, cond, Bool, true, false, refl, sym, ap, ◌∙◌, arith}
 use Rattle.std.specs.Prelude.{nat_eq, ◌&&◌, ◌||◌}
 use Rattle.std.proofs.lemmas.Bool.Decides.{nat_tests}
@@ -73,7 +73,7 @@ pieces_idem Nobody = refl
 pieces_idem (One p) = ap (λ b. cond b (One p) Several) (same_test p p refl)
 pieces_idem Several = refl
 
--- ---- with whether they wrote
+-- ---- with the flag whether they wrote
 
 made : Pieces → Bool → Touched
 made by written = record { by = by; written = written }
@@ -107,11 +107,11 @@ pub joined_idem : (a : Touched) → joined a a ≡ a
 unfolding made
 joined_idem a = both (joined_pieces a.by a.by) a.by (a.written || a.written) a.written (pieces_idem a.by) (or_idem a.written)
 
--- what joins first may as well join last
+-- The first mark to be joined may be joined last.
 pub joined_turned : (a b c : Touched) → joined a (joined b c) ≡ joined b (joined a c)
 joined_turned a b c = sym (joined_assoc a b c) ∙ ap (λ x. joined x c) (joined_comm a b) ∙ joined_assoc b a c
 
--- what is there once is there as well
+-- A mark that is joined already changes nothing.
 pub joined_again : (a b : Touched) → joined a (joined a b) ≡ joined a b
 joined_again a b = sym (joined_assoc a a b) ∙ ap (λ x. joined x b) (joined_idem a)
 
@@ -123,11 +123,11 @@ clash_parts true w' Nobody p' h = refl
 clash_parts true w' (One q) p' h = refl
 clash_parts true w' Several p' h = h
 
--- where no clash is in all, none is in a part
+-- If all marks have no clash, a part has none.
 pub clashes_part : (a b : Touched) → clashes (joined a b) ≡ false → clashes a ≡ false
 clashes_part a b h = clash_parts a.written b.written a.by b.by h
 
--- what one piece does twice
+-- One piece touches twice.
 pub one_piece_twice : (p : ℕ) (w x : Bool) →
     joined (record { by = One p; written = w }) (record { by = One p; written = x }) ≡ record { by = One p; written = w || x }
 unfolding made

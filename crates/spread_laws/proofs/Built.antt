@@ -1,4 +1,4 @@
--- In a program that has a meaning and no fault, each construct's arrays and their rows stand where they should.
+-- In a program with a meaning and no fault, each construct's arrays and their rows stand where they should.
 use Rattle.std.proofs.Common.{◌≡◌, ℕ, ◌+◌, ◌*◌, ◌<◌, ◌≤◌, Bool, true, false, cond, List, [], ◌∷◌, ◌++◌, map, Option, Some, None, pos, refl, sym, ap, ◌∙◌, subst, ◌⊎◌, inl, inr, ⊎_elim, arith}
 use Rattle.std.specs.Prelude.{◌&&◌, ◌||◌, nat_le, length, int_le, unsigned_abs}
 use Rattle.std.specs.List.{filter}
@@ -30,7 +30,7 @@ use Rattle.spread_laws.proofs.Outside.{IsBuilt, AreBuilt, HasBuilt}
 use Rattle.spread_laws.proofs.Named.{statement_known, not_declared, rows_needed, AreSingle, single, member_named, member_other, rows_other, name_self}
 use Rattle.spread_laws.proofs.Declared.{member_left, member_right, up_to_greatest, tallied_by, chosen_name, chosen_length, rows_named, rows_long}
 
--- neither fault is there
+-- The program has neither fault.
 pub no_fault : (program : ProgramTree) → spread_fault_of program ≡ None → (unshaped 0 program.body ≡ None) × (taken_at program ≡ None)
 no_fault program h = by_lines (unshaped 0 program.body) (taken_at program) refl refl
   where
@@ -56,7 +56,7 @@ member_filter p (y ∷ ys) x (inr q) t = ⊎_elim
     (λ no. rw no (member_filter p ys x q t))
     (cases_Bool (p y))
 
--- of arrays declared once each has the length of its name, and each name's is one of them
+-- If each array is declared once, the length of an array's name is that of the array.
 pub length_single : (arrays : Arrays) → AreSingle arrays → (a : List ℕ × ℕ) → IsMember a arrays → length_of arrays a.0 ≡ a.1
 length_single [] once a h = absurd h
 length_single (b ∷ more) once a (inl e) = let same : name_eq b.0 a.0 ≡ true = subst (λ z. name_eq b.0 z.0 ≡ true) e (name_self b.0) in rw same (ap (λ (z : List ℕ × ℕ). z.1) e)
@@ -130,7 +130,7 @@ module _ (program : ProgramTree) (meaning : HasMeaning program) (free : taken_at
         room = omega (arith, long, few);
       }
 
-  -- two of them are apart, and so are their rows
+  -- Two of the arrays are apart, and so are their rows.
   stand_apart : (n : ℕ) (a b : List ℕ × ℕ) → Stands n a → Stands n b → name_eq a.0 b.0 ≡ false → IsClear n (tally_of new a) (tally_of new b)
   stand_apart n a b s t other = record {
     arrays = by_arrays (names_apart old a.0 b.0 other);
@@ -169,7 +169,7 @@ module _ (program : ProgramTree) (meaning : HasMeaning program) (free : taken_at
       (λ gone. rw gone rest)
       (cases_Bool (statement_has_add a.0 c))
 
-  -- a construct of so many rows
+  -- A construct with so many rows is built as it should be.
   built : (n : ℕ) (c : Statement) → n ≤ 64 → ((x : List ℕ) → statement_has_add x c ≡ true → IsMember n (rows_with x program.body))
       → ((x : List ℕ) → statement_has_add x c ≡ true → (is_sum x ≡ true) × (is_among x (names_in old) ≡ true))
       → IsBuilt old new end n c
@@ -236,7 +236,7 @@ module _ (program : ProgramTree) (meaning : HasMeaning program) (free : taken_at
       off x a declared s (inr (inr (inl absent))) = absurd (both_ways _ absent declared)
       off x a declared s (inr (inr (inr absent))) = absurd (both_ways _ absent s.known)
 
-  -- its rows are among those of the body
+  -- The construct's rows are among those of the body.
   abbrev Counts : (List ℕ → List ℕ) → Type 0
   Counts part = (x : List ℕ) (n : ℕ) → IsMember n (part x) → IsMember n (rows_with x program.body)
 

@@ -1,4 +1,4 @@
--- Where the rows of an array are declared, and how many cells they have.
+-- The positions of an array's rows, and how many cells they have.
 use Rattle.std.proofs.Common.{◌≡◌, ℕ, ◌*◌, ◌≤◌, Bool, true, false, List, [], ◌∷◌, ◌++◌, map, refl, sym, ap, ◌∙◌, subst, ◌⊎◌, inl, inr, ⊎_elim, arith}
 use Rattle.std.specs.Prelude.{max, unsigned_abs}
 use Rattle.std.specs.List.{filter}
@@ -42,7 +42,7 @@ tallied_by body x n h = by_list (rows_with x body) refl h
 
 -- ---- which declarations
 
--- the declarations of a name are kept where the test is of names alone
+-- A declared name that passes a test of names is among the declarations that pass.
 pub chosen_name : (p : List ℕ → Bool) (ds : List Declaration) (x : List ℕ) → p x ≡ true → is_among x (names_of ds) ≡ true
     → is_among x (names_of (filter (λ d. p d.name) ds)) ≡ true
 chosen_name p [] x t h = absurd (false≢true h)
@@ -67,7 +67,7 @@ chosen_length p (d ∷ ds) x t = by_tests (cases_Bool (name_eq d.name x)) (cases
     by_tests (inr other) (inl here) rest = rw (here, other) rest
     by_tests (inr other) (inr gone) rest = rw (gone, other) rest
 
--- ---- their rows
+-- ---- the rows of the declarations
 
 module _ (body : Sequence) where
   pub rows_named : (ds : List Declaration) (x : List ℕ) → is_among x (names_of ds) ≡ true → is_among (rows_name x) (names_in (arrays_of (map (rows_declaration body) ds))) ≡ true

@@ -1,4 +1,4 @@
--- The sites inside a construct stay as they are, and their pieces touch the same cells in both programs.
+-- The sites inside a construct stay, and their pieces touch the same cells in both programs.
 use Rattle.std.proofs.Common.{◌≡◌, ℕ, zero, suc, ◌+◌, ◌-◌, ◌*◌, ◌/◌, ◌<◌, ◌≤◌, List, [], ◌∷◌, Option, Some, None, ℤ, pos, ◌+ℤ◌, ap, ◌∙◌, subst, arith}
 use Rattle.std.specs.Prelude.{◌↔◌, unsigned_abs}
 use Rattle.std.specs.Option.{option_or}
@@ -27,7 +27,7 @@ use Rattle.spread_laws.proofs.Rounds.{both_sides, AreTracked, round_agrees, AreA
 
 -- ---- the iterations of a member
 
--- the row of an iteration is that of the member that has it
+-- The row of an iteration is that of its member.
 pub member_of : (n m j t : ℕ) → 0 < m → t < n → first_of n m j ≤ t → t < first_of n m (j + 1) → ((t + 1) * m - 1) / n ≡ j
 member_of n m j t some less from below =
     let before : n * j < (t + 1) * m = (div-lt_iff_lt-mul some).0 (omega (arith, from)) in
@@ -39,7 +39,7 @@ member_of n m j t some less from below =
     omega (arith, high, low)
 
 module _ (old new : Arrays) (end rows : ℕ) (ts : List Tally) (laid : AreLaid (cells_of old) end rows ts) where
-  -- a member's work touches what its iterations touch
+  -- A member's work touches what its iterations touch.
   module _ (var : List ℕ) (low high : ℤ) (m : ℕ) (body body' : Work) (vars : Vars)
       (each : (j t : ℕ) → t < span low high → first_of (span low high) m j ≤ t → t < first_of (span low high) m (j + 1)
       → Tracks old new rows ts j (walk old (body ((var, low +ℤ pos t) ∷ vars))) (walk new (body' ((var, low +ℤ pos t) ∷ vars)))) where
@@ -158,7 +158,7 @@ module _ (old new : Arrays) (end rows : ℕ) (ts : List Tally) (laid : AreLaid (
           (λ i less. sequence_stays d deep first ((var, low +ℤ pos i) ∷ vars) p.0 (turns_fine old (λ x. sequence_work first ((var, x) ∷ vars)) low (span low high) f.0 i less)))
           (phases_stays d deep rest var low high vars p.1 f.1)
 
-    -- ---- what stands in a branch or an iteration
+    -- ---- statements in a branch or an iteration
 
     module _ (row : Expression) where
       assign_sites : (line : ℕ) (x : List ℕ) (e value : Expression) (vars : Vars) (o : Option Expression) → AreAlike old new [] (statement_sites (spread_assign old row line x e value o) vars)

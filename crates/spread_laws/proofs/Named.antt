@@ -1,4 +1,4 @@
--- What names tell: an array that is added to is declared and accumulating, and no declaration has its rows' name.
+-- What follows from names: an array that is added to is declared and accumulating, and no declaration has its rows' name.
 use Rattle.std.proofs.Common.{◌≡◌, ℕ, true, false, List, [], ◌∷◌, Option, Some, None, refl, sym, subst, inl, inr, ⊎_elim}
 use Rattle.std.specs.Prelude.{◌&&◌, not, codes}
 use Rattle.std.specs.Option.{is_some}
@@ -25,7 +25,7 @@ name_self x = nat_list_eq_equiv.refl x
 pub rows_self : (x y : List ℕ) → name_eq x y ≡ true → name_eq (rows_name x) (rows_name y) ≡ true
 rows_self x y h = subst (λ z. name_eq (rows_name x) (rows_name z) ≡ true) (same_text x y (sym h)) (name_self (rows_name x))
 
--- arrays of two names have rows of two names
+-- Arrays of two names have rows of two names.
 pub rows_other : (x y : List ℕ) → name_eq x y ≡ false → name_eq (rows_name x) (rows_name y) ≡ false
 rows_other x y h = false_from_ne_true (name_eq (rows_name x) (rows_name y)) (λ t.
     let same : x ≡ y = append_cancel_right x y (codes "_rows") (same_text (rows_name x) (rows_name y) (sym t)) in
@@ -104,13 +104,13 @@ single (d ∷ ds) before h =
     let p = and_parts (not (is_among d.name before)) (are_declared_once ds (d.name ∷ before)) h in
     (before_absent ds (d.name ∷ before) d.name p.1 (or_left (name_eq d.name d.name) (is_among d.name before) (name_self d.name)), single ds (d.name ∷ before) p.1)
 
--- a member's name is among the names
+-- A member's name is among the names.
 pub member_named : (arrays : Arrays) (a : List ℕ × ℕ) → IsMember a arrays → is_among a.0 (names_in arrays) ≡ true
 member_named [] a in_a = absurd in_a
 member_named (b ∷ more) a (inl p) = or_left (name_eq b.0 a.0) (is_among a.0 (names_in more)) (subst (λ z. name_eq b.0 z.0 ≡ true) p (name_self b.0))
 member_named (b ∷ more) a (inr q) = or_right (name_eq b.0 a.0) (is_among a.0 (names_in more)) (member_named more a q)
 
--- and another than that of an array before it
+-- A member's name differs from that of an earlier array.
 pub member_other : (arrays : Arrays) (x : List ℕ) (a : List ℕ × ℕ) → is_among x (names_in arrays) ≡ false → IsMember a arrays → name_eq x a.0 ≡ false
 member_other arrays x a absent in_a = false_from_ne_true (name_eq x a.0) (λ t.
     both_ways (is_among x (names_in arrays)) absent (subst (λ z. is_among z (names_in arrays) ≡ true) (sym (same_text x a.0 (sym t))) (member_named arrays a in_a)))

@@ -1,4 +1,4 @@
--- Parts of two programs side by side: from related stores they lead to related ones, and enter the same sites. One lemma shows
+-- Parts of two programs side by side lead from related stores to related stores and enter the same sites. One lemma shows
 -- both, since a part is its steps together with the sites that it enters.
 use Rattle.std.proofs.Common.{◌≡◌, ℕ, zero, suc, ◌<◌, Bool, true, false, cond, [], ◌∷◌, ◌++◌, replicate, ℤ, pos, ◌+ℤ◌, refl, sym, ap, ◌∙◌, subst, arith}
 use Rattle.std.proofs.lemmas.Int.{ints}
@@ -10,7 +10,7 @@ use Rattle.array_meaning.specs.Work.{turns}
 use Rattle.array_meaning.specs.Entered.{Part, entered_then, turns_entered}
 use Rattle.spread_laws.proofs.Keeps.{Keep, done_keep, then_keep, choice_keep}
 
--- steps without a site
+-- Steps without a site.
 abbrev pub plain_part : Steps → Part
 plain_part steps = (steps, λ store. [])
 
@@ -20,14 +20,14 @@ then_part arrays p q = (followed_by p.0 q.0, entered_then arrays p q.1)
 abbrev pub turns_part : Arrays → (ℤ → Part) → ℤ → ℕ → Part
 turns_part arrays f low n = (turns (λ x. (f x).0) low n, turns_entered arrays f low n)
 
--- a choice of two sides that have m and n sites
+-- A choice between two sides with m and n sites.
 abbrev pub choice_part : Arrays → ℕ → Vars → Expression → Part → Part → ℕ → ℕ → Part
 choice_part arrays line vars test p q m n = (
   Choose line vars test p.0 q.0 Done,
   λ store. cond (holds (value_of arrays vars test store)) (p.1 store ++ replicate n false) (replicate m false ++ q.1 store),
 )
 
--- a construct is a site
+-- A construct is a site.
 abbrev pub site_part : Part → Part
 site_part p = (p.0, λ store. true ∷ p.1 store)
 
@@ -74,7 +74,7 @@ module _ (old new : Arrays) (R : Store → Store → Type 0) where
       let next : low +ℤ pos (suc i) ≡ low +ℤ pos 1 +ℤ pos i = omega (arith, ints) in
       subst (λ x. Mirror (f x) (g x)) next (each (suc i) (omega arith))))
 
-  -- what does and enters the same may stand for another part
+  -- A part may be replaced by one that does and enters the same.
   pub same_mirror : (p q q' : Part) → q'.0 ≡ q.0 → ((t : Store) → q'.1 t ≡ q.1 t) → Mirror p q → Mirror p q'
   same_mirror p q q' steps entering m = record {
     keeps = subst (Keep old new R p.0) (sym steps) m.keeps;

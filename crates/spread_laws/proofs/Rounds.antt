@@ -1,5 +1,5 @@
--- Pieces of a round in both programs: those of the spread one are apart exactly where those of the given one clash on
--- accumulating arrays alone.
+-- Pieces of a round in both programs: those of the spread program are apart iff those of the given one clash on
+-- accumulating arrays only.
 use Rattle.std.proofs.Common.{◌≡◌, ◌≢◌, ℕ, zero, suc, ◌+◌, ◌*◌, ◌<◌, ◌≤◌, true, false, List, [], ◌∷◌, ◌++◌, Some, refl, subst, arith, ◌⊎◌, inl, inr, ⊎_elim}
 use Rattle.std.specs.Prelude.{◌↔◌, slice_get}
 use Rattle.std.proofs.Math.Nat.{mul-le-mul_right}
@@ -18,7 +18,7 @@ use Rattle.spread_laws.proofs.Tracks.{IsInRow, Tracks}
 pub both_sides : {A A' B B' : Type 0} → (A ↔ A') → (B ↔ B') → (A × B) ↔ (A' × B')
 both_sides f g = (λ p. (f.0 p.0, g.0 p.1), λ p. (f.1 p.0, g.1 p.1))
 
--- two rows of one array have no cell in common
+-- Two rows of one array share no cell.
 rows_differ : (first size i j c : ℕ) → i ≢ j → first + i * size ≤ c → c < first + (i * size + size) → first + j * size ≤ c → c < first + (j * size + size) → ⊥
 rows_differ first size i j c other from below from' below' = ⊎_elim
     (λ l. let m : (i + 1) * size ≤ j * size = mul-le-mul_right size (let le : i + 1 ≤ j = omega (arith, l) in le) in omega (arith, m, below, from'))
@@ -69,7 +69,7 @@ module _ (old new : Arrays) (end rows : ℕ) (ts : List Tally) (laid : AreLaid (
       let next : k + 1 + i ≡ k + suc i = omega arith in
       record { piece = r.piece; at = r.at; tracks = subst (λ (n : ℕ). Tracks old new rows ts n (walk old r.piece) (walk new q)) next r.tracks }
 
-  -- one cell isn't of two rows
+  -- No cell is in two rows.
   one_row : (i j c : ℕ) → i ≢ j → IsInRow old new rows ts i c → IsInRow old new rows ts j c → ⊥
   one_row i j c other x y =
       let a = x.tally in
@@ -87,7 +87,7 @@ module _ (old new : Arrays) (end rows : ℕ) (ts : List Tally) (laid : AreLaid (
       ⊎_elim (λ l. omega (arith, l, mine, below, from')) (λ r. omega (arith, r, yours, below', from)) clear.cells)
       (one_or_clear rows ts laid.clear a b x.member y.member)
 
-  -- a cell of a row is no cell of the given program
+  -- A cell of a row is no cell of the given program.
   not_given : (k c : ℕ) → c < cells_of old → IsInRow old new rows ts k c → ⊥
   not_given k c low x = let high = laid.above x.tally x.member in let from = x.from in omega (arith, low, high, from)
 
@@ -119,7 +119,7 @@ module _ (old new : Arrays) (end rows : ℕ) (ts : List Tally) (laid : AreLaid (
       pub touched : reads_of old p c ⊎ changes_of old p c
       pub low : c < cells_of old
 
-    -- a clash in the spread program is one in the given program, and on no accumulating array
+    -- A clash in the spread program is one in the given program, and not on an accumulating array.
     clash_given : (c : ℕ) → IsClash new qs c → IsClash old ps c × (IsSumCell old c → ⊥)
     clash_given c clash =
         let a = given_piece 0 ps qs tracked clash.i clash.one clash.at_i in

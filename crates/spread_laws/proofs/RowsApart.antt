@@ -1,4 +1,4 @@
--- The sites of the spread program are apart exactly where those of the given one are, but for accumulating arrays.
+-- The sites of the spread program are apart iff those of the given one are, up to accumulating arrays.
 use Rattle.std.proofs.Common.{◌≡◌, ℕ, zero, suc, ◌+◌, ◌*◌, ◌<◌, ◌≤◌, true, false, List, [], ◌∷◌, ◌++◌, map, None, ℤ, pos, ◌+ℤ◌, refl, sym, ap, ◌∙◌, subst, arith}
 use Rattle.std.specs.Prelude.{◌↔◌, not, unsigned_abs}
 use Rattle.std.specs.Option.{option_or}
@@ -91,7 +91,7 @@ module _ (old new : Arrays) (kept : AreKept old new) (once : AreSingle old) (end
         (sequence_sites_alike old new end rows ts laid kept once (Number (pos from)) first vars p.0 f.0)
         (branches_alike (from + 1) rest vars p.1 f.1)
 
-    -- the row expression of a team has for each iteration the row of its member
+    -- The row expression of a team has for each iteration the row of its member.
     abbrev IsDealt : Expression → List ℕ → ℤ → ℤ → ℕ → Vars → List (List ℕ) → Type 0
     IsDealt row var low high m vars taken = (j t : ℕ) → t < span low high → first_of (span low high) m j ≤ t → t < first_of (span low high) m (j + 1)
         → (j < rows) × HasRow new row j ((var, low +ℤ pos t) ∷ vars) × StaysRow new row j (var ∷ taken)
@@ -129,7 +129,7 @@ module _ (old new : Arrays) (kept : AreKept old new) (once : AreSingle old) (end
         (turns_fine old (λ x. sequence_work first ((var, x) ∷ vars)) low (span low high) f.0 i less)))
         (phases_alike row rest var low high vars p.1 f.1)
 
-  -- ---- what stands outside constructs
+  -- ---- statements outside constructs
 
   no_tallies : AreLaid (cells_of old) (cells_of old) 0 []
   no_tallies = record { longer = omega arith; below = λ a in_a. absurd in_a; above = λ a in_a. absurd in_a; within = λ a in_a. absurd in_a; clear = tt }

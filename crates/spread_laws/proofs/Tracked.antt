@@ -1,4 +1,4 @@
--- What stands inside a construct touches the same cells in both programs, but for its adds: these touch cells of its row.
+-- Statements inside a construct touch the same cells in both programs, except for its adds: these touch cells of its row.
 use Rattle.std.proofs.Common.{◌≡◌, ℕ, zero, suc, ◌+◌, ◌*◌, ◌<◌, ◌≤◌, Bool, true, false, List, [], ◌∷◌, ◌++◌, Option, Some, None, ℤ, pos, ◌+ℤ◌, refl, sym, ap, ◌∙◌, subst, arith, inl, inr}
 use Rattle.std.specs.Prelude.{◌||◌, not, unsigned_abs, if◌then◌else◌}
 use Rattle.std.specs.Option.{option_or, is_some}
@@ -62,7 +62,7 @@ module _ (old : Arrays) where
   turns_clean f low zero each = tt
   turns_clean f low (suc n) each = then_clean (f low) (turns f (low +ℤ pos 1) n) (each low) (turns_clean f (low +ℤ pos 1) n each)
 
-  -- inside two constructs
+  -- At depth 2 or more, statements touch no accumulating array.
   mutual
     pub statement_clean : (d : ℕ) → 2 ≤ d → (s : Statement) (vars : Vars) → statement_unshaped d s ≡ None → AreClean (walk old (statement_work s vars))
     statement_clean d deep (Assign line x i e) vars shape =

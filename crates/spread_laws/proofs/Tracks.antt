@@ -71,7 +71,7 @@ module _ (old new : Arrays) where
       ∙ ap (λ vs. reads_in old line vars test ++ (walk old a ++ (vs ++ walk new rest))) (walk_same b)
       ∙ ap (λ vs. reads_in old line vars test ++ (walk old a ++ (walk old b ++ vs))) (walk_same rest)
 
--- a static expression reads nothing
+-- A static expression reads nothing.
 pub static_reads : (arrays : Arrays) (line : ℕ) (vars : Vars) (e : Expression) → is_dynamic e ≡ false → reads_in arrays line vars e ≡ []
 static_reads arrays line vars (Number n) h = refl
 static_reads arrays line vars (Var name) h = refl
@@ -91,7 +91,7 @@ pub clean_join : (xs ys : List Visit) → AreClean xs → AreClean ys → AreCle
 clean_join [] ys f g = g
 clean_join (v ∷ xs) ys f g = (f.0, clean_join xs ys f.1 g)
 
--- no cell that they touch is one of an accumulating array
+-- a touched cell isn't one of an accumulating array
 abbrev IsPlain : Arrays → ℕ → Type 0
 IsPlain old c = (c < cells_of old) × (IsSumCell old c → ⊥)
 
@@ -211,7 +211,7 @@ module _ (old new : Arrays) (rows : ℕ) (ts : List Tally) where
     reads_tracks k line vars e fine clean =
         subst (Tracks k (reads_in old line vars e)) (sym (reads_same old new line vars e)) (same_tracks k (reads_in old line vars e) fine clean)
 
-    -- steps that are the same in both programs
+    -- Equal steps in both programs.
     pub steps_tracks : (k : ℕ) (a : Steps) → AreFine old (walk old a) → AreClean (walk old a) → Tracks k (walk old a) (walk new a)
     steps_tracks k a fine clean =
         subst (Tracks k (walk old a)) (sym (walk_same old new a)) (same_tracks k (walk old a) fine clean)

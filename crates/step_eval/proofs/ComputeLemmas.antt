@@ -1,4 +1,4 @@
--- A hart that computes a construct itself gets what the construct writes.
+-- A hart that computes a construct itself gets the construct's writes.
 use Rattle.std.proofs.Common.{◌≡◌, ℕ, suc, ◌+◌, ◌<◌, ◌≤◌, List, [], ◌∷◌, ◌++◌, map, length, drop, get_or, drop-cons, refl, sym, ap, ◌∙◌, add-one, arith}
 use Rattle.std.proofs.lemmas.List.{length-replicate}
 use Rattle.std.specs.Prelude.{false}
@@ -27,7 +27,7 @@ below_append : (n : ℕ) (a b : List Write) → AreBelow n a → AreBelow n b �
 below_append n [] b h k = k
 below_append n (w ∷ a) b h k = (h.0, below_append n a b h.1 k)
 
--- what fit jobs of a phase write lies inside the store
+-- The writes of fit jobs of a phase lie inside the store.
 jobs_below : (nested : NestedTree) (phase : ℕ) (store : Store) (place first : ℕ) (works : List WorkTree) →
     AreFitJobs (numbered nested phase store place first works) → AreBelow (length store) (writes_of_jobs (numbered nested phase store place first works))
 jobs_below nested phase store place first [] fit = tt
@@ -38,7 +38,7 @@ jobs_below nested phase store place first (work ∷ works) fit =
     (below_lays (length store) ws [] (below_of (length store) ws (inside _ fit.0)) tt)
     (jobs_below nested phase store (place + 1) (first + sites_of work) works fit.1)
 
--- one after another is merged
+-- The writes of jobs in sequence are their merged pieces.
 writes_merged : (jobs : List JobTree) (laid : List Write) → merged (map piece_of_job jobs) laid ≡ lays (writes_of_jobs jobs) laid
 writes_merged [] laid = refl
 writes_merged (job ∷ jobs) laid =
@@ -50,7 +50,7 @@ last_of_jobs nested fit phase store h =
     let jobs = jobs_in nested phase store in
     sym (writes_merged jobs []) ∙ phases_are_merged nested fit phase store h jobs (record { to = λ job m. m; from = λ job m. m })
 
--- Nothing is done at first.
+-- At first no phase is done.
 pub reached_none : (nested : NestedTree) → HasReached nested 0 (fresh nested.store)
 reached_none nested = record {
   cells = refl;
@@ -59,7 +59,6 @@ reached_none nested = record {
   same = refl;
 }
 
--- One more phase is done.
 pub reached_next : (nested : NestedTree) → IsFitNest nested → (phase : ℕ) → phase < phases_of nested.construct → (store : Trace) → HasReached nested phase store →
     HasReached nested (phase + 1) (noted_all (writes_of_jobs (jobs_in nested phase store.cells)) store)
 reached_next nested fit phase h store reached =
@@ -80,7 +79,6 @@ reached_next nested fit phase h store reached =
       same = size ∙ reached.same;
     })
 
--- One more job is merged.
 pub merged_next : (jobs : List JobParts) (i : ℕ) (job : JobParts) (pairs : List Write) (store next all : Trace) → i < length jobs →
     job ≡ get_or jobs i job → pairs ≡ piece_of_job (job_of job) → next ≡ noted_all pairs store →
     noted_all (writes_of_jobs (map job_of (drop i jobs))) store ≡ all → noted_all (writes_of_jobs (map job_of (drop (i + 1) jobs))) next ≡ all
@@ -93,7 +91,7 @@ merged_next jobs i job pairs store next all h is written merged whole =
     ∙ ap (λ js. noted_all (writes_of_jobs (map job_of js)) store) (sym cut)
     ∙ whole
 
--- The store of a construct is small.
+-- The store of a construct has at most 4,096 cells.
 pub small_store : (nested : NestedTree) → IsFitNest nested → length nested.store ≤ 4096
 small_store nested fit =
     let some = some_phases nested.construct fit.construct fit.limits in
@@ -107,7 +105,7 @@ small_store nested fit =
         let whole = (sized _ fits.0).whole in
         omega (arith, cells, whole)
 
--- Where all phases are done, what is marked is what the construct writes.
+-- When all phases are done, the marked cells are the construct's writes.
 pub reached_all : (nested : NestedTree) → IsFitNest nested → (phase : ℕ) (store : Trace) → phase ≡ phases_of nested.construct → HasReached nested phase store →
     last_writes (marked store) ≡ nested_writes nested
 reached_all nested fit phase store e reached =

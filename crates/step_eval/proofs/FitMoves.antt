@@ -1,4 +1,4 @@
--- What a step leaves is fit to be run.
+-- The works that a step leaves are fit.
 use Rattle.std.proofs.Common.{◌≡◌, ℕ, ◌+◌, ◌*◌, Bool, true, false, cond, List, [], ◌∷◌, ◌++◌, ℤ, pos, ◌+ℤ◌, refl, ap, subst, ◌∙◌, arith}
 use Rattle.std.specs.Prelude.{int_lt}
 use Rattle.array_tree.specs.Trees.{Expression, Statement, Assign, For, If, Par, Team, Sequence, ended, followed}
@@ -13,7 +13,7 @@ use Rattle.step_eval.specs.Rest.{WorkAt, at, before, instead, AreFit}
 use Rattle.step_eval.specs.Moves.{work_moved, moved, work_passes, moved_sites}
 use Rattle.step_eval.proofs.FitParts.{parts_of, refit, sequence_parts, member_parts, turn_parts, side_parts, below_of_test}
 
--- The rest of a fit block is fit, whose sites come after those of the first statement.
+-- The rest of a fit block is fit; its sites follow those of the first statement.
 pub fit_rest : (job : JobTree) (next : ℕ) (first : Statement) (rest : Sequence) (vars : Vars) →
     IsFit (instead job next (at (branch_of (followed first rest)) vars)) → IsFit (instead job (next + statement_sites_in first) (at (branch_of rest) vars))
 fit_rest job next first rest vars fit =
@@ -22,7 +22,7 @@ fit_rest job next first rest vars fit =
     let room = fit.sites in
     refit job next all (next + statement_sites_in first) (at (branch_of rest) vars) fit parts (omega (arith, room))
 
--- A loop that has begun is fit: its turns are.
+-- The turns of a fit loop that has begun are fit.
 pub fit_loop : (job : JobTree) (next : ℕ) (line : ℕ) (var : List ℕ) (low high : ℤ) (body rest : Sequence) (vars : Vars) →
     IsFit (instead job next (at (branch_of (followed (For line var low high body) rest)) vars)) → IsFit (instead job next (at (member_of var low high body) vars))
 fit_loop job next line var low high body rest vars fit =
@@ -33,7 +33,7 @@ fit_loop job next line var low high body rest vars fit =
     refit job next all next (at (member_of var low high body) vars) fit
     (member_parts job.arrays vars line var low high body (statement_work first vars) parts) (omega (arith, room))
 
--- The sites of a loop with a turn left are those of the turn and those of the other turns.
+-- The sites of a loop with a turn left are those of the turn and those of the later turns.
 pub turn_sites_in : (var : List ℕ) (low high : ℤ) (body : Sequence) → int_lt low high ≡ true →
     sites_of (member_of var low high body) ≡ sites_in body + sites_of (member_of var (low +ℤ pos 1) high body)
 turn_sites_in var low high body below =
@@ -53,7 +53,7 @@ fit_turn job next var low high body vars below fit =
     let sites = turn_sites_in var low high body below in
     refit job next all next (at (branch_of body) ((var, low) ∷ vars)) fit parts (omega (arith, room, sites))
 
--- And so are the other turns, whose sites come after those of the first.
+-- The later turns of a fit loop are fit; their sites follow those of the first turn.
 pub fit_turns : (job : JobTree) (next : ℕ) (var : List ℕ) (low high : ℤ) (body : Sequence) (vars : Vars) → int_lt low high ≡ true →
     IsFit (instead job next (at (member_of var low high body) vars)) →
     IsFit (instead job (next + sites_in body) (at (member_of var (low +ℤ pos 1) high body) vars))
@@ -64,7 +64,7 @@ fit_turns job next var low high body vars below fit =
     let sites = turn_sites_in var low high body below in
     refit job next all (next + sites_in body) (at (member_of var (low +ℤ pos 1) high body) vars) fit parts (omega (arith, room, sites))
 
--- Both sides of an `if` are fit, the sites of the second behind those of the first.
+-- Both sides of a fit `if` are fit; the sites of the second side follow those of the first.
 pub fit_sides : (job : JobTree) (next line : ℕ) (cond : Expression) (then_block else_block rest : Sequence) (vars : Vars) →
     IsFit (instead job next (at (branch_of (followed (If line cond then_block else_block) rest)) vars)) →
     IsFit (instead job next (at (branch_of then_block) vars)) × IsFit (instead job (next + sites_in then_block) (at (branch_of else_block) vars))
@@ -82,11 +82,11 @@ fit_sides job next line cond then_block else_block rest vars fit =
 fit_at : (job : JobTree) (n m : ℕ) (w : WorkAt) → n ≡ m → IsFit (instead job n w) → IsFit (instead job m w)
 fit_at job n m w same fit = subst (λ k. IsFit (instead job k w)) same fit
 
--- The next site may be numbered by an equal number.
+-- A work with an equal next site.
 are_at : (job : JobTree) (n m : ℕ) (ws : List WorkAt) → n ≡ m → AreFit job n ws → AreFit job m ws
 are_at job n m ws same fit = subst (λ k. AreFit job k ws) same fit
 
--- the rest of a block behind its first statement
+-- A block after its first statement.
 rest_fit : (job : JobTree) (next : ℕ) (first : Statement) (rest : Sequence) (vars : Vars) (n : ℕ) (more : List WorkAt) →
     AreFit job next (before (branch_of (followed first rest)) vars n ∷ more) → AreFit job (next + statement_sites_in first) (before (branch_of rest) vars n ∷ more)
 rest_fit job next first rest vars n more fit = (
@@ -143,7 +143,7 @@ work_fits job next (member_of var low high body) vars n more store fit = turn (i
         let none = no_turn_sites var low high body above in
         are_at job (next + sites_of (member_of var low high body) + n) (next + n) more (omega (arith, none)) fit.1
 
--- Each work that a step leaves is fit again.
+-- Each work that a step leaves is fit.
 pub fit_moved : (job : JobTree) (next : ℕ) (w : WorkAt) (more : List WorkAt) (store : Store) → AreFit job next (w ∷ more) →
     AreFit job (next + moved_sites (arrays_of job.arrays) store w) (moved (arrays_of job.arrays) store w ++ more)
 fit_moved job next w more store fit = work_fits job next w.work w.vars w.after more store fit

@@ -1,4 +1,4 @@
--- How the fitness of a work is taken apart, by the work's shape.
+-- The parts of a work's fitness, by the shape of the work.
 use Rattle.std.proofs.Common.{◌≡◌, ℕ, ◌+◌, ◌≤◌, Bool, true, false, List, [], ◌∷◌, ◌++◌, ℤ, pos, ◌+ℤ◌, ◌<ℤ◌, refl, sym, ap, subst, ◌∙◌, arith}
 use Rattle.std.specs.Prelude.{◌&&◌, length, nat_le, int_lt, int_le}
 use Rattle.std.proofs.lemmas.Bool.{false≢true, and_parts}
@@ -18,14 +18,14 @@ use Rattle.array_jobs.specs.Works.{steps_of, statements_of, sites_of}
 use Rattle.array_jobs.specs.Jobs.{JobTree, IsFit, names_around}
 use Rattle.step_eval.specs.Rest.{WorkAt, instead}
 
--- What is true of and_parts makes the whole true.
+-- Two true values have a true conjunction.
 pub and_true : (a b : Bool) → a ≡ true → b ≡ true → (a && b) ≡ true
 and_true true b e f = f
 and_true false b e f = absurd (false≢true e)
 
--- ---- lists that are taken apart
+-- ---- lists and their parts
 
--- The indices of visits one after another are inside where those of and_parts parts are.
+-- If the indices of all visits are inside, those of each part are.
 pub inside_parts : (arrays : Arrays) (xs ys : List Visit) → are_inside arrays (xs ++ ys) ≡ true →
     (are_inside arrays xs ≡ true) × (are_inside arrays ys ≡ true)
 inside_parts arrays [] ys h = (refl, h)
@@ -34,7 +34,7 @@ inside_parts arrays (v ∷ xs) ys h =
     let parts = inside_parts arrays xs ys here.1 in
     (and_true _ (are_inside arrays xs) here.0 parts.0, parts.1)
 
--- And the other way.
+-- If the indices of each part are inside, those of all visits are.
 pub inside_append : (arrays : Arrays) (xs ys : List Visit) → are_inside arrays xs ≡ true → are_inside arrays ys ≡ true →
     are_inside arrays (xs ++ ys) ≡ true
 inside_append arrays [] ys h k = k
@@ -42,13 +42,13 @@ inside_append arrays (v ∷ xs) ys h k =
     let here = and_parts _ (are_inside arrays xs) h in
     and_true _ (are_inside arrays (xs ++ ys)) here.0 (inside_append arrays xs ys here.1 k)
 
--- The indices of steps one after another are inside where those of and_parts are.
+-- If the indices of steps in sequence are inside, those of each part are.
 pub inside_followed : (arrays : Arrays) (a b : Steps) → are_inside arrays (walk arrays (followed_by a b)) ≡ true →
     (are_inside arrays (walk arrays a) ≡ true) × (are_inside arrays (walk arrays b) ≡ true)
 inside_followed arrays a b h =
     inside_parts arrays (walk arrays a) (walk arrays b) (sym (ap (are_inside arrays) (walk_followed_by arrays a b)) ∙ h)
 
--- The indices of a choice are inside, and so are those of each side.
+-- If the indices of a choice are inside, those of each side are.
 pub inside_sides : (arrays : Arrays) (line : ℕ) (vars : Vars) (test : Expression) (left right rest : Steps) →
     are_inside arrays (walk arrays (Choose line vars test left right rest)) ≡ true →
     (are_inside arrays (walk arrays left) ≡ true) × (are_inside arrays (walk arrays right) ≡ true)
@@ -58,20 +58,20 @@ inside_sides arrays line vars test left right rest h =
     let second = inside_parts arrays (walk arrays right) (walk arrays rest) first.1 in
     (first.0, second.0)
 
--- Sites one after another are apart where those of and_parts parts are.
+-- If all sites are apart, those of each part are.
 pub apart_parts : (arrays : Arrays) (xs ys : List Site) → AreSitesApart arrays (xs ++ ys) → AreSitesApart arrays xs × AreSitesApart arrays ys
 apart_parts arrays [] ys h = (tt, h)
 apart_parts arrays (x ∷ xs) ys h = let parts = apart_parts arrays xs ys h.1 in ((h.0, parts.0), parts.1)
 
--- And the other way.
+-- If the sites of each part are apart, all are.
 pub apart_append : (arrays : Arrays) (xs ys : List Site) → AreSitesApart arrays xs → AreSitesApart arrays ys → AreSitesApart arrays (xs ++ ys)
 apart_append arrays [] ys h k = k
 apart_append arrays (x ∷ xs) ys h k = (h.0, apart_append arrays xs ys h.1 k)
 
 -- ---- the parts of a fit work
 
--- What makes statements fit, but for what depends on the job alone: over these arrays, with these loop variables
--- around, and with these steps.
+-- The conditions on statements for a fit job, except those on the job itself: for these arrays, these loop variables
+-- around, and these steps.
 pub record AreFitParts (arrays : List Declaration) (vars : Vars) (s : Sequence) (steps : Steps) : Type 0 where
   pub new_variables : has_new_variables s (names_around vars ++ names_of arrays) ≡ true
   pub known_names : has_known_names s (names_of arrays) (names_around vars) ≡ true
@@ -79,11 +79,11 @@ pub record AreFitParts (arrays : List Declaration) (vars : Vars) (s : Sequence) 
   pub indices : are_inside (arrays_of arrays) (walk (arrays_of arrays) steps) ≡ true
   pub apart : AreSitesApart (arrays_of arrays) (sequence_sites s vars)
 
--- Those of a work.
+-- the parts of a work
 abbrev pub WorkParts : JobTree → WorkAt → Type 0
 WorkParts job w = AreFitParts job.arrays w.vars (statements_of w.work) (steps_of w.work w.vars)
 
--- The part of the limits that is on the arrays.
+-- The limits on arrays alone.
 abbrev pub right_arrays : JobTree → Bool
 right_arrays job = have_right_lengths job.arrays && (nat_le (length job.arrays) 64 && nat_le (cells_of (arrays_of job.arrays)) 4096)
 
@@ -97,7 +97,7 @@ parts_of job next w fit = record {
   apart = fit.apart;
 }
 
--- With its parts, and sites that have room, another work in the place of a fit one is fit too.
+-- A work with its parts, whose sites have room, is fit in place of a fit one.
 pub refit : (job : JobTree) (before : ℕ) (old : WorkAt) (next : ℕ) (new : WorkAt) → IsFit (instead job before old) → WorkParts job new →
     next + sites_of new.work ≤ 4096 → IsFit (instead job next new)
 refit job before old next new fit parts room = record {
@@ -116,7 +116,7 @@ refit job before old next new fit parts room = record {
 
 -- ---- the parts of statements, by their shape
 
--- A sequence's parts are those of its first statement and those of its rest.
+-- The parts of a sequence are those of its first statement and those of its rest.
 pub sequence_parts : (arrays : List Declaration) (vars : Vars) (first : Statement) (rest : Sequence) →
     AreFitParts arrays vars (followed first rest) (sequence_work (followed first rest) vars) →
     AreFitParts arrays vars (followed first ended) (statement_work first vars) × AreFitParts arrays vars rest (sequence_work rest vars)
@@ -145,7 +145,7 @@ sequence_parts arrays vars first rest parts =
       },
     )
 
--- A loop's line doesn't matter: its parts are those of the work that has its turns.
+-- The line of a loop doesn't matter: its parts are those of the work with its turns.
 pub member_parts : (arrays : List Declaration) (vars : Vars) (line : ℕ) (var : List ℕ) (low high : ℤ) (body : Sequence) (steps : Steps) →
     AreFitParts arrays vars (followed (For line var low high body) ended) steps → AreFitParts arrays vars (followed (For 0 var low high body) ended) steps
 member_parts arrays vars line var low high body steps parts = record {
@@ -156,16 +156,16 @@ member_parts arrays vars line var low high body steps parts = record {
   apart = parts.apart;
 }
 
--- Below the high bound, one more is at most the high bound.
+-- A number below the high bound, plus 1, is at most the high bound.
 one_more_in_range : (low high : ℤ) → int_lt low high ≡ true → int_le (low +ℤ pos 1) high ≡ true
 one_more_in_range low high h = grind (arith, ints)
 
--- And the number is below.
+-- A number that passes the test is below the high bound.
 pub below_of_test : (low high : ℤ) → int_lt low high ≡ true → low <ℤ high
 below_of_test low high h = grind (arith, ints)
 
 -- The parts of a loop with a turn left are those of the turn, with one more loop variable around, and those of the
--- other turns.
+-- later turns.
 pub turn_parts : (arrays : List Declaration) (vars : Vars) (line : ℕ) (var : List ℕ) (low high : ℤ) (body : Sequence) → int_lt low high ≡ true →
     AreFitParts arrays vars (followed (For line var low high body) ended) (loop var low high (sequence_work body) vars) →
     AreFitParts arrays ((var, low) ∷ vars) body (sequence_work body ((var, low) ∷ vars))

@@ -1,4 +1,4 @@
--- Works that are put on top and taken off.
+-- Works that are pushed and popped.
 use Rattle.std.proofs.Common.{◌≡◌, ℕ, zero, suc, ◌+◌, List, [], ◌∷◌, ◌++◌, map, drop, length, reverse, ℤ, Result, Ok, Err, None, refl, sym, ap, ◌∙◌, arith}
 use Rattle.std.specs.Prelude.{IfErr}
 use Rattle.std.proofs.lemmas.Bool.{false≢true}
@@ -22,7 +22,7 @@ use Rattle.step_eval.specs.declared.told.Told.TheVariants.{Nothing}
 use Rattle.step_eval.specs.Passes.{pass_of}
 use Rattle.step_eval.specs.Inside.Frames.{IsMore, IsStackedWith, statements_from, works_in, works_of, works_with, HaveTold, HasTurned, IsPast, IsBehind, vars_in}
 
--- a construct leaves the statements behind it
+-- A construct leaves the statements after it.
 past_first : (arrays : Arrays) (store : Store) (first : Statement) (rest : Sequence) (vars : Vars) (n : ℕ) → IsSome (construct_of (branch_of (followed first rest))) →
     work_moved arrays store (branch_of (followed first rest)) vars n ≡ before (branch_of rest) vars n ∷ []
 past_first arrays store (Assign line array index value) rest vars n h = absurd (false≢true h)
@@ -48,7 +48,7 @@ passed arrays store block from vars n h = cases (drop from block.statements.item
         past_first arrays store (statement_of s) (sequence (map statement_of ss)) vars n h
         ∙ ap (λ q. before (branch_of (sequence (map statement_of q))) vars n ∷ []) (sym (drop_next block.statements.items ss from s e))
 
--- a loop that has begun has a variable, so its turns are something to be run
+-- A loop that has begun has a variable, so its turns are left to run.
 pub more_turns : (frames : Frames) (body : Bor Block) (next high : ℤ) (around : Vars) → IsStackedWith (Turns body next high) frames →
     IsMore (works_with (Turns body next high) frames around)
 more_turns frames body next high around stacked_ones = cases (vars_in frames around) refl
@@ -65,14 +65,14 @@ pub more_on_top : (frames : Frames) (top : Frame) (around : Vars) → IsStackedW
 more_on_top frames (Statements block from after) around stacked_ones = tt
 more_on_top frames (Turns body next high) around stacked_ones = more_turns frames body next high around stacked_ones
 
--- the frame behind a construct has what the construct leaves
+-- The frame after a construct is what the construct leaves.
 pub passed_on_top : (arrays : Arrays) (store : Trace) (top behind : Frame) (below : List Frame) (vars outer : Vars) →
     IsSome (next_construct (works_in (top ∷ below) outer)) → IsBehind top behind → IsPast arrays store (works_in (top ∷ below) vars) (works_in (behind ∷ below) vars)
 passed_on_top arrays store (Statements block from after) behind below vars outer some is =
     rw is (sym (ap (λ ws. ws ++ works_in below vars) (passed arrays store.cells block.now from vars after some)))
 passed_on_top arrays store (Turns body next high) behind below vars outer some is = absurd is
 
--- a turn of a loop tells nothing
+-- A turn of a loop passes no span of sites.
 turn_tells_nothing : (arrays : Arrays) (store : Store) (next : ℕ) (body : Bor Block) (turn high : ℤ) (below : List Frame) (vars : Vars) →
     pass_of arrays store next (works_in (Turns body turn high ∷ below) vars) ≡ None
 turn_tells_nothing arrays store next body turn high below [] = refl
@@ -83,7 +83,7 @@ pub turned_told : (arrays : Arrays) (store : Trace) (next : ℕ) (start now : Fr
 turned_told arrays store next start now body turn high around turned =
     (turn_tells_nothing arrays store.cells next body turn high (reverse start.below.items) (vars_in start around), turned arrays around store next)
 
--- what holds in any case holds where there is an error
+-- A property that holds in any case holds if the result is an error.
 pub always_err : {A B P : Type 0} (result : Result A B) → P → IfErr result (λ x. P)
 always_err (Ok x) holds = tt
 always_err (Err e) holds = holds

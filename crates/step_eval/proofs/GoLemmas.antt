@@ -1,4 +1,4 @@
--- How a machine goes on over several steps.
+-- A machine's progress in several steps.
 use Rattle.std.proofs.Common.{◌≡◌, ℕ, ◌<◌, Bool, true, false, List, [], ◌∷◌, length, refl, sym, ap, subst, ◌∙◌, arith}
 use Rattle.std.proofs.lemmas.Bool.{false≢true}
 use Rattle.contexts.specs.declared.machine.Step.{Step}
@@ -25,13 +25,13 @@ use Rattle.step_eval.proofs.LeftLemmas.{left_dropped}
 use Rattle.step_eval.proofs.MoveLemmas.{right_run}
 use Rattle.step_eval.proofs.MachineLemmas.{length_noted}
 
--- What comes to one place and from there to another comes to that.
+-- A run to a state and a run from it are one run.
 pub runs_further : (first mid last : Progress) → RunsTo first mid → RunsTo mid last → RunsTo first last
 runs_further first mid last a stands = a
 runs_further first mid last a (moves m l b going none untold moved) = moves m l (runs_further first mid m a b) going none untold moved
 runs_further first mid last a (skims m l b going whole) = skims m l (runs_further first mid m a b) going whole
 
--- One step goes on.
+-- One step is progress.
 pub gone_step : (before after : Progress) (s : Step Found) → Advances before s after → Steps (to_do before) s (to_do after) → HasGone before s after
 gone_step before after step.More advances steps = moved before.rest advances.3
   where
@@ -57,7 +57,7 @@ gone_step before after step.Finished advances steps =
     (ap (λ x. x.job) is, record { stage = ap (λ x. x.stage) is ∙ advances.0; rest = ap (λ x. x.rest) is ∙ advances.1 }, subst (RunsTo before) (sym is) stands)
 gone_step before after step.NoMemory advances steps = advances
 
--- One after another they do.
+-- Progress after progress is progress.
 pub gone_further : (first between last : Progress) (s : Step Found) → HasGone first step.More between → HasGone between s last → HasGone first s last
 gone_further first between last step.More a b =
     let fewer = a.2 in let less = b.2 in
@@ -76,14 +76,14 @@ gone_further first between last (step.Nest (found.Nest nested)) a b =
 gone_further first between last step.Finished a b = (b.0 ∙ a.0, b.1, runs_further first between last a.3 b.2)
 gone_further first between last step.NoMemory a b = b
 
--- A machine that stood as it stood and then went on has gone on.
+-- A machine that was unchanged and then progressed has progressed.
 pub gone_still : (before between after : Progress) (ran : Bool) (s : Step Found) → ran ≡ false → HasGoneOn ran before between → HasGone between s after → HasGone before s after
 gone_still before between after true s is still gone = absurd (false≢true (sym is))
 gone_still before between after false s is still gone = subst (λ m. HasGone m s after) still gone
 
--- ---- a loop that is run whole
+-- ---- a loop that is run at once
 
--- A machine whose first work was run whole, or not, has gone on, or not.
+-- A machine whose first work was run at once has progressed; one whose work wasn't is unchanged.
 pub gone_through : (job : JobParts) (before after : Frames) (store store' : Trace) (next : ℕ) (ran : Bool) →
     Ran (arrays_of (declarations_of job.arrays)) ran (works_of before job.vars) store (works_of after job.vars) store' →
     HasGoneOn ran (while_going job (works_of before job.vars) store next) (while_going job (works_of after job.vars) store' next)
@@ -111,7 +111,7 @@ cells_through job (w ∷ more) rest store store' done =
     let arrays = arrays_of (declarations_of job.arrays) in
     ap (λ t. length t.cells) done.1.1 ∙ length_noted (writes_of arrays (steps_of w.work w.vars) store.cells) store
 
--- It is sound still.
+-- A machine stays sound if its first work is run at once, or not.
 pub sound_through : (job : JobParts) (before after : Frames) (store store' : Trace) (room : Laid) (next : ℕ) (ran : Bool) →
     IsSound Going job before store room next →
     Ran (arrays_of (declarations_of job.arrays)) ran (works_of before job.vars) store (works_of after job.vars) store' → IsStacked after →

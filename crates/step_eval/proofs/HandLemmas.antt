@@ -1,4 +1,4 @@
--- The construct that is next: where it stands, that it may be handed out, and what its supply is.
+-- The construct that is next: its position, its limits, and its supply.
 use Rattle.std.proofs.Common.{◌≡◌, ℕ, List, [], ◌∷◌, Option, Some, None, refl, ap, subst, ◌∙◌}
 use Rattle.std.specs.Prelude.{IsTrue}
 use Rattle.array_tree.specs.Trees.{Statement, Assign, For, If, Par, Team, Sequence, ended, followed, declarations_of}
@@ -36,7 +36,7 @@ first_of_statements (followed (Team line var low high members phases) rest) cons
     subst (IsFirst (followed (Team line var low high members phases) rest))
     (let same : Team line var low high members phases ≡ construct = cc in same) record { rest = rest; is = refl; kind = refl }
 
--- The construct is the first statement of the first work.
+-- the construct is the first statement of the first work
 pub record IsAtConstruct (works : List WorkAt) (vars : Vars) (construct : Statement) : Type 0 where
   pub rest : Sequence
   pub after : ℕ
@@ -44,7 +44,7 @@ pub record IsAtConstruct (works : List WorkAt) (vars : Vars) (construct : Statem
   pub is : works ≡ before (branch_of (followed construct rest)) vars after ∷ more
   pub kind : IsTrue (is_construct construct)
 
--- The variables around the next construct are all that there are.
+-- The variables around the next construct are all variables of the frames.
 pub at_construct : (fs : List Frame) (vars : Vars) (construct : Statement) → next_construct (works_in fs vars) ≡ Some construct →
     IsAtConstruct (works_in fs vars) vars construct
 at_construct [] vars construct e = cc
@@ -60,7 +60,7 @@ at_construct (Statements block from after ∷ below) vars construct e =
 at_construct (Turns body next high ∷ below) [] construct e = cc
 at_construct (Turns body next high ∷ below) (v ∷ vars) construct e = cc
 
--- It may be handed out.
+-- The next construct is within the limits of a construct that is handed out.
 pub fit_handed_out : (job : JobParts) (frames : Frames) (store : Trace) (next : ℕ) (construct : Statement) → IsRight (job_of job) (works_of frames job.vars) store next →
     next_construct (works_of frames job.vars) ≡ Some construct →
     IsFitNest record { arrays = declarations_of job.arrays; site = next; construct = construct; vars = vars_in frames job.vars; store = store.cells }
@@ -69,7 +69,7 @@ fit_handed_out job frames store next construct right e =
     let whole = subst (λ works. IsRight (job_of job) works store next) here.is right in
     fit_nest (job_of job) next construct here.rest (vars_in frames job.vars) store.cells here.kind whole.fit.0 right.cells
 
--- It is what a machine hands out.
+-- A machine hands out the next construct.
 pub is_handed_out : (machine : Progress) (fs : List Frame) (vars : Vars) (construct : Statement) → next_construct (works_in fs vars) ≡ Some construct →
     nest_in machine (works_in fs vars)
     ≡ Some record { arrays = declarations_of machine.job.arrays; site = machine.next; construct = construct; vars = vars; store = machine.store.cells }
@@ -78,7 +78,7 @@ is_handed_out machine fs vars construct e =
     let found : construct_of (branch_of (followed construct here.rest)) ≡ Some construct = subst (λ works. next_construct works ≡ Some construct) here.is e in
     ap (nest_in machine) here.is ∙ ap (handed_out machine (before (branch_of (followed construct here.rest)) vars here.after)) found
 
--- Where no construct is next, none is handed out, and the other way round.
+-- A machine hands out no construct iff no construct is next.
 pub none_handed_out : (machine : Progress) (works : List WorkAt) → next_construct works ≡ None → nest_in machine works ≡ None
 none_handed_out machine [] e = refl
 none_handed_out machine (w ∷ more) e = ap (handed_out machine w) e
@@ -90,7 +90,7 @@ no_construct machine w e = cases (construct_of w.work) e
     cases None e = refl
     cases (Some construct) e = cc
 
--- A construct's supply is what it writes, and all its sites are passed.
+-- A construct's supply is its writes, and all its sites are passed.
 pub supply_writes : (arrays : Arrays) (store : Store) (construct : Statement) (vars : Vars) → IsTrue (is_construct construct) →
     begun_writes arrays store construct vars ≡ piece_of arrays (statement_work construct vars) store
 supply_writes arrays store (Assign line array index value) vars is = cc

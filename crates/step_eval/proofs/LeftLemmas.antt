@@ -1,4 +1,4 @@
--- The number of steps that are left falls.
+-- The number of steps left falls.
 use Rattle.std.proofs.Common.{◌≡◌, ℕ, ◌+◌, ◌-◌, ◌*◌, ◌<◌, Bool, true, false, cond, List, [], ◌∷◌, ◌++◌, Some, ℤ, pos, ◌+ℤ◌, ◌<ℤ◌, refl, arith}
 use Rattle.std.specs.Prelude.{int_lt}
 use Rattle.std.proofs.lemmas.Int.{ints}
@@ -13,11 +13,11 @@ use Rattle.step_eval.specs.Rest.{WorkAt, at, before}
 use Rattle.step_eval.specs.Moves.{work_moved, moved, sequence_left, work_left, rest_left}
 use Rattle.step_eval.specs.Machines.{construct_of}
 
--- So much for each turn of a loop: that of the first turn, and then of the others.
+-- The steps of the turns: those of the first turn, and those of the later ones.
 pub span_times : (low high : ℤ) (m : ℕ) → int_lt low high ≡ true → span low high * m ≡ m + span (low +ℤ pos 1) high * m
 span_times low high m h = let less : low <ℤ high = grind (arith, ints) in let one = span_next low high less in rw one (omega arith)
 
--- a statement and a turn each take one step to begin and one to end what they leave
+-- A statement takes one step to begin, and one to end what it leaves; so does a turn.
 work_moves : (arrays : Arrays) (store : Store) (w : WorkTree) (vars : Vars) (n : ℕ) (more : List WorkAt) →
     rest_left (work_moved arrays store w vars n ++ more) < rest_left (before w vars n ∷ more)
 work_moves arrays store (branch_of ended) vars n more = omega arith
@@ -39,12 +39,12 @@ work_moves arrays store (member_of var low high body) vars n more = cases (int_l
     cases true e = let turn = span_times low high (2 + sequence_left body) e in omega (arith, turn)
     cases false e = omega arith
 
--- A step leaves fewer steps than before.
+-- A step leaves fewer steps.
 pub left_moved : (arrays : Arrays) (store : Store) (w : WorkAt) (more : List WorkAt) →
     rest_left (moved arrays store w ++ more) < rest_left (w ∷ more)
 left_moved arrays store w more = work_moves arrays store w.work w.vars w.after more
 
--- Something is left of a machine that has a work.
+-- A machine with a work has a step left.
 pub left_positive : (w : WorkAt) (more : List WorkAt) → 0 < rest_left (w ∷ more)
 left_positive w more = by w.work
   where
@@ -52,7 +52,7 @@ left_positive w more = by w.work
     by (branch_of body) = omega arith
     by (member_of var low high body) = omega arith
 
--- Without its first work it has fewer steps left.
+-- A machine without its first work has fewer steps left.
 pub left_dropped : (w : WorkAt) (more : List WorkAt) → rest_left more < rest_left (w ∷ more)
 left_dropped w more = by w.work
   where
@@ -60,7 +60,7 @@ left_dropped w more = by w.work
     by (branch_of body) = omega arith
     by (member_of var low high body) = omega arith
 
--- a construct leaves nothing but the statements after it
+-- A construct leaves only the statements after it.
 past_construct : (arrays : Arrays) (store : Store) (w : WorkTree) (vars : Vars) (n : ℕ) (more : List WorkAt) (c : Statement) → construct_of w ≡ Some c →
     rest_left (work_moved arrays store w vars n ++ more) ≡ rest_left (before w vars n ∷ more) - 1
 past_construct arrays store (branch_of (followed (Par line branches) rest)) vars n more c e = omega arith

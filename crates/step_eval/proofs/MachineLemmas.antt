@@ -33,7 +33,7 @@ use Rattle.step_eval.proofs.LeftLemmas.{left_moved, left_passed, left_positive}
 use Rattle.step_eval.proofs.MoveLemmas.{right_fresh, right_moved, rest_moved}
 use Rattle.step_eval.proofs.HandLemmas.{at_construct, is_handed_out, no_construct, supply_writes, supply_sites}
 
--- A machine that is made of a fit job is sound.
+-- A machine made from a fit job is sound.
 pub sound_fresh : (inside job : JobParts) (frames : Frames) (store : Trace) (room : Laid) → inside ≡ job → IsFit (job_of inside) →
     AreAll (work_of inside.work) frames → IsStacked frames → store ≡ fresh inside.store → room.pairs ≡ [] → room.room ≡ length store.cells →
     IsSound Going job frames store room inside.first
@@ -51,11 +51,11 @@ sound_fresh inside job frames store room same fit all stacked new none roomy =
 pub length_noted : (ws : List Write) (store : Trace) → length (noted_all ws store).cells ≡ length store.cells
 length_noted ws store = ap length (cells_after ws store) ∙ length_after ws store.cells
 
--- The machine after a step that found memory.
+-- The machine after a step without an allocation failure.
 abbrev pub after_step : JobParts → ℕ → Step Found → List WorkAt → Trace → Progress
 after_step job next s rest store = record { job = job; rest = rest; store = store; next = next; stage = stage_by s }
 
--- What a step does is what the machine tells.
+-- A step has the effect that the machine's progress states.
 pub advances : (job : JobParts) (works rest : List WorkAt) (store store' : Trace) (next next' : ℕ) (s : Step Found) →
     Advanced (while_going job works store next) s rest store' next' → Advances (while_going job works store next) s (after_step job next' s rest store')
 advances job [] rest store store' next next' step.More done = absurd done.2
@@ -69,7 +69,7 @@ advances job works rest store store' next next' (step.Nest (found.Nest nested)) 
 advances job works rest store store' next next' step.Finished done = (refl, done.0, rw (done.1, done.2, done.3) refl)
 advances job works rest store store' next next' step.NoMemory done = absurd done
 
--- an `if` writes nothing when it begins
+-- An `if` writes nothing when it begins.
 nothing_written : (arrays : Arrays) (store : Store) (next : ℕ) (work : WorkTree) (vars : Vars) (span : ℕ × ℕ) → work_pass arrays store next work vars ≡ Some span →
     moved_writes arrays store work vars ≡ []
 nothing_written arrays store next (branch_of ended) vars span e = refl
@@ -80,7 +80,7 @@ nothing_written arrays store next (branch_of (followed (Par line branches) rest)
 nothing_written arrays store next (branch_of (followed (Team line var low high members phases) rest)) vars span e = cc
 nothing_written arrays store next (member_of var low high body) vars span e = refl
 
--- What the machine has still to write is what the step writes and what is left then, and fewer steps are left.
+-- The machine's remaining writes are those of the step and the remaining ones after it, and fewer steps are left.
 record HasWritten (job : JobParts) (w : WorkAt) (more rest : List WorkAt) (store store' : Trace) (next next' : ℕ) (stage : Stage) : Type 0 where
   writes : rest_writes (while_going job (w ∷ more) store next)
       ≡ moved_writes (arrays_of (declarations_of job.arrays)) store.cells w.work w.vars
@@ -98,7 +98,7 @@ has_written job w more rest store store' next next' stage none done =
       fewer = rw done.0 (left_moved arrays store.cells w more);
     }
 
--- So it is a step of any machine.
+-- The machine's step is a step of any machine.
 pub steps : (job : JobParts) (works rest : List WorkAt) (store store' : Trace) (next next' : ℕ) (s : Step Found) →
     Advanced (while_going job works store next) s rest store' next' →
     Steps (to_do (while_going job works store next)) s (to_do (after_step job next' s rest store'))
@@ -125,12 +125,12 @@ steps job works rest store store' next next' step.Finished done =
     (rw none refl, rw none refl, rw (same, now) refl)
 steps job works rest store store' next next' step.NoMemory done = absurd done
 
--- A machine of which something is to be run is not done.
+-- A machine with something left to run is not done.
 pub more_left : (works : List WorkAt) → IsMore works → 0 < rest_left works
 more_left [] more = absurd more
 more_left (w ∷ works) more = left_positive w works
 
--- Of a right machine whose job is fit, all sites that are left have numbers.
+-- In a right machine with a fit job, each remaining site has a number.
 pub sites_have_room : (job : JobParts) (rest : List WorkAt) (store : Trace) (next : ℕ) → IsFit (job_of job) → IsRight (job_of job) rest store next →
     next + rest_sites rest ≤ 4096
 sites_have_room job rest store next fit right = let all = right.sites in let room = fit.sites in omega (arith, all, room)
@@ -148,7 +148,7 @@ some_construct machine (w ∷ more) nested e = cases (construct_of w.work) e
     cases None e = cc
     cases (Some construct) e = refl
 
--- where the first work has moved it is right still
+-- After a step of the first work the machine is right.
 kept_moved : (job : JobParts) (w : WorkAt) (more rest : List WorkAt) (store store' : Trace) (next next' : ℕ) → IsRight (job_of job) (w ∷ more) store next →
     HaveMoved (arrays_of (declarations_of job.arrays)) (w ∷ more) store next rest store' next' →
     IsRight (job_of job) rest store' next' × (length store'.cells ≡ length store.cells)
@@ -173,7 +173,7 @@ sound_of_whole Going job frames store room next whole = whole
 sound_of_whole Awaiting job frames store room next whole = whole
 sound_of_whole Failed job frames store room next whole = tt
 
--- A step that found memory keeps a machine sound.
+-- A step without an allocation failure keeps a machine sound.
 pub sound_advanced : (job : JobParts) (before after : Frames) (store store' : Trace) (room : Laid) (next next' : ℕ) (s : Step Found) →
     IsSound Going job before store room next → Advanced (while_going job (works_of before job.vars) store next) s (works_of after job.vars) store' next' →
     IsStacked after → IsSound (stage_by s) job after store' room next'
@@ -190,7 +190,7 @@ sound_advanced job before after store store' room next next' s sound done stacke
 
 -- ---- a supply
 
--- A machine that took what the next construct wrote has moved past it, and is sound.
+-- a machine that took the writes of the next construct is behind the construct, and is sound
 pub record IsSupplied (job : JobParts) (before after : Frames) (store store' : Trace) (room : Laid) (next next' : ℕ) : Type 0 where
   pub moved : HasMoved (works_of before job.vars) record { job = job; rest = works_of before job.vars; store = store; next = next; stage = Awaiting }
       record { job = job; rest = works_of after job.vars; store = store'; next = next'; stage = Going }
@@ -231,7 +231,7 @@ supplied job before after store room next construct written sound found passed s
       small = omega (arith, room_for);
     }
 
--- So it is where the construct was looked for and its sites were counted.
+-- The same for the construct that was searched and whose sites were counted.
 pub supply_done : (job : JobParts) (before after : Frames) (store : Trace) (room : Laid) (next sites : ℕ) (construct : Option (Bor Stmt)) (written : List Write) →
     IsSound Awaiting job before store room next → IsConstruct construct before → sites ≡ sites_seen construct → HasPassed before after → IsStacked after →
     AreAwaited record { job = job; rest = works_of before job.vars; store = store; next = next; stage = Awaiting } written →

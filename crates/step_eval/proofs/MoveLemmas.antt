@@ -48,14 +48,14 @@ work_sites arrays store (member_of var low high body) vars n more = cases (int_l
     cases true e = let turn = span_times low high (sites_in body) e in omega (arith, turn)
     cases false e = let none : span low high ≡ 0 = rw e refl in rw none (omega arith)
 
--- A step passes what sites it takes from those that are left.
+-- The sites that a step takes and the remaining ones after it are those left before it.
 pub sites_moved : (arrays : Arrays) (store : Store) (w : WorkAt) (more : List WorkAt) →
     moved_sites arrays store w + rest_sites (moved arrays store w ++ more) ≡ rest_sites (w ∷ more)
 sites_moved arrays store w more = work_sites arrays store w.work w.vars w.after more
 
 -- ---- writes
 
--- what is no construct writes what it does when it begins, and what it leaves goes before the rest
+-- A work without a construct writes its own writes when it begins, and the works that it leaves precede the rest.
 work_rest : (arrays : Arrays) (w : WorkTree) (vars : Vars) (n : ℕ) (more : List WorkAt) (cells : Store) → construct_of w ≡ None →
     writes_of arrays (rest_steps (before w vars n ∷ more)) cells
     ≡ moved_writes arrays cells w vars ++ writes_of arrays (rest_steps (work_moved arrays cells w vars n ++ more)) (after (moved_writes arrays cells w vars) cells)
@@ -88,14 +88,14 @@ work_rest arrays (member_of var low high body) vars n more cells none = cases (i
         ∙ followed_by_assoc (sequence_work body ((var, low) ∷ vars)) (loop var (low +ℤ pos 1) high (sequence_work body) vars) (rest_steps more))
     cases false e = rw e refl
 
--- Where no construct is next, what is left writes what the step does, and then what the step leaves.
+-- If no construct is next, the remaining writes are those of the step and those of what the step leaves.
 pub rest_moved : (arrays : Arrays) (w : WorkAt) (more : List WorkAt) (cells : Store) → construct_of w.work ≡ None →
     writes_of arrays (rest_steps (w ∷ more)) cells
     ≡ moved_writes arrays cells w.work w.vars
     ++ writes_of arrays (rest_steps (moved arrays cells w ++ more)) (after (moved_writes arrays cells w.work w.vars) cells)
 rest_moved arrays w more cells none = work_rest arrays w.work w.vars w.after more cells none
 
--- so laid over what is there, it is the step and then what the step leaves
+-- The same, laid over earlier writes.
 plain_laid : (arrays : Arrays) (w : WorkTree) (vars : Vars) (n : ℕ) (more : List WorkAt) (cells : Store) (laid : List Write) → construct_of w ≡ None →
     lays (writes_of arrays (rest_steps (before w vars n ∷ more)) cells) laid
     ≡ lays (writes_of arrays (rest_steps (work_moved arrays cells w vars n ++ more)) (after (moved_writes arrays cells w vars) cells))
@@ -105,7 +105,7 @@ plain_laid arrays w vars n more cells laid none =
     ∙ lays_append (moved_writes arrays cells w vars)
     (writes_of arrays (rest_steps (work_moved arrays cells w vars n ++ more)) (after (moved_writes arrays cells w vars) cells)) laid
 
--- and of a construct its piece is laid, and then what comes after it
+-- For a construct, its piece is laid, and then the writes after it.
 construct_laid : (arrays : Arrays) (construct : Steps) (rest more : Steps) (cells : Store) (laid : List Write) → IsRising laid →
     lays (writes_of arrays (followed_by (followed_by construct rest) more) cells) laid
     ≡ lays (writes_of arrays (followed_by rest more) (after (piece_of arrays construct cells) cells)) (lays (piece_of arrays construct cells) laid)
@@ -113,7 +113,7 @@ construct_laid arrays construct rest more cells laid rises =
     ap (λ s. lays (writes_of arrays s cells) laid) (followed_by_assoc construct rest more)
     ∙ sym (supplied arrays construct (followed_by rest more) cells laid rises)
 
--- either way the writes of what is left are those of the step, and then those of what it leaves
+-- In both cases the remaining writes are those of the step and those of what the step leaves.
 work_laid : (arrays : Arrays) (w : WorkTree) (vars : Vars) (n : ℕ) (more : List WorkAt) (cells : Store) (laid : List Write) → IsRising laid →
     lays (writes_of arrays (rest_steps (before w vars n ∷ more)) cells) laid
     ≡ lays (writes_of arrays (rest_steps (work_moved arrays cells w vars n ++ more)) (after (moved_writes arrays cells w vars) cells))
@@ -131,11 +131,11 @@ work_laid arrays (branch_of (followed (Team line var low high members phases) re
 work_laid arrays (member_of var low high body) vars n more cells laid rises =
     plain_laid arrays (member_of var low high body) vars n more cells laid refl
 
--- the last values of what is marked and of more writes: the writes are laid over what is marked
+-- The last values of marked cells and of more writes: the writes are laid over the marked cells.
 last_of_both : (t : Trace) (ws : List Write) → last_writes (marked t ++ ws) ≡ lays ws (marked t)
 last_of_both t ws = lays_append (marked t) ws [] ∙ ap (lays ws) (last_writes_rising (marked t) (rising_marked t))
 
--- A step of a fit work leaves the last values of all writes as they were: those so far and those that are left.
+-- A step of a fit work keeps the last values of all writes, those so far and the remaining ones.
 pub writes_moved : (job : JobTree) (w : WorkAt) (more : List WorkAt) (store : Trace) (next : ℕ) → IsFit (instead job next w) →
     length store.cells ≡ length job.store → length store.marks ≡ length job.store →
     let arrays = arrays_of job.arrays in
@@ -157,7 +157,7 @@ writes_moved job w more store next fit cells marks =
 
 -- ---- machines
 
--- A step keeps a machine right, where what it leaves is fit.
+-- A step keeps a machine right if what the step leaves is fit.
 pub right_moved : (job : JobTree) (w : WorkAt) (more : List WorkAt) (store : Trace) (next : ℕ) → IsRight job (w ∷ more) store next →
     IsRight job (moved (arrays_of job.arrays) store.cells w ++ more)
     (noted_all (moved_writes (arrays_of job.arrays) store.cells w.work w.vars) store) (next + moved_sites (arrays_of job.arrays) store.cells w)
@@ -172,7 +172,7 @@ right_moved job w more store next right =
       marks = length_marks ws store ∙ right.marks;
     }
 
--- A machine that is made of a fit job is right.
+-- A machine made from a fit job is right.
 pub right_fresh : (job : JobTree) → IsFit job → IsRight job (at job.work job.vars ∷ []) (fresh job.store) job.first
 right_fresh job fit =
     let arrays = arrays_of job.arrays in
@@ -186,9 +186,9 @@ right_fresh job fit =
       marks = length-replicate (length job.store) false;
     }
 
--- ---- a whole work
+-- ---- a work that is run at once
 
--- A work that comes to no site, with none behind it, and is run whole keeps a machine right, without it.
+-- A work without sites in it or behind it that is run at once leaves a right machine.
 pub right_run : (job : JobTree) (w : WorkAt) (more : List WorkAt) (store : Trace) (next : ℕ) → sites_of w.work + w.after ≡ 0 → IsRight job (w ∷ more) store next →
     IsRight job more (traced (arrays_of job.arrays) (steps_of w.work w.vars) store) next
 right_run job w more store next none right =

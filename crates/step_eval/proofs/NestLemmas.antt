@@ -1,4 +1,4 @@
--- A construct that is next may be handed out: its pieces are fit jobs in each phase.
+-- The next construct may be handed out: its pieces are fit jobs in each phase.
 use Rattle.std.proofs.Common.{◌≡◌, ℕ, zero, suc, ◌+◌, ◌-◌, ◌*◌, ◌<◌, ◌≤◌, true, List, ℤ, pos, negsuc, refl, ap, ◌∙◌, length, arith}
 use Rattle.std.specs.Prelude.{IsTrue, int_le, unsigned_abs}
 use Rattle.std.proofs.lemmas.Bool.{false≢true, and_parts}
@@ -20,11 +20,11 @@ use Rattle.step_eval.proofs.NestParts.{AreFitBranches, par_parts, branch_parts, 
 
 -- ---- the pieces of a construct
 
--- The construct that is handed out.
+-- the construct that is handed out
 abbrev pub handed : JobTree → ℕ → Statement → Vars → Store → NestedTree
 handed job next construct vars store = record { arrays = job.arrays; site = next; construct = construct; vars = vars; store = store }
 
--- The job of a piece. Its arrays are those of the job that the construct is in.
+-- the job of a piece, with the arrays of the construct's own job
 abbrev pub piece_job : JobTree → (site phase place first : ℕ) → WorkAt → Store → JobTree
 piece_job job site phase place first w store = record {
   arrays = job.arrays;
@@ -37,7 +37,7 @@ piece_job job site phase place first w store = record {
   store = store;
 }
 
--- The job of a piece is fit where the piece has its parts, and its numbers are small enough.
+-- The job of a piece is fit if the piece has its parts and its numbers are within the limits.
 pub fit_piece : (job : JobTree) (before : ℕ) (old : WorkAt) (site phase place first : ℕ) (new : WorkAt) (store : Store) →
     IsFit (instead job before old) → length store ≡ length job.store → WorkParts job new → phase < 8 → place < 64 → first + sites_of new.work ≤ 4096 →
     IsFit (piece_job job site phase place first new store)
@@ -69,7 +69,7 @@ fit_branches job before old next construct vars store phase place first (beside 
           (omega arith) (omega arith),
     )
 
--- The jobs of the members of a fit loop are fit, from member j on. The sites of the members from there on have room.
+-- The jobs of the members of a fit loop are fit, from member j on. The sites of these members have room.
 fit_members : (job : JobTree) (before : ℕ) (old : WorkAt) (next : ℕ) (construct : Statement) (vars : Vars) (store : Store) (phase place first : ℕ)
     (var : List ℕ) (low high : ℤ) (m : ℕ) (body : Sequence) (j k : ℕ) →
     IsFit (instead job before old) → length store ≡ length job.store → phase < 8 → LoopParts job.arrays vars var low high body → j + k ≡ m →
@@ -96,7 +96,7 @@ fit_members job before old next construct vars store phase place first var low h
           fit same few parts (omega arith) (omega arith) there,
     )
 
--- The sites of a phase's body and of those before it are among those of all.
+-- The sites of a phase's body and of the bodies before it are at most those of all bodies.
 pub sites_before_phase : (ps : Sequences) (phase : ℕ) → phase < count_of ps → sites_before ps phase + sites_in (phase_at ps phase) ≤ branches_sites_in ps
 sites_before_phase no_more phase small = absurd (omega arith)
 sites_before_phase (beside first rest) zero small = omega arith
@@ -104,12 +104,12 @@ sites_before_phase (beside first rest) (suc phase) small = let more = sites_befo
 
 -- ---- the construct
 
--- What the test allows is no larger than its limit.
+-- A number that passes the test is at most the test's limit.
 pub up_to_number : (most : ℕ) (n : ℤ) → is_up_to (pos most) n ≡ true → unsigned_abs n ≤ most
 up_to_number most (pos n) h = let high = (and_parts (int_le (pos 1) (pos n)) (int_le (pos n) (pos most)) h).1 in grind (arith, nat_tests)
 up_to_number most (negsuc n) h = absurd (false≢true h)
 
--- The construct that is the first statement of a fit work may be handed out.
+-- A construct that is the first statement of a fit work may be handed out.
 pub fit_nest : (job : JobTree) (next : ℕ) (construct : Statement) (rest : Sequence) (vars : Vars) (store : Store) → IsTrue (is_construct construct) →
     IsFit (instead job next (at (branch_of (followed construct rest)) vars)) → length store ≡ length job.store →
     IsFitNest (record { arrays = job.arrays; site = next; construct = construct; vars = vars; store = store })

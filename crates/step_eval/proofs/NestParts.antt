@@ -1,5 +1,5 @@
--- How the fitness of a construct is taken apart: by the branches of a `par`, and by the phases of a `team` and the
--- members' own iterations.
+-- The parts of a construct's fitness: the branches of a `par`, and the phases of a `team` with the members' own
+-- iterations.
 use Rattle.std.proofs.Common.{◌≡◌, ℕ, zero, suc, ◌+◌, ◌-◌, ◌*◌, ◌<◌, ◌≤◌, true, List, [], ◌∷◌, ◌++◌, ℤ, pos, ◌+ℤ◌, refl, sym, ap, subst, ◌∙◌, arith}
 use Rattle.std.specs.Prelude.{◌&&◌, not, int_le}
 use Rattle.std.proofs.lemmas.Int.{ints}
@@ -23,7 +23,7 @@ use Rattle.step_eval.proofs.FitParts.{AreFitParts, and_true, inside_append, insi
 
 -- ---- the branches of a `par`
 
--- What makes branches fit, each with these loop variables around.
+-- the parts of branches, each with these loop variables around
 pub record AreFitBranches (arrays : List Declaration) (vars : Vars) (bs : Sequences) : Type 0 where
   pub new_variables : have_new_variables bs (names_around vars ++ names_of arrays) ≡ true
   pub known_names : have_known_names bs (names_of arrays) (names_around vars) ≡ true
@@ -31,7 +31,7 @@ pub record AreFitBranches (arrays : List Declaration) (vars : Vars) (bs : Sequen
   pub indices : are_inside (arrays_of arrays) (walk (arrays_of arrays) (branches_work bs vars)) ≡ true
   pub apart : AreSitesApart (arrays_of arrays) (branches_sites bs vars)
 
--- The branches of a fit `par` are fit, and they are at most 64.
+-- The branches of a fit `par` have their parts, and there are at most 64.
 pub par_parts : (arrays : List Declaration) (vars : Vars) (line : ℕ) (bs : Sequences) →
     AreFitParts arrays vars (followed (Par line bs) ended) (branches_work bs vars) →
     AreFitBranches arrays vars bs × (is_up_to (pos 64) (pos (count_of bs)) ≡ true)
@@ -77,7 +77,7 @@ branch_parts arrays vars first rest parts =
 
 -- ---- the phases of a `team`
 
--- What makes phases fit, each a loop with these loop variables around.
+-- the parts of phases, each a loop with these loop variables around
 pub record AreFitPhases (arrays : List Declaration) (vars : Vars) (var : List ℕ) (low high : ℤ) (ps : Sequences) : Type 0 where
   pub new_variable : not (is_among var (names_around vars ++ names_of arrays)) ≡ true
   pub new_variables : have_new_variables ps (var ∷ names_around vars ++ names_of arrays) ≡ true
@@ -87,7 +87,7 @@ pub record AreFitPhases (arrays : List Declaration) (vars : Vars) (var : List �
   pub indices : are_inside (arrays_of arrays) (walk (arrays_of arrays) (phases_work ps var low high vars)) ≡ true
   pub apart : AreSitesApart (arrays_of arrays) (phases_sites ps var low high vars)
 
--- The phases of a fit `team` are fit; its members are at most 64, and its phases at most 8.
+-- The phases of a fit `team` have their parts; there are at most 64 members and 8 phases.
 pub team_parts : (arrays : List Declaration) (vars : Vars) (line : ℕ) (var : List ℕ) (low high members : ℤ) (ps : Sequences) →
     AreFitParts arrays vars (followed (Team line var low high members ps) ended) (phases_work ps var low high vars) →
     AreFitPhases arrays vars var low high ps × (is_up_to (pos 64) members ≡ true) × (is_up_to (pos 8) (pos (count_of ps)) ≡ true)
@@ -111,7 +111,7 @@ team_parts arrays vars line var low high members ps parts =
       counts.0,
     )
 
--- The loop of a fit body.
+-- the parts of the loop over a body
 abbrev pub LoopParts : List Declaration → Vars → List ℕ → ℤ → ℤ → Sequence → Type 0
 LoopParts arrays vars var low high body =
     AreFitParts arrays vars (followed (For 0 var low high body) ended) (loop var low high (sequence_work body) vars)
@@ -149,7 +149,7 @@ phase_parts arrays vars var low high first rest parts =
       },
     )
 
--- So each phase is a fit loop.
+-- Each phase is a fit loop.
 pub phase_loop : (arrays : List Declaration) (vars : Vars) (var : List ℕ) (low high : ℤ) (ps : Sequences) (phase : ℕ) → phase < count_of ps →
     AreFitPhases arrays vars var low high ps → LoopParts arrays vars var low high (phase_at ps phase)
 phase_loop arrays vars var low high no_more phase small parts = absurd (omega arith)
@@ -159,8 +159,8 @@ phase_loop arrays vars var low high (beside first rest) (suc phase) small parts 
 
 -- ---- some turns of a loop
 
--- What holds of all turns one after another where it holds of each holds of any turns one after another among them.
--- None is whole; a turn and what follows it are split, and put together again.
+-- A property of a sequence of turns that splits into each turn's own holds for any turns among them.
+-- The empty sequence has the property, and a turn and the later turns are split and joined again.
 turns_among : (all : ℤ → ℕ → Type 0) (one : ℤ → Type 0) → ((x : ℤ) → all x 0) →
     ((x : ℤ) (n : ℕ) → all x (suc n) → one x × all (x +ℤ pos 1) n) → ((x : ℤ) (n : ℕ) → one x → all (x +ℤ pos 1) n → all x (suc n)) →
     (low : ℤ) (n a k : ℕ) → a + k ≤ n → all low n → all (low +ℤ pos a) k
@@ -178,7 +178,7 @@ turns_among all one none split put low (suc n) (suc a) k h whole =
     let same : low +ℤ pos 1 +ℤ pos a ≡ low +ℤ pos (suc a) = omega (arith, ints) in
     subst (λ x. all x k) same (turns_among all one none split put (low +ℤ pos 1) n a k (omega arith) (split low n whole).1)
 
--- The indices of some turns are inside where those of all are.
+-- If the indices of all turns are inside, those of some are.
 pub inside_turns : (arrays : Arrays) (body : ℤ → Steps) (low : ℤ) (n a k : ℕ) → a + k ≤ n → are_inside arrays (walk arrays (turns body low n)) ≡ true →
     are_inside arrays (walk arrays (turns body (low +ℤ pos a) k)) ≡ true
 inside_turns arrays body low n a k h whole =
@@ -188,7 +188,7 @@ inside_turns arrays body low n a k h whole =
     ∙ inside_append arrays (walk arrays (body x)) (walk arrays (turns body (x +ℤ pos 1) n)) one all)
     low n a k h whole
 
--- The sites of some turns are apart where those of all are.
+-- If the sites of all turns are apart, those of some are.
 pub apart_turns : (arrays : Arrays) (body : ℤ → List Site) (low : ℤ) (n a k : ℕ) → a + k ≤ n → AreSitesApart arrays (turn_sites body low n) →
     AreSitesApart arrays (turn_sites body (low +ℤ pos a) k)
 apart_turns arrays body low n a k h whole =
@@ -197,7 +197,7 @@ apart_turns arrays body low n a k h whole =
     (λ x n one all. apart_append arrays (body x) (turn_sites body (x +ℤ pos 1) n) one all)
     low n a k h whole
 
--- Their bounds are in order.
+-- The bounds of some turns are in order.
 bounds_cut : (low : ℤ) (a b : ℕ) → a ≤ b → int_le (low +ℤ pos a) (low +ℤ pos b) ≡ true
 bounds_cut low a b h = grind (arith, ints)
 
@@ -237,7 +237,7 @@ first_of_none n m = let none : n * 0 ≡ 0 = omega arith in rw none (zero-div m)
 pub first_of_all : (n m : ℕ) → 0 < m → first_of n m m ≡ n
 first_of_all n m h = mul-div_cancel n h
 
--- So the loop over a member's own iterations is fit.
+-- The loop over a member's own iterations is fit.
 pub member_loop : (arrays : List Declaration) (vars : Vars) (var : List ℕ) (low high : ℤ) (body : Sequence) (m j : ℕ) → j < m →
     LoopParts arrays vars var low high body → LoopParts arrays vars var (start_of low high m j) (start_of low high m (j + 1)) body
 member_loop arrays vars var low high body m j small parts =

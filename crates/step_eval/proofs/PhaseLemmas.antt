@@ -29,7 +29,7 @@ use Rattle.step_eval.specs.Shapes.{members_of}
 use Rattle.step_eval.proofs.ShapeLemmas.{some_phases}
 use Rattle.step_eval.proofs.PieceLemmas.{count_trees, some_members, some_piece}
 
--- ---- a job of a phase names its phase and its place, and starts from the phase's store
+-- ---- a job of a phase names its phase and its index, and starts from the phase's store
 
 pub record IsNumbered (nested : NestedTree) (phase : ℕ) (store : Store) (place : ℕ) (job : JobTree) : Type 0 where
   pub its_arrays : job.arrays ≡ nested.arrays
@@ -61,7 +61,7 @@ job_parts nested phase store j job e =
     let here : 0 + j ≡ j = omega arith in
     record { its_arrays = found.its_arrays; its_store = found.its_store; its_phase = found.its_phase; its_place = found.its_place ∙ here }
 
--- ---- the jobs of a phase do what its pieces do
+-- ---- the jobs of a phase have the effect of its pieces
 
 numbered_steps : (nested : NestedTree) (phase : ℕ) (store : Store) (place first : ℕ) (works : List WorkTree) →
     map steps_of_job (numbered nested phase store place first works) ≡ map (λ w. steps_of w nested.vars) works
@@ -97,7 +97,7 @@ piece_steps (Team line var low high members phases) vars phase h =
     member_steps var low high (unsigned_abs members) (phase_at phases phase) 0 (unsigned_abs members) vars
     ∙ phase_round phases var low high (unsigned_abs members) vars phase h
 
--- The jobs of a phase do what its pieces do.
+-- The jobs of a phase have the effect of its pieces.
 pub jobs_are_rounds : (nested : NestedTree) (phase : ℕ) (store : Store) → phase < phases_of nested.construct →
     map steps_of_job (jobs_in nested phase store) ≡ round_of nested phase
 jobs_are_rounds nested phase store h =
@@ -105,12 +105,12 @@ jobs_are_rounds nested phase store h =
 
 -- ---- phase after phase
 
--- the steps of so many rounds
+-- the steps of the first rounds
 abbrev steps_to : List (List Steps) → ℕ → Steps
 steps_to rounds zero = Done
 steps_to rounds (suc n) = followed_by (steps_to rounds n) (join (round_at rounds n))
 
--- a round more in front
+-- One more round in front.
 steps_after : (round : List Steps) (rounds : List (List Steps)) (n : ℕ) → steps_to (round ∷ rounds) (suc n) ≡ followed_by (join round) (steps_to rounds n)
 steps_after round rounds zero = sym (followed_by_done (join round))
 steps_after round rounds (suc n) =
@@ -130,7 +130,7 @@ join_phases (beside first rest) var low high m vars some =
     ∙ ap (λ s. followed_by s (steps_to (phase_rounds rest var low high m vars) (count_of rest))) (members_loop var low high m (sequence_work first) vars some)
     ∙ ap (followed_by (loop var low high (sequence_work first) vars)) (join_phases rest var low high m vars some)
 
--- all rounds are the construct
+-- All rounds are the construct.
 all_rounds : (construct : Statement) (vars : Vars) → statement_has_right_ranges construct ≡ true → 0 < phases_of construct →
     steps_to (rounds_of construct vars) (phases_of construct) ≡ statement_work construct vars
 all_rounds (Assign line array index value) vars e h = absurd (omega arith)
@@ -142,7 +142,7 @@ all_rounds (Team line var low high members phases) vars e h =
     let some = some_members members (and_parts (int_le low high) (is_up_to (pos 64) members) parts.0).1 in
     join_phases phases var low high (unsigned_abs members) vars some
 
--- so many phases write what their steps write
+-- the first n phases write what their steps write
 pub record IsPart (nested : NestedTree) (n : ℕ) : Type 0 where
   pub writes : writes_before nested n ≡ piece_of (arrays_of nested.arrays) (steps_to (rounds_of nested.construct nested.vars) n) nested.store
   pub store : store_before nested n ≡ after (writes_of (arrays_of nested.arrays) (steps_to (rounds_of nested.construct nested.vars) n) nested.store) nested.store
@@ -187,14 +187,14 @@ phases_are_constructs nested fit =
 
 -- ---- the pieces of a phase, merged
 
--- each job of a phase has the construct's arrays and the phase's store
+-- Each job of a phase has the construct's arrays and the phase's store.
 in_phase : (nested : NestedTree) (phase : ℕ) (store : Store) (place first : ℕ) (works : List WorkTree) (job : JobTree) →
     IsMember job (numbered nested phase store place first works) → (job.arrays ≡ nested.arrays) × (job.store ≡ store)
 in_phase nested phase store place first [] job m = absurd m
 in_phase nested phase store place first (work ∷ works) job (inl e) = (ap (λ j. j.arrays) (sym e), ap (λ j. j.store) (sym e))
 in_phase nested phase store place first (work ∷ works) job (inr m) = in_phase nested phase store (place + 1) (first + sites_of work) works job m
 
--- so what it writes is told by its steps
+-- What such a job writes is determined by its steps.
 told_by_steps : (declarations : List Declaration) (store : Store) (order : List JobTree) →
     ((job : JobTree) → IsMember job order → (job.arrays ≡ declarations) × (job.store ≡ store)) →
     map piece_of_job order ≡ map (λ steps. piece_of (arrays_of declarations) steps store) (map steps_of_job order)
@@ -216,12 +216,12 @@ first_fits : (nested : NestedTree) (phase : ℕ) (store : Store) (place first : 
 first_fits nested phase store place first [] some fit = absurd (omega arith)
 first_fits nested phase store place first (work ∷ works) some fit = (sized _ fit.0).each
 
--- the arrays of a construct have cells
+-- The arrays of a construct have cells.
 pub arrays_have_cells : (nested : NestedTree) → IsFitNest nested → 0 < phases_of nested.construct → HaveCells (arrays_of nested.arrays)
 arrays_have_cells nested fit some =
     first_fits nested 0 nested.store 0 (nested.site + 1 + earlier_sites nested.construct 0) (piece_trees nested.construct 0) (some_piece nested.construct 0 fit.limits some) (fit.jobs 0 some)
 
--- The pieces of the jobs of a phase, merged in any order, are what the phase writes.
+-- The merged pieces of the jobs of a phase, in any order, are the phase's writes.
 pub phases_are_merged : (nested : NestedTree) → IsFitNest nested → (phase : ℕ) (store : Store) → phase < phases_of nested.construct →
     (order : List JobTree) → HaveSameJobs order (jobs_in nested phase store) → merged (map piece_of_job order) [] ≡ phase_writes nested phase store
 phases_are_merged nested fit phase store h order same =
@@ -271,7 +271,7 @@ count_pieces (Par line branches) phase h = count_branches branches
 count_pieces (Team line var low high members phases) phase h =
     count_trees var low high (unsigned_abs members) (phase_at phases phase) 0 (unsigned_abs members)
 
--- The jobs of a phase are as many as the construct has branches or members.
+-- A phase has as many jobs as the construct has branches or members.
 pub jobs_are_counted : (nested : NestedTree) (phase : ℕ) (store : Store) → phase < phases_of nested.construct →
     length (jobs_in nested phase store) ≡ members_of nested.construct
 jobs_are_counted nested phase store h =

@@ -1,4 +1,4 @@
--- The jobs of the pieces of a construct, one after another.
+-- The jobs of a construct's pieces, in sequence.
 use Rattle.std.proofs.Common.{◌≡◌, ℕ, zero, suc, ◌+◌, ◌-◌, ◌*◌, ◌<◌, ◌≤◌, true, List, [], ◌∷◌, ◌++◌, map, length, get_or, append_assoc, ℤ, pos, negsuc, refl, sym, ap, subst, ◌∙◌, arith}
 use Rattle.std.specs.Prelude.{◌&&◌, unsigned_abs, int_le}
 use Rattle.std.proofs.lemmas.Bool.{false≢true, and_parts}
@@ -25,25 +25,25 @@ team_view line var low high members phases =
     ap statement_of (sym (rolls-Team line var low high members phases))
     ∙ fold-roll-Stmt Statement Sequence Sequences statement_step block_step blocks_step _
 
--- The body of a phase is the block at its place.
+-- The body of a phase is the block at its index.
 pub phase_at_place : (bs : List Block) (i : ℕ) (d : Block) → i < length bs → phase_at (sequences (map sequence_of bs)) i ≡ sequence_of (get_or bs i d)
 phase_at_place [] i d h = absurd (omega arith)
 phase_at_place (b ∷ bs) zero d h = refl
 phase_at_place (b ∷ bs) (suc i) d h = phase_at_place bs i d (omega arith)
 
--- Before no phase there is no site.
+-- No sites come before the first phase.
 pub none_before : (phases : Sequences) → sites_before phases 0 ≡ 0
 none_before no_more = refl
 none_before (beside first rest) = refl
 
--- One phase more adds its sites.
+-- One more phase adds its sites.
 pub one_more_before : (bs : List Block) (i : ℕ) (d : Block) → i < length bs →
     sites_before (sequences (map sequence_of bs)) (suc i) ≡ sites_before (sequences (map sequence_of bs)) i + sites_in (sequence_of (get_or bs i d))
 one_more_before [] i d h = absurd (omega arith)
 one_more_before (b ∷ bs) zero d h = let none = none_before (sequences (map sequence_of bs)) in omega (arith, none)
 one_more_before (b ∷ bs) (suc i) d h = let more = one_more_before bs i d (omega arith) in omega (arith, more)
 
--- So does one phase more, each in n iterations, where sums stop at the greatest number of 64 bits.
+-- One more phase, in n iterations, adds its sites, if sums stop at the greatest 64-bit number.
 pub capped_before : (n : ℕ) (bs : List Block) (i : ℕ) (d : Block) (sites turns sum : ℕ) → i < length bs →
     sites ≡ capped (n * sites_before (sequences (map sequence_of bs)) i) → turns ≡ capped (n * sites_in (sequence_of (get_or bs i d))) →
     sum ≡ capped (sites + turns) → sum ≡ capped (n * sites_before (sequences (map sequence_of bs)) (i + 1))
@@ -64,14 +64,13 @@ member_first var low high m body j h =
     let left : m - j ≡ suc (m - (j + 1)) = omega arith in
     ap (member_trees var low high m body j) left
 
--- One work more is made.
 pub one_more_made : (made more : List Work) (work : Work) (left rest all : List WorkTree) → more ≡ made ++ work ∷ [] → left ≡ work_of work ∷ rest →
     map work_of made ++ left ≡ all → map work_of more ++ rest ≡ all
 one_more_made made more work left rest all e f whole =
     ap (λ ws. map work_of ws ++ rest) e ∙ ap (λ ws. ws ++ rest) (map-append work_of made (work ∷ []))
     ∙ append_assoc (map work_of made) (work_of work ∷ []) rest ∙ ap (λ ws. map work_of made ++ ws) (sym f) ∙ whole
 
--- The work of one member more is made.
+-- The work of one more member is made.
 pub member_made : (made more : List Work) (work : Work) (var : List ℕ) (low high : ℤ) (m : ℕ) (body : Sequence) (j : ℕ) (all : List WorkTree) →
     j < m → more ≡ made ++ work ∷ [] → work_of work ≡ member_of var (start_of low high m j) (start_of low high m (j + 1)) body →
     map work_of made ++ member_trees var low high m body j (m - j) ≡ all →
@@ -81,7 +80,7 @@ member_made made more work var low high m body j all h e f whole =
     one_more_made made more work (member_trees var low high m body j (m - j)) rest all e
     (member_first var low high m body j h ∙ ap (λ w. w ∷ rest) (sym f)) whole
 
--- A job that is fit is so over another store of as many cells.
+-- A fit job is fit with another store of the same size.
 refit_store : (nested : NestedTree) (phase : ℕ) (store other : Store) (place first : ℕ) (work : WorkTree) → length other ≡ length store →
     AreFitJobs (numbered nested phase store place first (work ∷ [])) → AreFitJobs (numbered nested phase other place first (work ∷ []))
 refit_store nested phase store other place first work e fit =
@@ -101,7 +100,7 @@ refit_store nested phase store other place first work e fit =
       tt,
     )
 
--- So are jobs of several works.
+-- The same for the jobs of several works.
 pub numbered_other_store : (nested : NestedTree) (phase : ℕ) (store other : Store) (place first : ℕ) (works : List WorkTree) → length other ≡ length store →
     AreFitJobs (numbered nested phase store place first works) → AreFitJobs (numbered nested phase other place first works)
 numbered_other_store nested phase store other place first [] e fit = tt
@@ -110,13 +109,13 @@ numbered_other_store nested phase store other place first (work ∷ works) e fit
   numbered_other_store nested phase store other (place + 1) (first + sites_of work) works e fit.1,
 )
 
--- The pieces of a construct that is handed out are fit jobs over each store of as many cells.
+-- The pieces of a construct that is handed out are fit jobs for each store of the same size.
 pub fit_other_store : (nested : NestedTree) → IsFitNest nested → (phase : ℕ) → phase < phases_of nested.construct → (store : Store) →
     length store ≡ length nested.store → AreFitJobs (jobs_in nested phase store)
 fit_other_store nested fit phase h store e =
     numbered_other_store nested phase nested.store store 0 _ (piece_trees nested.construct phase) e (fit.jobs phase h)
 
--- Where the first job is fit its sites have room.
+-- If the first job is fit, its sites have room.
 first_small : (nested : NestedTree) (phase : ℕ) (store : Store) (place first : ℕ) (works : List WorkTree) → 0 < length works →
     AreFitJobs (numbered nested phase store place first works) → first ≤ 4096
 first_small nested phase store place first [] h fit = absurd (omega arith)
@@ -131,7 +130,7 @@ some_members (pos zero) e = absurd (false≢true e)
 some_members (pos (suc n)) e = omega arith
 some_members (negsuc n) e = absurd (false≢true e)
 
--- A construct in its limits has a piece in each phase.
+-- A construct within its limits has a piece in each phase.
 pub some_piece : (construct : Statement) (phase : ℕ) → statement_has_right_ranges construct ≡ true → phase < phases_of construct →
     0 < length (piece_trees construct phase)
 some_piece (Assign line array index value) phase e h = absurd (omega arith)
@@ -145,13 +144,13 @@ some_piece (Team line var low high members phases) phase e h =
     let count = count_trees var low high (unsigned_abs members) (phase_at phases phase) 0 (unsigned_abs members) in
     omega (arith, some, count)
 
--- So the number of the first site inside has room.
+-- The number of the first site inside is within the limit.
 pub first_site_small : (nested : NestedTree) → IsFitNest nested → (phase : ℕ) → phase < phases_of nested.construct →
     nested.site + 1 + earlier_sites nested.construct phase ≤ 4096
 first_site_small nested fit phase h =
     first_small nested phase nested.store 0 _ (piece_trees nested.construct phase) (some_piece nested.construct phase fit.limits h) (fit.jobs phase h)
 
--- The same of parts that are told in two ways.
+-- The same for two equal views of a construct.
 pub first_site_has_room : (inside view : NestedParts) → inside ≡ view → IsFitNest (nested_of inside) → (phase : ℕ) →
     phase < phases_of (statement_of view.construct) → inside.site + 1 + earlier_sites (statement_of inside.construct) phase ≤ 4096
 first_site_has_room inside view e fit phase h =

@@ -1,4 +1,4 @@
--- Of the jobs of works, the one at a place.
+-- The job at an index among the jobs of works.
 use Rattle.std.proofs.Common.{◌≡◌, ℕ, zero, suc, ◌+◌, ◌<◌, ◌≤◌, List, [], ◌∷◌, map, length, take, get_or, sym, ap, ◌∙◌, subst, arith}
 use Rattle.std.specs.Prelude.{slice_get, Some}
 use Rattle.array_meaning.specs.Stores.{Store}
@@ -7,7 +7,7 @@ use Rattle.array_jobs.specs.Works.{work_of, sites_of}
 use Rattle.array_jobs.specs.Jobs.{JobTree}
 use Rattle.step_eval.specs.Nests.{NestedTree, sites_of_all, numbered, AreFitJobs}
 
--- It is that of its work, with its sites after those of the works before.
+-- The job at an index is that of its work, with its sites after those of the works before.
 pub job_of_place : (nested : NestedTree) (phase : ℕ) (store : Store) (place first : ℕ) (works : List Work) (i : ℕ) (d : Work) → i < length works →
     slice_get (numbered nested phase store place first (map work_of works)) i
     ≡ slice_get (numbered nested phase store (place + i) (first + sites_of_all (map work_of (take i works))) (work_of (get_or works i d) ∷ [])) 0
@@ -26,7 +26,7 @@ job_of_place nested phase store place first (work ∷ works) (suc i) d h =
     ∙ ap (λ p. slice_get (numbered nested phase store p (first + own + before) (work_of (get_or works i d) ∷ [])) 0) next
     ∙ ap (λ f. slice_get (numbered nested phase store (place + suc i) f (work_of (get_or works i d) ∷ [])) 0) sites
 
--- It is fit where all are.
+-- The job at an index is fit if all are.
 pub fit_at_place : (nested : NestedTree) (phase : ℕ) (store : Store) (place first : ℕ) (works : List Work) (i : ℕ) (d : Work) → i < length works →
     AreFitJobs (numbered nested phase store place first (map work_of works)) →
     AreFitJobs (numbered nested phase store (place + i) (first + sites_of_all (map work_of (take i works))) (work_of (get_or works i d) ∷ []))
@@ -45,7 +45,7 @@ fit_at_place nested phase store place first (work ∷ works) (suc i) d h fit =
     (subst (λ f. AreFitJobs (numbered nested phase store (place + 1 + i) f (work_of (get_or works i d) ∷ []))) sites
     (fit_at_place nested phase store (place + 1) (first + own) works i d (omega arith) fit.1))
 
--- So its first site has room.
+-- The job's first site has room.
 pub place_has_room : (nested : NestedTree) (phase : ℕ) (store : Store) (place first : ℕ) (works : List Work) (i : ℕ) → i < length works →
     AreFitJobs (numbered nested phase store place first (map work_of works)) → first + sites_of_all (map work_of (take i works)) ≤ 4096
 place_has_room nested phase store place first [] i h fit = absurd (omega arith)
@@ -54,7 +54,7 @@ place_has_room nested phase store place first (work ∷ works) (suc i) h fit =
     let rest = place_has_room nested phase store (place + 1) (first + sites_of (work_of work)) works i (omega arith) fit.1 in
     omega (arith, rest)
 
--- The same of a work that is read.
+-- The same for a work that is read.
 pub fit_is_told : (nested : NestedTree) (phase : ℕ) (store : Store) (next : ℕ) (works : List Work) (place i first : ℕ) (own : Work) → i ≡ place → i < length works →
     first ≡ next + sites_of_all (map work_of (take i works)) → own ≡ get_or works i own →
     AreFitJobs (numbered nested phase store 0 next (map work_of works)) → AreFitJobs (numbered nested phase store place first (work_of own ∷ []))

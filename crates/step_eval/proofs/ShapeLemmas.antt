@@ -1,4 +1,4 @@
--- The shapes of constructs in their limits.
+-- The shapes of constructs within their limits.
 use Rattle.std.proofs.Common.{◌≡◌, ℕ, ◌<◌, ◌≤◌, ℤ, pos, true, ap, sym, ◌∙◌, arith, length}
 use Rattle.std.specs.Prelude.{◌&&◌, int_le}
 use Rattle.std.proofs.lemmas.Bool.{false≢true, and_parts}
@@ -33,7 +33,7 @@ team_limits low high members phases e =
     let parts = and_parts (int_le low high && is_up_to (pos 64) members) (is_up_to (pos 8) (pos (count_of phases)) && have_right_ranges phases) e in
     ((and_parts (int_le low high) (is_up_to (pos 64) members) parts.0).1, (and_parts (is_up_to (pos 8) (pos (count_of phases))) (have_right_ranges phases) parts.1).0)
 
--- A construct in its limits has at most 64 pieces in each phase.
+-- A construct within its limits has at most 64 pieces in each phase.
 pub few_pieces : (construct : Statement) → statement_has_right_ranges construct ≡ true → members_of construct ≤ 64
 few_pieces (Assign line array index value) e = omega arith
 few_pieces (For line var low high body) e = omega arith
@@ -41,7 +41,7 @@ few_pieces (If line cond then_block else_block) e = omega arith
 few_pieces (Par line branches) e = up_to_number 64 (pos (count_of branches)) (and_parts (is_up_to (pos 64) (pos (count_of branches))) (have_right_ranges branches) e).0
 few_pieces (Team line var low high members phases) e = up_to_number 64 members (team_limits low high members phases e).0
 
--- It has at most 8 phases.
+-- A construct within its limits has at most 8 phases.
 pub few_phases : (construct : Statement) → statement_has_right_ranges construct ≡ true → phases_of construct ≤ 8
 few_phases (Assign line array index value) e = omega arith
 few_phases (For line var low high body) e = omega arith
@@ -49,7 +49,7 @@ few_phases (If line cond then_block else_block) e = omega arith
 few_phases (Par line branches) e = omega arith
 few_phases (Team line var low high members phases) e = up_to_number 8 (pos (count_of phases)) (team_limits low high members phases e).1
 
--- It has a phase.
+-- A construct within its limits has a phase.
 pub some_phases : (construct : Statement) → is_construct construct ≡ true → statement_has_right_ranges construct ≡ true → 0 < phases_of construct
 some_phases (Assign line array index value) is e = absurd (false≢true is)
 some_phases (For line var low high body) is e = absurd (false≢true is)
@@ -58,7 +58,7 @@ some_phases (Par line branches) is e = omega arith
 some_phases (Team line var low high members no_more) is e = absurd (false≢true (team_limits low high members no_more e).1)
 some_phases (Team line var low high members (beside first rest)) is e = omega arith
 
--- And a piece in each.
+-- A construct within its limits has a piece in each phase.
 pub some_pieces : (construct : Statement) → is_construct construct ≡ true → statement_has_right_ranges construct ≡ true → 0 < members_of construct
 some_pieces (Assign line array index value) is e = absurd (false≢true is)
 some_pieces (For line var low high body) is e = absurd (false≢true is)

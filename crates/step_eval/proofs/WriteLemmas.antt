@@ -1,4 +1,4 @@
--- Writes laid over what is marked, and where they lie.
+-- Writes laid over marked cells, and the cells they lie in.
 use Rattle.std.proofs.Common.{◌≡◌, ℕ, suc, Bool, true, false, List, [], ◌∷◌, ◌++◌, length, ℤ, refl, ap, ◌∙◌, arith}
 use Rattle.std.specs.Prelude.{nat_lt, nat_eq}
 use Rattle.std.proofs.lemmas.Bool.Decides.{nat_tests}
@@ -20,9 +20,9 @@ use Rattle.array_eval.specs.Traces.{Trace, marked_from, marked}
 use Rattle.array_eval.proofs.TraceLemmas.{above_marked}
 use Rattle.step_eval.specs.Moves.{begun_writes, moved_writes}
 
--- ---- what is marked rises
+-- ---- the marked cells rise
 
--- what is marked rises
+-- The marked cells from one on rise.
 rising_from : (i : ℕ) (cells : List ℤ) (marks : List Bool) → IsRising (marked_from i cells marks)
 rising_from i [] marks = tt
 rising_from i (x ∷ cells) [] = tt
@@ -33,7 +33,7 @@ rising_from i (x ∷ cells) (false ∷ marks) = rising_from (suc i) cells marks
 pub rising_marked : (t : Trace) → IsRising (marked t)
 rising_marked t = rising_from 0 t.cells t.marks
 
--- writes above a cell leave it in front
+-- Writes above a cell leave that cell in front.
 lays_above : (w : Write) (ws laid : List Write) → IsAbove w.0 ws → lays ws (w ∷ laid) ≡ w ∷ lays ws laid
 lays_above w [] laid q = refl
 lays_above w (x ∷ ws) laid q =
@@ -42,28 +42,28 @@ lays_above w (x ∷ ws) laid q =
     let same : nat_eq x.0 w.0 ≡ false = grind (arith, nat_tests) in
     rw (less, same) (lays_above w ws (lay x.0 x.1 laid) q.1)
 
--- Of a list that rises the last writes are itself.
+-- The last writes of a rising list are the list.
 pub last_writes_rising : (ws : List Write) → IsRising ws → last_writes ws ≡ ws
 last_writes_rising [] q = refl
 last_writes_rising (w ∷ ws) q = lays_above w ws [] q.0 ∙ ap (λ x. w ∷ x) (last_writes_rising ws q.1)
 
 -- ---- marks
 
--- ---- where writes lie
+-- ---- the cells that are written
 
--- of writes below a cell the first ones are
+-- If all writes are below a cell, the first ones are.
 below_front : (n : ℕ) (a b : List Write) → AreBelow n (a ++ b) → AreBelow n a
 below_front n [] b h = tt
 below_front n (w ∷ a) b h = (h.0, below_front n a b h.1)
 
--- what the first of two writes is among what both write
+-- If the writes of both are below a cell, those of the first are.
 first_below : (arrays : Arrays) (n : ℕ) (a b : Steps) (cells : Store) →
     AreBelow n (writes_of arrays (followed_by a b) cells) → AreBelow n (writes_of arrays a cells)
 first_below arrays n a b cells h =
     below_front n (writes_of arrays a cells) (writes_of arrays b (after (writes_of arrays a cells) cells))
     (rw (writes_followed_by arrays a b cells) at h)
 
--- a statement that begins writes its own writes, of a construct the last to each cell, or none
+-- A statement that begins writes its own writes, the last values of a construct, or nothing.
 statement_below : (arrays : Arrays) (n : ℕ) (s : Statement) (vars : Vars) (cells : Store) → AreBelow n (writes_of arrays (statement_work s vars) cells) →
     AreBelow n (begun_writes arrays cells s vars)
 statement_below arrays n (Assign line array index value) vars cells h = h
@@ -73,7 +73,7 @@ statement_below arrays n (Par line branches) vars cells h = below_lays n (writes
 statement_below arrays n (Team line var low high members phases) vars cells h =
     below_lays n (writes_of arrays (statement_work (Team line var low high members phases) vars) cells) [] h tt
 
--- and so does a step
+-- The writes of a step are below the same cell.
 work_below : (arrays : Arrays) (n : ℕ) (w : WorkTree) (vars : Vars) (cells : Store) → AreBelow n (writes_of arrays (steps_of w vars) cells) →
     AreBelow n (moved_writes arrays cells w vars)
 work_below arrays n (branch_of ended) vars cells h = tt
@@ -81,7 +81,7 @@ work_below arrays n (branch_of (followed first rest)) vars cells h =
     statement_below arrays n first vars cells (first_below arrays n (statement_work first vars) (sequence_work rest vars) cells h)
 work_below arrays n (member_of var low high body) vars cells h = tt
 
--- What a fit work writes lies inside a store that has the arrays' cells.
+-- The writes of a fit work lie inside a store with the arrays' cells.
 pub steps_below : (job : JobTree) → IsFit job → (cells : Store) → length cells ≡ cells_of (arrays_of job.arrays) →
     AreBelow (length cells) (writes_of (arrays_of job.arrays) (steps_of job.work job.vars) cells)
 steps_below job fit cells e =
@@ -92,7 +92,7 @@ steps_below job fit cells e =
     let below = writes_below arrays (sized job fit).each steps cells visited fit.indices in
     rw e below
 
--- So does what a step of it writes.
+-- The writes of a step of a fit work lie inside the store.
 pub moved_below : (job : JobTree) → IsFit job → (cells : Store) → length cells ≡ cells_of (arrays_of job.arrays) →
     AreBelow (length cells) (moved_writes (arrays_of job.arrays) cells job.work job.vars)
 moved_below job fit cells e =

@@ -1,4 +1,4 @@
-//! Calls of `lithe` over ends in memory.
+//! Calls of `lithe` with a source and sinks in memory.
 ghost use Rattle.std.specs.Prelude.{◌≤◌};
 
 use lithe_call::{Status, lithe};

@@ -1,4 +1,4 @@
--- Where two constructs are around, further ones tell no more of a statement.
+-- From depth 2 on, the depth makes no difference for the faults of a statement.
 use Rattle.std.proofs.Common.{◌≡◌, ℕ, ◌+◌, ◌≤◌, Bool, cond, Some, None, refl, ap, ◌∙◌, arith}
 use Rattle.std.specs.Prelude.{◌&&◌, ◌||◌, not, nat_lt}
 use Rattle.std.specs.Option.{option_or}

@@ -1,4 +1,4 @@
--- In a program in range no construct has more than 64 rows.
+-- In a program in range each construct has at most 64 rows.
 use Rattle.std.proofs.Common.{◌≡◌, ℕ, ◌≤◌, Bool, true, false, cond, List, [], ◌∷◌, ◌++◌, pos, arith}
 use Rattle.std.specs.Prelude.{◌&&◌, max, int_le, unsigned_abs}
 use Rattle.std.proofs.Math.Nat.{max-le}

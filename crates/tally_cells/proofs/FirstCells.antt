@@ -1,8 +1,8 @@
--- A store whose first cells are put one after another.
+-- A store whose first cells are written one by one.
 use Rattle.std.proofs.Common.{◌≡◌, ℕ, zero, suc, ◌+◌, ◌-◌, ◌<◌, [], ◌∷◌, ◌++◌, length, take, replicate, pos, refl, ap, arith}
 use Rattle.array_meaning.specs.Stores.{Store, at_cell, written}
 
--- of n cells those below c are put
+-- Of n cells, those below c are written.
 pub next_cell : (s : Store) (c n : ℕ) → c < n → c < length s
     → written (take c s ++ replicate (n - c) (pos 0)) c (at_cell s c) ≡ take (c + 1) s ++ replicate (n - (c + 1)) (pos 0)
 next_cell [] c n lt inside = absurd (omega (arith, inside))

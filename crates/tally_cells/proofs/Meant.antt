@@ -1,4 +1,4 @@
--- What is known of a program that has a meaning, and what its faults are by their lines.
+-- Facts on a program that has a meaning, and its faults by their lines.
 use Rattle.std.proofs.Common.{◌≡◌, ℕ, List, Some, None, Result, Ok, Err, IsTrue, sym, subst}
 use Rattle.std.specs.Prelude.{◌&&◌, nat_le, length, IfOk}
 use Rattle.std.proofs.lemmas.Bool.{and_parts}
@@ -33,11 +33,11 @@ second_told program line none here = rw (none, here)
 pub none_told : (program : ProgramTree) → unshaped 0 program.body ≡ None → taken_at program ≡ None → spread_fault_of program ≡ None
 none_told program none free = rw (none, free)
 
--- an add is of narrow parts
+-- The value of an add of narrow parts is narrow.
 pub narrow_add : (x : List ℕ) (e value v : Expression) → added x e value ≡ Some v → IsNarrowExpression e → IsNarrowExpression v → IsNarrowExpression value
 narrow_add x e value v adds place more = subst IsNarrowExpression (sym (added_is x e value v adds).value_is) (place, more)
 
--- and so it is of a copy of it
+-- The same for copies of the parts, if they were made.
 pub narrow_value : {T E : Type 0} (r : Result T E) (x : List ℕ) (e value v : Expression) → added x e value ≡ Some v → IfOk r (λ t. IsNarrowExpression e) → IfOk r (λ t. IsNarrowExpression v)
     → IfOk r (λ t. IsNarrowExpression value)
 narrow_value (Ok t) x e value v adds place more = narrow_add x e value v adds place more

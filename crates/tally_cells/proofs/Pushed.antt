@@ -1,4 +1,4 @@
--- Parts that are pushed one after another, and a rest behind them.
+-- Parts that are pushed one by one, with a rest behind them.
 use Rattle.std.proofs.Common.{◌≡◌, ℕ, zero, suc, ◌+◌, ◌<◌, ◌≤◌, true, List, [], ◌∷◌, ◌++◌, length, map, drop, get_or, drop-cons, refl, sym, ap, ◌∙◌, subst, arith}
 use Rattle.array_tree.specs.declared.tree.Stmt.{Stmt}
 use Rattle.array_tree.specs.declared.tree.Block.{Block}
@@ -11,12 +11,12 @@ use Rattle.array_meaning.specs.Limits.{has_right_ranges, statement_has_right_ran
 use Rattle.spread_laws.specs.Spread.{and_rest}
 use Rattle.spread_laws.specs.Served.{IsNarrowStatement, IsNarrowSequence, AreNarrow}
 
--- blocks and then further ones beside them
+-- blocks, and more blocks behind them
 abbrev pub and_beside : List Sequence → Sequences → Sequences
 and_beside [] rest = rest
 and_beside (b ∷ more) rest = beside b (and_beside more rest)
 
--- the item at i and those behind it
+-- The item at i and those behind it.
 pub cut_at : {A : Type 0} (items : List A) (item : A) (i : ℕ) → i < length items → item ≡ get_or items i item → drop i items ≡ item ∷ drop (i + 1) items
 cut_at items item i lt at =
     let next : suc i ≡ i + 1 = omega arith in
@@ -48,13 +48,13 @@ map_pushed : {A B : Type 0} (f : A → B) (xs : List A) (x : A) → map f (xs ++
 map_pushed f [] x = refl
 map_pushed f (y ∷ xs) x = ap (λ zs. f y ∷ zs) (map_pushed f xs x)
 
--- one part is pushed
+-- One part is pushed.
 pub put_one : {A B : Type 0} (f : A → B) (before after : List A) (x : A) (b : B) → after ≡ before ++ (x ∷ []) → f x ≡ b → map f after ≡ map f before ++ (b ∷ [])
 put_one f before after x b put is = ap (map f) put ∙ map_pushed f before x ∙ ap (λ z. map f before ++ (z ∷ [])) is
 
 -- ---- statements
 
--- what the statement at i becomes is put behind what those before became
+-- The new form of the statement at i is pushed behind those before.
 pub next_pushed : (g : Statement → List Statement) (F : Sequence → Sequence) → ((s : Statement) (r : Sequence) → F (followed s r) ≡ and_rest (g s) (F r))
     → (before after : List Statement) (items : List Stmt) (item : Stmt) (i : ℕ) (whole : Sequence) → i < length items → item ≡ get_or items i item
     → after ≡ before ++ g (statement_of item)
@@ -65,7 +65,7 @@ next_pushed g F step before after items item i whole lt at put so =
     ∙ ap (and_rest before) (sym (step (statement_of item) (sequence (map statement_of (drop (i + 1) items))))
     ∙ ap (λ zs. F (sequence (map statement_of zs))) (sym (cut_at items item i lt at))) ∙ so
 
--- at the end all are put
+-- At the end all are pushed.
 pub all_pushed : (F : Sequence → Sequence) → F ended ≡ ended → (xs : List Statement) (items : List Stmt) (i : ℕ) (whole : Sequence) → length items ≤ i
     → and_rest xs (F (sequence (map statement_of (drop i items)))) ≡ whole → sequence xs ≡ whole
 all_pushed F none xs items i whole le so =
@@ -105,6 +105,6 @@ pub next_narrow_block : (items : List Block) (item : Block) (i : ℕ) (N : Type 
 next_narrow_block items item i N lt at narrow so rest =
     so (subst (λ zs. AreNarrow (sequences (map sequence_of zs))) (sym (cut_at items item i lt at)) (narrow, rest))
 
--- blocks made of their list
+-- Blocks are the list that they are made of.
 pub blocks_rolled : (blocks : open_tree.Blocks-F Stmt Block Blocks) → sequences_of (roll-Blocks blocks) ≡ sequences (map sequence_of blocks.blocks.items)
 blocks_rolled blocks = fold-roll-Blocks Statement Sequence Sequences statement_step block_step blocks_step blocks

@@ -1,4 +1,4 @@
--- The programs can be run but for their overlaps.
+-- The programs have a meaning, up to their overlaps.
 use Rattle.std.proofs.Common.{◌≡◌, refl, subst, sym}
 use Rattle.std.proofs.lemmas.Bool.{leb-true}
 use Rattle.array_tree.specs.Trees.{ProgramTree}

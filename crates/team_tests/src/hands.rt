@@ -141,7 +141,7 @@ fn gives_once<'a, 'r, 'p, R: Wait + 'a>(rt: &'a R, hand: &TeamHand<'a, 'r, 'p, R
     all && out
 }
 
-// Runs the whole team. Returns whether each phase and all together had the right writes.
+// Runs the team to its end. Returns whether each phase and all together had the right writes.
 fn runs_whole<'a, 'r, 'p, R: Wait + 'a>(
     rt: &'a R,
     hand: &mut TeamHand<'a, 'r, 'p, R>,

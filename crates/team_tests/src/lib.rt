@@ -1,4 +1,4 @@
-//! Tests of the team over the members of small programs, by itself and through hands, through public calls alone.
+//! Tests of the team with the members of small programs, by itself and with hands, through public calls only.
 #![tactic(auto)]
 
 #[cfg(test)]

@@ -1,4 +1,4 @@
--- Pieces that are told to touch different cells are apart.
+-- Pieces whose recorded stretches don't clash are apart.
 use Rattle.std.proofs.Common.{◌≡◌, ℕ, ◌+◌, ◌-◌, ◌<◌, ◌≤◌, Bool, true, false, cond, List, [], ◌∷◌, length, Option, Some, None, ℤ, pos, negsuc, refl, subst, ap, ◌⊎◌, inl, inr, arith}
 use Rattle.std.specs.Prelude.{IsTrue}
 use Rattle.std.proofs.lemmas.Bool.{false≢true}
@@ -31,7 +31,7 @@ number_same (x ∷ more) m n c a b d e =
     cases false true rest a b d e = absurd (omega arith)
     cases false false rest a b d e = ap (λ k. 1 + k) (rest (omega arith) (omega arith) (omega arith) (omega arith))
 
--- ---- where a cell that is touched is told
+-- ---- a touched cell lies in a recorded stretch
 
 record Spot (arrays : Arrays) (t : List Touch) (writes : Bool) (cell : ℕ) : Type 0 where
   array : List ℕ

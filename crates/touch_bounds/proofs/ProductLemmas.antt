@@ -24,7 +24,7 @@ falls k (pos a) (negsuc b) h = absurd (omega (arith, ints))
 falls k (negsuc a) (pos b) h = omega (arith, ints)
 falls k (negsuc a) (negsuc b) h = omega (arith, ints, mul-le (suc k) (suc b) (suc k) (suc a) (omega arith) (omega (arith, ints)))
 
--- with the products at both ends, one in between lies there too
+-- If an interval has the products at both ends, it has each product between them.
 corner : (told : Interval) (k m n y : ℤ) → LiesIn told (k *ℤ m) → LiesIn told (k *ℤ n) → m ≤ℤ y → y ≤ℤ n → LiesIn told (k *ℤ y)
 corner told (pos k) m n y hm hn low high =
     let below = rises k m y low in let above = rises k y n high in
@@ -41,7 +41,7 @@ corners told l h m n x y lm ln hm hn lx xh my yn =
     let turned = λ (z : ℤ) (p : LiesIn told (z *ℤ y)). subst (LiesIn told) (*ℤ_comm z y) p in
     subst (LiesIn told) (*ℤ_comm y x) (corner told y l h x (turned l low) (turned h high) lx xh)
 
--- a product that was told
+-- An interval has a product if it has the checked one.
 at_product : (told : Interval) (l m r : ℤ) → FitsSigned w64 l → FitsSigned w64 m → Checked r (seen l *ℤ seen m) → LiesIn told (seen r) → LiesIn told (l *ℤ m)
 at_product told l m r fl fm e h =
     let fr : FitsSigned w64 r = subst (FitsSigned w64) (sym e.1) e.0 in
@@ -80,7 +80,7 @@ quotient_falls k (pos a) (negsuc b) h = absurd (omega (arith, ints))
 quotient_falls k (negsuc a) (pos b) h = omega (arith, ints)
 quotient_falls k (negsuc a) (negsuc b) h = omega (arith, ints, div-le (suc b) (suc a) (suc k) (omega arith) (omega (arith, ints)))
 
--- with the quotients at both ends, one in between lies there too, and doesn't wrap
+-- If an interval has the quotients at both ends, it has each quotient between them, and none wraps.
 pub quotient_between : (told : Interval) (d l h x : ℤ) → AreFit told → ¬ (d ≡ pos 0) → LiesIn told (int_div l d) → LiesIn told (int_div h d) → l ≤ℤ x → x ≤ℤ h →
     LiesIn told (quotient x d)
 quotient_between told (pos zero) l h x ft some hl hh low high = absurd (some refl)
@@ -93,7 +93,7 @@ quotient_between told (negsuc k) l h x ft some hl hh low high =
     let inside : LiesIn told (int_div x (negsuc k)) = record { low = omega (arith, ints); high = omega (arith, ints) } in
     subst (LiesIn told) (sym (to_z-of_z w64 (int_div x (negsuc k)) (between_fits told.least (int_div x (negsuc k)) told.greatest ft.least ft.greatest inside.low inside.high))) inside
 
--- a quotient that was told
+-- An interval has a quotient if it has the checked one.
 pub at_quotient : (told : Interval) (a d r : ℤ) → FitsSigned w64 a → FitsSigned w64 d → FitsSigned w64 (int_div (seen a) (seen d)) →
     r ≡ int_div (seen a) (seen d) → LiesIn told (seen r) → LiesIn told (int_div a d)
 at_quotient told a d r fa fd f e h =

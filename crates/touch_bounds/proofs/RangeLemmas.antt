@@ -9,7 +9,7 @@ use Rattle.touch_bounds.specs.Ranges.{Bounds, fixed, AreWithin, interval_of}
 pub lies_exactly : (x : ℤ) → LiesIn (exactly x) x
 lies_exactly x = record { low = ≤ℤ_refl x; high = ≤ℤ_refl x }
 
--- variables lie between the bounds that their values are
+-- Variables with fixed values lie within them.
 pub fixed_within : (vars : Vars) → AreWithin (fixed vars) vars
 fixed_within [] = tt
 fixed_within (v ∷ vars) = (refl, lies_exactly v.1, fixed_within vars)
@@ -22,7 +22,7 @@ fixed_interval (v ∷ vars) name = cases (name_eq v.0 name) (fixed_interval vars
     cases true rest = refl
     cases false rest = rest
 
--- the value of a variable lies between its bounds
+-- The value of a variable lies within its bounds.
 pub var_within : (bounds : Bounds) (vars : Vars) (name : List ℕ) → AreWithin bounds vars → LiesIn (interval_of bounds name) (var_of vars name)
 var_within [] [] name h = lies_exactly (pos 0)
 var_within [] (v ∷ vars) name h = absurd h

@@ -1,4 +1,4 @@
--- Rounds of which each piece is told.
+-- Rounds of which each piece is recorded.
 use Rattle.std.proofs.Common.{◌≡◌, ℕ, suc, ◌+◌, ◌-◌, ◌<◌, Bool, true, List, [], ◌∷◌, ◌++◌, map, length, drop, get_or, drop-cons, add-one, ℤ, refl, sym, subst, ap, ◌∙◌, arith}
 use Rattle.std.specs.Prelude.{◌&&◌, IsTrue}
 use Rattle.array_tree.specs.declared.tree.Block.{Block}
@@ -15,12 +15,11 @@ use Rattle.touch_bounds.specs.declared.touch.Touch.{Touch}
 use Rattle.touch_bounds.specs.Touches.{AreVisitsTold}
 use Rattle.touch_bounds.specs.Pieces.{tables_of, ArePiecesTold}
 
--- one more piece
 tables_push : (pieces : List Piece) (p : Piece) (more : List (List Touch)) → tables_of (pieces ++ p ∷ []) ++ more ≡ tables_of pieces ++ (p.touches.items ∷ more)
 tables_push [] p more = refl
 tables_push (q ∷ pieces) p more = ap (λ ts. q.touches.items ∷ ts) (tables_push pieces p more)
 
--- with these and more, all pieces are told
+-- these pieces and any records of the rest are records of all pieces
 abbrev pub Completes : Arrays → List Piece → List Steps → List Steps → Type 0
 Completes arrays pieces rest all = (more : List (List Touch)) → ArePiecesTold arrays more rest → ArePiecesTold arrays (tables_of pieces ++ more) all
 
@@ -36,7 +35,7 @@ tables_end (p ∷ pieces) = ap (λ ts. p.touches.items ∷ ts) (tables_end piece
 pub completed : (arrays : Arrays) (pieces : List Piece) (all : List Steps) → Completes arrays pieces [] all → ArePiecesTold arrays (tables_of pieces) all
 completed arrays pieces all h = subst (λ ts. ArePiecesTold arrays ts all) (tables_end pieces) (h [] tt)
 
--- of branches, the one at place i
+-- The branch at index i.
 pub branch_next : (arrays : Arrays) (pieces : List Piece) (p : Piece) (bs : List Block) (i : ℕ) (d : Block) (vars : Vars) (all : List Steps) → i < length bs →
     Completes arrays pieces (branch_works (sequences (map sequence_of (drop i bs))) vars) all →
     AreVisitsTold arrays p.touches.items (walk arrays (sequence_work (sequence_of (get_or bs i d)) vars)) →
@@ -46,7 +45,7 @@ branch_next arrays pieces p bs i d vars all small before told =
     (completes_next arrays pieces p (sequence_work (sequence_of (get_or bs i d)) vars) (branch_works (sequences (map sequence_of (drop (suc i) bs))) vars) all
     (subst (λ left. Completes arrays pieces (branch_works (sequences (map sequence_of left)) vars) all) (drop-cons bs i d small) before) told)
 
--- of members, member j
+-- Member j.
 pub member_next : (arrays : Arrays) (pieces : List Piece) (p : Piece) (var : List ℕ) (low high : ℤ) (m : ℕ) (body : Work) (j : ℕ) (vars : Vars) (all : List Steps) → j < m →
     Completes arrays pieces (member_works var low high m body j (m - j) vars) all →
     AreVisitsTold arrays p.touches.items (walk arrays (member_work var low high m body j vars)) →
@@ -56,7 +55,7 @@ member_next arrays pieces p var low high m body j vars all small before told =
     completes_next arrays pieces p (member_work var low high m body j vars) (member_works var low high m body (j + 1) (m - (j + 1)) vars) all
     (subst (λ k. Completes arrays pieces (member_works var low high m body j k vars) all) one before) told
 
--- what is told is inside
+-- Recorded visits are inside their arrays.
 pub told_inside : (arrays : Arrays) (t : List Touch) (vs : List Visit) → AreVisitsTold arrays t vs → IsTrue (are_inside arrays vs)
 told_inside arrays t [] h = refl
 told_inside arrays t (v ∷ vs) h = both (is_inside (length_of arrays v.array) v.index) (are_inside arrays vs) h.0.reach.inside (told_inside arrays t vs h.1)

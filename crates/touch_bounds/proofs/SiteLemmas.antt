@@ -1,4 +1,4 @@
--- Sites one after another of which the pieces are apart.
+-- Sites in sequence whose pieces are apart.
 use Rattle.std.proofs.Common.{ℕ, zero, suc, ◌+◌, ◌<◌, List, [], ◌∷◌, ◌++◌, map, length, drop, get_or, drop-cons, add-one, ℤ, pos, ◌+ℤ◌, ◌<ℤ◌, ◌≤ℤ◌, refl, sym, subst, arith}
 use Rattle.std.proofs.lemmas.Int.{ints}
 use Rattle.array_tree.specs.declared.tree.Stmt.{Stmt}
@@ -21,7 +21,7 @@ pub both_apart : (arrays : Arrays) (bounds : Bounds) (first rest : Vars → List
     AreAllSitesApart arrays bounds (λ vars. first vars ++ rest vars)
 both_apart arrays bounds first rest h k vars within = apart_append arrays (first vars) (rest vars) (h vars within) (k vars within)
 
--- the first of what is left, and the rest
+-- ---- the first of the remaining parts, and the others
 
 pub statements_apart : (arrays : Arrays) (bounds : Bounds) (ss : List Stmt) (i : ℕ) (d : Stmt) → i < length ss →
     AreAllSitesApart arrays bounds (statement_sites (statement_of (get_or ss i d))) →

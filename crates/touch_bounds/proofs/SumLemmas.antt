@@ -7,14 +7,14 @@ use Rattle.array_meaning.specs.Values.{wrapping_sum, wrapping_difference, wrappi
 use Rattle.touch_bounds.specs.declared.interval.Interval.{Interval}
 use Rattle.touch_bounds.specs.Intervals.{LiesIn, LeadsInto, LeadInto}
 
--- what lies between two numbers that fit fits
+-- A number between two that fit fits.
 pub between_fits : (l x h : ℤ) → FitsSigned w64 l → FitsSigned w64 h → l ≤ℤ x → x ≤ℤ h → FitsSigned w64 x
 between_fits l (pos x) (pos h) fl fh low high = record { sfits = omega (arith, ints) }
 between_fits l (pos x) (negsuc h) fl fh low high = absurd (omega (arith, ints))
 between_fits (pos l) (negsuc x) h fl fh low high = absurd (omega (arith, ints))
 between_fits (negsuc l) (negsuc x) h fl fh low high = record { sfits = omega (arith, ints) }
 
--- the interval of two numbers as the code makes it
+-- the interval of two numbers, as the code makes it
 abbrev pub told : ℤ → ℤ → Interval
 told least greatest = record { least = to_z w64 (of_z w64 least); greatest = to_z w64 (of_z w64 greatest) }
 
@@ -24,13 +24,13 @@ told_lies least greatest x fl fg low high = record {
   high = rw (to_z-of_z w64 greatest fg) high;
 }
 
--- what lies between bounds that fit doesn't wrap
+-- A number between bounds that fit doesn't wrap.
 pub unwrapped_lies : (least greatest x : ℤ) → FitsSigned w64 least → FitsSigned w64 greatest → least ≤ℤ x → x ≤ℤ greatest →
     LiesIn (told least greatest) (int_wrap w64 x)
 unwrapped_lies least greatest x fl fg low high =
     subst (LiesIn (told least greatest)) (sym (int_wrap_fits w64 x (between_fits least x greatest fl fg low high))) (told_lies least greatest x fl fg low high)
 
--- what a checked operation tells: it fits, and is the result
+-- a checked operation: the exact result fits, and is the result
 abbrev pub Checked : ℤ → ℤ → Type 0
 Checked result exact = FitsSigned w64 exact × (result ≡ exact)
 
@@ -45,7 +45,7 @@ pub record AreFit (within : Interval) : Type 0 where
   pub least : FitsSigned w64 within.least
   pub greatest : FitsSigned w64 within.greatest
 
--- a number as the code passes it
+-- a number, as the code passes it
 abbrev pub seen : ℤ → ℤ
 seen x = to_z w64 (of_z w64 x)
 

@@ -1,4 +1,4 @@
--- What is told of several visits, and what stays told.
+-- The recorded stretches of several visits; recording more keeps them.
 use Rattle.std.proofs.Common.{ℕ, true, false, List, [], ◌∷◌, ◌++◌}
 use Rattle.array_tree.specs.Trees.{Expression, Read, Binary}
 use Rattle.array_tree.specs.declared.tree.Op.{Op}
@@ -9,7 +9,7 @@ use Rattle.touch_bounds.specs.declared.touch.Touch.{Touch}
 use Rattle.touch_bounds.specs.Ranges.{Bounds}
 use Rattle.touch_bounds.specs.Touches.{Widens, IsVisitTold, AreVisitsTold, IsIndexTold, AreReadsTold, IsAssignTold}
 
--- ---- what stays told
+-- ---- recording more keeps what is recorded
 
 pub wider_refl : (touches : List Touch) → Widens touches touches
 wider_refl touches = record { kept = λ number writes cell h. h }
@@ -31,7 +31,7 @@ pub told_append : (arrays : Arrays) (t : List Touch) (xs ys : List Visit) → Ar
 told_append arrays t [] ys h k = k
 told_append arrays t (v ∷ xs) ys h k = (h.0, told_append arrays t xs ys h.1 k)
 
--- ---- of expressions and assignments
+-- ---- the visits of expressions and assignments
 
 pub read_told : (arrays : Arrays) (s t : List Touch) (bounds : Bounds) (array : List ℕ) (index : Expression) → AreReadsTold arrays s bounds index → Widens s t →
     IsIndexTold arrays t bounds false array index → AreReadsTold arrays t bounds (Read array index)

@@ -1,4 +1,4 @@
--- What a statement of the tree stands for, kind by kind.
+-- The definitions that a statement of the tree stands for, kind by kind.
 use Rattle.std.proofs.Common.{◌≡◌, ℕ, List, sym, ap, ◌∙◌}
 use Rattle.array_tree.specs.declared.tree.Expr.{Expr}
 use Rattle.array_tree.specs.declared.tree.Block.{Block}

@@ -1,4 +1,4 @@
--- What is told of works of several parts.
+-- The recorded stretches of works with several parts.
 use Rattle.std.proofs.Common.{ℕ, zero, suc, ◌+◌, ◌<◌, ◌≤◌, List, [], ◌∷◌, ◌++◌, map, length, drop, get_or, drop-cons, add-one, ℤ, pos, ◌+ℤ◌, ◌≤ℤ◌, ◌<ℤ◌, refl, sym, subst, arith}
 use Rattle.std.proofs.lemmas.Int.{ints}
 use Rattle.std.proofs.lemmas.List.{drop_all}
@@ -54,7 +54,7 @@ phases_told arrays t bounds bs i d var low high small first rest =
     (λ vars within. steps_told arrays t (loop var low high (sequence_work (sequence_of (get_or bs i d))) vars) (phases_work (sequences (map sequence_of (drop (suc i) bs))) var low high vars)
     (first vars within) (subst (λ k. AreVisitsTold arrays t (walk arrays (phases_work (sequences (map sequence_of (drop k bs))) var low high vars))) (add-one i) (rest vars within)))
 
--- no phase is left
+-- No phase is left.
 pub no_phase_told : (arrays : Arrays) (t : List Touch) (bounds : Bounds) (bs : List Block) (i : ℕ) (var : List ℕ) (low high : ℤ) → length bs ≤ i →
     IsWorkTold arrays t bounds (λ vars. phases_work (sequences (map sequence_of (drop i bs))) var low high vars)
 no_phase_told arrays t bounds bs i var low high none =

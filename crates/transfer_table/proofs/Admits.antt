@@ -1,4 +1,4 @@
--- An entry is admitted exactly where it is allowed, and then it has its effect.
+-- An entry is admitted iff it is allowed, and then has its effect.
 use Rattle.std.proofs.Common.{◌≡◌, ◌≢◌, ℕ, ◌+◌, ◌-◌, ◌<◌, ◌≤◌, Bool, true, false, not, eqb, nat_le, nat_lt, List, ◌∷◌, refl, sym, ap, ◌∙◌, arith, slice_index, slice_index_or, Option, Some, None, Ok, eq-eqb, ne_eqb}
 use Rattle.std.proofs.lemmas.Bool.Decides.{nat_tests}
 use Rattle.std.specs.Option.{option_map}
@@ -69,11 +69,11 @@ pub admits_skip : (p : Plan) (t : TableState) (h s : ℕ) → IsHart p h → IsS
     → admit_of p t (Skip h s) ≡ Ok (effect_of p t (Skip h s))
 admits_skip p t h s a b c d = rw (known_hart p.harts h a, known_site p s b, eq-eqb (owner t h) (parent p s) c, d) refl
 
--- where no other hart is inside, the scan finds none
+-- If no other hart is inside, the scan finds none.
 pub hart_inside-none : (p : Plan) (t : TableState) (h s : ℕ) → IsPosition record { plan = p; state = t } → IsAlone p t h s → hart_inside t h s ≡ None
 hart_inside-none p t h s is alone = no_other t.owners h s 0 (λ g lt n. alone g (let z = is.owners in omega arith) (λ e. n (omega arith)))
 
--- where each child is gone, the scan finds none
+-- If each child is gone, the scan finds none.
 pub child_left-none : (p : Plan) (t : TableState) (s : ℕ) → IsPosition record { plan = p; state = t } → ChildrenGone p t s → child_left p t s ≡ None
 child_left-none p t s is gone = no_child p.parents t.rows s 1 blank is.rows (λ i lt e. let same : i + 1 - 1 ≡ i = omega arith in
     let up : parent p (i + 1) ≡ s = ap (slice_index p.parents) same ∙ e in
@@ -83,7 +83,7 @@ pub admits_unregister : (p : Plan) (t : TableState) (h s : ℕ) → IsPosition r
     → admit_of p t (Unregister h s) ≡ Ok (effect_of p t (Unregister h s))
 admits_unregister p t h s is a b c d e f = rw (known_hart p.harts h a, known_site p s b, eq-eqb (owner t h) s c, d, eq-eqb h h refl, hart_inside-none p t h s is e, child_left-none p t s is f) refl
 
--- where an entry is allowed, it is admitted
+-- An allowed entry is admitted.
 pub admits : (p : Plan) (t : TableState) (e : Entry) → IsPosition record { plan = p; state = t } → IsAllowed p t e → admit_of p t e ≡ Ok (effect_of p t e)
 admits p t (Register h s) is a = admits_register p t h s a.0 a.1 a.2 a.3
 admits p t (Request h s k) is a = admits_request p t h s k a.0 a.1 a.2 a.3 a.4 a.5
@@ -123,7 +123,7 @@ few_of n a k e = grind (arith, nat_tests)
 some_of : (k : ℕ) → eqb k 0 ≡ false → 1 ≤ k
 some_of k e = grind (arith, nat_tests)
 
--- an entry that is admitted was allowed, and the new state is its effect
+-- An admitted entry was allowed, and the new state is its effect.
 pub admitted : (p : Plan) (t : TableState) (e : Entry) (u : TableState) → IsPosition record { plan = p; state = t } → admit_of p t e ≡ Ok u → IsAllowed p t e × (u ≡ effect_of p t e)
 admitted p t (Register h s) u size is = let c = clean _ _ u is in let a = passed _ _ _ c.0 in let b = passed _ _ _ a.1 in let d = passed _ _ _ b.1 in let g = passed _ _ _ d.1 in
     ((in_harts p.harts h a.0, in_sites p s b.0, same_site (owner t h) (parent p s) d.0, new_is (row t s).stage (holds_of (is_new (row t s).stage) g.0)), c.1)

@@ -1,4 +1,4 @@
--- What the entries of a site add up to.
+-- The sums of a site's entries.
 use Rattle.std.proofs.Common.{◌≡◌, ◌≢◌, ℕ, ◌+◌, ◌-◌, ◌≤◌, nat_le, Bool, true, false, not, ◌&&◌, Option, cond, ◌==◌, eq-eqb, ne_eqb, if◌then◌else◌, List, [], ◌∷◌, ◌++◌, refl, sym, ap, subst, ◌∙◌, arith}
 use Rattle.std.specs.List.{All}
 use Rattle.std.specs.Option.{is_some}
@@ -20,7 +20,7 @@ use Rattle.transfer_table.proofs.Effects.{at_site, row_after, allowed_site}
 use Rattle.transfer_table.proofs.Stages.{first_blank, home_lasts, legal_blank, live_home, covered_new}
 use Rattle.transfer_table.proofs.Within.{within-itself}
 
--- one entry more adds what it counts, where it is of the site
+-- One more entry of the site adds what it counts.
 pub registers-snoc : (s : ℕ) (es : List Entry) (e : Entry) → registers s (es ++ e ∷ []) ≡ registers s es + cond (if site_of e == s then is_register e else false) 1 0
 registers-snoc s es e = let z = sum_by-append (λ x. cond (if site_of x == s then is_register x else false) 1 0) es (e ∷ []) in omega arith
 
@@ -33,7 +33,7 @@ unregisters-snoc s es e = let z = sum_by-append (λ x. cond (if site_of x == s t
 pub requested-snoc : (s : ℕ) (es : List Entry) (e : Entry) → requested s (es ++ e ∷ []) ≡ requested s es + (if site_of e == s then count_of e else 0)
 requested-snoc s es e = let z = sum_by-append (λ x. if site_of x == s then count_of x else 0) es (e ∷ []) in omega arith
 
--- an entry of another site adds nothing
+-- An entry of another site adds nothing.
 pub enters-other : (s : ℕ) (es : List Entry) (e : Entry) → s ≢ site_of e → enters s (es ++ e ∷ []) ≡ enters s es
 enters-other s es e n = let z = enters-snoc s es e in let q : cond {A = ℕ} (if site_of e == s then is_enter e else false) 1 0 ≡ 0 = rw (ne_eqb (site_of e) s (λ y. n (sym y))) refl in omega arith
 
@@ -46,7 +46,7 @@ registers-other s es e n = let z = registers-snoc s es e in let q : cond {A = �
 pub unregisters-other : (s : ℕ) (es : List Entry) (e : Entry) → s ≢ site_of e → unregisters s (es ++ e ∷ []) ≡ unregisters s es
 unregisters-other s es e n = let z = unregisters-snoc s es e in let q : cond {A = ℕ} (if site_of e == s then is_unregister e else false) 1 0 ≡ 0 = rw (ne_eqb (site_of e) s (λ y. n (sym y))) refl in omega arith
 
--- an entry of the site adds what it counts
+-- An entry of the site adds what it counts.
 pub enters-here : (es : List Entry) (e : Entry) → enters (site_of e) (es ++ e ∷ []) ≡ enters (site_of e) es + cond (is_enter e) 1 0
 enters-here es e = enters-snoc (site_of e) es e ∙ rw (eq-eqb (site_of e) (site_of e) refl) refl
 
@@ -59,7 +59,7 @@ registers-here es e = registers-snoc (site_of e) es e ∙ rw (eq-eqb (site_of e)
 pub unregisters-here : (es : List Entry) (e : Entry) → unregisters (site_of e) (es ++ e ∷ []) ≡ unregisters (site_of e) es + cond (is_unregister e) 1 0
 unregisters-here es e = unregisters-snoc (site_of e) es e ∙ rw (eq-eqb (site_of e) (site_of e) refl) refl
 
--- a site's row against the entries of the site
+-- a site's row in terms of the entries of the site
 pub record IsBalanced (p : Plan) (es : List Entry) (s : ℕ) (r : Row) : Type 0 where
   pub wished : enters s es + r.wishes ≡ r.asked
   pub asked : r.asked ≡ requested s es
@@ -76,7 +76,7 @@ balanced_here p t es (Skip h s) a new b = let n = enters-here es (Skip h s) in l
 balanced_else : (p : Plan) (es : List Entry) (e : Entry) (s : ℕ) (r : Row) → s ≢ site_of e → IsBalanced p es s r → IsBalanced p (es ++ e ∷ []) s r
 balanced_else p es e s r n b = record { wished = ap (λ (x : ℕ). x + r.wishes) (enters-other s es e n) ∙ b.wished; asked = b.asked ∙ sym (requested-other s es e n); few = b.few }
 
--- the harts that entered a site, and its wishes, are what it asked
+-- The requests of a site are its enters and its open wishes.
 pub legal_balance : (p : Plan) → IsPlan p → (es : List Entry) (t : TableState) → Reaches p es t → (s : ℕ) → IsSite p s → IsBalanced p es s (row t s)
 legal_balance p plan es t is = lasts p plan (λ xs u. (s : ℕ) → IsSite p s → IsBalanced p xs s (row u s))
     (λ s _. subst (IsBalanced p [] s) (sym (first_blank p s)) record { wished = refl; asked = refl; few = omega arith })
@@ -112,28 +112,28 @@ in_plan_now p t (Skip h s) a = (a.0, a.1, omega arith)
 one : (P : Entry → Type 0) (e : Entry) → P e → All P (e ∷ [])
 one P e x = All-cons P e [] x (All-nil P)
 
--- every entry of a legal list is in the plan
+-- Each entry of a legal list is in the plan.
 pub legal_entries : (p : Plan) → IsPlan p → (es : List Entry) (t : TableState) → Reaches p es t → All (IsEntryOf p) es
 legal_entries p plan es t is = lasts p plan (λ xs _. All (IsEntryOf p) xs) (All-nil (IsEntryOf p)) (λ xs u e leads fits f a. All-append (IsEntryOf p) xs (e ∷ []) f (one (IsEntryOf p) e (in_plan_now p u e a))) es t is
 
--- every request is by the site's home
+-- Each request is by the site's home.
 pub legal_by_home : (p : Plan) → IsPlan p → (es : List Entry) (t : TableState) → Reaches p es t → All (IsByHome t) es
 legal_by_home p plan es t is = lasts p plan (λ xs u. All (IsByHome u) xs) (All-nil (IsByHome (first_state p)))
     (λ xs u e leads fits f a. let all = legal_entries p plan xs u leads in All-append (IsByHome (effect_of p u e)) xs (e ∷ [])
     (λ k d lt. by_home_after p plan xs u e leads fits a _ (all k d lt) (f k d lt))
     (one (IsByHome (effect_of p u e)) e (by_home_after p plan xs u e leads fits a e (in_plan_now p u e a) (by_home_now p u e a)))) es t is
 
--- one entry more skips a site where it covers it
+-- One more entry skips a site iff it covers the site.
 pub skips_over-snoc : (p : Plan) (s : ℕ) (es : List Entry) (e : Entry) → skips_over p s (es ++ e ∷ []) ≡ skips_over p s es + cond (covers p e s) 1 0
 skips_over-snoc p s es e = let z = sum_by-append (λ x. cond {A = ℕ} (covers p x s) 1 0) es (e ∷ []) in omega arith
 
--- how often a site was registered, unregistered and skipped
+-- the numbers of registers, unregisters and skips of a site
 pub record AreCounted (p : Plan) (es : List Entry) (s : ℕ) (r : Row) : Type 0 where
   pub came : registers s es ≡ (if is_some r.home then 1 else 0)
   pub went : unregisters s es ≡ (if (is_gone r.stage && is_some r.home) then 1 else 0)
   pub skipped : skips_over p s es ≡ (if (is_gone r.stage && not (is_some r.home)) then 1 else 0)
 
--- a site with a blank row was never anything
+-- A site with a blank row was never registered, unregistered or skipped.
 of_blank : (p : Plan) (es : List Entry) (s : ℕ) (r : Row) → r ≡ blank → AreCounted p es s r → (registers s es ≡ 0) × (unregisters s es ≡ 0) × (skips_over p s es ≡ 0)
 of_blank p es s r is b = (
   b.came ∙ ap (λ (x : Row). if is_some x.home then 1 else 0) is,
@@ -182,11 +182,11 @@ legal_counts p plan es t is = lasts p plan (λ xs u. (s : ℕ) → IsSite p s �
     (λ n c. counted_else p xs e s (row u s) n c (f s site))
     (λ n c. counted_swept p xs e s (row u s) n c (legal_blank p plan xs u leads s site (covered_new p plan xs u e leads a s site c)) (f s site))) es t is
 
--- the row of a site tells how often it was registered, unregistered and skipped
+-- The row of a site determines how often the site was registered, unregistered and skipped.
 pub rows_tell : (p : Plan) → IsPlan p → (es : List Entry) (t : TableState) → Reaches p es t → (s : ℕ) → IsSite p s → IsCounted p es t s
 rows_tell p plan es t is s site = let c = legal_counts p plan es t is s site in record { came = c.came; went = c.went; skipped = c.skipped }
 
--- a site has a Register exactly where its row has a home
+-- A site has a Register iff its row has a home.
 pub registered-home : (p : Plan) → IsPlan p → (es : List Entry) (t : TableState) → Reaches p es t → (s : ℕ) → IsSite p s → has_register es s ≡ is_some (row t s).home
 registered-home p plan es t is s site = split (is_some (row t s).home) ((rows_tell p plan es t is s site).came)
   where
@@ -194,7 +194,7 @@ registered-home p plan es t is s site = split (is_some (row t s).home) ((rows_te
     split true e = ap (nat_le 1) e
     split false e = ap (nat_le 1) e
 
--- where each site is gone, the meant ones came and went once
+-- If each site is gone, each meant site was registered once and unregistered once.
 pub complete_came : (p : Plan) → IsPlan p → (meant : List Bool) (es : List Entry) (t : TableState) → Reaches p es t → AllGone p t → AreMeant p meant es → (s : ℕ) → IsSite p s → is_meant meant s ≡ true → CameAndWent p es s
 complete_came p plan meant es t is gone are s site m = let b = rows_tell p plan es t is s site in
     let h : is_some (row t s).home ≡ true = sym (registered-home p plan es t is s site) ∙ (are s site ∙ m) in let g = gone s site in record {
@@ -203,7 +203,7 @@ complete_came p plan meant es t is gone are s site m = let b = rows_tell p plan 
       kept = b.skipped ∙ (ap (λ (x : Stage). if (is_gone x && not (is_some (row t s).home)) then 1 else 0) g ∙ ap (λ (x : Bool). if not x then 1 else 0) h);
     }
 
--- and the others were skipped once
+-- If each site is gone, each other site was skipped once.
 pub complete_skipped : (p : Plan) → IsPlan p → (meant : List Bool) (es : List Entry) (t : TableState) → Reaches p es t → AllGone p t → AreMeant p meant es → (s : ℕ) → IsSite p s → is_meant meant s ≡ false → WasSkipped p es s
 complete_skipped p plan meant es t is gone are s site m = let b = rows_tell p plan es t is s site in
     let h : is_some (row t s).home ≡ false = sym (registered-home p plan es t is s site) ∙ (are s site ∙ m) in let g = gone s site in record {
@@ -212,6 +212,6 @@ complete_skipped p plan meant es t is gone are s site m = let b = rows_tell p pl
       skipped = b.skipped ∙ (ap (λ (x : Stage). if (is_gone x && not (is_some (row t s).home)) then 1 else 0) g ∙ ap (λ (x : Bool). if not x then 1 else 0) h);
     }
 
--- no site has more wishes than it asked for, and none asked for more than all harts but one
+-- No site has more wishes than it requested, and none requested more than all harts but one.
 pub legal_wishes : (p : Plan) → IsPlan p → (es : List Entry) (t : TableState) → Reaches p es t → (s : ℕ) → IsSite p s → ((row t s).wishes ≤ (row t s).asked) × ((row t s).asked ≤ p.harts - 1)
 legal_wishes p plan es t is s site = let b = legal_balance p plan es t is s site in let w = b.wished in let f = b.few in (omega arith, omega arith)

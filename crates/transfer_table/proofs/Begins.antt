@@ -40,7 +40,7 @@ record IsSkipped (p : Plan) (es : List Entry) (t : TableState) (s : ℕ) (r : Ro
   not_yet : (r.stage ≡ Gone → ⊥) → skips s es ≡ 0
   left_out : r.stage ≡ Gone → is_some r.home ≡ false → (skips s es ≡ 1) ⊎ HasGoneParent p t s
 
--- an entry that skips nothing
+-- An entry that skips nothing.
 plain_here : (p : Plan) (t u : TableState) (es : List Entry) (e : Entry) (r : Row) → is_skip e ≡ false → IsSkipped p es t (site_of e) (row t (site_of e))
     → (is_some r.home ≡ true → skips (site_of e) es ≡ 0) → (is_some r.home ≡ false → (row t (site_of e)).stage ≡ r.stage) → (is_some r.home ≡ false → is_some (row t (site_of e)).home ≡ false)
     → ((r.stage ≡ Gone → ⊥) → skips (site_of e) es ≡ 0) → (HasGoneParent p t (site_of e) → HasGoneParent p u (site_of e)) → IsSkipped p (es ++ e ∷ []) u (site_of e) r
@@ -75,7 +75,7 @@ skipped_else p t u es e s r n up old = let z = skips-other s es e n in let f = o
   left_out = λ g h. ⊎_elim (λ k. inl (z ∙ k)) (λ y. inr (up y)) (old.left_out g h);
 }
 
--- the parent of what is swept with a site around it is swept
+-- The parent of a site that is skipped with a site around it is gone.
 covered_parent : (p : Plan) → IsPlan p → (t : TableState) (e : Entry) (s : ℕ) → Fits p t → IsAllowed p t e → IsSite p s → s ≢ site_of e → covers p e s ≡ true → HasGoneParent p (effect_of p t e) s
 covered_parent p plan t (Register h x) s fits a site n c = absurd (cc)
 covered_parent p plan t (Request h x k) s fits a site n c = absurd (cc)
@@ -104,7 +104,7 @@ by_home : {A : Type 0} (o : Option ℕ) → (is_some o ≡ true → A) → (is_s
 by_home None some none = none refl
 by_home (Some h) some none = some refl
 
--- how a site begins and ends
+-- A site begins and ends as its own entries have it.
 pub legal_begins : (p : Plan) → IsPlan p → (es : List Entry) (t : TableState) → Reaches p es t → (s : ℕ) → IsSite p s → BeginsOnce p es t s
 legal_begins p plan es t is s site =
     let c = rows_tell p plan es t is s site in let k = legal_skips p plan es t is s site in
@@ -128,7 +128,7 @@ legal_begins p plan es t is s site =
     over_of Live e some = absurd (let m = (legal_skips p plan es t is s site).not_yet (λ q. cc) in let w : unregisters s es ≡ 0 = (rows_tell p plan es t is s site).went ∙ ap (λ (x : Stage). if (is_gone x && is_some (row t s).home) then 1 else 0) e in omega arith)
     over_of Gone e some = e
 
--- a site that nobody registered asked for nothing
+-- A site that was never registered requested nothing.
 askless_here : (p : Plan) (t : TableState) (e : Entry) → IsAllowed p t e → ((row t (site_of e)).stage ≡ New → row t (site_of e) ≡ blank) → ((row t (site_of e)).stage ≡ Live → is_some (row t (site_of e)).home ≡ true)
     → (is_some (row t (site_of e)).home ≡ false → ((row t (site_of e)).wishes ≡ 0) × ((row t (site_of e)).asked ≡ 0)) → is_some (row_after t e).home ≡ false → ((row_after t e).wishes ≡ 0) × ((row_after t e).asked ≡ 0)
 askless_here p t (Register h s) a new live old none = absurd (cc)

@@ -31,7 +31,7 @@ abbrev one : Bool → ℕ
 one true = 1
 one false = 0
 
--- 1 where the hart isn't the site's home
+-- 1 if the hart isn't the site's home
 abbrev guest : TableState → ℕ → ℕ → ℕ
 guest t h o = one (not (is_home (row t o).home h))
 
@@ -51,7 +51,7 @@ guest_other t h o e = rw e refl
 guest_same : (t u : TableState) (h o : ℕ) → (row u o).home ≡ (row t o).home → guest u h o ≡ guest t h o
 guest_same t u h o e = ap (λ (q : Option ℕ). one (not (is_home q h))) e
 
--- on the way from a site to the base, how many sites the hart isn't the home of
+-- the number of sites on the path to the base of which the hart isn't the home
 guests : Plan → TableState → ℕ → ℕ → ℕ → ℕ
 guests p t h zero o = 0
 guests p t h (suc f) o = cond (eqb o 0) 0 (guest t h o + guests p t h f (parent p o))
@@ -110,7 +110,7 @@ sum_one p t u (suc m) h lt f = dite (ℕ_discrete h m)
     (λ z. let r = sum_same p t u m (λ g l. f g (omega arith) (λ c. omega arith)) in let a : all p u h (owner u h) ≡ all p u m (owner u m) = ap (λ (q : ℕ). all p u q (owner u q)) z in let b : all p t h (owner t h) ≡ all p t m (owner t m) = ap (λ (q : ℕ). all p t q (owner t q)) z in omega arith)
     (λ n. let r = sum_one p t u m h (omega arith) (λ g l c. f g (omega arith) c) in let a = f m (omega arith) (λ c. n (sym c)) in omega arith)
 
--- the entries that a site may still get, beside the yields of the harts inside
+-- the entries that a site may still get, except the yields of the harts inside
 abbrev due_in : ℕ → ℕ → ℕ → Stage → ℕ
 due_in n asked wishes New = 3 * n - 1
 due_in n asked wishes Live = 1 + 3 * (n - 1 - asked) + 2 * wishes
@@ -144,11 +144,11 @@ row_here t x r low high = get_or-set_same t.rows (x - 1) r blank (omega arith)
 row_else : (t : TableState) (x y : ℕ) (r : Row) → 1 ≤ x → 1 ≤ y → y ≢ x → slice_index_or (set t.rows (x - 1) r) (y - 1) blank ≡ row t y
 row_else t x y r low low' n = get_or-set_other t.rows (x - 1) (y - 1) r blank (λ e. n (omega arith))
 
--- the ways that were there keep their guests
+-- The count for a path of live sites stays if their homes stay.
 same_paths : (p : Plan) (n : ℕ) (t u : TableState) → Fine p n t → ((y : ℕ) → 1 ≤ y → y ≤ site_count p → IsLive t y → (row u y).home ≡ (row t y).home) → (g o : ℕ) → IsPath p t o → all p u g o ≡ all p t g o
 same_paths p n t u f home g o path = guests_same p f.size.plan t u g (suc (site_count p)) o f.nested (λ x a b live. guest_same t u g x (home x a b live)) path
 
--- one hart's owner changes
+-- One hart's owner changes.
 harts_change : (p : Plan) (n : ℕ) (t u : TableState) (h : ℕ) → Fine p n t → h < p.harts → ((y : ℕ) → 1 ≤ y → y ≤ site_count p → IsLive t y → (row u y).home ≡ (row t y).home) → ((g : ℕ) → g ≢ h → owner u g ≡ owner t g)
     → harts_sum p u p.harts + all p t h (owner t h) ≡ harts_sum p t p.harts + all p u h (owner u h)
 harts_change p n t u h f lt home same = sum_one p t u p.harts h lt (λ g l c. ap (all p u g) (same g c) ∙ same_paths p n t u f home g (owner t g) (f.owners g l))
@@ -157,7 +157,7 @@ module _ (p : Plan) (n : ℕ) (t : TableState) (f : Fine p n t) where
   s : IsPlan p
   s = f.size.plan
 
-  -- a step that changes one row and one owner, and keeps what is live but for the row
+  -- A step changes one row and one owner, and keeps which other sites are live.
   module _ (h x : ℕ) (r : Row) (o : ℕ) (lt : h < p.harts) (low : 1 ≤ x) (high : x ≤ site_count p) where
     abbrev u : TableState
     u = record { owners = set t.owners h o; rows = set t.rows (x - 1) r }
@@ -191,7 +191,7 @@ module _ (p : Plan) (n : ℕ) (t : TableState) (f : Fine p n t) where
     path_stays : (y : ℕ) → IsPath p t y → (y ≡ x → is_live r.stage ≡ true) → IsPath p u y
     path_stays y path same nonzero = let z = path nonzero in (z.0, stays y (omega arith) z.1 same)
 
-    -- where the row is live after the step
+    -- The row is live after the step.
     live_step : is_live r.stage ≡ true → (IsLive t x → r.home ≡ (row t x).home) → IsPath p u o → IsPath p u (parent p x)
         → suc n + sum_by (site_due p.harts) u.rows + all p u h o ≤ n + sum_by (site_due p.harts) t.rows + all p t h (owner t h) → Fine p (suc n) u
     live_step live home path up less =
@@ -293,7 +293,7 @@ module _ (p : Plan) (n : ℕ) (t : TableState) (f : Fine p n t) where
       let mine : all p w h (owner w h) ≡ all p w h o = ap (all p w h) (own h x r o lt low high) in
       let old = f.short in
       let gone : is_live (row w x).stage ≡ true → ⊥ = λ l. let g : (row w x).stage ≡ Gone = ap (λ (q : Row). q.stage) (here h x r o lt low high) in cc in
-      -- a way that isn't through x stays
+      -- The base, or a live site other than x, stays so.
       let way : (y : ℕ) → IsPath p t y → (y ≢ 0 → y ≢ x) → IsPath p w y = λ y q apart nonzero. let z = q nonzero in (z.0, ap (λ (c : Row). is_live c.stage) (rows h x r o lt low high y (omega arith) (apart nonzero)) ∙ z.1) in
       record {
         size = size h x r o lt low high;
@@ -307,7 +307,7 @@ module _ (p : Plan) (n : ℕ) (t : TableState) (f : Fine p n t) where
         short = omega arith;
       }
 
-  -- a live site isn't within a new one
+  -- A live site isn't within a new one.
   not_within : (x : ℕ) → IsSite p x → (row t x).stage ≡ New → (m y : ℕ) → y ≤ m → y ≤ site_count p → IsLive t y → is_within p x y ≡ false
   not_within x site new m y le high live = by_cases (is_within p x y) refl
     where
@@ -321,7 +321,7 @@ module _ (p : Plan) (n : ℕ) (t : TableState) (f : Fine p n t) where
       by_cases true w = absurd (new_all m y le high w live)
       by_cases false w = w
 
-  -- what is swept is due no more
+  -- A skip doesn't raise the number of due entries.
   sweep_due : (x : ℕ) (rs : List Row) (k : ℕ) → sum_by (site_due p.harts) (swept p x rs k) ≤ sum_by (site_due p.harts) rs
   sweep_due x [] k = omega arith
   sweep_due x (r ∷ rs) k = split (is_within p x k) (sweep_due x rs (k + 1))
@@ -377,25 +377,25 @@ fine_first p plan = record {
 fine : (p : Plan) → IsPlan p → (es : List Entry) (t : TableState) → Reaches p es t → Fine p (length es) t
 fine p plan es t is = lasts p plan (λ l u. Fine p (length l) u) (fine_first p plan) (λ l u e leads fits f a. subst (λ (n : ℕ). Fine p n (effect_of p u e)) (let z = length-append l (e ∷ []) in omega arith) (fine_step p (length l) u (effect_of p u e) e f a refl)) es t is
 
--- a legal list has at most so many entries as its plan has room for
+-- A legal list has at most as many entries as its plan has room for.
 pub legal_length : (p : Plan) → IsPlan p → (es : List Entry) (t : TableState) → Reaches p es t → length es ≤ room p
 legal_length p plan es t is = let f = fine p plan es t is in let b = f.short in omega arith
 
--- so no legal list is too long
+-- Each legal list has at most `most_entries` entries.
 pub few_entries : (p : Plan) → IsPlan p → (es : List Entry) (t : TableState) → Reaches p es t → length es ≤ most_entries
 few_entries p plan es t is = let long = legal_length p plan es t is in let short = plan.short in omega (arith, long, short)
 
--- a legal list that goes on has fewer
+-- A legal list that admits one more entry is shorter than the room.
 pub legal_room : (p : Plan) → IsPlan p → (es : List Entry) (t u : TableState) (e : Entry) → Reaches p es t → admit_of p t e ≡ Ok u → length es < room p
 legal_room p plan es t u e leads is = let f = legal_length p plan (es ++ e ∷ []) u (reaches-snoc p es e t u leads is) in let n = length-append es (e ∷ []) in omega arith
 
 live_path : (p : Plan) (t : TableState) (o : ℕ) → IsPath p t o → IsBaseOrLive p t o
 live_path p t o path = dite (ℕ_discrete o 0) (λ z. inl z) (λ n. inr (let r = path n in ((omega arith, r.0), live_is (row t o).stage r.1)))
 
--- after it each owner is the base or a live site
+-- Each owner is the base or a live site.
 pub legal_owner : (p : Plan) → IsPlan p → (es : List Entry) (t : TableState) → Reaches p es t → (h : ℕ) → IsHart p h → IsBaseOrLive p t (owner t h)
 legal_owner p plan es t is h lt = live_path p t (owner t h) ((fine p plan es t is).owners h lt)
 
--- and so is the parent of a live site
+-- The parent of a live site is the base or a live site.
 pub legal_parent : (p : Plan) → IsPlan p → (es : List Entry) (t : TableState) → Reaches p es t → (x : ℕ) → IsSite p x → (row t x).stage ≡ Live → IsBaseOrLive p t (parent p x)
 legal_parent p plan es t is x site live = live_path p t (parent p x) ((fine p plan es t is).nested x site.0 site.1 (ap is_live live))

@@ -11,14 +11,14 @@ use Rattle.transfer_table.specs.Table.{Position, first_state, least_left, is_gon
 use Rattle.transfer_table.specs.Board.{IsBoard, IsCount, count_left}
 use Rattle.transfer_table.proofs.Lists.{any_default, replicate_at}
 
--- a row that is as gone as the old one keeps the count
+-- A row that is gone iff the old one is keeps the count.
 pub count_left-set_same : (qs : List ℕ) (rs : List Row) (s i : ℕ) (r d : Row) → is_gone r.stage ≡ is_gone (get_or rs i d).stage → count_left qs (set rs i r) s ≡ count_left qs rs s
 count_left-set_same [] rs s i r d e = refl
 count_left-set_same (q ∷ qs) [] s i r d e = refl
 count_left-set_same (q ∷ qs) (x ∷ rs) s zero r d e = rw e refl
 count_left-set_same (q ∷ qs) (x ∷ rs) s (suc i) r d e = rw (count_left-set_same qs rs s i r d e) refl
 
--- where none is left, the scan finds none
+-- If the count is 0, the scan finds no child.
 pub none_left : (qs : List ℕ) (rs : List Row) (s k : ℕ) → count_left qs rs s ≡ 0 → least_left qs rs s k ≡ None
 none_left [] rs s k e = refl
 none_left (q ∷ qs) [] s k e = refl
@@ -28,7 +28,7 @@ none_left (q ∷ qs) (r ∷ rs) s k e = split ((q == s) && not (is_gone r.stage)
     split true again f = absurd (omega arith)
     split false again f = again f
 
--- a child that is there and not gone is counted, and where it becomes gone it isn't any more
+-- A child that isn't gone is counted. Once it is gone, the count is one less.
 pub count_left-set_gone : (qs : List ℕ) (rs : List Row) (i : ℕ) (r d : Row) → i < length qs → i < length rs → is_gone (get_or rs i d).stage ≡ false → is_gone r.stage ≡ true
     → count_left qs rs (get_or qs i 0) ≡ count_left qs (set rs i r) (get_or qs i 0) + 1
 count_left-set_gone [] rs i r d a b e f = absurd (omega arith)
@@ -40,14 +40,14 @@ count_left-set_gone (q ∷ qs) (x ∷ rs) (suc i) r d a b e f = more _ _ ((q == 
     more m n true g = omega arith
     more m n false g = g
 
--- another site's count stays
+-- Another site's count stays.
 pub count_left-set_other : (qs : List ℕ) (rs : List Row) (s i : ℕ) (r : Row) → get_or qs i 0 ≢ s → count_left qs (set rs i r) s ≡ count_left qs rs s
 count_left-set_other [] rs s i r n = refl
 count_left-set_other (q ∷ qs) [] s i r n = refl
 count_left-set_other (q ∷ qs) (x ∷ rs) s zero r n = rw (ne_eqb q s n) refl
 count_left-set_other (q ∷ qs) (x ∷ rs) s (suc i) r n = rw (count_left-set_other qs rs s i r n) refl
 
--- what holds of every row holds still where the new row has it
+-- A property of every row holds after a replacement, if the new row has it.
 pub get_or-set_keeps : (P : Row → Type 0) (rs : List Row) (i j : ℕ) (r d : Row) → P r → P (get_or rs j d) → P (get_or (set rs i r) j d)
 get_or-set_keeps P [] i j r d new old = old
 get_or-set_keeps P (x ∷ xs) zero zero r d new old = new
@@ -55,7 +55,7 @@ get_or-set_keeps P (x ∷ xs) zero (suc j) r d new old = old
 get_or-set_keeps P (x ∷ xs) (suc i) zero r d new old = old
 get_or-set_keeps P (x ∷ xs) (suc i) (suc j) r d new old = get_or-set_keeps P xs i j r d new old
 
--- a board stays one where a row gets a new home, or new wishes
+-- A board stays a board if a row gets a new home or new wishes.
 pub board-row : (b : Position) (counts : List ℕ) (h o i : ℕ) (r : Row) → IsBoard b counts → is_gone r.stage ≡ is_gone (slice_index_or b.state.rows i blank).stage → r.wishes ≤ r.asked
     → IsBoard record { plan = b.plan; state = record { owners = slice_set b.state.owners h o; rows = slice_set b.state.rows i r } } counts
 board-row b counts h o i r is same few = record {
@@ -64,7 +64,7 @@ board-row b counts h o i r is same few = record {
   left = record { size = is.left.size; counted = λ s high. is.left.counted s high ∙ sym (count_left-set_same b.plan.parents b.state.rows s i r blank same) };
 }
 
--- the same without a hart that goes elsewhere
+-- The same for new wishes alone, with the owners unchanged.
 pub board-wishes : (b : Position) (counts : List ℕ) (i : ℕ) (r : Row) → IsBoard b counts → is_gone r.stage ≡ is_gone (slice_index_or b.state.rows i blank).stage → r.wishes ≤ r.asked
     → IsBoard record { plan = b.plan; state = record { owners = b.state.owners; rows = slice_set b.state.rows i r } } counts
 board-wishes b counts i r is same few = record {
@@ -80,7 +80,7 @@ small_parent p is i lt = let b = is.below (i + 1) (omega arith) (omega arith) in
 abbrev pub counts_for : Row → ℕ
 counts_for r = if is_gone r.stage then 0 else 1
 
--- the parent's count has room for what a row counts
+-- The parent's count is at least what one row counts.
 pub counted_once : (b : Position) (counts : List ℕ) (i : ℕ) → IsBoard b counts → i < site_count b.plan → counts_for (slice_index_or b.state.rows i blank) ≤ slice_index counts (slice_index b.plan.parents i)
 counted_once b counts i is lt = split (is_gone (slice_index_or b.state.rows i blank).stage) refl
   where
@@ -91,7 +91,7 @@ counted_once b counts i is lt = split (is_gone (slice_index_or b.state.rows i bl
         let bound = small_parent b.plan is.position.plan i lt in
         let k = is.left.counted (slice_index b.plan.parents i) (omega arith) in omega arith
 
--- a board stays one where a row becomes gone, and its parent's count falls by what the row counted
+-- A board stays a board if a row becomes gone and its parent's count falls by what the row counted.
 pub board-gone : (b : Position) (counts os : List ℕ) (i n : ℕ) (r : Row) → IsBoard b counts → length os ≡ b.plan.harts → i < site_count b.plan → is_gone r.stage ≡ true → r.wishes ≤ r.asked → n ≡ counts_for (slice_index_or b.state.rows i blank)
     → IsBoard record { plan = b.plan; state = record { owners = os; rows = slice_set b.state.rows i r } } (slice_set counts (slice_index b.plan.parents i) (slice_index counts (slice_index b.plan.parents i) - n))
 board-gone b counts os i n r is size lt gone few here = record {
@@ -111,15 +111,15 @@ board-gone b counts os i n r is size lt gone few here = record {
     falls false e = let n1 : n ≡ 1 = here ∙ ap (λ (x : Bool). if x then 0 else 1) e in let k = is.left.counted (slice_index b.plan.parents i) (small_parent b.plan is.position.plan i lt) in let z = is.position.rows in
         let a = count_left-set_gone b.plan.parents b.state.rows i r blank lt (omega arith) e gone in omega arith
 
--- what was read in a place of the rows is the row there
+-- What was read at an index of the rows is the row there.
 pub row_read : (b : Position) (counts : List ℕ) (i : ℕ) (r : Row) → IsBoard b counts → i < site_count b.plan → r ≡ slice_index_or b.state.rows i r → r ≡ slice_index_or b.state.rows i blank
 row_read b counts i r is lt read = read ∙ any_default b.state.rows i r blank (let z = is.position.rows in omega arith)
 
--- what was read in a place of the counts is the count there
+-- What was read at an index of the counts is the count there.
 pub count_read : (b : Position) (counts : List ℕ) (s n : ℕ) → IsBoard b counts → s ≤ site_count b.plan → n ≡ slice_index_or counts s n → n ≡ count_left b.plan.parents b.state.rows s
 count_read b counts s n is high read = read ∙ any_default counts s n 0 (let z = is.left.size in omega arith) ∙ is.left.counted s high
 
--- what was read in the place of a site's parent is the parent's count
+-- What was read at the index of a site's parent is the parent's count.
 pub start_read : (b : Position) (counts : List ℕ) (i n : ℕ) → IsBoard b counts → i < site_count b.plan → n ≡ slice_index_or counts (slice_index b.plan.parents i) n → n ≡ slice_index counts (slice_index b.plan.parents i)
 start_read b counts i n is lt read = read ∙ any_default counts (slice_index b.plan.parents i) n 0 (let z = is.left.size in let bound = small_parent b.plan is.position.plan i lt in omega arith)
 
@@ -127,7 +127,7 @@ byte_for : (g : Bool) → bool_byte (not g) ≡ (if g then 0 else 1)
 byte_for true = refl
 byte_for false = refl
 
--- what a board needs and keeps where a site becomes gone: r, q, k, g and n are what the code reads, r' is the new row
+-- A board when a site becomes gone: r, q, k, g and n are what the code reads, r' is the new row.
 pub board-ends : (b : Position) (counts os : List ℕ) (x q k n : ℕ) (g : Bool) (r r' : Row) → IsBoard b counts → length os ≡ b.plan.harts → 1 ≤ x → x ≤ site_count b.plan
     → r ≡ slice_index_or b.state.rows (x - 1) r → q ≡ parent b.plan x → k ≡ slice_index_or counts q k → g ≡ is_gone r.stage → n ≡ bool_byte (not g)
     → is_gone r'.stage ≡ true → r'.wishes ≡ r.wishes → r'.asked ≡ r.asked
@@ -143,26 +143,26 @@ board-ends b counts os x q k n g r r' is size low high read_row read_parent read
     let Q : ℕ × ℕ → Type 0 = λ y. IsBoard record { plan = b.plan; state = record { owners = os; rows = slice_set b.state.rows (x - 1) r' } } (slice_set counts y.0 (y.1 - n)) in
     (omega arith, subst Q (λ i. (sym read_parent i, sym start i)) (board-gone b counts os (x - 1) n r' is size lt gone (omega arith) same))
 
--- so it is at an unregister
+-- The same for an unregister.
 pub board-unregister : (b : Position) (counts : List ℕ) (h x q k n : ℕ) (g : Bool) (r : Row) → IsBoard b counts → 1 ≤ x → x ≤ site_count b.plan
     → r ≡ slice_index_or b.state.rows (x - 1) r → q ≡ parent b.plan x → k ≡ slice_index_or counts q k → g ≡ is_gone r.stage → n ≡ bool_byte (not g)
     → (n ≤ k) × IsBoard record { plan = b.plan; state = record { owners = slice_set b.state.owners h q; rows = slice_set b.state.rows (x - 1) record r { stage = Gone } } } (slice_set counts q (k - n))
 board-unregister b counts h x q k n g r is low high read_row read_parent read_count read_stage read_byte =
     board-ends b counts (slice_set b.state.owners h q) x q k n g r (record r { stage = Gone }) is (length-set b.state.owners h q ∙ is.position.owners) low high read_row read_parent read_count read_stage read_byte refl refl refl
 
--- and where one is swept
+-- The same for a site that is marked as gone by a skip.
 pub board-swept : (b : Position) (counts : List ℕ) (x q k n : ℕ) (g : Bool) (r : Row) → IsBoard b counts → 1 ≤ x → x ≤ site_count b.plan
     → r ≡ slice_index_or b.state.rows (x - 1) r → q ≡ parent b.plan x → k ≡ slice_index_or counts q k → g ≡ is_gone r.stage → n ≡ bool_byte (not g)
     → (n ≤ k) × IsBoard record { plan = b.plan; state = record { owners = b.state.owners; rows = slice_set b.state.rows (x - 1) (swept_row r) } } (slice_set counts q (k - n))
 board-swept b counts x q k n g r is low high read_row read_parent read_count read_stage read_byte =
     board-ends b counts b.state.owners x q k n g r (swept_row r) is is.position.owners low high read_row read_parent read_count read_stage read_byte refl refl refl
 
--- how many of the parents are s
+-- the number of parents that are s
 abbrev pub children : List ℕ → ℕ → ℕ
 children [] s = 0
 children (q ∷ qs) s = if q == s then 1 + children qs s else children qs s
 
--- while each row is blank, each child is counted
+-- If all rows are blank, each child is counted.
 pub count_left-blank : (qs : List ℕ) (s : ℕ) → count_left qs (replicate (length qs) blank) s ≡ children qs s
 count_left-blank [] s = refl
 count_left-blank (q ∷ qs) s = split (q == s) (count_left-blank qs s)
@@ -176,7 +176,7 @@ children-drop [] i s lt = absurd (omega arith)
 children-drop (q ∷ qs) zero s lt = refl
 children-drop (q ∷ qs) (suc i) s lt = children-drop qs i s (omega arith)
 
--- the first i parents are counted
+-- the parents of the first i sites are counted
 pub record AreCounted (qs counts : List ℕ) (i : ℕ) : Type 0 where
   pub size : length counts ≡ length qs + 1
   pub few : (s : ℕ) → slice_index counts s ≤ i
@@ -210,7 +210,7 @@ all_counted p counts is = record {
   counted = λ s high. let f = is.so_far s high in let z = nothing_more p.parents s in let b = count_left-blank p.parents s in omega arith;
 }
 
--- the first state of a plan is a board
+-- The first state of a plan is a board.
 pub board-first : (p : Plan) (counts : List ℕ) → IsPlan p → IsCount p (first_state p).rows counts → IsBoard record { plan = p; state = first_state p } counts
 board-first p counts plan is = record {
   position = record { plan = plan; owners = length-replicate p.harts 0; rows = length-replicate (site_count p) blank };

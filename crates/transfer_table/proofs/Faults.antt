@@ -1,4 +1,4 @@
--- The first fault, step by step, and that there is none exactly where the list is complete.
+-- The first fault, step by step. There is none iff the list is complete.
 use Rattle.std.proofs.Common.{◌≡◌, ◌≢◌, ℕ, zero, suc, ◌+◌, ◌-◌, ◌<◌, Bool, true, false, not, if◌then◌else◌, List, [], ◌∷◌, length, drop, get_or, refl, sym, ap, ◌∙◌, ◌↔◌, add-one, arith, Option, Some, None, Result, Ok, Err}
 use mathlib.Core.Bool.{beq}
 use Rattle.std.specs.Option.{option_map, is_some}
@@ -22,7 +22,7 @@ skip_row [] k i d lt e = absurd (omega arith)
 skip_row (r ∷ rs) k zero d lt e = rw e refl
 skip_row (r ∷ rs) k (suc i) d lt e = skip_row rs k i d (omega arith) e
 
--- the row at place i is gone
+-- The row at index i is gone.
 pub next_row : (rs : List Row) (k i : ℕ) (d : Row) → i < length rs → is_gone (get_or rs i d).stage ≡ true → unfinished (drop i rs) k ≡ unfinished (drop (i + 1) rs) (k + 1)
 next_row rs k i d lt e = rw (add-one i) (skip_row rs k i d lt e)
 
@@ -31,7 +31,7 @@ stop_row [] k i d lt e = absurd (omega arith)
 stop_row (r ∷ rs) k zero d lt e = rw e refl
 stop_row (r ∷ rs) k (suc i) d lt e = stop_row rs k i d (omega arith) e
 
--- the row at place i isn't gone
+-- The row at index i isn't gone.
 pub this_row : (rs : List Row) (k i : ℕ) (d : Row) → i < length rs → is_gone (get_or rs i d).stage ≡ false → unfinished (drop i rs) k ≡ Some k
 this_row rs k i d lt e = stop_row rs k i d lt e
 
@@ -43,15 +43,15 @@ at_place (e ∷ es) (suc i) d lt = at_place es i d (omega arith)
 one_more : (p : Plan) (t : TableState) (es : List Entry) (i : ℕ) (d : Entry) → i < length es → refused_from p t (drop i es) i ≡ or_refused i (λ u. refused_from p u (drop (i + 1) es) (i + 1)) (admit_of p t (get_or es i d))
 one_more p t es i d lt = ap (λ (l : List Entry). refused_from p t l i) (at_place es i d lt) ∙ ap (λ (j : ℕ). or_refused i (λ u. refused_from p u (drop j es) (i + 1)) (admit_of p t (get_or es i d))) (sym (add-one i))
 
--- the entry at place i is admitted
+-- The entry at index i is admitted.
 pub next_entry : (p : Plan) (t u : TableState) (es : List Entry) (i : ℕ) (d : Entry) → i < length es → admit_of p t (get_or es i d) ≡ Ok u → refused_from p t (drop i es) i ≡ refused_from p u (drop (i + 1) es) (i + 1)
 next_entry p t u es i d lt e = one_more p t es i d lt ∙ ap (or_refused i (λ v. refused_from p v (drop (i + 1) es) (i + 1))) e
 
--- the entry at place i is refused
+-- The entry at index i is refused.
 pub this_entry : (p : Plan) (t : TableState) (es : List Entry) (i : ℕ) (d : Entry) (f : NotAdmitted) → i < length es → admit_of p t (get_or es i d) ≡ Err f → refused_from p t (drop i es) i ≡ Some record { place = i; why = Refused f }
 this_entry p t es i d f lt e = one_more p t es i d lt ∙ ap (or_refused i (λ v. refused_from p v (drop (i + 1) es) (i + 1))) e
 
--- and the replay goes on after it
+-- The replay continues after an admitted entry.
 pub next_replay : (p : Plan) (t u : TableState) (es : List Entry) (i : ℕ) (d : Entry) → i < length es → admit_of p t (get_or es i d) ≡ Ok u → replay_from p t (drop i es) ≡ replay_from p u (drop (i + 1) es)
 next_replay p t u es i d lt e = ap (replay_from p t) (at_place es i d lt) ∙ (ap (λ (r : Result TableState NotAdmitted). and_then (λ v. replay_from p v (drop (suc i) es)) r) e ∙ ap (λ (j : ℕ). replay_from p u (drop j es)) (sym (add-one i)))
 
@@ -68,7 +68,7 @@ none_unfinished : (rs : List Row) (k : ℕ) (d : Row) → ((i : ℕ) → i < len
 none_unfinished [] k d f = refl
 none_unfinished (r ∷ rs) k d f = rw (f 0 (omega arith)) (none_unfinished rs (k + 1) d (λ i lt. f (suc i) (omega arith)))
 
--- where the list is refused nothing, it leads to a state
+-- A list of which no entry is refused leads to a state.
 none_refused : (p : Plan) (t : TableState) (es : List Entry) (k : ℕ) → refused_from p t es k ≡ None → (u : TableState) × (replay_from p t es ≡ Ok u)
 none_refused p t [] k e = (t, refl)
 none_refused p t (x ∷ xs) k e = more (admit_of p t x) e (λ u f. none_refused p u xs (k + 1) f)
@@ -86,7 +86,7 @@ refused_from-none p t u (x ∷ xs) k e = more (admit_of p t x) e (λ v g. refuse
     more (Ok v) g again = again v g
     more (Err g') g again = absurd (cc)
 
--- one step of the scan for a site that is or isn't meant
+-- One step of the scan for a site that is or isn't meant.
 agree-true : (b m : Bool) → (if b then m else not m) ≡ true → b ≡ m
 agree-true true m e = sym e
 agree-true false true e = absurd (cc)
@@ -108,24 +108,24 @@ next_meant_at f [] k i d lt e = absurd (omega arith)
 next_meant_at f (m ∷ ms) k zero d lt e = rw (agree-same (f k) m e) refl
 next_meant_at f (m ∷ ms) k (suc i) d lt e = next_meant_at f ms k i d (omega arith) e
 
--- of the site at place i it is told what is meant
+-- The site at index i is as it is meant.
 pub next_meant : (f : ℕ → Bool) (ms : List Bool) (k i : ℕ) (d : Bool) → i < length ms → f k ≡ get_or ms i d → unmeant f (drop i ms) k ≡ unmeant f (drop (i + 1) ms) (k + 1)
 next_meant f ms k i d lt e = rw (add-one i) (next_meant_at f ms k i d lt e)
 
--- or something else
+-- The site at index i isn't as it is meant.
 pub this_meant : (f : ℕ → Bool) (ms : List Bool) (k i : ℕ) (d : Bool) → i < length ms → f k ≢ get_or ms i d → unmeant f (drop i ms) k ≡ Some (Unmeant k (f k))
 this_meant f [] k i d lt n = absurd (omega arith)
 this_meant f (m ∷ ms) k zero d lt n = rw (agree-other (f k) m n) refl
 this_meant f (m ∷ ms) k (suc i) d lt n = this_meant f ms k i d (omega arith) n
 
--- the scan finds the same where it is told the same
+-- The scan finds the same if both functions agree on the sites.
 unmeant-same : (f g : ℕ → Bool) (ms : List Bool) (k : ℕ) → ((i : ℕ) → i < length ms → f (k + i) ≡ g (k + i)) → unmeant f ms k ≡ unmeant g ms k
 unmeant-same f g [] k same = refl
 unmeant-same f g (m ∷ ms) k same = let e : k + 0 ≡ k = omega arith in let z : f k ≡ g k = ap f (sym e) ∙ (same 0 (omega arith) ∙ ap g e) in
     let r = unmeant-same f g ms (k + 1) (λ i lt. let e' : k + suc i ≡ k + 1 + i = omega arith in ap f (sym e') ∙ (same (suc i) (omega arith) ∙ ap g e')) in
     ap (λ (q : Bool × Option Why). if (if q.0 then m else not m) then q.1 else Some (Unmeant k q.0)) (λ i. (z i, r i))
 
--- where it finds nothing, each is as it is meant
+-- If the scan finds nothing, each site is as it is meant.
 unmeant-none : (f : ℕ → Bool) (ms : List Bool) (k i : ℕ) → unmeant f ms k ≡ None → i < length ms → f (k + i) ≡ get_or ms i false
 unmeant-none f [] k i e lt = absurd (omega arith)
 unmeant-none f (m ∷ ms) k i e lt = first (if f k then m else not m) refl e (λ e' j l. unmeant-none f ms (k + 1) j e' l) i lt
@@ -153,7 +153,7 @@ none_first None None e = (refl, refl)
 none_first None (Some f) e = absurd (cc)
 none_first (Some f) b e = absurd (cc)
 
--- where there is no fault, the list is complete
+-- If there is no fault, the list is complete.
 pub complete : (p : Plan) → IsPlan p → (meant : List Bool) (es : List Entry) → length meant ≡ site_count p → first_fault_of p meant es ≡ None → IsComplete p meant es
 complete p plan meant es size e =
     let both = none_first (refused_from p (first_state p) es 0) (lacking meant es (replay p es)) e in
@@ -167,7 +167,7 @@ complete p plan meant es size e =
       λ s is. let low = is.0 in let high = is.1 in let e' : 1 + (s - 1) ≡ s = omega arith in ap (has_register es) (sym e') ∙ unmeant-none (has_register es) meant 1 (s - 1) lacks_none.1 (omega arith),
     )
 
--- a complete list has no fault
+-- A complete list has no fault.
 pub first_fault_of-complete : (p : Plan) → IsPlan p → (meant : List Bool) (es : List Entry) → length meant ≡ site_count p → IsComplete p meant es → first_fault_of p meant es ≡ None
 first_fault_of-complete p plan meant es size is =
     let fits = legal_position p plan es is.0 is.1 in
@@ -177,11 +177,11 @@ first_fault_of-complete p plan meant es size is =
     let b : lacking meant es (replay p es) ≡ None = ap (lacking meant es) is.1 ∙ ap (λ (q : Option ℕ × Option Why). option_map {T = Why} {U = Fault} (λ why. record { place = length es; why = why }) (first_cause (option_map {T = ℕ} {U = Why} Unfinished q.0 ∷ q.1 ∷ []))) (λ i. (gone i, same i)) in
     ap (λ (q : Option Fault × Option Fault). first_cause (q.0 ∷ q.1 ∷ [])) (λ i. (a i, b i))
 
--- what is found is nothing exactly where the list is complete
+-- The scan finds no fault iff the list is complete.
 pub none-complete : (p : Plan) → IsPlan p → (meant : List Bool) (es : List Entry) → length meant ≡ site_count p → (f : Option Fault) → f ≡ first_fault_of p meant es → (f ≡ None) ↔ IsComplete p meant es
 none-complete p plan meant es size f is = (λ e. complete p plan meant es size (sym is ∙ e), λ all. is ∙ first_fault_of-complete p plan meant es size all)
 
--- what a board that admitted the whole list lacks, by the homes of its sites
+-- What a board that admitted the whole list lacks follows from the homes of its sites.
 pub lacks-homes : (p : Plan) → IsPlan p → (meant : List Bool) (es : List Entry) (t : TableState) → length meant ≡ site_count p → Reaches p es t → lacks meant (λ s. is_some (row t s).home) t ≡ lacks meant (has_register es) t
 lacks-homes p plan meant es t size is = ap (λ (w : Option Why). first_cause (option_map {T = ℕ} {U = Why} Unfinished (unfinished t.rows 1) ∷ w ∷ []))
     (unmeant-same (λ s. is_some (row t s).home) (has_register es) meant 1 (λ i lt. sym (registered-home p plan es t is (1 + i) (omega arith, omega arith))))
@@ -190,14 +190,14 @@ only-cause : {A : Type 0} (o : Option A) → first_cause (o ∷ []) ≡ o
 only-cause None = refl
 only-cause (Some a) = refl
 
--- what a board finds that refuses nothing of a list is its first fault
+-- If no entry is refused, what the board finds is the list's first fault.
 pub found-fault : (p : Plan) → IsPlan p → (meant : List Bool) (es : List Entry) (t : TableState) (r : Option Fault) → length meant ≡ site_count p → refused_from p (first_state p) es 0 ≡ None → Reaches p es t
     → r ≡ option_map {T = Why} {U = Fault} (λ why. record { place = length es; why = why }) (lacks meant (λ s. is_some (row t s).home) t) → r ≡ first_fault_of p meant es
 found-fault p plan meant es t r size none leads is =
     let e : r ≡ lacking meant es (replay p es) = is ∙ (ap (option_map {T = Why} {U = Fault} (λ why. record { place = length es; why = why })) (lacks-homes p plan meant es t size leads) ∙ ap (lacking meant es) (sym leads)) in
     e ∙ (sym (only-cause (lacking meant es (replay p es))) ∙ ap (λ (a : Option Fault). first_cause (a ∷ lacking meant es (replay p es) ∷ [])) (sym none))
 
--- what a board refuses is its first fault
+-- The first entry that a board refuses is the list's first fault.
 pub found-refusal : (p : Plan) (meant : List Bool) (es : List Entry) (f : Fault) → refused_from p (first_state p) es 0 ≡ Some f → Some f ≡ first_fault_of p meant es
 found-refusal p meant es f is = ap (λ (a : Option Fault). first_cause (a ∷ lacking meant es (replay p es) ∷ [])) (sym is)
 
@@ -213,7 +213,7 @@ beq-other true false e = λ z. cc
 beq-other false true e = λ z. cc
 beq-other false false e = absurd (cc)
 
--- one step of the scan, as the code takes it
+-- one step of the scan, as in the code
 pub meant-goes : (f : ℕ → Bool) (ms : List Bool) (i : ℕ) (b m : Bool) → i < length ms → not (beq b m) ≡ false → b ≡ f (i + 1) → m ≡ get_or ms i false → unmeant f (drop i ms) (i + 1) ≡ unmeant f (drop (i + 1) ms) (i + 1 + 1)
 meant-goes f ms i b m lt test here there = next_meant f ms (i + 1) i false lt (sym here ∙ (beq-same b m test ∙ there))
 

@@ -1,4 +1,4 @@
--- The harts that the base and the sites hold are all harts, and at the end of a complete list all are in the base.
+-- All harts are in the base or in sites. At the end of a complete list all are in the base.
 use Rattle.std.proofs.Common.{◌≡◌, ◌≢◌, ℕ, zero, suc, ◌+◌, ◌<◌, ◌≤◌, ⊎_elim, cond, ◌==◌, eq-eqb, ne_eqb, List, [], ◌∷◌, length, refl, ap, ◌∙◌, arith, slice_index}
 use mathlib.Core.Logic.{dite}
 use native.Mathlib.Decide.{ℕ_discrete}
@@ -49,11 +49,11 @@ unfolding up_to
 harts_up_to-up_to t zero = refl
 harts_up_to-up_to t (suc s) = let r = harts_up_to-up_to t s in omega arith
 
--- the harts that the base and the sites hold are all harts
+-- All harts are in the base or in sites.
 pub legal_held : (p : Plan) → IsPlan p → (es : List Entry) (t : TableState) → Reaches p es t → harts_up_to t (site_count p) ≡ p.harts
 legal_held p plan es t is = let size = legal_position p plan es t is in
     harts_up_to-up_to t (site_count p) ∙ (up_to-all t.owners (site_count p) (λ i lt. ⊎_elim (λ z. omega arith) (λ r. r.0.1) (legal_owner p plan es t is i (let z = size.owners in omega arith))) ∙ size.owners)
 
--- where each site is gone, each hart is in the base
+-- If each site is gone, each hart is in the base.
 pub complete_owner : (p : Plan) → IsPlan p → (es : List Entry) (t : TableState) → Reaches p es t → AllGone p t → (h : ℕ) → IsHart p h → owner t h ≡ 0
 complete_owner p plan es t is gone h hart = ⊎_elim (λ z. z) (λ r. let g = gone (owner t h) r.0 in let l = r.1 in absurd (cc)) (legal_owner p plan es t is h hart)

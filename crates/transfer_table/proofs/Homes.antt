@@ -14,7 +14,7 @@ use Rattle.transfer_table.proofs.Positions.{Fits, lasts}
 use Rattle.transfer_table.proofs.Effects.{at_site, at_hart, row_after, owner_after, allowed_site}
 use Rattle.transfer_table.proofs.Stages.{first_blank}
 
--- from inside a child, but not the site itself, the way up stays inside
+-- The parent of a site strictly within s is within s.
 way_up : (p : Plan) (s o : ℕ) → IsWithin p s o → o ≢ s → IsWithin p s (parent p o)
 way_up p s o itself n = absurd (n refl)
 way_up p s o (child c site w) n = w
@@ -23,7 +23,7 @@ way_up p s o (child c site w) n = w
 abbrev pub HasHome : Plan → TableState → ℕ → Type 0
 HasHome p t s = (row t s).stage ≡ Live → (h : ℕ) × ((row t s).home ≡ Some h) × IsHart p h × IsWithin p s (owner t h)
 
--- where the hart is after its entry, seen from a site that it was inside of, if the site is live still and it was its home
+-- The home of a live site is inside it after its own entry, if it was inside before.
 moves : (p : Plan) (t : TableState) (e : Entry) (s : ℕ) → IsAllowed p t e → IsSite p s → (row t s).home ≡ Some (hart_of e) → (s ≡ site_of e → (row_after t e).stage ≡ Live) → IsWithin p s (owner t (hart_of e)) → IsWithin p s (owner_after p e)
 moves p t (Register h x) s a site home live w = child x a.1 (subst (IsWithin p s) a.2 w)
 moves p t (Request h x k) s a site home live w = subst (IsWithin p s) a.2 w
@@ -50,7 +50,7 @@ here p t (Yield h s) fits a f live = still p t (Yield h s) s fits a a.1 (λ _. l
 here p t (Unregister h s) fits a f live = absurd (cc)
 here p t (Skip h s) fits a f live = absurd (cc)
 
--- the home of a live site is inside it
+-- The home of a live site is inside it.
 pub legal_home : (p : Plan) → IsPlan p → (es : List Entry) (t : TableState) → Reaches p es t → (s : ℕ) → IsSite p s → HasHome p t s
 legal_home p plan es t is = lasts p plan (λ _ u. (s : ℕ) → IsSite p s → HasHome p u s) (λ s _ live. absurd (let new : (row (first_state p) s).stage ≡ New = ap (λ (r : Row). r.stage) (first_blank p s) in cc))
     (λ xs u e leads fits f a s site. at_site p u e s (λ x r. r.stage ≡ Live → (h : ℕ) × (r.home ≡ Some h) × IsHart p h × IsWithin p x (owner (effect_of p u e) h)) fits a site

@@ -1,4 +1,4 @@
--- Each law of the table holds.
+-- The laws of the table hold.
 use Rattle.transfer_table.specs.Table.{first_state}
 use Rattle.transfer_table.specs.Laws.{AllowedIsAdmitted, EntriesAreInThePlan, HartsAreConserved, HomesStayInside, IdleHartsStay, LegalListsAreShort, NewRowsAreBlank, ParentsOutliveChildren, PrefixesAreLegal, RowsTellEntries, SitesComeAndGoOnce, WishesBalance, ChildrenOfNewAreNew, SitesBeginOnce, WithinIsTested}
 use Rattle.transfer_table.proofs.Admits.{admits, admitted}

@@ -17,11 +17,11 @@ use Rattle.transfer_table.proofs.Stages.{first_blank}
 pub made_by-snoc : (h : ℕ) (es : List Entry) (e : Entry) → made_by h (es ++ e ∷ []) ≡ made_by h es ++ made_by h (e ∷ [])
 made_by-snoc h es e = filter-append (λ x. hart_of x == h) es (e ∷ [])
 
--- the entry is by the hart
+-- The entry is by the hart.
 pub made_by-own : (h : ℕ) (es : List Entry) (e : Entry) → hart_of e ≡ h → made_by h (es ++ e ∷ []) ≡ made_by h es ++ e ∷ []
 made_by-own h es e is = let w : made_by h (e ∷ []) ≡ e ∷ [] = rw (eq-eqb (hart_of e) h is) refl in made_by-snoc h es e ∙ ap (λ (l : List Entry). made_by h es ++ l) w
 
--- the entry is by another hart
+-- The entry is by another hart.
 pub made_by-other : (h : ℕ) (es : List Entry) (e : Entry) → hart_of e ≢ h → made_by h (es ++ e ∷ []) ≡ made_by h es
 made_by-other h es e n = let w : made_by h (e ∷ []) ≡ [] = rw (ne_eqb (hart_of e) h n) refl in made_by-snoc h es e ∙ (ap (λ (l : List Entry). made_by h es ++ l) w ∙ append-nil (made_by h es))
 
@@ -45,7 +45,7 @@ other_home p t (Yield g s) h n f = f
 other_home p t (Unregister g s) h n f = f
 other_home p t (Skip g s) h n f = λ z. cc
 
--- a hart that made no entry is idle
+-- A hart that made no entry is idle.
 pub legal_idle : (p : Plan) → IsPlan p → (es : List Entry) (t : TableState) → Reaches p es t → (h : ℕ) → made_by h es ≡ [] → IsIdle p t h
 legal_idle p plan es t is = lasts p plan (λ xs u. (h : ℕ) → made_by h xs ≡ [] → IsIdle p u h)
     (λ h _. record { base = replicate_at p.harts h 0; homeless = λ s _ z. let w : (row (first_state p) s).home ≡ None = ap (λ (r : Row). r.home) (first_blank p s) in absurd (cc) })
@@ -54,7 +54,7 @@ legal_idle p plan es t is = lasts p plan (λ xs u. (h : ℕ) → made_by h xs �
       homeless = λ s site. at_site p u e s (λ x r. r.home ≢ Some h) fits a site (other_home p u e h n (old.homeless (site_of e) (allowed_site p u e a))) (λ _ _. old.homeless s site) (λ _ _ z. cc);
     }) es t is
 
--- a hart that made no entry is the home of no live site
+-- A hart that made no entry is the home of no live site.
 pub legal_idle-lives_with : (p : Plan) → IsPlan p → (es : List Entry) (t : TableState) → Reaches p es t → (h : ℕ) → made_by h es ≡ [] → (s : ℕ) → IsSite p s → lives_with t s h ≡ false
 legal_idle-lives_with p plan es t is h none s site = not_live (is_live (row t s).stage) (not_home (row t s).home h ((legal_idle p plan es t is h none).homeless s site))
   where

@@ -1,4 +1,4 @@
--- A state keeps its size, and what each entry of a legal list keeps holds at its end.
+-- A state keeps its size. What each entry of a legal list keeps holds at the list's end.
 use Rattle.std.proofs.Common.{◌≡◌, ℕ, ◌-◌, List, [], ◌∷◌, ◌++◌, refl, sym, subst, ◌∙◌, length-set, Ok}
 use Rattle.std.proofs.lemmas.List.{length-replicate}
 use Rattle.transfer_table.specs.Plan.{Plan, IsPlan, IsHart, IsSite, parent, site_count}
@@ -27,21 +27,21 @@ fits_effect p t (Yield h s) f = record { plan = f.plan; owners = length-set t.ow
 fits_effect p t (Unregister h s) f = record { plan = f.plan; owners = length-set t.owners h _ ∙ f.owners; rows = length-set t.rows (s - 1) _ ∙ f.rows }
 fits_effect p t (Skip h s) f = record { plan = f.plan; owners = f.owners; rows = length-swept p s t.rows 1 ∙ f.rows }
 
--- after a legal list plan and state fit together
+-- After a legal list, plan and state fit together.
 pub legal_position : (p : Plan) → IsPlan p → (es : List Entry) (t : TableState) → Reaches p es t → Fits p t
 legal_position p is es t leads = kept p (λ _ u. Fits p u) (fits_first p is) (λ xs u v e before f a. subst (Fits p) (sym (admitted p u e v f a).1) (fits_effect p u e f)) es t leads
 
--- what holds at first, and is kept by each entry that is allowed, holds after every legal list
+-- What holds at first, and is kept by each allowed entry, holds after each legal list.
 pub lasts : (p : Plan) → IsPlan p → (P : List Entry → TableState → Type 0) → P [] (first_state p)
     → ((es : List Entry) (t : TableState) (e : Entry) → Reaches p es t → Fits p t → P es t → IsAllowed p t e → P (es ++ e ∷ []) (effect_of p t e))
     → (es : List Entry) (t : TableState) → Reaches p es t → P es t
 lasts p is P start step es t leads = kept p P start (λ xs u v e before holds a. let f = legal_position p is xs u before in let d = admitted p u e v f a in subst (P (xs ++ e ∷ [])) (sym d.1) (step xs u e before f holds d.0)) es t leads
 
--- a legal list goes on with an entry that is allowed
+-- A legal list continues with an allowed entry.
 pub reaches-allowed : (p : Plan) → IsPlan p → (es : List Entry) (t : TableState) (e : Entry) → Reaches p es t → IsAllowed p t e → Reaches p (es ++ e ∷ []) (effect_of p t e)
 reaches-allowed p plan es t e leads a = reaches-snoc p es e t (effect_of p t e) leads (admits p t e (legal_position p plan es t leads) a)
 
--- a skip that is allowed answers that it is done
+-- An allowed skip returns `Ok`.
 pub answer-skip : (old new : Position) (h s : ℕ) → IsPosition old → IsHart old.plan h → IsSite old.plan s → owner old.state h ≡ parent old.plan s → (row old.state s).stage ≡ New
     → new ≡ record { plan = old.plan; state = effect_of old.plan old.state (Skip h s) } → IsAnswer old new (Skip h s) (Ok tt)
 answer-skip old new h s fits hart site own new_site is = subst (λ (n : Position). IsAnswer old n (Skip h s) (Ok tt)) (sym is) record {

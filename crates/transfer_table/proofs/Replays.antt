@@ -1,4 +1,4 @@
--- How a legal list grows, and what each entry keeps.
+-- Legal lists with more entries, and properties that each entry keeps.
 use Rattle.std.proofs.Common.{◌≡◌, List, [], ◌∷◌, ◌++◌, refl, sym, subst, append_assoc, append-nil, Result, Ok, Err}
 use Rattle.transfer_table.specs.Plan.{Plan}
 use Rattle.transfer_table.specs.Table.{TableState, admit_of, first_state}
@@ -14,7 +14,6 @@ replay_from-snoc p (x ∷ xs) e t u w a b = more (admit_of p t x) (λ y k. repla
     more (Ok y) again k = again y k
     more (Err f) again k = absurd (cc)
 
--- one admitted entry more
 pub reaches-snoc : (p : Plan) (es : List Entry) (e : Entry) (u w : TableState) → Reaches p es u → admit_of p u e ≡ Ok w → Reaches p (es ++ e ∷ []) w
 reaches-snoc p es e u w a b = replay_from-snoc p es e _ u w a b
 
@@ -27,13 +26,13 @@ kept_from p P step (e ∷ es) before t u leads holds is = more (admit_of p t e) 
     more (Ok v) same k go = go v same k
     more (Err f) same k go = absurd (cc)
 
--- what holds at first and is kept by each admitted entry holds after every legal list
+-- What holds at first, and is kept by each admitted entry, holds after each legal list.
 pub kept : (p : Plan) (P : List Entry → TableState → Type 0) → P [] (first_state p)
     → ((es : List Entry) (t u : TableState) (e : Entry) → Reaches p es t → P es t → admit_of p t e ≡ Ok u → P (es ++ e ∷ []) u)
     → (es : List Entry) (t : TableState) → Reaches p es t → P es t
 kept p P start step es t is = kept_from p P step es [] (first_state p) t refl start is
 
--- a list that begins as a legal one does is legal up to there
+-- A prefix of a legal list is legal.
 pub replay_from-append : (p : Plan) (xs ys : List Entry) (t u : TableState) → replay_from p t (xs ++ ys) ≡ Ok u → (v : TableState) × (replay_from p t xs ≡ Ok v) × (replay_from p v ys ≡ Ok u)
 replay_from-append p [] ys t u is = (t, refl, is)
 replay_from-append p (x ∷ xs) ys t u is = more (admit_of p t x) is (λ y k. replay_from-append p xs ys y u k)

@@ -1,4 +1,4 @@
--- New rows are blank, homes last, and the children of a gone site are gone.
+-- New rows are blank, homes stay, and the children of a gone site are gone.
 use Rattle.std.proofs.Common.{◌≡◌, ◌≢◌, ℕ, ◌-◌, ◌<◌, ◌≤◌, Bool, true, false, ◌⊎◌, inl, inr, ⊎_elim, List, refl, sym, ap, subst, ◌∙◌, arith, Some, None}
 use Rattle.transfer_table.specs.Plan.{Plan, IsPlan, IsHart, IsSite, parent, is_within, site_count}
 use Rattle.transfer_table.specs.Table.{TableState, effect_of, first_state, owner, row, blank}
@@ -32,23 +32,23 @@ blank_after p t (Yield h s) a f = f
 blank_after p t (Unregister h s) a f = λ z. absurd (cc)
 blank_after p t (Skip h s) a f = λ z. absurd (cc)
 
--- the row of a new site is blank
+-- The row of a new site is blank.
 pub legal_blank : (p : Plan) → IsPlan p → (es : List Entry) (t : TableState) → Reaches p es t → (s : ℕ) → IsSite p s → (row t s).stage ≡ New → row t s ≡ blank
 legal_blank p plan es t is = lasts p plan (λ _ u. (s : ℕ) → IsSite p s → IsBlankIfNew s (row u s)) (λ s _ _. first_blank p s)
     (λ xs u e leads fits f a s site. at_site p u e s IsBlankIfNew fits a site (blank_after p u e a (f (site_of e) (allowed_site p u e a))) (λ _ _. f s site) (λ _ _ z. absurd (cc))) es t is
 
--- the home of a site is live inside it
+-- A site that has a hart inside is live.
 pub live_home : (p : Plan) → IsPlan p → (es : List Entry) (t : TableState) → Reaches p es t → (h s : ℕ) → IsHart p h → 1 ≤ s → owner t h ≡ s → (row t s).stage ≡ Live
 live_home p plan es t leads h s hart low own = ⊎_elim (λ z. absurd (omega arith)) (λ r. let Q : ℕ → Type 0 = λ x. (row t x).stage ≡ Live in subst Q own r.1) (legal_owner p plan es t leads h hart)
 
--- a hart isn't in a new site
+-- No hart is in a new site.
 not_around : (p : Plan) (t : TableState) (h s : ℕ) → 1 ≤ s → (1 ≤ owner t h → (row t (owner t h)).stage ≡ Live) → owner t h ≡ s → (row t s).stage ≡ New → ⊥
 not_around p t h s low live own new = let Q : ℕ → Type 0 = λ y. (row t y).stage ≡ Live in let l = subst Q own (live (omega arith)) in cc
 
 owner_live : (p : Plan) → IsPlan p → (es : List Entry) (t : TableState) → Reaches p es t → (h : ℕ) → IsHart p h → 1 ≤ owner t h → (row t (owner t h)).stage ≡ Live
 owner_live p plan es t leads h hart low = ⊎_elim (λ z. absurd (omega arith)) (λ r. r.1) (legal_owner p plan es t leads h hart)
 
--- the parent of a site that is swept with a site around it is swept too
+-- The parent of a site that is skipped with a site around it isn't new.
 swept_parent : (p : Plan) → IsPlan p → (t : TableState) (e : Entry) (c s : ℕ) → Fits p t → IsAllowed p t e → IsSite p c → parent p c ≡ s → IsSite p s → covers p e c ≡ true → c ≢ site_of e → (row (effect_of p t e) s).stage ≡ New → ⊥
 swept_parent p plan t (Register h x) c s fits a child up site cov n new = cc
 swept_parent p plan t (Request h x k) c s fits a child up site cov n new = cc
@@ -60,7 +60,7 @@ swept_parent p plan t (Skip h x) c s fits a child up site cov n new =
     let w : is_within p x s ≡ true = ap (is_within p x) (sym up) ∙ (sym (within-step p plan x c above child.1) ∙ cov) in
     let g : (row (effect_of p t (Skip h x)) s).stage ≡ Gone = ap (λ (r : Row). r.stage) (row-effect_covered p t (Skip h x) s fits site w) in cc
 
--- what is new now was new before
+-- A site that is new was new before.
 new_before : (p : Plan) (t : TableState) (e : Entry) (s : ℕ) → Fits p t → IsAllowed p t e → IsSite p s → (row (effect_of p t e) s).stage ≡ New → (row t s).stage ≡ New
 new_before p t e s fits a site new = at_site p t e s (λ x r. r.stage ≡ New → (row t x).stage ≡ New) fits a site (here e) (λ _ _ z. z) (λ _ _ z. absurd (cc)) new
   where
@@ -72,7 +72,7 @@ new_before p t e s fits a site new = at_site p t e s (λ x r. r.stage ≡ New �
     here (Unregister h x) z = absurd (cc)
     here (Skip h x) z = absurd (cc)
 
--- an entry of a site whose parent is new leaves it new
+-- An entry of a site whose parent is new leaves the parent new.
 still_new : (p : Plan) (t : TableState) (e : Entry) (s : ℕ) → IsAllowed p t e → (1 ≤ s) → ((h : ℕ) → IsHart p h → 1 ≤ owner t h → (row t (owner t h)).stage ≡ Live) → parent p (site_of e) ≡ s → (row t s).stage ≡ New → (row t (site_of e)).stage ≡ New → (row_after t e).stage ≡ New
 still_new p t (Register h x) s a low live up new z = absurd (not_around p t h s low (live h a.0) (a.2 ∙ up) new)
 still_new p t (Request h x k) s a low live up new z = z
@@ -84,7 +84,7 @@ still_new p t (Skip h x) s a low live up new z = absurd (not_around p t h s low 
 abbrev ChildrenAreNew : Plan → TableState → Type 0
 ChildrenAreNew p t = (s c : ℕ) → IsSite p s → IsSite p c → parent p c ≡ s → (row t s).stage ≡ New → (row t c).stage ≡ New
 
--- every child of a new site is new
+-- Each child of a new site is new.
 pub legal_new_children : (p : Plan) → IsPlan p → (es : List Entry) (t : TableState) → Reaches p es t → ChildrenAreNew p t
 legal_new_children p plan es t is = lasts p plan (λ _ u. ChildrenAreNew p u) (λ s c _ _ _ _. ap (λ (r : Row). r.stage) (first_blank p c))
     (λ xs u e leads fits f a s c site child up new. let was = new_before p u e s fits a site new in
@@ -94,7 +94,7 @@ legal_new_children p plan es t is = lasts p plan (λ _ u. ChildrenAreNew p u) (�
     (λ n cov up' z. absurd (swept_parent p plan u e c s fits a child up' site cov n new))
     up (f s c site child up was)) es t is
 
--- what a skip covers was new
+-- A site that a skip covers was new.
 pub covered_new : (p : Plan) → IsPlan p → (es : List Entry) (t : TableState) (e : Entry) → Reaches p es t → IsAllowed p t e → (y : ℕ) → IsSite p y → covers p e y ≡ true → (row t y).stage ≡ New
 covered_new p plan es t (Register h x) leads a y site cov = absurd (cc)
 covered_new p plan es t (Request h x k) leads a y site cov = absurd (cc)
@@ -104,7 +104,7 @@ covered_new p plan es t (Unregister h x) leads a y site cov = absurd (cc)
 covered_new p plan es t (Skip h x) leads a y site cov = within_all p plan x (λ o. (row t o).stage ≡ New) a.3
     (λ c child w new. legal_new_children p plan es t leads (parent p c) c (within_site p plan x c a.1 child w) child refl new) y y (omega arith) site.1 cov
 
--- a home lasts
+-- A home stays.
 home_after : (p : Plan) (t : TableState) (e : Entry) (g : ℕ) → IsAllowed p t e → IsBlankIfNew (site_of e) (row t (site_of e)) → (row t (site_of e)).home ≡ Some g → (row_after t e).home ≡ Some g
 home_after p t (Register h s) g a f home = absurd (blank_home (row t s) g f home a.3)
 home_after p t (Request h s k) g a f home = home
@@ -138,11 +138,11 @@ gone_after p t (Yield h s) a z = z
 gone_after p t (Unregister h s) a z = refl
 gone_after p t (Skip h s) a z = refl
 
--- what is gone stays gone
+-- A gone site stays gone.
 pub gone_lasts : (p : Plan) (t : TableState) (e : Entry) → Fits p t → IsAllowed p t e → (s : ℕ) → IsSite p s → (row t s).stage ≡ Gone → (row (effect_of p t e) s).stage ≡ Gone
 gone_lasts p t e fits a s site z = at_site p t e s (λ x r. (row t x).stage ≡ Gone → r.stage ≡ Gone) fits a site (gone_after p t e a) (λ _ _ y. y) (λ _ _ _. refl) z
 
--- an entry that skips nothing leaves the children of gone sites gone
+-- An entry that skips nothing leaves the children of gone sites gone.
 gone_plain : (p : Plan) (t : TableState) (e : Entry) → Fits p t → IsAllowed p t e → is_skip e ≡ false → ((y : ℕ) → covers p e y ≡ false) → ChildrenAreGone p t → ChildrenAreGone p (effect_of p t e)
 gone_plain p t e fits a plain none f s c site child up gone = gone_lasts p t e fits a c child
     (at_site p t e s (λ x r. x ≡ s → r.stage ≡ Gone → (row t c).stage ≡ Gone) fits a site
@@ -150,7 +150,7 @@ gone_plain p t e fits a plain none f s c site child up gone = gone_lasts p t e f
     (λ _ _ _ g. f s c site child up g)
     (λ _ cov _ _. absurd (let w : true ≡ false = sym cov ∙ none s in cc)) refl gone)
 
--- and so does a skip
+-- A skip leaves the children of gone sites gone.
 gone_skipped : (p : Plan) → IsPlan p → (t : TableState) (h x : ℕ) → Fits p t → IsAllowed p t (Skip h x) → ChildrenAreGone p t → ChildrenAreGone p (effect_of p t (Skip h x))
 gone_skipped p plan t h x fits a f s c site child up gone = split (is_within p x s) refl
   where
@@ -169,7 +169,7 @@ gone_step p plan t (Yield h x) fits a f = gone_plain p t (Yield h x) fits a refl
 gone_step p plan t (Unregister h x) fits a f = gone_plain p t (Unregister h x) fits a refl (λ _. refl) f
 gone_step p plan t (Skip h x) fits a f = gone_skipped p plan t h x fits a f
 
--- every child of a gone site is gone
+-- Each child of a gone site is gone.
 pub legal_children : (p : Plan) → IsPlan p → (es : List Entry) (t : TableState) → Reaches p es t → ChildrenAreGone p t
 legal_children p plan es t is = lasts p plan (λ _ u. ChildrenAreGone p u) (λ s c _ _ _ gone. absurd (let new : (row (first_state p) s).stage ≡ New = ap (λ (r : Row). r.stage) (first_blank p s) in cc))
     (λ xs u e leads fits f a. gone_step p plan u e fits a f) es t is

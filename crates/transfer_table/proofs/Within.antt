@@ -1,4 +1,4 @@
--- What is within a site.
+-- Sites within a site.
 use Rattle.std.proofs.Common.{◌≡◌, ◌≢◌, ◌↔◌, ℕ, zero, suc, ◌+◌, ◌-◌, ◌<◌, ◌≤◌, Bool, true, false, eqb, nat_lt, eq-eqb, ne_eqb, refl, sym, ap, subst, ◌∙◌, arith}
 use Rattle.std.proofs.lemmas.Bool.Decides.{nat_tests}
 use mathlib.Core.Logic.{dite}
@@ -12,7 +12,7 @@ not_less s o le = grind (arith, nat_tests)
 less : (s o : ℕ) → s < o → nat_lt s o ≡ true
 less s o lt = grind (arith, nat_tests)
 
--- below the site and at it the way up stops at once
+-- At the site and below it the climb ends at once.
 leads_up-stop : (p : Plan) (s n o : ℕ) → o ≤ s → leads_up p s n o ≡ eqb o s
 leads_up-stop p s zero o le = refl
 leads_up-stop p s (suc n) o le = rw (not_less s o le) refl
@@ -20,7 +20,7 @@ leads_up-stop p s (suc n) o le = rw (not_less s o le) refl
 leads_up-step : (p : Plan) (s n o : ℕ) → s < o → leads_up p s (suc n) o ≡ leads_up p s n (parent p o)
 leads_up-step p s n o lt = rw (less s o lt) refl
 
--- by cases: where the way up stops, and where it goes on
+-- By cases: the climb ends, or goes on.
 by_less : {A : Type 0} (s o : ℕ) → (o ≤ s → A) → (s < o → A) → A
 by_less {A = A} s o below above = split (nat_lt s o) refl
   where
@@ -44,7 +44,7 @@ within-itself p s = leads_up-stop p s s s (omega arith) ∙ eq-eqb s s refl
 pub within-below : (p : Plan) (s o : ℕ) → o < s → is_within p s o ≡ false
 within-below p s o lt = leads_up-stop p s o o (omega arith) ∙ ne_eqb o s (λ z. omega arith)
 
--- above the site it is as with the parent
+-- A number above the site is within it iff its parent is.
 pub within-step : (p : Plan) → IsPlan p → (s o : ℕ) → s < o → o ≤ site_count p → is_within p s o ≡ is_within p s (parent p o)
 within-step p plan s zero lt high = absurd (omega arith)
 within-step p plan s (suc m) lt high = let up = plan.below (suc m) (omega arith) high in
@@ -52,11 +52,11 @@ within-step p plan s (suc m) lt high = let up = plan.below (suc m) (omega arith)
     let e : (m - parent p (suc m)) + parent p (suc m) ≡ m = omega arith in
     leads_up-step p s m (suc m) lt ∙ subst P e (leads_up-any p plan s (m - parent p (suc m)) (parent p (suc m)) (omega arith))
 
--- the same in one line for a loop that goes up
+-- A number that isn't above the site is within it iff it is the site.
 pub within-stop : (p : Plan) (s o : ℕ) → o ≤ s → is_within p s o ≡ eqb o s
 within-stop p s o le = leads_up-stop p s o o le
 
--- what holds of the site, and goes down from a parent to its child, holds of all that is within
+-- What holds of the site, and passes from each parent within to its child, holds of all sites within.
 pub within_all : (p : Plan) → IsPlan p → (s : ℕ) (P : ℕ → Type 0) → P s → ((c : ℕ) → IsSite p c → is_within p s (parent p c) ≡ true → P (parent p c) → P c) → (n o : ℕ) → o ≤ n → o ≤ site_count p → is_within p s o ≡ true → P o
 within_all p plan s P here down zero o le high w = let z : o ≡ s = let b : eqb o s ≡ true = sym (within-stop p s o (omega arith)) ∙ w in grind (arith, nat_tests) in subst P (sym z) here
 within_all p plan s P here down (suc n) o le high w = by_less s o
@@ -71,25 +71,25 @@ within_of p plan s o site high (child c in_plan w) = let up = plan.below c in_pl
     (λ b. absurd (let f : is_within p s (parent p c) ≡ false = within-below p s (parent p c) (omega arith) in let t : true ≡ false = sym w' ∙ f in cc))
     (λ a. within-step p plan s c a in_plan.1 ∙ w')
 
--- the test tells what is within
+-- The test `is_within` is exact.
 pub within_is_tested : (p : Plan) (s o : ℕ) → IsPlan p → IsSite p s → IsSite p o → (is_within p s o ≡ true) ↔ IsWithin p s o
 within_is_tested p s o plan site in_plan = (
   within_all p plan s (IsWithin p s) itself (λ c c_site _ w. child c c_site w) o o (omega arith) in_plan.1,
   within_of p plan s o site in_plan.1,
 )
 
--- what is within is no smaller
+-- A site within another isn't smaller.
 pub within-high : (p : Plan) (s o : ℕ) → is_within p s o ≡ true → s ≤ o
 within-high p s o w = by_less o s (λ b. b) (λ a. absurd (let f = within-below p s o a in let t : true ≡ false = sym w ∙ f in cc))
 
--- and greater but for the site itself
+-- A site strictly within another is greater.
 pub strictly_within : (p : Plan) (s o : ℕ) → is_within p s o ≡ true → o ≢ s → s < o
 strictly_within p s o w n = let h = within-high p s o w in dite (ℕ_discrete o s) (λ z. absurd (n z)) (λ m. by_less s o (λ b. absurd (m (omega arith))) (λ a. a))
 
--- a parent within is a site
+-- A parent within is a site.
 pub within_site : (p : Plan) → IsPlan p → (s c : ℕ) → IsSite p s → IsSite p c → is_within p s (parent p c) ≡ true → IsSite p (parent p c)
 within_site p plan s c site inner w = let h = within-high p s (parent p c) w in let low = site.0 in let high = inner.1 in let up = plan.below c inner.0 inner.1 in (omega arith, omega arith)
 
--- the sites below a site aren't within it
+-- Sites below a site aren't within it.
 pub none_below : (p : Plan) (s j : ℕ) → j < s - 1 → is_within p s (1 + j) ≡ true → ⊥
 none_below p s j lt w = let f = within-below p s (1 + j) (omega arith) in let t : true ≡ false = sym w ∙ f in cc

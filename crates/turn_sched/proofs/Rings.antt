@@ -1,4 +1,4 @@
--- What a change of the ring keeps: who is ahead of a child, and that each child has one place.
+-- A change of the ring keeps who is ahead of a child, and that each child has one place.
 use Rattle.std.proofs.Common.{◌≡◌, ◌≢◌, ℕ, ◌+◌, ◌-◌, ◌≤◌, Bool, true, false, ◌||◌, not, ◌==◌, nat_lt, if◌then◌else◌, List, [], ◌∷◌, ◌++◌, length, refl, sym, ap, subst, ◌∙◌, arith, ne_eqb}
 use Rattle.std.specs.List.{filter}
 use Rattle.std.proofs.lemmas.Bool.{eqb-true}
@@ -18,7 +18,7 @@ pub weigh-append : (f : ℕ → ℕ) (xs ys : List ℕ) → weigh f (xs ++ ys) �
 weigh-append f [] ys = omega arith
 weigh-append f (x ∷ xs) ys = let rest = weigh-append f xs ys in omega (arith, rest)
 
--- a child's weight, where one is counted
+-- 1 for the child, else 0
 abbrev pub is_it : ℕ → ℕ → ℕ
 is_it child c = if c == child then 1 else 0
 
@@ -85,7 +85,7 @@ children-append (p ∷ ps) qs = ap (λ cs. p.child ∷ cs) (children-append ps q
 abbrev others : ℕ → List Place → List Place
 others child ps = filter (λ p. not (p.child == child)) ps
 
--- Where another child goes, a child keeps its place, and no more are ahead of it.
+-- If another child goes, a child keeps its place, and no more are ahead of it.
 pub has-others : (x child : ℕ) (ps : List Place) → child ≢ x → has_place x (others child ps) ≡ has_place x ps
 has-others x child [] other = refl
 has-others x child (p ∷ ps) other = at (p.child == child) refl (has-others x child ps other)
@@ -117,7 +117,7 @@ children-others f child (p ∷ ps) = at (p.child == child) (children-others f ch
     at true rest = omega (arith, rest)
     at false rest = omega (arith, rest)
 
--- What is left of a place is the same child's.
+-- The rest of a place is the same child's.
 pub children-left : (f : ℕ → ℕ) (p : Place) → weigh f (children (left_of p)) ≤ f p.child
 children-left f p = at (nat_lt 1 p.wishes)
   where
@@ -142,7 +142,7 @@ none-children x (p ∷ ps) none = at (p.child == x) (none-children x ps) none
     at true rest h = let wrong = h in cc
     at false rest h = let e = rest h in omega (arith, e)
 
--- What holds in each case of a request holds after it.
+-- A property that each case of a request has holds after the request.
 pub wishes_by_cases : (P : RingParts → Type 0) (child count : ℕ) (ring : RingParts) → P ring →
     (has_place child ring.places ≡ true → P (record ring { places = with_more child count ring.places })) →
     (has_place child ring.places ≡ false → P (record ring { places = ring.places ++ record { child = child; wishes = count } ∷ [] })) →
@@ -161,7 +161,7 @@ wishes_by_cases P child count ring same more new = none (count == 0)
     none true = same
     none false = has (has_place child ring.places) refl
 
--- A child that has a place keeps it, and no more are ahead of it.
+-- a child that has a place keeps it, and no more are ahead of it
 pub record Keeps (x : ℕ) (before after : List Place) : Type 0 where
   pub has : has_place x after ≡ true
   pub ahead : (f : ℕ → ℕ) → weigh f (ahead_of x after) ≤ weigh f (ahead_of x before)
@@ -169,7 +169,7 @@ pub record Keeps (x : ℕ) (before after : List Place) : Type 0 where
 pub keeps_same : (x : ℕ) (ps qs : List Place) → has_place x ps ≡ true → qs ≡ ps → Keeps x ps qs
 keeps_same x ps qs has is = subst (λ (rs : List Place). Keeps x ps rs) (sym is) record { has = has; ahead = λ f. omega arith }
 
--- So it is after each callback that doesn't tell that the child goes.
+-- A child keeps its place after each callback except its own unregister.
 pub hear_keeps : (x child count : ℕ) (call : Call) (ring : RingParts) → has_place x ring.places ≡ true → (call ≡ Unregistered → child ≢ x) →
     Keeps x ring.places (ring_by call child count ring).places
 hear_keeps x child count Registered ring has stays = keeps_same x _ _ has refl
@@ -182,7 +182,7 @@ hear_keeps x child count Requested ring has stays =
 hear_keeps x child count Yielded ring has stays = keeps_same x _ _ has refl
 hear_keeps x child count Blocked ring has stays = keeps_same x _ _ has refl
 
--- After a turn of another child, that one is ahead no more.
+-- After a turn of another child, that child is no longer ahead.
 pub turn_keeps : (x y : ℕ) (ps qs : List Place) → has_place x ps ≡ true → TakesTurn ps y qs → y ≢ x →
     (has_place x qs ≡ true) × ((f : ℕ → ℕ) → f y + weigh f (ahead_of x qs) ≤ weigh f (ahead_of x ps))
 turn_keeps x y [] qs has turn other = absurd turn
@@ -198,7 +198,7 @@ turn_keeps x y (p ∷ ps) qs has turn other = (
     there : has_place x ps ≡ true
     there = sym (ap (λ b. b || has_place x ps) apart) ∙ has
 
--- Each child has one place.
+-- each child has at most one place
 abbrev pub HasOneEach : List Place → Type 0
 HasOneEach ps = (c : ℕ) → how_often c (children ps) ≤ 1
 

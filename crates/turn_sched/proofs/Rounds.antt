@@ -1,4 +1,4 @@
--- Over any run of calls, turns go round and contexts go in their order.
+-- In each run of calls, turns go round and contexts go in their order.
 use Rattle.std.proofs.Common.{◌≡◌, ℕ, ◌+◌, ◌≤◌, true, List, [], ◌∷◌, ◌++◌, refl, sym, ap, subst, ◌∙◌, arith, append_assoc, Ok, Err}
 use Rattle.std.specs.List.{All}
 use Rattle.std.proofs.lemmas.List.{append-nil}
@@ -10,7 +10,7 @@ use Rattle.turn_sched.specs.Turns.{TurnsState}
 use Rattle.turn_sched.specs.Rounds.{Event, Enter, Hear, Put, Does, Runs, Ends, Goes, lent_by, lent_in, ahead_of, PassesOver, TurnsGoRound, run_by, kept_by, run_in, kept_in, ContextsGoInOrder}
 use Rattle.turn_sched.proofs.Rings.{weigh, weigh-append, is_it, often_weighs, length_weighs, children, ahead-children, Keeps, keeps_same, hear_keeps, turn_keeps, HasOneEach, hear_one, turn_one}
 
--- Of one call that passes the child over: the child keeps its place, and those lent to are no longer ahead of it.
+-- One call that passes over the child: the child keeps its place, and the children lent to are no longer ahead of it.
 record Passes {C : Type 0} (x : ℕ) (before : List Place) (event : Event C) (after : List Place) : Type 0 where
   has : has_place x after ≡ true
   ahead : (f : ℕ → ℕ) → weigh f (lent_by event) + weigh f (ahead_of x after) ≤ weigh f (ahead_of x before)
@@ -33,7 +33,7 @@ passes x before next (Hear told) does has over =
 passes x before next (Put c (Ok done)) does has over = passes_same x _ _ _ refl (keeps_same x _ _ has (ap places does.1))
 passes x before next (Put c (Err back)) does has over = passes_same x _ _ _ refl (keeps_same x _ _ has (ap places does.2))
 
--- so those lent to in a run that passes the child over were ahead of it, each once
+-- The children lent to in a run that passes over the child were ahead of it, each once.
 lent_were_ahead : {C : Type 0} (x : ℕ) (f : ℕ → ℕ) (before after : TurnsState C) (events : List (Event C)) → Runs C before events after →
     has_place x (places before) ≡ true → All (PassesOver x) events → weigh f (lent_in events) ≤ weigh f (ahead_of x (places before))
 lent_were_ahead x f before after _ (Ends m) has over = omega arith
@@ -43,7 +43,7 @@ lent_were_ahead x f before after _ (Goes b next a event rest does runs) has over
     let sum = weigh-append f (lent_by event) (lent_in rest) in let now = here.ahead f in
     omega (arith, later, sum, now)
 
--- each child has one place after any call
+-- Each child has one place after any call.
 one_after : {C : Type 0} (before next : TurnsState C) (event : Event C) → Does before event next → HasOneEach (places before) → HasOneEach (places next)
 one_after before next (Enter (Run c)) does one = subst HasOneEach (ap places does) one
 one_after before next (Enter (Lend child)) does one = turn_one child (places before) (places next) does.1 one
@@ -69,7 +69,6 @@ turns_go_round C site room some earlier events before after first later x has ov
       omega (arith, lent, a, b)),
 )
 
--- one call more in front
 goes_first : {C : Type 0} (before next : TurnsState C) (event : Event C) (kept run left : List C) → Does before event next →
     next.ready ++ kept ≡ run ++ left → before.ready ++ (kept_by event ++ kept) ≡ (run_by event ++ run) ++ left
 goes_first {C} before next (Enter (Run c)) kept run left does same = ap (λ (t : TurnsState C). t.ready ++ kept) does ∙ ap (λ (cs : List C). c ∷ cs) same

@@ -1,6 +1,6 @@
 //! A parent by turns, and a pool and a team as its children, with the ports of three harts on one ledger.
 //!
-//! One thread makes the calls of all three in a fixed order. So each result is known beforehand and the whole journal is
+//! One thread makes the calls of all three in a fixed order. So each result is known beforehand, the complete journal is
 //! compared, and no call blocks, since the lock is free at each.
 ghost use Rattle.std.specs.Prelude.{◌≡◌};
 ghost use Rattle.turn_tests.specs.Family.{family_plan};

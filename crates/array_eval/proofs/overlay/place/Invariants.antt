@@ -3,7 +3,7 @@ use Rattle.array_meaning.specs.Pieces.{IsRising}
 use Rattle.array_eval.specs.Overlays.{place_in}
 use Rattle.array_eval.proofs.overlay.place.Given as goal
 
--- the place lies between
+-- The index lies between the bounds.
 abbrev pub invariant-loop-low : goal.invariant-loop-low
 invariant-loop-low l = record {
   rising : IsRising l.pairs;

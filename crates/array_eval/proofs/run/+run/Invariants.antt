@@ -5,7 +5,7 @@ use Rattle.array_eval.specs.Traces.{traced}
 use Rattle.array_eval.specs.Views.{vars_of}
 use Rattle.array_eval.proofs.run.+run.Given as goal
 
--- what is left to run from here gives what all gives from the start
+-- The remaining statements from the state so far give what all statements give from the start.
 abbrev pub invariant-run_block-loop-statement : goal.invariant-run_block-loop-statement
 invariant-run_block-loop-statement l =
     traced l.layout (sequence_work (sequence (map statement_of (drop l.statement-index l.statement-items))) (vars_of l.scope)) l.store

@@ -3,7 +3,7 @@ use Rattle.array_eval.specs.Overlays.{bound_to}
 use Rattle.array_eval.specs.Views.{stacked}
 use Rattle.array_eval.proofs.scope.last_named.Given as goal
 
--- of the variables that were seen, none has the name
+-- None of the variables seen so far has the name.
 abbrev pub invariant-loop-left : goal.invariant-loop-left
 invariant-loop-left l = (l.left ≤ length l.vars) × (bound_to (stacked (take l.left l.vars)) l.name ≡ bound_to (stacked l.vars) l.name)
 

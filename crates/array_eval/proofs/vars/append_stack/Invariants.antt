@@ -3,7 +3,7 @@ use Rattle.array_eval.specs.Bindings.{pairs_of}
 use Rattle.array_eval.specs.Views.{stacked}
 use Rattle.array_eval.proofs.vars.append_stack.Given as goal
 
--- what was appended and what is left are all the variables
+-- The variables appended so far and the remaining ones are all the variables.
 abbrev pub invariant-loop-left : goal.invariant-loop-left
 invariant-loop-left l =
     (l.left ≤ length l.vars)

@@ -4,7 +4,7 @@ use Rattle.array_tree.specs.Trees.{declaration_of, declarations_of}
 use Rattle.array_print.specs.Texts.{declaration_text}
 use Rattle.array_print.proofs.program.program_text.Given as goal
 
--- what is written, and then the text of the rest, is that of all declarations
+-- The text so far, with the text of the remaining declarations, is that of all declarations.
 abbrev pub invariant-loop-array : goal.invariant-loop-array
 invariant-loop-array l =
     l.text.items ++ flat_map declaration_text (map declaration_of (drop l.array-index l.array-items))

@@ -3,7 +3,7 @@ use Rattle.array_tree.specs.Trees.{sequence, sequences, statement_of, sequence_o
 use Rattle.array_print.specs.Texts.{sequence_text, branches_text, phases_text}
 use Rattle.array_print.proofs.statements.+print.Given as goal
 
--- what is written, and then the text of the rest, is the whole
+-- The text so far, with the text of the remaining statements, is that of all statements.
 abbrev pub invariant-print_statements-loop-statement : goal.invariant-print_statements-loop-statement
 invariant-print_statements-loop-statement l =
     l.out.items ++ sequence_text l.margin (sequence (map statement_of (drop l.statement-index l.statement-items)))

@@ -4,7 +4,7 @@ use Rattle.array_tree.specs.Trees.{sequence, sequences, statement_of, sequence_o
 use Rattle.array_tree.specs.Equal.{sequence_eq, sequences_eq}
 use Rattle.array_tree.proofs.equal.+equal.Given as goal
 
--- whether the rest is the same decides
+-- The lists are equal iff the rests are.
 abbrev pub invariant-same_block-loop-i : goal.invariant-same_block-loop-i
 invariant-same_block-loop-i l =
     sequence_eq (sequence (map statement_of (drop l.i l.statement-items))) (sequence (map statement_of (drop l.i l.b.statements.items)))

@@ -4,7 +4,7 @@ use Rattle.hart_port.specs.PortView.{is_in}
 use Rattle.board_tests.specs.Roam.{HasLooked}
 use Rattle.board_tests.proofs.roaming.saw_children_gone.Given as goal
 
--- the hart has only looked, and each child up to here was seen gone
+-- The hart has only looked, and each child up to here was seen gone.
 abbrev pub invariant-loop-before : goal.invariant-loop-before
 invariant-loop-before g l = record {
   looked : HasLooked (g.P.Port.seen l.initial.port) (g.P.Port.seen l.port);

@@ -3,7 +3,7 @@ use Rattle.claim_words.specs.Claims.{claims, weigh, past_word}
 use Rattle.claim_words.specs.Seats.{AreOf, parts_of, claims_of, reads_past, kin}
 use Rattle.claim_words.proofs.laws.claimed.Given as goal
 
--- the first seat has taken in those that are gone
+-- The earlier seats are joined into the first one.
 abbrev pub invariant-loop-other : goal.invariant-loop-other
 invariant-loop-other l = (l.first.table_id ≡ l.table.shared.table_id) × (l.first.me.1 ≡ []) × (0 < l.first.me.0.parts)
     × (l.first.me.0.parts + parts_of (map kin l.seats.items) ≡ 256)

@@ -4,7 +4,7 @@ use Rattle.deque_rows.specs.Rows.{home_names, owner_log, pass_logs, stolen_by}
 use Rattle.deque_rows.specs.Lines.{gathered, standing}
 use Rattle.deque_rows.proofs.laws.gather.Given as goal
 
--- the harts before this one have given their ends back
+-- The ends of the harts below this one are back.
 abbrev pub invariant-loop-hart : goal.invariant-loop-hart
 invariant-loop-hart l = (map home_names l.rows ≡ map home_names l.initial.rows)
     × ((r : ℕ) → r < 3 * length l.initial.rows → owner_log l.rows r ≡ gathered (owner_log l.initial.rows r) (64 - length l.initial.rows + l.hart) (stolen_by (map pass_logs l.initial.rows) r l.hart))

@@ -10,7 +10,7 @@ use Rattle.deque_rows.specs.Lines.{end_log, end_name}
 use Rattle.deque_rows.proofs.Places.{owner_put, owner_else}
 use Rattle.deque_rows.proofs.laws.give_line.Goals as goal
 
--- what the popped list had at each place, and what was popped
+-- The elements of the popped list, and the popped element.
 popped : (was now : List StealingEnd) (end : StealingEnd) (n : ℕ) → was ≡ now ++ end ∷ [] → length now ≡ n
     → ((r : ℕ) (d : StealingEnd) → r < n → get_or now r d ≡ get_or was r d) × ((d : StealingEnd) → end ≡ get_or was n d)
 popped was now end n items count = (

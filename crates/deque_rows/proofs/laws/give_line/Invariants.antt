@@ -5,7 +5,7 @@ use Rattle.deque_rows.specs.Rows.{home_names, owner_log}
 use Rattle.deque_rows.specs.Lines.{end_log, standing}
 use Rattle.deque_rows.proofs.laws.give_line.Given as goal
 
--- the ends from this one on are back
+-- The ends from this one on are back.
 abbrev pub invariant-loop-end : goal.invariant-loop-end
 invariant-loop-end l = ((r : ℕ) (d : StealingEnd) → r < vec_len l.ends → get_or l.ends.items r d ≡ get_or l.initial.ends.items r d) × (vec_len l.ends ≤ 3 * length l.initial.rows)
     × ((r : ℕ) → r < vec_len l.ends → owner_log l.rows r ≡ owner_log l.initial.rows r)

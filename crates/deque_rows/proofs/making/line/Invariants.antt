@@ -3,7 +3,7 @@ use Rattle.deque_rows.specs.Rows.{home_names, owner_log}
 use Rattle.deque_rows.specs.Lines.{IsLine, less, standing}
 use Rattle.deque_rows.proofs.making.line.Given as goal
 
--- the rows below this one have lent an end each, and the others are as they were
+-- The deques below this one have lent one end each; the others are unchanged.
 abbrev pub invariant-loop-row : goal.invariant-loop-row
 invariant-loop-row l = (vec_len l.ends ≡ l.row) × IsLine (map home_names l.initial.rows) l.ends.items
     × ((r : ℕ) → r < l.row → owner_log l.rows r ≡ less (owner_log l.initial.rows r))

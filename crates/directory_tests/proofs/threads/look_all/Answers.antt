@@ -1,4 +1,4 @@
--- A finder may go to a thread of its own.
+-- A finder may move to another thread.
 use denote.Param.Send.{IsSend, sendable}
 use denote.Param.SendFields.{declared_send}
 use denote.Ref.{NamedLft}

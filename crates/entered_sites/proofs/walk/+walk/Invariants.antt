@@ -5,7 +5,7 @@ use Rattle.array_eval.specs.Views.{vars_of}
 use Rattle.entered_sites.specs.Told.{told}
 use Rattle.entered_sites.proofs.walk.+walk.Given as goal
 
--- what is left to tell from here gives what all gives from the start
+-- The remaining statements from the state so far give what all statements give from the start.
 abbrev pub invariant-walk_statements-loop-statement : goal.invariant-walk_statements-loop-statement
 invariant-walk_statements-loop-statement l =
     told l.layout (sequence_part l.layout (sequence (map statement_of (drop l.statement-index l.statement-items))) (vars_of l.scope)) l.walker

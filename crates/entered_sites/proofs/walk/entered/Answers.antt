@@ -6,7 +6,7 @@ use Rattle.array_meaning.specs.Work.{first_store}
 use Rattle.meant_sites.proofs.Entering.{sequence_true}
 use Rattle.entered_sites.proofs.walk.entered.Goals as goal
 
--- what has no construct under an `if` enters all its sites
+-- A program without a construct under an `if` enters all its sites.
 pub returns-then-has_no_choice : goal.returns-then-has_no_choice
 returns-then-has_no_choice c =
     let program = program_of c.args.program.now in

@@ -4,7 +4,7 @@ use Rattle.array_meaning.specs.Stores.{arrays_of}
 use Rattle.error_text.specs.RefusalText.{cell_text}
 use Rattle.error_text.proofs.refusal.add_cell.Given as goal
 
--- what is left of the cell's number among the arrays that are left
+-- The remaining part of the cell's number is among the remaining arrays.
 abbrev pub invariant-loop-array : goal.invariant-loop-array
 invariant-loop-array l = record {
   same : l.text.items ≡ l.fn.text.items;

@@ -3,7 +3,7 @@ use Rattle.deque_rows.specs.Rows as codes
 use Rattle.claim_words.specs.Seats as words
 use Rattle.hart_loop.proofs.crew.crew.Given as goal
 
--- the tools that are left are those of the harts to come
+-- The remaining tools are those of the remaining harts.
 abbrev pub invariant-loop-port : goal.invariant-loop-port
 invariant-loop-port g l = record {
   ports : map (λ hart. hart.port) l.harts.items ≡ l.yielded;

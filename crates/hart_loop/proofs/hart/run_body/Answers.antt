@@ -1,7 +1,7 @@
 use Rattle.hart_loop.proofs.SameHarts.{same_looked}
 use Rattle.hart_loop.proofs.hart.run_body.Goals as goal
 
--- it came back from the body and from the sweep, and has looked at sites since
+-- The hart returned from the body and from the sweep, and has looked at sites since.
 pub returns-clause-same : goal.returns-clause-same
 returns-clause-same g c =
     let seen = g.P.Port.seen in

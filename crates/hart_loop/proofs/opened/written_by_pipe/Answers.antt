@@ -5,7 +5,7 @@ use Rattle.step_eval.specs.Nests.{NestedTree, nested_of, nested_writes}
 use Rattle.pipe_sched.specs.Pipes.{IsUncrossed}
 use Rattle.hart_loop.proofs.opened.written_by_pipe.Goals as goal
 
--- the pipe is that of the construct, no two pieces of which cross
+-- The pipe is that of the construct, no two pieces of which cross.
 clear_written : (n m : NestedTree) (r : Result Overlay AllocError) → n ≡ m → IsUncrossed m
     → IfOk r (λ o. IsUncrossed n → o.pairs ≡ nested_writes n) → IfOk r (λ o. o.pairs ≡ nested_writes m)
 clear_written n m (Ok o) same clear written = subst (λ k. IsUncrossed k → o.pairs ≡ nested_writes k) same written clear

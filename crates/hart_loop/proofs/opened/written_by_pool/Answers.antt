@@ -6,7 +6,7 @@ use Rattle.array_jobs.specs.Equal.{job_eq}
 use Rattle.array_jobs.specs.EqualLaws.{job_same}
 use Rattle.hart_loop.proofs.opened.written_by_pool.Goals as goal
 
--- what is equal place by place is equal
+-- Lists of jobs that are equal index by index are equal.
 same_jobs : (xs ys : List JobParts) → pointwise (λ x y. job_eq (job_of x) (job_of y)) xs ys ≡ true → map job_of xs ≡ map job_of ys
 same_jobs [] [] h = refl
 same_jobs [] (y ∷ ys) h = cc

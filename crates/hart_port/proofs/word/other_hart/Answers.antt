@@ -1,4 +1,4 @@
--- A further hart: the rest of the word loses its field, which isn't the site.
+-- One more hart: its field, which isn't the site, is removed from the word.
 use Rattle.std.proofs.Common.{◌≡◌, ◌≢◌, ◌+◌, ◌/◌, ◌%◌, ◌^◌, ℕ, suc, ap, sym, ◌∙◌, arith}
 use Rattle.std.proofs.Math.Nat.{div-div-eq-div-mul, pow-suc}
 use borrow.Author.Count.{below_more}

@@ -1,4 +1,4 @@
--- The harts before this one aren't on the site, and what is left of the word has the fields from this one on.
+-- The harts below this one aren't on the site, and the rest of the word has the fields from this one on.
 use Rattle.std.proofs.Common.{◌≡◌, ◌≢◌, ◌<◌, ◌/◌, ◌^◌, ℕ}
 use Rattle.hart_port.specs.Words.{owner_field}
 use Rattle.hart_port.proofs.word.other_hart.Given as goal

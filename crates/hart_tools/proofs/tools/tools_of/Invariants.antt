@@ -4,7 +4,7 @@ use Rattle.deque_rows.specs.Rows as codes
 use Rattle.claim_words.specs.Seats as words
 use Rattle.hart_tools.proofs.tools.tools_of.Given as goal
 
--- what is left is as it was lent, and the tools are of what is gone
+-- The remaining loans are unchanged, and the tools have the loans taken so far.
 abbrev pub invariant-loop-own : goal.invariant-loop-own
 invariant-loop-own l = record {
   rows : map codes.kin l.rows.items ++ map (λ t. t.rows) (reverse l.tools.items) ≡ map codes.kin l.fn.rows.items;

@@ -14,7 +14,7 @@ use Rattle.site_steps.proofs.Backs.{back_refl, back_then, back_over, back_visite
 use Rattle.hart_work.proofs.serving.+serve.Goals as goal
 use Rattle.hart_work.proofs.serving.+serve.Goals.{be_guest-in-Piece, be_guest-in-Visit, be_guest-in-Nothing}
 
--- a child of the owner by the plan is one by the hart's plan
+-- A child of the owner by the plan is a child by the hart's plan.
 child_of : (p : Plan) (h : PortView) (s around : ℕ) → h.plan ≡ p → around ≡ h.owner → IsSite p s → parent p s ≡ around → IsSite h.plan s × (h.owner ≡ parent h.plan s)
 child_of p h s around same own site up = (subst (λ q. IsSite q s) (sym same) site, subst (λ q. h.owner ≡ parent q s) (sym same) (sym own ∙ sym up))
 

@@ -6,7 +6,7 @@ use Rattle.hart_work.specs.Tasks.{StaysSettled}
 use Rattle.hart_work.specs.Accounts.{WhereAlone, StaysServed}
 use Rattle.hart_work.proofs.serving.+serve.Given as goal
 
--- each site is above the one around it; at one site a hart is a guest, serves, runs a job, runs its piece, and then a construct in it
+-- Each site is above the one around it. At one site a hart is a guest, serves, runs a job, runs its piece, then a construct.
 abbrev pub decreases-be_guest : goal.decreases-be_guest
 decreases-be_guest g l = 5 * (site_count l.tree.now - (g.P.Port.seen l.port.now).owner) + 4
 

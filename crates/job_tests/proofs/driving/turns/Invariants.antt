@@ -2,6 +2,6 @@ use Rattle.std.proofs.Common.{◌≡◌, false}
 use Rattle.step_eval.specs.Machines.{is_awaiting}
 use Rattle.job_tests.proofs.driving.turns.Given as goal
 
--- nothing is awaited
+-- The machine awaits nothing.
 abbrev pub invariant-loop : goal.invariant-loop
 invariant-loop l = is_awaiting l.machine.stage ≡ false

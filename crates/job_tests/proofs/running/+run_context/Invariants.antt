@@ -1,5 +1,5 @@
 use Rattle.job_tests.proofs.running.+run_context.Given as goal
 
--- each further run has one step less
+-- Each run leaves one step less.
 abbrev pub decreases-run_context : goal.decreases-run_context
 decreases-run_context l = l.steps

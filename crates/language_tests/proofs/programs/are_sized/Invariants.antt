@@ -3,7 +3,7 @@ use Rattle.array_tree.specs.Trees.{declarations_of, declaration_of}
 use Rattle.array_meaning.specs.Stores.{arrays_of, cells_of, HaveCells, AreSized}
 use Rattle.language_tests.proofs.programs.are_sized.Given as goal
 
--- where the rest has room, all has
+-- All arrays have room if the remaining ones have.
 abbrev pub invariant-loop-array : goal.invariant-loop-array
 invariant-loop-array l = record {
   small : l.cells ≤ 4096;

@@ -1,4 +1,4 @@
--- A hart that moves by a locked port may go to a thread of its own.
+-- A hart with a locked port may move to another thread.
 use denote.Param.Send.{sendable}
 use Rattle.hart_port.proofs.locked.LockedPort.TheSendSync as LockedPortCrosses
 use Rattle.site_steps.proofs.waiting.WaitingPort.TheSendSync as WaitingPortCrosses

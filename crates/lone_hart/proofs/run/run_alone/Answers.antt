@@ -1,4 +1,4 @@
--- The body is the program's, and its account tells that each site was run as the meaning enters it.
+-- The body is the program's. Its account states that each site was run iff the meaning enters it.
 use Rattle.std.proofs.Common.{◌≡◌, ◌≤◌, ◌∙◌, true, List, [], length, sym, ap, subst}
 use Rattle.array_tree.specs.Trees.{program_of}
 use Rattle.array_meaning.specs.Entered.{entered_of}

@@ -11,7 +11,7 @@ use Rattle.lone_hart.proofs.Accounts.{hand_out, full, none_to_go_on}
 use Rattle.lone_hart.proofs.ServedTeams.{one_to_one, team_lends}
 use Rattle.lone_hart.proofs.teams.next_of_team.Goals as goal
 
--- a team that isn't over is running
+-- A team that isn't done is running.
 running : (team : TeamParts) (over : _) → over ≡ false → (IsOver team → IsTrue over) → IsOver team ⊎ IsRunning team → IsRunning team
 running team over not known (inl is) = absurd (let t = known is in cc)
 running team over not known (inr is) = is

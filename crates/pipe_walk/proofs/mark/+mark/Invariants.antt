@@ -5,7 +5,7 @@ use Rattle.array_meaning.specs.Work.{sequence_work, branches_work, phases_work, 
 use Rattle.array_eval.specs.Views.{vars_of}
 use Rattle.pipe_walk.proofs.mark.+mark.Given as goal
 
--- what is left to run from here gives what all gives from the start
+-- The remaining statements from the state so far give what all statements give from the start.
 abbrev pub invariant-mark_block-loop-statement : goal.invariant-mark_block-loop-statement
 invariant-mark_block-loop-statement l =
     with_piece l.layout l.member (sequence_work (sequence (map statement_of (drop l.statement-index l.statement-items))) (vars_of l.scope)) l.table

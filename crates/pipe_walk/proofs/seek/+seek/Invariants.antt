@@ -6,7 +6,7 @@ use Rattle.pipe_walk.specs.FirstCrossing.{or_crossing}
 use Rattle.pipe_walk.specs.Inside.Tables.{IsFor}
 use Rattle.pipe_walk.proofs.seek.+seek.Given as goal
 
--- what is left to look through from here gives what all gives from the start
+-- The remaining statements from the state so far give what all statements give from the start.
 abbrev pub invariant-seek_block-loop-statement : goal.invariant-seek_block-loop-statement
 invariant-seek_block-loop-statement l = record {
   table : IsFor l.layout l.table;

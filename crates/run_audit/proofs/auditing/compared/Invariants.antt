@@ -4,7 +4,7 @@ use Rattle.run_audit.specs.Audit.{compared}
 use Rattle.run_audit.proofs.Comparing.{earlier}
 use Rattle.run_audit.proofs.auditing.compared.Given as goal
 
--- what was found so far, and then what is found in the rest
+-- The result so far, and then the result for the remaining lines.
 abbrev pub invariant-loop-wanted : goal.invariant-loop-wanted
 invariant-loop-wanted l = record {
   room : l.lines + length l.rest ≤ length l.output;

@@ -3,7 +3,7 @@ use Rattle.std.specs.Option.{option_map}
 use Rattle.run_audit.specs.Parts.{parts_of, with_front}
 use Rattle.run_audit.proofs.parts.parts_of.Given as goal
 
--- the lines so far are no mark
+-- No line so far is a mark.
 abbrev pub invariant-loop-line : goal.invariant-loop-line
 invariant-loop-line l = record {
   short : length l.rest ≤ length l.text;

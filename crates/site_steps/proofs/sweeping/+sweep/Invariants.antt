@@ -5,7 +5,7 @@ use Rattle.site_steps.specs.Visits.{ChildrenOverBefore, IsChildIf, sites_from}
 use Rattle.site_steps.specs.Sweeps.{AreSweptBefore}
 use Rattle.site_steps.proofs.sweeping.+sweep.Given as goal
 
--- each site is above the one around it
+-- Each site is above the one around it.
 abbrev pub decreases-sweep_children : goal.decreases-sweep_children
 decreases-sweep_children g l = 2 * (site_count l.tree.now - (g.P.Port.seen l.port.now).owner) + 1
 

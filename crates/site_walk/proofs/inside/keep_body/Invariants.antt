@@ -4,7 +4,7 @@ use Rattle.array_meaning.specs.Work.{sequence_work}
 use Rattle.site_walk.specs.Inside.Kept.{or_outside}
 use Rattle.site_walk.proofs.inside.keep_body.Given as goal
 
--- what is left to look through from here gives what all gives from the start
+-- The remaining statements from the state so far give what all statements give from the start.
 abbrev pub invariant-loop-statement : goal.invariant-loop-statement
 invariant-loop-statement l =
     or_outside l.layout (sequence_work (sequence (map statement_of (drop l.statement-index l.statement-items))) []) l.found

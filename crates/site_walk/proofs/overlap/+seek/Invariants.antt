@@ -6,7 +6,7 @@ use Rattle.site_walk.specs.Inside.Kept.{or_overlap}
 use Rattle.site_walk.specs.Inside.Marks.{HasPlaces}
 use Rattle.site_walk.proofs.overlap.+seek.Given as goal
 
--- what is left to look through from here gives what all gives from the start
+-- The remaining statements from the state so far give what all statements give from the start.
 abbrev pub invariant-seek_block-loop-statement : goal.invariant-seek_block-loop-statement
 invariant-seek_block-loop-statement l = record {
   places : HasPlaces l.layout l.table;

@@ -6,7 +6,7 @@ use Rattle.spread_laws.specs.Served.{AreNarrow}
 use Rattle.tally_cells.proofs.Pushed.{blocks_rolled, put_one, next_beside, all_beside, next_narrow_block}
 use Rattle.tally_cells.proofs.inside.spread_branches.Goals as goal
 
--- the number of a branch has 64 bits with its sign
+-- A branch's number fits in 64 signed bits.
 row_fits : (c : goal.Joined-row-3) → c.len.result < 2 ^ 63
 row_fits c =
     let small = c.loop-branch.blocks.small in

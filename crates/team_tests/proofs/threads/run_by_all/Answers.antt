@@ -1,4 +1,4 @@
--- A hart that runs a team may go to a thread of its own.
+-- A hart that runs a team may move to another thread.
 use denote.Param.Send.{IsSend, sendable}
 use denote.Param.SendFields.{declared_send}
 use denote.Ref.{NamedLft}

@@ -5,7 +5,7 @@ use Rattle.touch_bounds.specs.Ranges.{bounds_of}
 use Rattle.touch_bounds.specs.Pieces.{AreAllSitesApart}
 use Rattle.touch_bounds.proofs.sites.+settle.Given as goal
 
--- with what is left all is apart
+-- All sites are apart if the remaining ones are.
 abbrev pub invariant-block_is_settled-loop-statement : goal.invariant-block_is_settled-loop-statement
 invariant-block_is_settled-loop-statement l =
     AreAllSitesApart l.layout (bounds_of l.ranges) (sequence_sites (sequence (map statement_of (drop l.statement-index l.statement-items)))) →

@@ -6,7 +6,7 @@ use Rattle.touch_bounds.specs.Ranges.{bounds_of}
 use Rattle.touch_bounds.specs.Touches.{Widens, IsWorkTold}
 use Rattle.touch_bounds.proofs.work.+tell.Given as goal
 
--- what is told is never taken back, and with what is left to tell all is told
+-- No recorded stretch shrinks. With the remaining statements, all are recorded.
 abbrev pub invariant-tell_block-loop-statement : goal.invariant-tell_block-loop-statement
 invariant-tell_block-loop-statement l =
     Widens l.fn.touches l.touches

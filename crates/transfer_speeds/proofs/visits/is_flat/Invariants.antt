@@ -2,6 +2,6 @@ use Rattle.std.proofs.Common.{◌≡◌, ◌≤◌, ℕ}
 use Rattle.transfer_table.specs.Plan.{parent}
 use Rattle.transfer_speeds.proofs.visits.is_flat.Given as goal
 
--- the sites so far lie under the base
+-- The sites so far are children of the base.
 abbrev pub invariant-loop-before : goal.invariant-loop-before
 invariant-loop-before l = (c : ℕ) → 1 ≤ c → c ≤ l.before → parent l.plan c ≡ 0

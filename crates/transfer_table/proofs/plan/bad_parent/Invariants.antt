@@ -2,6 +2,6 @@ use Rattle.std.proofs.Common.{◌≡◌, ◌+◌, drop}
 use Rattle.transfer_table.specs.Plan.{bad_parent}
 use Rattle.transfer_table.proofs.plan.bad_parent.Given as goal
 
--- below i each parent is smaller than its site
+-- Each parent below i is smaller than its site.
 abbrev pub invariant-loop-i : goal.invariant-loop-i
 invariant-loop-i l = bad_parent l.parents 1 ≡ bad_parent (drop l.i l.parents) (l.i + 1)

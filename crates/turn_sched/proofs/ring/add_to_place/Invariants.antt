@@ -3,7 +3,7 @@ use Rattle.std.specs.VecDeque.{deque_len, deque_capacity}
 use Rattle.turn_sched.specs.Ring.{has_place, with_more}
 use Rattle.turn_sched.proofs.ring.add_to_place.Given as goal
 
--- the child has none of the places up to here
+-- No place below this one is the child's.
 abbrev pub invariant-loop-at : goal.invariant-loop-at
 invariant-loop-at l = record {
   same : l.places.items ≡ l.initial.places.items;

@@ -6,7 +6,7 @@ use Rattle.array_eval.specs.Traces.{traced}
 use Rattle.array_eval.specs.Views.{vars_of}
 use Rattle.array_eval.proofs.fixed.FixedTurn.run_all.Given as goal
 
--- what is left to run from here gives what all gives from the start
+-- The remaining turns from the state so far give what all turns give from the start.
 abbrev pub invariant-loop-number : goal.invariant-loop-number
 invariant-loop-number l =
     (body : Sequence) → IsTurnOf l.layout l.self l.var (vars_of l.scope) body →

@@ -1,6 +1,6 @@
 use Rattle.array_eval.specs.Traces.{IsLaidTo}
 use Rattle.array_eval.proofs.marked_store.MarkedStore.lay_page.Given as goal
 
--- the cells so far are laid
+-- The cells so far are laid.
 abbrev pub invariant-loop-cell : goal.invariant-loop-cell
 invariant-loop-cell l = IsLaidTo l.self.cells l.self.marks l.cell l.overlay

@@ -6,7 +6,7 @@ use Rattle.join_book.specs.declared.book.Deposit.TheVariants.{Kept, Double, Stra
 use Rattle.forkjoin_sched.specs.Shared.{SharedParts, HasJob, Receives}
 use Rattle.forkjoin_sched.proofs.hand.PoolHand.deposit.Goals as goal
 
--- what comes of a piece that is put in, where its job is that of its place
+-- The result of a piece that is put in, if its job is the slot's own.
 received : (shared : SharedParts) (piece : PieceParts) (deposit : Deposit) (before after : BookParts) → HasJob shared piece.job →
     Puts before piece deposit after → Receives shared piece deposit
 received shared piece Kept before after has puts = has

@@ -5,7 +5,7 @@ use Rattle.join_book.specs.Books.{BookParts, IsPlaceOf}
 use Rattle.forkjoin_sched.specs.Pools.{free_book}
 use Rattle.forkjoin_sched.proofs.pool.Pool.keep.Goals as goal
 
--- what is got from a mutex is the book that lay in it
+-- The book that the mutex returns is the one that was in it.
 got_book : (before after : Possession BookParts (Unit {0})) (book : BookParts) → Acquires before tt (Got book tt) after → book ≡ free_book before
 got_book (Free value) after book does = let same = does.0 in cc
 got_book (Held waiting) after book does = let same = does.0 in cc

@@ -1,4 +1,4 @@
--- A legal list has fewer entries than there is room for, and goes on with what is admitted.
+-- A legal list that continues has fewer entries than there is room for.
 use Rattle.std.proofs.Common.{arith}
 use Rattle.transfer_table.proofs.Bounds.{legal_room}
 use Rattle.transfer_table.proofs.Replays.{reaches-snoc}

@@ -1,4 +1,4 @@
--- The owners from a hart on have less than 2^48, so a further digit fits.
+-- The owners from a hart on are less than 2^48, so one more digit fits.
 use Rattle.std.proofs.Common.{◌≡◌, ◌∙◌, ap, sym, arith, ℕ, ◌-◌, take, drop, []}
 use Rattle.std.proofs.lemmas.List.{drop_all, length-take, get_or-take}
 use Rattle.std.proofs.lemmas.Bool.Decides.{nat_tests}

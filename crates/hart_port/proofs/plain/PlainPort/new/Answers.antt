@@ -1,4 +1,4 @@
--- The first ledger, and flags that are all off, make the first view.
+-- The first ledger and flags that are all off make the first view.
 use Rattle.std.proofs.Common.{◌≡◌, ◌∙◌, ℕ, ◌+◌, ap, false, replicate}
 use Rattle.transfer_table.specs.Table.{first_state}
 use Rattle.hart_port.specs.Ledger.{no_site}

@@ -1,4 +1,4 @@
--- The port's type says that its view is one.
+-- The invariant of the port's type states that its view is valid.
 use Rattle.std.proofs.Common.{ap, subst}
 use Rattle.hart_port.specs.PortView.{IsPortView}
 use Rattle.hart_port.specs.Plain.{Plain}

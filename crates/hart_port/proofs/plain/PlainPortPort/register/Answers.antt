@@ -1,4 +1,4 @@
--- A new site was never registered or asked for, and one that isn't new was registered, so its word is claimed.
+-- A new site has no Register and no Request. A site that isn't new was registered, so its word is claimed.
 use Rattle.std.proofs.Common.{◌≡◌, ◌≢◌, ◌∙◌, ap, sym, subst, length-set}
 use Rattle.transfer_table.specs.Plan.{IsSite, parent}
 use Rattle.transfer_table.specs.Table.{row}

@@ -1,7 +1,7 @@
 use Rattle.std.proofs.Common.{◌≡◌, ◌≤◌}
 use Rattle.hart_tools.proofs.tools.Tools.enter.Given as goal
 
--- a try that didn't bring the hart inside left it where it was
+-- A try that didn't bring the hart inside left it where it was.
 abbrev pub invariant-tries : goal.invariant-tries
 invariant-tries g l = record {
   next : (goal.iterator-tries g).can_next l.iterator';

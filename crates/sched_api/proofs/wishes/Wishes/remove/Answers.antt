@@ -1,4 +1,4 @@
--- What `retain` leaves is the filter by the closure's test.
+-- `retain` leaves the elements that pass the closure's test.
 use Rattle.std.proofs.Common.{rules, ℕ, ◌∙◌, ap, not, eqb}
 use Rattle.std.proofs.lemmas.Fn.{filter_same}
 use Rattle.sched_api.specs.Wishes.{WishList, without_child}

@@ -1,7 +1,7 @@
 use Rattle.std.proofs.Common.{◌≡◌}
 use Rattle.site_directory.proofs.directory.SiteLine.until_found.Given as goal
 
--- a look that found nothing left the line as it was
+-- A look that finds nothing leaves the line unchanged.
 abbrev pub invariant-looks : goal.invariant-looks
 invariant-looks g l = record {
   next : (goal.iterator-looks g).can_next l.iterator';

@@ -4,7 +4,7 @@ use Rattle.step_eval.specs.declared.found.Found.{Found}
 use Rattle.step_eval.specs.Machines.{Progress, is_awaiting, left_of, HasGone}
 use Rattle.step_eval.proofs.machine.StepMachine.go.Given as goal
 
--- wherever it goes from here, it goes from where it began
+-- Progress from the current state is progress from the start.
 abbrev pub invariant-loop-step : goal.invariant-loop-step
 invariant-loop-step l =
     (is_awaiting l.self.stage ≡ false)

@@ -8,7 +8,7 @@ use Rattle.step_eval.specs.Machines.{Progress, HasGoneOn}
 use Rattle.step_eval.proofs.GoLemmas.{gone_through, sound_through}
 use Rattle.step_eval.proofs.machine.StepMachine.run_through.Goals as goal
 
--- what was run, by the arrays of the job
+-- The work that was run, for the arrays of the job.
 ran : (c : goal.After-run_loop_of) → Ran (arrays_of (declarations_of c.self.inside.job.arrays)) c.run_loop_of.result (works_of c.self.inside.frames c.self.inside.job.vars) c.self.inside.store
     (works_of c.run_loop_of.new.frames c.self.inside.job.vars) c.run_loop_of.new.store
 ran c = subst (λ arrays. Ran arrays c.run_loop_of.result (works_of c.self.inside.frames c.self.inside.job.vars) c.self.inside.store

@@ -1,4 +1,4 @@
--- What `retain` leaves is the filter by the closure's test.
+-- `retain` leaves the elements that pass the closure's test.
 use Rattle.std.proofs.Common.{rules, ◌∙◌, ap, not, eqb}
 use Rattle.std.proofs.lemmas.Fn.{filter_same}
 use Rattle.turn_sched.specs.declared.ring.Place.{Place}
