@@ -37,6 +37,16 @@ const UNTOLD: &[u8] = b"array a[200]; array b[200];
 const LONG_CROSSED_LAST: &[u8] = b"array a[200]; array b[200];
     team i in 0..200 by 4 { a[i] = i; } barrier { b[i] = a[i]; } barrier { b[i] = a[(i + 1) % 200]; }";
 
+// Each construct touches cells that the ones before it touched, by other members, and only a dynamic index reads `r`.
+const AFTER_ONE_ANOTHER: &[u8] = b"array a[4]; array b[4]; array r[4];
+    for k in 0..2 {
+    team i in 0..4 by 4 { a[i] = i; } barrier { b[i] = a[i]; }
+    team i in 0..4 by 4 { a[3 - i] = i; } barrier { b[3 - i] = a[3 - i]; }
+    team i in 0..4 by 4 { b[i] = r[b[i]]; } barrier { a[i] = r[b[i]]; }
+    }
+    team i in 0..4 by 4 { a[3 - i] = i; } barrier { b[i] = i; } barrier { a[3 - i] = a[3 - i]; }
+    team i in 0..4 by 4 { b[i] = i; } barrier { b[3 - i] = i; }";
+
 // The result of the check.
 fn checked(alloc: Global, text: &[u8]) -> Result<Result<(), PipeFault>, Fail> {
     let program = parsed(alloc, text)?;
@@ -96,5 +106,12 @@ fn a_construct_tells_whether_its_pieces_cross(rt: HostRuntime) -> Result<(), Fai
     assert!(rt; is_clear(rt.alloc(), TWO_STEPS)?);
     assert!(rt; !is_clear(rt.alloc(), TWO_PHASES)?);
     assert!(rt; is_clear(rt.alloc(), TWO_BRANCHES)?);
+    Ok(())
+}
+
+#[test]
+fn constructs_are_checked_each_by_itself(rt: HostRuntime) -> Result<(), Fail> {
+    let fault = PipeFault::Crossing { line: 8, cell: 6 };
+    assert_eq!(rt; checked(rt.alloc(), AFTER_ONE_ANOTHER)?, Err(fault));
     Ok(())
 }

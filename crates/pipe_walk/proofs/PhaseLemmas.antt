@@ -22,6 +22,7 @@ use Rattle.pipe_walk.specs.Inside.Tables.{TableParts, no_past, passed, past_in, 
 use Rattle.pipe_walk.specs.Inside.Marks.{with_pieces}
 use Rattle.pipe_walk.proofs.MemberLemmas.{members_in, members_below, members_last, none_highest, either_highest}
 use Rattle.pipe_walk.proofs.PieceLemmas.{told, touch_with_pieces, pieces_stay_for, pieces_keep_past}
+use Rattle.pipe_walk.proofs.CellLemmas.{anywhere}
 
 -- ---- one phase
 
@@ -71,11 +72,6 @@ phase_left arrays cell past round more =
     (crosses arrays cell (max past.toucher (highest (is_touched arrays cell) round)) (max past.changer (highest (is_changed arrays cell) round)) more)
 
 -- ---- the table
-
-pub anywhere : {A : Type 0} (n : ℕ) (x : A) (i : ℕ) → slice_index_or (replicate n x) i x ≡ x
-anywhere zero x i = refl
-anywhere (suc n) x zero = refl
-anywhere (suc n) x (suc i) = anywhere n x i
 
 -- The table between two phases has each cell's marks of the earlier phases: the remaining phases cross iff all do.
 pub record IsThrough (arrays : Arrays) (all left : List (List Steps)) (table : TableParts) : Type 0 where
@@ -136,54 +132,6 @@ all_through arrays all t c through small = none_more (past_in t.past c).crossed 
     none_more : (b : Bool) → b ≡ (b || false)
     none_more true = refl
     none_more false = refl
-
--- The table while the current phase is added to the earlier ones, for the cells below one.
-pub record IsSettling (before now : TableParts) (i : ℕ) : Type 0 where
-  pub cells : now.cells ≡ before.cells
-  pub everywhere : now.everywhere ≡ before.everywhere
-  pub owners : now.owners ≡ before.owners
-  pub places : length now.past ≡ length before.past
-  pub done : (c : ℕ) → c < i → c < length before.past → past_in now.past c ≡ passed (past_in before.past c) (touch_at before c)
-  pub rest : (c : ℕ) → i ≤ c → past_in now.past c ≡ past_in before.past c
-
-pub settling_none : (t : TableParts) → IsSettling t t 0
-settling_none t = record { cells = refl; everywhere = refl; owners = refl; places = refl; done = λ c less. absurd (omega arith); rest = λ c above. refl }
-
-pub settling_more : (before now : TableParts) (i : ℕ) → IsSettling before now i → i < length before.past →
-    IsSettling before (record now { past = slice_set now.past i (passed (past_in now.past i) (touch_at now i)) }) (i + 1)
-settling_more before now i h small =
-    let own = passed (past_in now.past i) (touch_at now i) in
-    let same : touch_at now i ≡ touch_at before i
-    = ap (λ cells. joined (touch_in cells i) (touch_in now.everywhere (slice_index_or now.owners i 0))) h.cells
-    ∙ ap (λ every. joined (touch_in before.cells i) (touch_in every (slice_index_or now.owners i 0))) h.everywhere
-    ∙ ap (λ owners. joined (touch_in before.cells i) (touch_in before.everywhere (slice_index_or owners i 0))) h.owners in
-    let own_is : own ≡ passed (past_in before.past i) (touch_at before i)
-    = ap (λ (p : Past). passed p (touch_at now i)) (h.rest i (omega arith)) ∙ ap (passed (past_in before.past i)) same in
-    record {
-      cells = h.cells;
-      everywhere = h.everywhere;
-      owners = h.owners;
-      places = length-set now.past i own ∙ h.places;
-      done = λ c less there. ⊎_elim
-          (λ l. get_or-set_other now.past i c own no_past (λ e. absurd (omega arith)) ∙ h.done c l there)
-          (λ l. let is : c ≡ i = omega arith in
-          ap (λ k. past_in (slice_set now.past k own) c) (sym is)
-          ∙ get_or-set_same now.past c own no_past (let e = h.places in omega arith)
-          ∙ own_is
-          ∙ ap (λ k. passed (past_in before.past k) (touch_at before k)) (sym is))
-          (cases_lt c i);
-      rest = λ c above. get_or-set_other now.past i c own no_past (λ e. absurd (omega arith)) ∙ h.rest c (omega arith);
-    }
-
-pub settling_all : (before now : TableParts) (i : ℕ) → IsSettling before now i → length before.past ≤ i →
-    IsSettled before (record now { cells = replicate (length now.cells) untouched; everywhere = replicate (length now.everywhere) untouched })
-settling_all before now i h all = record {
-  cells = ap (λ cells. replicate (length cells) untouched) h.cells;
-  everywhere = ap (λ every. replicate (length every) untouched) h.everywhere;
-  owners = h.owners;
-  places = h.places;
-  past = λ c there. h.done c (omega arith) there;
-}
 
 -- ---- constructs without a walk
 

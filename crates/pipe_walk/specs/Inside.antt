@@ -3,5 +3,6 @@
 pub mod Members
 pub mod Owners
 pub mod Tables
+pub mod Cells
 pub mod Marks
 pub mod Stretches

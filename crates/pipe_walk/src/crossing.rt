@@ -20,6 +20,9 @@ use array_tree::{Block, Blocks, Name};
 use std::alloc::{AllocError, Global};
 use touch_bounds::{Ranges, branches_pay, phase_pays};
 
+// In a new table, so many cells cost as much as the walk through a statement.
+const CELLS_A_STATEMENT: u64 = 16;
+
 // Marks the cells that the members of a `team` touch in one phase.
 fn mark_members<'s>(
     layout: &Layout,
@@ -80,6 +83,9 @@ fn walk_phases<'s>(
 fn least_crossed(layout: &Layout, table: &Table) -> Option<u16>
     ensures { result ≡ first_from (λ cell. (past_in table.now.past cell).crossed) 0 (cells_of layout.now) }
 {
+    if !table.may_cross() {
+        return None;
+    }
     for cell in 0..layout.cells() {
         if table.is_crossed(cell) {
             return Some(cell as u16);
@@ -88,22 +94,23 @@ fn least_crossed(layout: &Layout, table: &Table) -> Option<u16>
     None
 }
 
-// Whether analysing the texts of phases twice for each member is worth its time, before a walk through so many turns: if there
-// are many turns, or each has much to do.
-fn looking_pays(phases: &Blocks, turns: u64, members: u64) -> bool {
+// Whether analysing the texts of phases twice for each member is worth its time, before a walk through so many turns, whose
+// table costs as much as so many statements: if there are many turns, each has much to do, or the table is large.
+fn looking_pays(phases: &Blocks, turns: u64, members: u64, table: u64) -> bool {
     if turns >= members && branches_pay(phases) {
         return true;
     }
+    let share = table / phases.blocks.len().max(1) as u64;
     for phase in &phases.blocks {
-        if !phase_pays(phase, turns, members.saturating_mul(2)) {
+        if !phase_pays(phase, turns, members.saturating_mul(2), share) {
             return false;
         }
     }
     true
 }
 
-// Whether the text shows that no two pieces of a `team` cross, so that no walk is needed. A single member crosses nothing, and
-// the pieces of one phase don't cross.
+// Whether the text shows that no two pieces of a `team` cross, so that no walk is needed, whose table costs as much as so many
+// statements. A single member crosses nothing, and the pieces of one phase don't cross.
 fn is_seen_clear<'s>(
     alloc: Global,
     layout: &Layout,
@@ -112,6 +119,7 @@ fn is_seen_clear<'s>(
     low: i64,
     high: i64,
     members: u64,
+    table: u64,
     scope: &'s Scope<'s>,
 ) -> bool
     ensures { OnTrue result (crossing layout.now (cells_of layout.now)
@@ -123,7 +131,7 @@ fn is_seen_clear<'s>(
     if phases.blocks.len() < 2 {
         return true;
     }
-    if !looking_pays(phases, span(low, high), members) {
+    if !looking_pays(phases, span(low, high), members, table) {
         return false;
     }
     let ranges = Ranges::Fixed(scope);
@@ -168,7 +176,8 @@ pub(crate) fn crossing_in<'s>(
     ensures found { result ≡ crossing layout.now (cells_of layout.now)
         (phase_rounds (sequences_of phases.now) var.now low high members (vars_of scope.now)) }
 {
-    if is_seen_clear(alloc, layout, phases, var, low, high, members, scope) {
+    // Why: the table is there already.
+    if is_seen_clear(alloc, layout, phases, var, low, high, members, 0, scope) {
         return None;
     }
     walked_crossing(layout, phases, var, low, high, members, scope, table)
@@ -197,7 +206,8 @@ pub fn crossing_of<'s>(
     ensures { IfOk result (λ found. found ≡ crossing layout.now (cells_of layout.now)
         (phase_rounds (sequences_of phases.now) var.now low high members (vars_of scope.now))) }
 {
-    if is_seen_clear(alloc, layout, phases, var, low, high, members, scope) {
+    let made = layout.cells() as u64 / CELLS_A_STATEMENT;
+    if is_seen_clear(alloc, layout, phases, var, low, high, members, made, scope) {
         return Ok(None);
     }
     let mut table = Table::new(alloc, layout)?;

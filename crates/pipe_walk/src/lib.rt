@@ -3,12 +3,13 @@
 //!
 //! If the text shows that no two pieces cross, by the stretches of cells that each member can touch, there is no walk.
 //! Otherwise a walk marks for each cell the lowest and the highest member that reads it in a phase, and those that change it.
-//! So each phase costs its walk and one pass over the cells.
+//! So each phase costs its walk, and one pass over the touched cells, or over all cells if a dynamic index touches an array.
 //!
 //! `lithe pipe` calls `pipe_check` before a run, and a home calls `uncrossed` before it opens a pipe. Begin with `pipe_check`
 //! in `check.rt`; the tests of `pipe_tests` check programs that cross and programs that don't.
 #![tactic(auto)]
 
+mod cells;
 mod check;
 mod construct;
 mod crossing;

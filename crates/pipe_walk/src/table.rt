@@ -1,10 +1,9 @@
 //! The touches of pieces, cell by cell and array by array.
-ghost use Rattle.std.specs.Prelude.{◌≡◌, ◌<◌, IfOk, length, slice_set};
-ghost use Rattle.pipe_walk.specs.Inside.Members.{touch_in};
-ghost use Rattle.pipe_walk.specs.Inside.Tables.{added, cleared, passed, touch_at, past_in, IsFor, IsSettled};
+ghost use Rattle.std.specs.Prelude.{◌≡◌, ℕ, false, IfOk};
+ghost use Rattle.pipe_walk.specs.Inside.Tables.{added, cleared, past_in, IsFor, IsSettled};
 
+use crate::cells::{Cells, add};
 use crate::owners::owners_of;
-use crate::past::{NO_PAST, Past};
 use crate::touch::{Touch, UNTOUCHED};
 use array_eval::Layout;
 use std::alloc::{AllocError, Global};
@@ -14,41 +13,26 @@ use std::marker::Model;
 /// array by one mark.
 #[derive(Debug, Drop)]
 pub(crate) struct Table {
-    // For each cell, the touches by static indexes in the current phase.
-    cells: Vec<Touch>,
+    // For each cell, the touches by static indexes in the current phase, and its past in the earlier phases.
+    cells: Cells,
     // For each array, the touches by dynamic indexes in the current phase.
     everywhere: Vec<Touch>,
-    // For each cell, its past in the earlier phases.
-    past: Vec<Past>,
     // For each cell, the index of its array.
     owners: Vec<usize>,
+    // Whether cells that aren't listed may have a touch or a past: since the construct began, an array was touched everywhere, or a
+    // cell couldn't be listed.
+    has_unlisted: bool,
 }
 
 impl Model for Table {
     ghost use Rattle.pipe_walk.specs.Inside.Tables.{TableParts};
+    ghost use Rattle.pipe_walk.specs.Inside.Cells.{IsListedUnless};
 
     ghost Value = { TableParts };
 
-    ghost view = { λ table. record { cells = table.cells.items; everywhere = table.everywhere.items; past = table.past.items; owners = table.owners.items } };
-}
+    ghost view = { λ table. record { cells = table.cells.touches; everywhere = table.everywhere.items; past = table.cells.past; owners = table.owners.items } };
 
-// The touch at an index of a list; none after its end.
-fn touch_in(list: &[Touch], place: usize) -> Touch
-    ensures { result ≡ touch_in list.now place }
-{
-    match list.get(place) {
-        Some(touch) => *touch,
-        None => UNTOUCHED,
-    }
-}
-
-// Adds a touch at an index, if it exists.
-fn add(list: &mut [Touch], place: usize, more: Touch)
-    ensures { list.new ≡ added place more list.old }
-{
-    if place < list.len() {
-        list[place] = more.with(list[place]);
-    }
+    ghost invariant = { λ table. IsListedUnless table.has_unlisted table.everywhere.items table.cells };
 }
 
 impl Table {
@@ -56,12 +40,11 @@ impl Table {
     pub(crate) fn new(alloc: Global, layout: &Layout) -> Result<Table, AllocError>
         ensures { IfOk result (IsFor layout.now) }
     {
-        let cells = layout.cells();
         Ok(Table {
-            cells: vec![in alloc; UNTOUCHED; cells]?,
+            cells: Cells::new(alloc, layout.cells())?,
             everywhere: vec![in alloc; UNTOUCHED; layout.count()]?,
-            past: vec![in alloc; NO_PAST; cells]?,
             owners: owners_of(alloc, layout)?,
+            has_unlisted: false,
         })
     }
 
@@ -69,16 +52,22 @@ impl Table {
     pub(crate) fn clear(&mut self)
         ensures { self.new ≡ cleared self.old }
     {
-        self.cells.fill(UNTOUCHED);
+        if self.has_unlisted {
+            self.cells.clear_all();
+        } else {
+            self.cells.clear_listed();
+        }
         self.everywhere.fill(UNTOUCHED);
-        self.past.fill(NO_PAST);
+        self.has_unlisted = false;
     }
 
     /// Adds the touch of a cell by a static index.
     pub(crate) fn touch_cell(&mut self, cell: usize, more: Touch)
         ensures { self.new ≡ record self.old { cells = added cell more self.old.cells } }
     {
-        add(&mut self.cells, cell, more);
+        if let Err(_) = self.cells.touch(cell, more) {
+            self.has_unlisted = true;
+        }
     }
 
     /// Adds the touch of all cells of an array by a dynamic index.
@@ -86,38 +75,18 @@ impl Table {
         ensures { self.new ≡ record self.old { everywhere = added number more self.old.everywhere } }
     {
         add(&mut self.everywhere, number, more);
-    }
-
-    // The touches of a cell in the current phase.
-    fn touch_at(&self, cell: usize) -> Touch
-        ensures { result ≡ touch_at self.now cell }
-    {
-        let owner = match self.owners.get(cell) {
-            Some(owner) => *owner,
-            None => 0,
-        };
-        touch_in(&self.cells, cell).with(touch_in(&self.everywhere, owner))
-    }
-
-    // Adds the touches of a cell in the current phase to its past.
-    fn settle_cell(&mut self, cell: usize)
-        requires { cell < length self.old.past }
-        ensures { self.new ≡ record self.old {
-          past = slice_set self.old.past cell (passed (past_in self.old.past cell) (touch_at self.old cell));
-        } }
-    {
-        let touch = self.touch_at(cell);
-        self.past[cell] = self.past[cell].then(touch);
+        self.has_unlisted = true;
     }
 
     /// Ends the current phase.
     pub(crate) fn settle(&mut self)
         ensures { IsSettled self.old self.new }
     {
-        for cell in 0..self.past.len() {
-            self.settle_cell(cell);
+        if self.has_unlisted {
+            self.cells.settle_all(&self.everywhere, &self.owners);
+        } else {
+            self.cells.settle_listed();
         }
-        self.cells.fill(UNTOUCHED);
         self.everywhere.fill(UNTOUCHED);
     }
 
@@ -125,9 +94,13 @@ impl Table {
     pub(crate) fn is_crossed(&self, cell: usize) -> bool
         ensures { result ≡ (past_in self.now.past cell).crossed }
     {
-        match self.past.get(cell) {
-            Some(past) => past.crossed,
-            None => false,
-        }
+        self.cells.is_crossed(cell)
+    }
+
+    /// Whether pieces may have crossed on some cell.
+    pub(crate) fn may_cross(&self) -> bool
+        ensures { result ≡ false → (cell : ℕ) → (past_in self.now.past cell).crossed ≡ false }
+    {
+        self.cells.may_cross()
     }
 }

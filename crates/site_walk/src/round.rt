@@ -149,7 +149,7 @@ pub(crate) fn overlap_of_members<'s>(
     if members < 2 {
         return None;
     }
-    if phase_pays(phase, span(low, high), members)
+    if phase_pays(phase, span(low, high), members, 0)
         && members_are_apart(
             alloc,
             layout,

@@ -44,6 +44,14 @@ impl Weight {
         }
     }
 
+    // The same text, with a work of so many statements more.
+    fn beside(self, statements: u64) -> Weight {
+        Weight {
+            text: self.text,
+            work: self.work.saturating_add(statements),
+        }
+    }
+
     // Whether its work is more than ten times the work of analysing so many texts and comparing each two of so many pieces.
     // Comparing two pieces costs about a thirtieth of a statement.
     fn pays(self, texts: u64, pieces: u64) -> bool {
@@ -62,11 +70,13 @@ pub fn branches_pay(branches: &Blocks) -> bool {
     weigh_blocks(branches).pays(1, branches.blocks.len() as u64)
 }
 
-/// Whether analysing a phase's text for each member of a team with so many iterations is worth its time.
-pub fn phase_pays(phase: &Block, iterations: u64, members: u64) -> bool {
+/// Whether analysing a phase's text for each member of a team with so many iterations is worth its time, if the analysis also
+/// saves the time of so many statements.
+pub fn phase_pays(phase: &Block, iterations: u64, members: u64, saved: u64) -> bool {
     weigh_block(phase)
         .and_one()
         .times(iterations)
+        .beside(saved)
         .pays(members, members)
 }
 

@@ -8,7 +8,7 @@ use Rattle.transfer_table.specs.declared.entry.Row.{Row}
 use Rattle.transfer_table.specs.declared.entry.Stage.TheVariants.{Gone}
 use Rattle.transfer_table.specs.Plan.{Plan, IsPlan, site_count, parent}
 use Rattle.transfer_table.specs.Table.{Position, first_state, least_left, is_gone, blank, swept_row}
-use Rattle.transfer_table.specs.Board.{IsBoard, IsCount, count_left}
+use Rattle.transfer_table.specs.Board.{IsBoard, IsCount, AreEnds, count_left}
 use Rattle.transfer_table.proofs.Lists.{any_default, replicate_at}
 
 -- A row that is gone iff the old one is keeps the count.
@@ -56,21 +56,23 @@ get_or-set_keeps P (x ∷ xs) (suc i) zero r d new old = old
 get_or-set_keeps P (x ∷ xs) (suc i) (suc j) r d new old = get_or-set_keeps P xs i j r d new old
 
 -- A board stays a board if a row gets a new home or new wishes.
-pub board-row : (b : Position) (counts : List ℕ) (h o i : ℕ) (r : Row) → IsBoard b counts → is_gone r.stage ≡ is_gone (slice_index_or b.state.rows i blank).stage → r.wishes ≤ r.asked
-    → IsBoard record { plan = b.plan; state = record { owners = slice_set b.state.owners h o; rows = slice_set b.state.rows i r } } counts
+pub board-row : {ends : List ℕ} (b : Position) (counts : List ℕ) (h o i : ℕ) (r : Row) → IsBoard b counts ends → is_gone r.stage ≡ is_gone (slice_index_or b.state.rows i blank).stage → r.wishes ≤ r.asked
+    → IsBoard record { plan = b.plan; state = record { owners = slice_set b.state.owners h o; rows = slice_set b.state.rows i r } } counts ends
 board-row b counts h o i r is same few = record {
   position = record { plan = is.position.plan; owners = length-set b.state.owners h o ∙ is.position.owners; rows = length-set b.state.rows i r ∙ is.position.rows };
   wished = λ s. get_or-set_keeps (λ x. x.wishes ≤ x.asked) b.state.rows i (s - 1) r blank few (is.wished s);
   left = record { size = is.left.size; counted = λ s high. is.left.counted s high ∙ sym (count_left-set_same b.plan.parents b.state.rows s i r blank same) };
+  bounds = is.bounds;
 }
 
 -- The same for new wishes alone, with the owners unchanged.
-pub board-wishes : (b : Position) (counts : List ℕ) (i : ℕ) (r : Row) → IsBoard b counts → is_gone r.stage ≡ is_gone (slice_index_or b.state.rows i blank).stage → r.wishes ≤ r.asked
-    → IsBoard record { plan = b.plan; state = record { owners = b.state.owners; rows = slice_set b.state.rows i r } } counts
+pub board-wishes : {ends : List ℕ} (b : Position) (counts : List ℕ) (i : ℕ) (r : Row) → IsBoard b counts ends → is_gone r.stage ≡ is_gone (slice_index_or b.state.rows i blank).stage → r.wishes ≤ r.asked
+    → IsBoard record { plan = b.plan; state = record { owners = b.state.owners; rows = slice_set b.state.rows i r } } counts ends
 board-wishes b counts i r is same few = record {
   position = record { plan = is.position.plan; owners = is.position.owners; rows = length-set b.state.rows i r ∙ is.position.rows };
   wished = λ s. get_or-set_keeps (λ x. x.wishes ≤ x.asked) b.state.rows i (s - 1) r blank few (is.wished s);
   left = record { size = is.left.size; counted = λ s high. is.left.counted s high ∙ sym (count_left-set_same b.plan.parents b.state.rows s i r blank same) };
+  bounds = is.bounds;
 }
 
 small_parent : (p : Plan) → IsPlan p → (i : ℕ) → i < site_count p → slice_index p.parents i ≤ site_count p
@@ -81,7 +83,7 @@ abbrev pub counts_for : Row → ℕ
 counts_for r = if is_gone r.stage then 0 else 1
 
 -- The parent's count is at least what one row counts.
-pub counted_once : (b : Position) (counts : List ℕ) (i : ℕ) → IsBoard b counts → i < site_count b.plan → counts_for (slice_index_or b.state.rows i blank) ≤ slice_index counts (slice_index b.plan.parents i)
+pub counted_once : {ends : List ℕ} (b : Position) (counts : List ℕ) (i : ℕ) → IsBoard b counts ends → i < site_count b.plan → counts_for (slice_index_or b.state.rows i blank) ≤ slice_index counts (slice_index b.plan.parents i)
 counted_once b counts i is lt = split (is_gone (slice_index_or b.state.rows i blank).stage) refl
   where
     split : (g : Bool) → is_gone (slice_index_or b.state.rows i blank).stage ≡ g → (if g then 0 else 1) ≤ slice_index counts (slice_index b.plan.parents i)
@@ -92,8 +94,8 @@ counted_once b counts i is lt = split (is_gone (slice_index_or b.state.rows i bl
         let k = is.left.counted (slice_index b.plan.parents i) (omega arith) in omega arith
 
 -- A board stays a board if a row becomes gone and its parent's count falls by what the row counted.
-pub board-gone : (b : Position) (counts os : List ℕ) (i n : ℕ) (r : Row) → IsBoard b counts → length os ≡ b.plan.harts → i < site_count b.plan → is_gone r.stage ≡ true → r.wishes ≤ r.asked → n ≡ counts_for (slice_index_or b.state.rows i blank)
-    → IsBoard record { plan = b.plan; state = record { owners = os; rows = slice_set b.state.rows i r } } (slice_set counts (slice_index b.plan.parents i) (slice_index counts (slice_index b.plan.parents i) - n))
+pub board-gone : {ends : List ℕ} (b : Position) (counts os : List ℕ) (i n : ℕ) (r : Row) → IsBoard b counts ends → length os ≡ b.plan.harts → i < site_count b.plan → is_gone r.stage ≡ true → r.wishes ≤ r.asked → n ≡ counts_for (slice_index_or b.state.rows i blank)
+    → IsBoard record { plan = b.plan; state = record { owners = os; rows = slice_set b.state.rows i r } } (slice_set counts (slice_index b.plan.parents i) (slice_index counts (slice_index b.plan.parents i) - n)) ends
 board-gone b counts os i n r is size lt gone few here = record {
   position = record { plan = is.position.plan; owners = size; rows = length-set b.state.rows i r ∙ is.position.rows };
   wished = λ s. get_or-set_keeps (λ x. x.wishes ≤ x.asked) b.state.rows i (s - 1) r blank few (is.wished s);
@@ -103,6 +105,7 @@ board-gone b counts os i n r is size lt gone few here = record {
         (λ e. let P : ℕ → Type 0 = λ x. slice_index (slice_set counts (slice_index b.plan.parents i) (slice_index counts (slice_index b.plan.parents i) - n)) x ≡ count_left b.plan.parents (slice_set b.state.rows i r) x in subst P e (get_or-set_same counts (slice_index b.plan.parents i) (slice_index counts (slice_index b.plan.parents i) - n) 0 (let z = is.left.size in let bound = small_parent b.plan is.position.plan i lt in omega arith) ∙ falls (is_gone (slice_index_or b.state.rows i blank).stage) refl))
         (λ m. get_or-set_other counts (slice_index b.plan.parents i) s (slice_index counts (slice_index b.plan.parents i) - n) 0 (λ e. m (sym e)) ∙ is.left.counted s high ∙ sym (count_left-set_other b.plan.parents b.state.rows s i r m));
   };
+  bounds = is.bounds;
 }
   where
     falls : (g : Bool) → is_gone (slice_index_or b.state.rows i blank).stage ≡ g → slice_index counts (slice_index b.plan.parents i) - n ≡ count_left b.plan.parents (slice_set b.state.rows i r) (slice_index b.plan.parents i)
@@ -112,15 +115,15 @@ board-gone b counts os i n r is size lt gone few here = record {
         let a = count_left-set_gone b.plan.parents b.state.rows i r blank lt (omega arith) e gone in omega arith
 
 -- What was read at an index of the rows is the row there.
-pub row_read : (b : Position) (counts : List ℕ) (i : ℕ) (r : Row) → IsBoard b counts → i < site_count b.plan → r ≡ slice_index_or b.state.rows i r → r ≡ slice_index_or b.state.rows i blank
+pub row_read : {ends : List ℕ} (b : Position) (counts : List ℕ) (i : ℕ) (r : Row) → IsBoard b counts ends → i < site_count b.plan → r ≡ slice_index_or b.state.rows i r → r ≡ slice_index_or b.state.rows i blank
 row_read b counts i r is lt read = read ∙ any_default b.state.rows i r blank (let z = is.position.rows in omega arith)
 
 -- What was read at an index of the counts is the count there.
-pub count_read : (b : Position) (counts : List ℕ) (s n : ℕ) → IsBoard b counts → s ≤ site_count b.plan → n ≡ slice_index_or counts s n → n ≡ count_left b.plan.parents b.state.rows s
+pub count_read : {ends : List ℕ} (b : Position) (counts : List ℕ) (s n : ℕ) → IsBoard b counts ends → s ≤ site_count b.plan → n ≡ slice_index_or counts s n → n ≡ count_left b.plan.parents b.state.rows s
 count_read b counts s n is high read = read ∙ any_default counts s n 0 (let z = is.left.size in omega arith) ∙ is.left.counted s high
 
 -- What was read at the index of a site's parent is the parent's count.
-pub start_read : (b : Position) (counts : List ℕ) (i n : ℕ) → IsBoard b counts → i < site_count b.plan → n ≡ slice_index_or counts (slice_index b.plan.parents i) n → n ≡ slice_index counts (slice_index b.plan.parents i)
+pub start_read : {ends : List ℕ} (b : Position) (counts : List ℕ) (i n : ℕ) → IsBoard b counts ends → i < site_count b.plan → n ≡ slice_index_or counts (slice_index b.plan.parents i) n → n ≡ slice_index counts (slice_index b.plan.parents i)
 start_read b counts i n is lt read = read ∙ any_default counts (slice_index b.plan.parents i) n 0 (let z = is.left.size in let bound = small_parent b.plan is.position.plan i lt in omega arith)
 
 byte_for : (g : Bool) → bool_byte (not g) ≡ (if g then 0 else 1)
@@ -128,11 +131,11 @@ byte_for true = refl
 byte_for false = refl
 
 -- A board when a site becomes gone: r, q, k, g and n are what the code reads, r' is the new row.
-pub board-ends : (b : Position) (counts os : List ℕ) (x q k n : ℕ) (g : Bool) (r r' : Row) → IsBoard b counts → length os ≡ b.plan.harts → 1 ≤ x → x ≤ site_count b.plan
+pub board-ends : {ends : List ℕ} (b : Position) (counts os : List ℕ) (x q k n : ℕ) (g : Bool) (r r' : Row) → IsBoard b counts ends → length os ≡ b.plan.harts → 1 ≤ x → x ≤ site_count b.plan
     → r ≡ slice_index_or b.state.rows (x - 1) r → q ≡ parent b.plan x → k ≡ slice_index_or counts q k → g ≡ is_gone r.stage → n ≡ bool_byte (not g)
     → is_gone r'.stage ≡ true → r'.wishes ≡ r.wishes → r'.asked ≡ r.asked
-    → (n ≤ k) × IsBoard record { plan = b.plan; state = record { owners = os; rows = slice_set b.state.rows (x - 1) r' } } (slice_set counts q (k - n))
-board-ends b counts os x q k n g r r' is size low high read_row read_parent read_count read_stage read_byte gone wishes asked =
+    → (n ≤ k) × IsBoard record { plan = b.plan; state = record { owners = os; rows = slice_set b.state.rows (x - 1) r' } } (slice_set counts q (k - n)) ends
+board-ends {ends = ends} b counts os x q k n g r r' is size low high read_row read_parent read_count read_stage read_byte gone wishes asked =
     let lt : x - 1 < site_count b.plan = omega arith in
     let here = row_read b counts (x - 1) r is lt read_row in
     let same : n ≡ counts_for (slice_index_or b.state.rows (x - 1) blank) = read_byte ∙ (byte_for g ∙ (ap (λ (y : Bool). if y then 0 else 1) read_stage ∙ ap counts_for here)) in
@@ -140,20 +143,20 @@ board-ends b counts os x q k n g r r' is size low high read_row read_parent read
     let start = start_read b counts (x - 1) k is lt (subst P read_parent read_count) in
     let once = counted_once b counts (x - 1) is lt in
     let few : r.wishes ≤ r.asked = subst (λ (y : Row). y.wishes ≤ y.asked) (sym here) (is.wished x) in
-    let Q : ℕ × ℕ → Type 0 = λ y. IsBoard record { plan = b.plan; state = record { owners = os; rows = slice_set b.state.rows (x - 1) r' } } (slice_set counts y.0 (y.1 - n)) in
+    let Q : ℕ × ℕ → Type 0 = λ y. IsBoard record { plan = b.plan; state = record { owners = os; rows = slice_set b.state.rows (x - 1) r' } } (slice_set counts y.0 (y.1 - n)) ends in
     (omega arith, subst Q (λ i. (sym read_parent i, sym start i)) (board-gone b counts os (x - 1) n r' is size lt gone (omega arith) same))
 
 -- The same for an unregister.
-pub board-unregister : (b : Position) (counts : List ℕ) (h x q k n : ℕ) (g : Bool) (r : Row) → IsBoard b counts → 1 ≤ x → x ≤ site_count b.plan
+pub board-unregister : {ends : List ℕ} (b : Position) (counts : List ℕ) (h x q k n : ℕ) (g : Bool) (r : Row) → IsBoard b counts ends → 1 ≤ x → x ≤ site_count b.plan
     → r ≡ slice_index_or b.state.rows (x - 1) r → q ≡ parent b.plan x → k ≡ slice_index_or counts q k → g ≡ is_gone r.stage → n ≡ bool_byte (not g)
-    → (n ≤ k) × IsBoard record { plan = b.plan; state = record { owners = slice_set b.state.owners h q; rows = slice_set b.state.rows (x - 1) record r { stage = Gone } } } (slice_set counts q (k - n))
+    → (n ≤ k) × IsBoard record { plan = b.plan; state = record { owners = slice_set b.state.owners h q; rows = slice_set b.state.rows (x - 1) record r { stage = Gone } } } (slice_set counts q (k - n)) ends
 board-unregister b counts h x q k n g r is low high read_row read_parent read_count read_stage read_byte =
     board-ends b counts (slice_set b.state.owners h q) x q k n g r (record r { stage = Gone }) is (length-set b.state.owners h q ∙ is.position.owners) low high read_row read_parent read_count read_stage read_byte refl refl refl
 
 -- The same for a site that is marked as gone by a skip.
-pub board-swept : (b : Position) (counts : List ℕ) (x q k n : ℕ) (g : Bool) (r : Row) → IsBoard b counts → 1 ≤ x → x ≤ site_count b.plan
+pub board-swept : {ends : List ℕ} (b : Position) (counts : List ℕ) (x q k n : ℕ) (g : Bool) (r : Row) → IsBoard b counts ends → 1 ≤ x → x ≤ site_count b.plan
     → r ≡ slice_index_or b.state.rows (x - 1) r → q ≡ parent b.plan x → k ≡ slice_index_or counts q k → g ≡ is_gone r.stage → n ≡ bool_byte (not g)
-    → (n ≤ k) × IsBoard record { plan = b.plan; state = record { owners = b.state.owners; rows = slice_set b.state.rows (x - 1) (swept_row r) } } (slice_set counts q (k - n))
+    → (n ≤ k) × IsBoard record { plan = b.plan; state = record { owners = b.state.owners; rows = slice_set b.state.rows (x - 1) (swept_row r) } } (slice_set counts q (k - n)) ends
 board-swept b counts x q k n g r is low high read_row read_parent read_count read_stage read_byte =
     board-ends b counts b.state.owners x q k n g r (swept_row r) is is.position.owners low high read_row read_parent read_count read_stage read_byte refl refl refl
 
@@ -211,9 +214,10 @@ all_counted p counts is = record {
 }
 
 -- The first state of a plan is a board.
-pub board-first : (p : Plan) (counts : List ℕ) → IsPlan p → IsCount p (first_state p).rows counts → IsBoard record { plan = p; state = first_state p } counts
-board-first p counts plan is = record {
+pub board-first : (p : Plan) (counts ends : List ℕ) → IsPlan p → IsCount p (first_state p).rows counts → AreEnds p ends → IsBoard record { plan = p; state = first_state p } counts ends
+board-first p counts ends plan is last = record {
   position = record { plan = plan; owners = length-replicate p.harts 0; rows = length-replicate (site_count p) blank };
   wished = λ s. let e = replicate_at (site_count p) (s - 1) blank in subst (λ (x : Row). x.wishes ≤ x.asked) (sym e) (omega arith);
   left = is;
+  bounds = last;
 }

@@ -5,6 +5,7 @@ pub mod Within
 pub mod Sweeps
 pub mod Scans
 pub mod Counts
+pub mod Ends
 pub mod Admits
 pub mod Replays
 pub mod Positions

@@ -1,5 +1,6 @@
 -- Rows that a skip makes gone.
-use Rattle.std.proofs.Common.{◌≡◌, ℕ, zero, suc, ◌+◌, ◌-◌, ◌<◌, ◌≤◌, slice_index_or, slice_set, length-set, get_or-set_same, get_or-set_other, Bool, true, false, if◌then◌else◌, List, [], ◌∷◌, length, get_or, set, refl, sym, ap, subst, ◌∙◌, arith}
+use Rattle.std.proofs.Common.{◌≡◌, ℕ, zero, suc, ◌+◌, ◌-◌, ◌<◌, ◌≤◌, slice_index_or, slice_set, length-set, get_or-set_same, get_or-set_other, Bool, true, false, if◌then◌else◌, List, [], ◌∷◌, length, get_or, set, refl, sym, ap, subst, ◌∙◌, ⊎_elim, arith}
+use Rattle.std.proofs.lemmas.Bool.{cases_lt}
 use mathlib.Core.Logic.{dite}
 use native.Mathlib.Decide.{ℕ_discrete}
 use Rattle.transfer_table.specs.declared.entry.Row.{Row}
@@ -71,6 +72,14 @@ swept_past p s old now i w is = record {
       (λ n. is.done j (omega arith) v);
 }
 
--- All rows are done.
-pub swept_over : (p : Plan) (s : ℕ) (old now : TableState) (i : ℕ) → site_count p ≤ i → IsSweptTo p s old now i → now ≡ record { owners = old.owners; rows = swept p s old.rows 1 }
-swept_over p s old now i le is = let r : now.rows ≡ swept p s old.rows 1 = sym (swept-done p s now.rows 1 blank (λ j l w. is.done j (let z = is.size in omega arith) w)) ∙ is.same in λ k. record { owners = is.owners k; rows = r k }
+-- No later row is inside the site, so all rows are done.
+pub swept_over : (p : Plan) (s : ℕ) (old now : TableState) (i : ℕ) → ((j : ℕ) → i ≤ j → j < site_count p → is_within p s (1 + j) ≡ true → ⊥) → IsSweptTo p s old now i →
+    now ≡ record { owners = old.owners; rows = swept p s old.rows 1 }
+swept_over p s old now i none is =
+    let r : now.rows ≡ swept p s old.rows 1
+    = sym (swept-done p s now.rows 1 blank (λ j l w. ⊎_elim
+    (λ below. is.done j below w)
+    (λ above. absurd (none j above (let z = is.size in omega arith) w))
+    (cases_lt j i)))
+    ∙ is.same in
+    λ k. record { owners = is.owners k; rows = r k }

@@ -1,6 +1,6 @@
 -- What a board keeps beside the state, so that an admitted entry needs no scan of the plan.
-use Rattle.std.specs.Prelude.{◌≡◌, ℕ, ◌+◌, ◌≤◌, ◌==◌, not, ◌&&◌, if◌then◌else◌, List, [], ◌∷◌, length, slice_index}
-use Rattle.transfer_table.specs.Plan.{Plan, site_count}
+use Rattle.std.specs.Prelude.{◌≡◌, ℕ, ◌+◌, ◌≤◌, ◌==◌, max, true, not, ◌&&◌, if◌then◌else◌, List, [], ◌∷◌, length, slice_index, slice_set}
+use Rattle.transfer_table.specs.Plan.{Plan, site_count, is_within}
 use Rattle.transfer_table.specs.Table.{Position, IsPosition, is_gone, row}
 use Rattle.transfer_table.specs.declared.entry.Row.{Row}
 
@@ -16,8 +16,20 @@ pub record IsCount (p : Plan) (rows : List Row) (counts : List ℕ) : Type 0 whe
   pub size : length counts ≡ site_count p + 1
   pub counted : (s : ℕ) → s ≤ site_count p → slice_index counts s ≡ count_left p.parents rows s
 
--- a board's invariant: its plan and state fit together, no site has more wishes than it requested, and its counts are right
-pub record IsBoard (b : Position) (counts : List ℕ) : Type 0 where
+-- the list with at least this end for a site
+abbrev pub raised : List ℕ → ℕ → ℕ → List ℕ
+raised ends s end = slice_set ends s (max (slice_index ends s) end)
+
+-- the list has an end for the base and each site: no site inside it is greater
+pub record AreEnds (p : Plan) (ends : List ℕ) : Type 0 where
+  pub size : length ends ≡ site_count p + 1
+  pub few : (s : ℕ) → slice_index ends s ≤ site_count p
+  pub last : (s o : ℕ) → s ≤ site_count p → o ≤ site_count p → is_within p s o ≡ true → o ≤ slice_index ends s
+
+-- a board's invariant: its plan and state fit together, no site has more wishes than it requested, and its counts and ends are
+-- right
+pub record IsBoard (b : Position) (counts ends : List ℕ) : Type 0 where
   pub position : IsPosition b
   pub wished : (s : ℕ) → (row b.state s).wishes ≤ (row b.state s).asked
   pub left : IsCount b.plan b.state.rows counts
+  pub bounds : AreEnds b.plan ends

@@ -4,7 +4,7 @@ ghost use Rattle.transfer_table.specs.Plan.{IsHart, IsSite, IsPlan, parent, site
 ghost use Rattle.transfer_table.specs.Table.{admit_of, IsAnswer, common_refusals, first_state, IsPosition, hart_inside, child_left, owner, row, blank, is_gone, is_home, home_number, swept, swept_row, with_row};
 ghost use Rattle.transfer_table.specs.Causes.{first_cause};
 ghost use Rattle.transfer_table.specs.Journal.{unfinished};
-ghost use Rattle.transfer_table.specs.Board.{IsCount};
+ghost use Rattle.transfer_table.specs.Board.{IsCount, AreEnds, raised};
 
 use crate::entry::{Entry, NotAdmitted, Row, Stage};
 use crate::plan::Plan;
@@ -20,6 +20,8 @@ pub struct Board {
     // For the base and each site, how many of its children aren't gone. So an `Unregister` that
     // is admitted needs no scan of the plan.
     children_left: Vec<u16>,
+    // For the base and each site, the greatest site inside it. So a `Skip` visits no site after it.
+    ends: Vec<u16>,
 }
 
 impl Model for Board {
@@ -33,7 +35,7 @@ impl Model for Board {
     ghost invariant = { λ b. IsBoard record {
       plan = b.plan;
       state = record { owners = b.owners.items; rows = b.rows.items };
-    } b.children_left.items };
+    } b.children_left.items b.ends.items };
 }
 
 impl Board {
@@ -45,7 +47,7 @@ impl Board {
     ///
     /// # Memory
     ///
-    /// It allocates a copy of the plan, the owners, the rows and the counts of children.
+    /// It allocates a copy of the plan, the owners, the rows, the counts of children and the greatest sites inside.
     pub fn new(alloc: Global, plan: &Plan) -> Result<Board, AllocError>
         ensures first { IfOk result
             (λ b. b ≡ record { plan = plan.now; state = first_state plan.now }) }
@@ -62,6 +64,7 @@ impl Board {
             owners: vec![in alloc; 0u16; plan.harts() as usize]?,
             rows: vec![in alloc; blank; plan.sites() as usize]?,
             children_left: count_children(alloc, plan)?,
+            ends: find_ends(alloc, plan)?,
         })
     }
 
@@ -238,7 +241,7 @@ impl Board {
     }
 
     // Makes the site and all its descendants gone, without a home. Why: descendants needn't be adjacent, so it visits each site
-    // from this one on and climbs from each to its ancestors: at most sites times depth steps.
+    // from this one to its greatest descendant, and climbs from each to its ancestors.
     fn sweep(&mut self, site: u16)
         requires { IsSite self.old.plan site }
         ensures { self.new ≡ record {
@@ -249,8 +252,7 @@ impl Board {
           };
         } }
     {
-        // No descendant is smaller.
-        for i in site as usize - 1..self.rows.len() {
+        for i in site as usize - 1..self.ends[site as usize] as usize {
             if self.plan.is_within(site, i as u16 + 1) {
                 self.sweep_one(i as u16 + 1);
             }
@@ -382,4 +384,27 @@ fn count_children(alloc: Global, plan: &Plan) -> Result<Vec<u16>, AllocError>
         counts[plan.parent(i + 1) as usize] += 1;
     }
     Ok(counts)
+}
+
+// For the base and each site, the greatest site inside it. Why it begins with the greatest site: the sites inside a site have
+// then been visited before it.
+fn find_ends(alloc: Global, plan: &Plan) -> Result<Vec<u16>, AllocError>
+    ensures { IfOk result (λ ends. AreEnds plan.now ends.items) }
+{
+    let mut ends = vec![in alloc; 0u16; plan.sites() as usize + 1]?;
+    for i in (0..plan.sites()).rev() {
+        let site = i + 1;
+        raise(&mut ends, site, site);
+        let end = ends[site as usize];
+        raise(&mut ends, plan.parent(site), end);
+    }
+    Ok(ends)
+}
+
+// Raises the greatest site inside a site to this one, unless it is greater.
+fn raise(ends: &mut Vec<u16>, site: u16, end: u16)
+    requires { site < length ends.old.items }
+    ensures { ends.new.items ≡ raised ends.old.items site end }
+{
+    ends[site as usize] = ends[site as usize].max(end);
 }

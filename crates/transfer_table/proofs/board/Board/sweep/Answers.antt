@@ -1,6 +1,8 @@
 use Rattle.std.proofs.Common.{◌≡◌, ◌<◌, ◌+◌, sym, subst, ap, ◌∙◌, arith}
 use Rattle.transfer_table.specs.Plan.{Plan, is_within, site_count}
 use Rattle.transfer_table.specs.Table.{Position}
+use Rattle.transfer_table.specs.Board.{AreEnds}
+use Rattle.transfer_table.proofs.Ends.{end_few, none_after}
 use Rattle.transfer_table.proofs.Sweeps.{IsSweptTo, swept_next, swept_past, swept_over}
 use Rattle.transfer_table.proofs.board.Board.sweep.Goals.{then-is_within, else-is_within}
 use Rattle.transfer_table.proofs.board.Board.sweep.Goals as goal
@@ -9,7 +11,9 @@ pub loop-i-preserved : goal.loop-i-preserved
 loop-i-preserved c =
     let same = c.loop-i.invariant.0 in let inv = c.loop-i.invariant.1 in
     let plan : c.self-in-loop-i.inside.plan ≡ c.args.self.now.plan = ap (λ (q : Position). q.plan) c.self-in-loop-i.view_is ∙ same in
-    let lt : c.loop-i.i < site_count c.args.self.now.plan = let a = c.loop-i-test.true in let b = c.len-i-end.ensures in let d = c.self.invariant.position.rows in let e = ap (λ (q : Position). site_count q.plan) c.self.view_is in omega arith in
+    let ends = subst (λ (q : Position). AreEnds q.plan c.self.inside.ends.items) c.self.view_is c.self.invariant.bounds in
+    let few = end_few c.args.self.now.plan c.self.inside.ends.items c.args.site c.index-i-end.result.now ends c.requires.1 c.index-i-end.ensures in
+    let lt : c.loop-i.i < site_count c.args.self.now.plan = let a = c.loop-i-test.true in omega arith in
     let test = ap (λ (p : Plan). is_within p c.args.site (c.loop-i.i + 1)) (sym plan) ∙ sym c.is_within.ensures in
     elim c.if-is_within.branch [
       | then-is_within w ↦ (let new = w.self-is ∙ w.sweep_one.ensures in (
@@ -25,6 +29,10 @@ loop-i-preserved c =
     ]
 
 pub returns : goal.returns
-returns c = let same = c.loop-i.invariant.0 in let inv = c.loop-i.invariant.1 in
-    let over = swept_over c.args.self.now.plan c.args.site c.args.self.now.state c.loop-i.self.state c.loop-i.i (let a = c.loop-i-test.false in let b = c.len-i-end.ensures in let d = c.self.invariant.position.rows in let e = ap (λ (q : Position). site_count q.plan) c.self.view_is in omega arith) inv in
+returns c =
+    let same = c.loop-i.invariant.0 in let inv = c.loop-i.invariant.1 in
+    let ends = subst (λ (q : Position). AreEnds q.plan c.self.inside.ends.items) c.self.view_is c.self.invariant.bounds in
+    let none = none_after c.args.self.now.plan c.self.inside.ends.items c.args.site c.index-i-end.result.now ends c.requires.1 c.index-i-end.ensures in
+    let over = swept_over c.args.self.now.plan c.args.site c.args.self.now.state c.loop-i.self.state c.loop-i.i
+    (λ j above small w. none j (let a = c.loop-i-test.false in omega arith) small w) inv in
     λ k. record { plan = same k; state = over k }
